@@ -1,0 +1,142 @@
+-- Document 01, "Proved on the definitions, as one table".
+use Prim.Native.Nat.{ℕ, zero, suc, _+_, _*_}
+use mathlib.Core.Path.{_≡_, refl}
+use mathlib.Core.List.{List, [], _∷_, _++_}
+use mathlib.Core.Bool.{Bool, true, false, _&&_, _||_, not}
+use mathlib.Core.Option.{Option, none, some}
+use lib.ListN.{length, drop, replicate}
+use Rattle.image.specs.Bytes.{same, before, begins, shared}
+use Rattle.image.specs.Path.{letter, readsOn, wellFormed, below, properBeginning, owns, valueLimit, valueFits, pathLimit}
+use Rattle.image.specs.Entry.{Message, puts, drops, clears}
+use Rattle.image.specs.Table.{Row, find, isSome, withRow, without, rowsBelow, withoutBelow, renamed, putAll, moved, rowsAfter, firstKey, leastAfter, everyKey, underPrefix}
+use Rattle.image.specs.Image.{Tree, leaf, interior, Forest, end, tree, nodesOf, wholeNodes}
+use Rattle.image.specs.Meaning.{Said, nothing, says, saysOf, newer, newest, decide, highOf, lookup, apply, applyAll, rows}
+use Rattle.image.specs.Sound.{lowest, highest}
+use Rattle.image.specs.Calls.{Call, acts, keeps, asks, Act, put, drops as drop-act, clear, move, Query, get, next, Answer, number, filled, Question, ask, firstNo, workLong, isEmpty, actQuestions, queryQuestions, questions, actTable, tableAfter, foundBy, fill, accepted, refused, answerAt, tableAt}
+use Rattle.image.specs.PlainMap.{plainFirstNo, tableOn, answersOn, reported}
+use Rattle.image.specs.Contract.{makeNo}
+
+-- a component of k bytes, with its 00
+abbrev part : ℕ → List ℕ
+part k = replicate k 0x61 ++ 0 ∷ []
+
+-- components of the examples, each with its 00
+abbrev r1 : List ℕ
+r1 = 0x72 ∷ 0x31 ∷ 0 ∷ []
+
+abbrev r2 : List ℕ
+r2 = 0x72 ∷ 0x32 ∷ 0 ∷ []
+
+abbrev r10 : List ℕ
+r10 = 0x72 ∷ 0x31 ∷ 0x30 ∷ 0 ∷ []
+
+abbrev a : List ℕ
+a = 0x61 ∷ 0 ∷ []
+
+abbrev b : List ℕ
+b = 0x62 ∷ 0 ∷ []
+
+abbrev x : List ℕ
+x = 0x78 ∷ 0 ∷ []
+
+abbrev bb : List ℕ
+bb = 0x62 ∷ 0x62 ∷ 0 ∷ []
+
+abbrev row : List ℕ → List ℕ → Row
+row p v = record { key = p; value = v }
+
+-- a work area for 32 nodes
+abbrev area : List ℕ
+area = replicate (128 * 32) 0
+
+-- the number that the plain map of 32 nodes with the table t gives to an act
+abbrev no : Act → List Row → ℕ
+no x t = plainFirstNo 32 (acts x area) t
+
+-- and the table after it
+abbrev then : Act → List Row → List Row
+then x t = tableAt (no x t) (acts x area) t
+
+-- k different paths, rising
+abbrev many : ℕ → ℕ → List Row
+many zero c = []
+many (suc k) c = row (c ∷ 0 ∷ []) [] ∷ many k (suc c)
+
+-- the example of case 12: a root with one empty leaf, and three messages, oldest first
+abbrev waiting : List ℕ → List ℕ → Tree
+waiting v w = interior 2 (tree [] (leaf 1 []) end) (puts (r1 ++ a) v ∷ clears r1 ∷ puts (r1 ++ b) w ∷ [])
+
+pub record Cases (v w : List ℕ) : Type 0 where
+  c1-31 : makeNo (31 * 1024) ≡ 1
+  c1-32 : makeNo (32 * 1024) ≡ 0
+  c2-put : no (put [] []) [] ≡ 3
+  c2-drop : no (drop-act []) [] ≡ 3
+  c2-clear : no (clear []) [] ≡ 3
+  c2-move : no (move [] r1) [] ≡ 3
+  c2-move-to : no (move r1 []) [] ≡ 3
+  c2-get : plainFirstNo 32 (asks (get []) (replicate 32 0)) [] ≡ 3
+  c2-next : plainFirstNo 32 (asks (next [] []) (replicate 64 0)) [] ≡ 3
+  c3-16 : wellFormed (part 16) ≡ true
+  c3-17 : wellFormed (part 17) ≡ false
+  c4-64 : wellFormed (part 16 ++ part 16 ++ part 16 ++ part 12) ≡ true
+  c4-65 : wellFormed (part 16 ++ part 16 ++ part 16 ++ part 13) ≡ false
+  c5-8 : wellFormed (a ++ a ++ a ++ a ++ a ++ a ++ a ++ a) ≡ true
+  c5-9 : wellFormed (a ++ a ++ a ++ a ++ a ++ a ++ a ++ a ++ a) ≡ false
+  c6 : shared r1 (r1 ++ 0xFF ∷ []) ≡ r1
+  c7 : then (clear r1) (row r1 v ∷ row r10 w ∷ []) ≡ row r10 w ∷ []
+  c8 : then (move r1 r2) (row (r1 ++ a) v ∷ row (r2 ++ x) w ∷ []) ≡ row (r2 ++ a) v ∷ []
+  c9 : no (move r1 (r1 ++ x)) (row (r1 ++ a) v ∷ []) ≡ 7
+  c10 : no (move r1 r2) (row (r2 ++ x) w ∷ []) ≡ 8
+  c10-kept : then (move r1 r2) (row (r2 ++ x) w ∷ []) ≡ row (r2 ++ x) w ∷ []
+  c11-64 : length (a ++ part 16 ++ part 16 ++ part 16 ++ part 10) ≡ 64
+  c11 : no (move a bb) (row (a ++ part 16 ++ part 16 ++ part 16 ++ part 10) v ∷ []) ≡ 9
+  c12-a : lookup (waiting v w) lowest highest (r1 ++ a) ≡ none
+  c12-b : lookup (waiting v w) lowest highest (r1 ++ b) ≡ some w
+  c12 : rows (waiting v w) lowest highest ≡ row (r1 ++ b) w ∷ []
+  c13 : no (put r1 []) (many 32 0x30) ≡ 10
+  c13-over : no (put (0x31 ∷ 0 ∷ []) []) (many 32 0x30) ≡ 0
+  c13-value : find (0x31 ∷ 0 ∷ []) (then (put (0x31 ∷ 0 ∷ []) (7 ∷ [])) (many 32 0x30)) ≡ some (7 ∷ [])
+
+pub cases : (v w : List ℕ) → Cases v w
+unfolding same before begins shared letter readsOn wellFormed below properBeginning valueLimit valueFits pathLimit find isSome withRow without rowsBelow withoutBelow renamed putAll moved everyKey underPrefix nodesOf wholeNodes saysOf newer newest decide highOf owns lookup apply applyAll rows firstNo workLong isEmpty actQuestions queryQuestions questions actTable tableAfter tableAt leastAfter rowsAfter firstKey plainFirstNo makeNo
+cases v w =
+    record {
+      c1-31 = refl;
+      c1-32 = refl;
+      c2-put = refl;
+      c2-drop = refl;
+      c2-clear = refl;
+      c2-move = refl;
+      c2-move-to = refl;
+      c2-get = refl;
+      c2-next = refl;
+      c3-16 = refl;
+      c3-17 = refl;
+      c4-64 = refl;
+      c4-65 = refl;
+      c5-8 = refl;
+      c5-9 = refl;
+      c6 = refl;
+      c7 = refl;
+      c8 = refl;
+      c9 = refl;
+      c10 = refl;
+      c10-kept = refl;
+      c11-64 = refl;
+      c11 = refl;
+      c12-a = refl;
+      c12-b = refl;
+      c12 = refl;
+      c13 = refl;
+      c13-over = refl;
+      c13-value = refl;
+    }
+
+-- a clear, and a move, on a table of 64 rows compute quickly too
+wide : then (clear r1) (many 64 0x30) ≡ many 64 0x30
+unfolding same before begins shared letter readsOn wellFormed below properBeginning valueLimit valueFits pathLimit find isSome withRow without rowsBelow withoutBelow renamed putAll moved everyKey underPrefix firstNo workLong isEmpty actQuestions questions actTable tableAfter tableAt plainFirstNo
+wide = refl
+
+wide-move : length (then (move (0x31 ∷ 0 ∷ []) r1) (many 64 0x30)) ≡ 64
+unfolding same before begins shared letter readsOn wellFormed below properBeginning valueLimit valueFits pathLimit find isSome withRow without rowsBelow withoutBelow renamed putAll moved everyKey underPrefix firstNo workLong isEmpty actQuestions questions actTable tableAfter tableAt plainFirstNo
+wide-move = refl

@@ -1,0 +1,14 @@
+pub mod Bytes
+pub mod Path
+pub mod Table
+pub mod Entry
+pub mod Image
+pub mod Meaning
+pub mod Sound
+pub mod Upkeep
+pub mod Calls
+pub mod PlainMap
+pub mod Contract
+pub mod Answers
+pub mod Cases
+pub mod Examples

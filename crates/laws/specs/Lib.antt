@@ -1,0 +1,15 @@
+pub mod Tables
+pub mod Rising
+pub mod LookupTable
+pub mod RowsRising
+pub mod Shift
+pub mod Frame
+pub mod WriteNode
+pub mod Encode
+pub mod Next
+pub mod Made
+pub mod PushDown
+pub mod Filter
+pub mod Pieces
+pub mod LiveCount
+pub mod Demand

@@ -1,0 +1,893 @@
+use Rattle.lookup.specs.Look.{node-inside, look-leaf, look-value, look-gone, look-nobody, inner-places, last-places, inner-usable, inner-short, look-inner, last-usable, last-short, look-last}
+use Rattle.node.specs.Cut.{cut-length}
+use mathlib.Core.Path.{_≡_, refl, sym, ap, _∙_}
+use lib.ListN.{length}
+use borrow.Author.Needs.{needs}
+use native.Mathlib.Omega.{arith}
+use Prim.Native.Nat.{ℕ, _<_}
+use borrow.Fn.Kinds.{In}
+use borrow.Fn.PlainCycle.{Measures, is, falls, and}
+use Rattle.lookup.proofs.lookup.Reads as lookup
+use Rattle.lookup.proofs.lookup.Kinds as lookup-kinds
+use Rattle.lookup.proofs.+lookup.Lts-lookup as lookup-lts
+use Rattle.octets.proofs.common_length.Reads as common-length-reads
+use Rattle.octets.proofs.u16_at.Reads as u16-at-reads
+use Rattle.search.proofs.find.Reads as find-reads
+use Rattle.search.proofs.newest.Reads as newest-reads
+use Rattle.search.proofs.owner_of.Reads as owner-of-reads
+use Rattle.lookup.proofs.+lookup.{statement}
+use Rattle.lookup.proofs.+lookup.Tie.{close}
+
+abbrev μ-lookup : Measures 3 lookup-kinds.ps ℕ
+μ-lookup κs a = a .1 .1 .0
+
+abbrev lookup-at : ℕ → In 3 lookup-kinds.ps
+lookup-at t = and 3 lookup-kinds.ps (is 3 lookup-kinds.ps μ-lookup t) lookup.Pre
+
+abbrev lookup-below : ℕ → In 3 lookup-kinds.ps
+lookup-below t = and 3 lookup-kinds.ps (falls 3 lookup-kinds.ps _<_ μ-lookup t) lookup.Pre
+
+-- src/lib.rt:20:14
+lookup-mul-at : (t : ℕ) → lookup-lts.Need-mul-at (
+  u16-at-reads.Asked,
+  u16-at-reads.Learnt,
+  find-reads.Asked,
+  find-reads.Learnt,
+  newest-reads.Asked,
+  newest-reads.Learnt,
+  owner-of-reads.Asked,
+  owner-of-reads.Learnt,
+  common-length-reads.Asked,
+  common-length-reads.Learnt,
+  lookup-below t,
+  lookup.Post,
+) (lookup-at t) lookup.Post
+lookup-mul-at t c = let w = node-inside (c .before .before .before .args .store .now) (c .before .before .before .args .num) (c .before .before .before .args .level) (c .before .before .before .pre .1) in omega arith
+
+-- src/lib.rt:21:9
+lookup-u16-at-requires : (t : ℕ) → lookup-lts.Need-u16-at-requires (
+  u16-at-reads.Asked,
+  u16-at-reads.Learnt,
+  find-reads.Asked,
+  find-reads.Learnt,
+  newest-reads.Asked,
+  newest-reads.Learnt,
+  owner-of-reads.Asked,
+  owner-of-reads.Learnt,
+  common-length-reads.Asked,
+  common-length-reads.Learnt,
+  lookup-below t,
+  lookup.Post,
+) (lookup-at t) lookup.Post
+lookup-u16-at-requires t c κs = let w = node-inside (c .before .before .before .args .store .now) (c .before .before .before .args .num) (c .before .before .before .args .level) (c .before .before .before .pre .1) in omega arith
+
+-- src/lib.rt:22:16
+lookup-add-from : (t : ℕ) → lookup-lts.Need-add-from (
+  u16-at-reads.Asked,
+  u16-at-reads.Learnt,
+  find-reads.Asked,
+  find-reads.Learnt,
+  newest-reads.Asked,
+  newest-reads.Learnt,
+  owner-of-reads.Asked,
+  owner-of-reads.Learnt,
+  common-length-reads.Asked,
+  common-length-reads.Learnt,
+  lookup-below t,
+  lookup.Post,
+) (lookup-at t) lookup.Post
+lookup-add-from t c = let w = node-inside (c .before .before .before .before .args .store .now) (c .before .before .before .before .args .num) (c .before .before .before .before .args .level) (c .before .before .before .before .pre .1) in omega arith
+
+-- src/lib.rt:23:15
+lookup-add-end : (t : ℕ) → lookup-lts.Need-add-end (
+  u16-at-reads.Asked,
+  u16-at-reads.Learnt,
+  find-reads.Asked,
+  find-reads.Learnt,
+  newest-reads.Asked,
+  newest-reads.Learnt,
+  owner-of-reads.Asked,
+  owner-of-reads.Learnt,
+  common-length-reads.Asked,
+  common-length-reads.Learnt,
+  lookup-below t,
+  lookup.Post,
+) (lookup-at t) lookup.Post
+lookup-add-end t c = let w = node-inside (c .before .before .before .before .args .store .now) (c .before .before .before .before .args .num) (c .before .before .before .before .args .level) (c .before .before .before .before .pre .1) in omega arith
+
+-- src/lib.rt:25:9
+lookup-find-requires : (t : ℕ) → lookup-lts.Need-find-requires (
+  u16-at-reads.Asked,
+  u16-at-reads.Learnt,
+  find-reads.Asked,
+  find-reads.Learnt,
+  newest-reads.Asked,
+  newest-reads.Learnt,
+  owner-of-reads.Asked,
+  owner-of-reads.Learnt,
+  common-length-reads.Asked,
+  common-length-reads.Learnt,
+  lookup-below t,
+  lookup.Post,
+) (lookup-at t) lookup.Post
+lookup-find-requires t c κs = let w = node-inside (c .before .before .before .before .before .args .store .now) (c .before .before .before .before .before .args .num) (c .before .before .before .before .before .args .level) (c .before .before .before .before .before .pre .1) in omega arith
+
+-- src/lib.rt:25:9
+lookup-returns : (t : ℕ) → lookup-lts.Need-returns (
+  u16-at-reads.Asked,
+  u16-at-reads.Learnt,
+  find-reads.Asked,
+  find-reads.Learnt,
+  newest-reads.Asked,
+  newest-reads.Learnt,
+  owner-of-reads.Asked,
+  owner-of-reads.Learnt,
+  common-length-reads.Asked,
+  common-length-reads.Learnt,
+  lookup-below t,
+  lookup.Post,
+) (lookup-at t) lookup.Post
+lookup-returns t c = look-leaf (c .before .before .before .before .before .before .args .store .now) (c .before .before .before .before .before .before .args .num) (c .before .before .before .before .before .before .args .level) (c .before .before .before .before .before .before .pre .1) (c .before .before .before .before .before .before .args .hi .now) (c .before .before .before .before .before .before .args .rest .now) (c .before .before .u16-at .result) (c .before .before .u16-at .ensures .0) (omega arith) _ (c .find .ensures)
+
+-- src/lib.rt:27:9
+lookup-newest-requires : (t : ℕ) → lookup-lts.Need-newest-requires (
+  u16-at-reads.Asked,
+  u16-at-reads.Learnt,
+  find-reads.Asked,
+  find-reads.Learnt,
+  newest-reads.Asked,
+  newest-reads.Learnt,
+  owner-of-reads.Asked,
+  owner-of-reads.Learnt,
+  common-length-reads.Asked,
+  common-length-reads.Learnt,
+  lookup-below t,
+  lookup.Post,
+) (lookup-at t) lookup.Post
+lookup-newest-requires t c κs = let w = node-inside (c .before .before .before .before .before .args .store .now) (c .before .before .before .before .before .args .num) (c .before .before .before .before .before .args .level) (c .before .before .before .before .before .pre .1) in omega arith
+
+-- src/lib.rt:29:22
+lookup-enum-known-m : (t : ℕ) → lookup-lts.Need-enum-known-m (
+  u16-at-reads.Asked,
+  u16-at-reads.Learnt,
+  find-reads.Asked,
+  find-reads.Learnt,
+  newest-reads.Asked,
+  newest-reads.Learnt,
+  owner-of-reads.Asked,
+  owner-of-reads.Learnt,
+  common-length-reads.Asked,
+  common-length-reads.Learnt,
+  lookup-below t,
+  lookup.Post,
+) (lookup-at t) lookup.Post
+lookup-enum-known-m t c = search needs
+
+-- src/lib.rt:30:24
+lookup-enum-told : (t : ℕ) → lookup-lts.Need-enum-told (
+  u16-at-reads.Asked,
+  u16-at-reads.Learnt,
+  find-reads.Asked,
+  find-reads.Learnt,
+  newest-reads.Asked,
+  newest-reads.Learnt,
+  owner-of-reads.Asked,
+  owner-of-reads.Learnt,
+  common-length-reads.Asked,
+  common-length-reads.Learnt,
+  lookup-below t,
+  lookup.Post,
+) (lookup-at t) lookup.Post
+lookup-enum-told t c = search needs
+
+-- src/lib.rt:32:17
+lookup-enum-told-2 : (t : ℕ) → lookup-lts.Need-enum-told-2 (
+  u16-at-reads.Asked,
+  u16-at-reads.Learnt,
+  find-reads.Asked,
+  find-reads.Learnt,
+  newest-reads.Asked,
+  newest-reads.Learnt,
+  owner-of-reads.Asked,
+  owner-of-reads.Learnt,
+  common-length-reads.Asked,
+  common-length-reads.Learnt,
+  lookup-below t,
+  lookup.Post,
+) (lookup-at t) lookup.Post
+lookup-enum-told-2 t c = search needs
+
+-- src/lib.rt:32:17
+lookup-owner-of-requires : (t : ℕ) → lookup-lts.Need-owner-of-requires (
+  u16-at-reads.Asked,
+  u16-at-reads.Learnt,
+  find-reads.Asked,
+  find-reads.Learnt,
+  newest-reads.Asked,
+  newest-reads.Learnt,
+  owner-of-reads.Asked,
+  owner-of-reads.Learnt,
+  common-length-reads.Asked,
+  common-length-reads.Learnt,
+  lookup-below t,
+  lookup.Post,
+) (lookup-at t) lookup.Post
+lookup-owner-of-requires t c κs = let w = node-inside (c .before .before .before .before .before .before .before .before .args .store .now) (c .before .before .before .before .before .before .before .before .args .num) (c .before .before .before .before .before .before .before .before .args .level) (c .before .before .before .before .before .before .before .before .pre .1) in omega arith
+
+-- src/lib.rt:34:30
+lookup-enum-known-o : (t : ℕ) → lookup-lts.Need-enum-known-o (
+  u16-at-reads.Asked,
+  u16-at-reads.Learnt,
+  find-reads.Asked,
+  find-reads.Learnt,
+  newest-reads.Asked,
+  newest-reads.Learnt,
+  owner-of-reads.Asked,
+  owner-of-reads.Learnt,
+  common-length-reads.Asked,
+  common-length-reads.Learnt,
+  lookup-below t,
+  lookup.Post,
+) (lookup-at t) lookup.Post
+lookup-enum-known-o t c = search needs
+
+-- src/lib.rt:39:42
+lookup-sub-common-length : (t : ℕ) → lookup-lts.Need-sub-common-length (
+  u16-at-reads.Asked,
+  u16-at-reads.Learnt,
+  find-reads.Asked,
+  find-reads.Learnt,
+  newest-reads.Asked,
+  newest-reads.Learnt,
+  owner-of-reads.Asked,
+  owner-of-reads.Learnt,
+  common-length-reads.Asked,
+  common-length-reads.Learnt,
+  lookup-below t,
+  lookup.Post,
+) (lookup-at t) lookup.Post
+lookup-sub-common-length t c = let w = inner-places _ _ _ _ _ _ _ (c .before .before .before .owner-of .ensures) (c .before .o .given .1) in omega arith
+
+-- src/lib.rt:39:42
+lookup-part-common-length-start : (t : ℕ) → lookup-lts.Need-part-common-length-start (
+  u16-at-reads.Asked,
+  u16-at-reads.Learnt,
+  find-reads.Asked,
+  find-reads.Learnt,
+  newest-reads.Asked,
+  newest-reads.Learnt,
+  owner-of-reads.Asked,
+  owner-of-reads.Learnt,
+  common-length-reads.Asked,
+  common-length-reads.Learnt,
+  lookup-below t,
+  lookup.Post,
+) (lookup-at t) lookup.Post
+lookup-part-common-length-start t c = let w = inner-places _ _ _ _ _ _ _ (c .before .before .before .owner-of .ensures) (c .before .o .given .1) in omega arith
+
+-- src/lib.rt:39:42
+lookup-part-common-length-end : (t : ℕ) → lookup-lts.Need-part-common-length-end (
+  u16-at-reads.Asked,
+  u16-at-reads.Learnt,
+  find-reads.Asked,
+  find-reads.Learnt,
+  newest-reads.Asked,
+  newest-reads.Learnt,
+  owner-of-reads.Asked,
+  owner-of-reads.Learnt,
+  common-length-reads.Asked,
+  common-length-reads.Learnt,
+  lookup-below t,
+  lookup.Post,
+) (lookup-at t) lookup.Post
+lookup-part-common-length-end t c = let w = inner-places _ _ _ _ _ _ _ (c .before .before .before .owner-of .ensures) (c .before .o .given .1) in omega arith
+
+-- src/lib.rt:39:56
+lookup-sub-common-length-2 : (t : ℕ) → lookup-lts.Need-sub-common-length-2 (
+  u16-at-reads.Asked,
+  u16-at-reads.Learnt,
+  find-reads.Asked,
+  find-reads.Learnt,
+  newest-reads.Asked,
+  newest-reads.Learnt,
+  owner-of-reads.Asked,
+  owner-of-reads.Learnt,
+  common-length-reads.Asked,
+  common-length-reads.Learnt,
+  lookup-below t,
+  lookup.Post,
+) (lookup-at t) lookup.Post
+lookup-sub-common-length-2 t c = let w = inner-places _ _ _ _ _ _ _ (c .before .before .before .before .owner-of .ensures) (c .before .before .o .given .1) in omega arith
+
+-- src/lib.rt:39:56
+lookup-part-common-length-start-2 : (t : ℕ) → lookup-lts.Need-part-common-length-start-2 (
+  u16-at-reads.Asked,
+  u16-at-reads.Learnt,
+  find-reads.Asked,
+  find-reads.Learnt,
+  newest-reads.Asked,
+  newest-reads.Learnt,
+  owner-of-reads.Asked,
+  owner-of-reads.Learnt,
+  common-length-reads.Asked,
+  common-length-reads.Learnt,
+  lookup-below t,
+  lookup.Post,
+) (lookup-at t) lookup.Post
+lookup-part-common-length-start-2 t c = let w = inner-places _ _ _ _ _ _ _ (c .before .before .before .before .owner-of .ensures) (c .before .before .o .given .1) in omega arith
+
+-- src/lib.rt:39:56
+lookup-part-common-length-end-2 : (t : ℕ) → lookup-lts.Need-part-common-length-end-2 (
+  u16-at-reads.Asked,
+  u16-at-reads.Learnt,
+  find-reads.Asked,
+  find-reads.Learnt,
+  newest-reads.Asked,
+  newest-reads.Learnt,
+  owner-of-reads.Asked,
+  owner-of-reads.Learnt,
+  common-length-reads.Asked,
+  common-length-reads.Learnt,
+  lookup-below t,
+  lookup.Post,
+) (lookup-at t) lookup.Post
+lookup-part-common-length-end-2 t c = let w = inner-places _ _ _ _ _ _ _ (c .before .before .before .before .owner-of .ensures) (c .before .before .o .given .1) in omega arith
+
+-- src/lib.rt:39:25
+lookup-common-length-requires : (t : ℕ) → lookup-lts.Need-common-length-requires (
+  u16-at-reads.Asked,
+  u16-at-reads.Learnt,
+  find-reads.Asked,
+  find-reads.Learnt,
+  newest-reads.Asked,
+  newest-reads.Learnt,
+  owner-of-reads.Asked,
+  owner-of-reads.Learnt,
+  common-length-reads.Asked,
+  common-length-reads.Learnt,
+  lookup-below t,
+  lookup.Post,
+) (lookup-at t) lookup.Post
+lookup-common-length-requires t c κs = search needs
+
+-- src/lib.rt:40:29
+lookup-add-z : (t : ℕ) → lookup-lts.Need-add-z (
+  u16-at-reads.Asked,
+  u16-at-reads.Learnt,
+  find-reads.Asked,
+  find-reads.Learnt,
+  newest-reads.Asked,
+  newest-reads.Learnt,
+  owner-of-reads.Asked,
+  owner-of-reads.Learnt,
+  common-length-reads.Asked,
+  common-length-reads.Learnt,
+  lookup-below t,
+  lookup.Post,
+) (lookup-at t) lookup.Post
+lookup-add-z t c = let w = inner-places _ _ _ _ _ _ _ (c .before .before .before .before .before .before .owner-of .ensures) (c .before .before .before .before .o .given .1) in let l = cut-length (c .before .before .before .before .before .before .before .before .before .before .before .before .before .before .before .args .store .now) ((c .before .before .before .before .o .given .0 .1 .1 .0) .start) ((c .before .before .before .before .o .given .0 .1 .1 .0) .stop) (omega arith) (omega arith) in omega arith
+
+-- src/lib.rt:41:42
+lookup-sub-lookup : (t : ℕ) → lookup-lts.Need-sub-lookup (
+  u16-at-reads.Asked,
+  u16-at-reads.Learnt,
+  find-reads.Asked,
+  find-reads.Learnt,
+  newest-reads.Asked,
+  newest-reads.Learnt,
+  owner-of-reads.Asked,
+  owner-of-reads.Learnt,
+  common-length-reads.Asked,
+  common-length-reads.Learnt,
+  lookup-below t,
+  lookup.Post,
+) (lookup-at t) lookup.Post
+lookup-sub-lookup t c = search needs
+
+-- src/lib.rt:41:53
+lookup-sub-lookup-2 : (t : ℕ) → lookup-lts.Need-sub-lookup-2 (
+  u16-at-reads.Asked,
+  u16-at-reads.Learnt,
+  find-reads.Asked,
+  find-reads.Learnt,
+  newest-reads.Asked,
+  newest-reads.Learnt,
+  owner-of-reads.Asked,
+  owner-of-reads.Learnt,
+  common-length-reads.Asked,
+  common-length-reads.Learnt,
+  lookup-below t,
+  lookup.Post,
+) (lookup-at t) lookup.Post
+lookup-sub-lookup-2 t c = let w = inner-places _ _ _ _ _ _ _ (c .before .before .before .before .before .before .owner-of .ensures) (c .before .before .before .before .o .given .1) in let l = cut-length (c .before .before .before .before .before .before .before .before .before .before .before .before .before .before .before .args .store .now) ((c .before .before .before .before .o .given .0 .1 .1 .0) .start) ((c .before .before .before .before .o .given .0 .1 .1 .0) .stop) (omega arith) (omega arith) in omega arith
+
+-- src/lib.rt:41:53
+lookup-part-lookup-start : (t : ℕ) → lookup-lts.Need-part-lookup-start (
+  u16-at-reads.Asked,
+  u16-at-reads.Learnt,
+  find-reads.Asked,
+  find-reads.Learnt,
+  newest-reads.Asked,
+  newest-reads.Learnt,
+  owner-of-reads.Asked,
+  owner-of-reads.Learnt,
+  common-length-reads.Asked,
+  common-length-reads.Learnt,
+  lookup-below t,
+  lookup.Post,
+) (lookup-at t) lookup.Post
+lookup-part-lookup-start t c = let w = inner-places _ _ _ _ _ _ _ (c .before .before .before .before .before .before .owner-of .ensures) (c .before .before .before .before .o .given .1) in let l = cut-length (c .before .before .before .before .before .before .before .before .before .before .before .before .before .before .before .args .store .now) ((c .before .before .before .before .o .given .0 .1 .1 .0) .start) ((c .before .before .before .before .o .given .0 .1 .1 .0) .stop) (omega arith) (omega arith) in omega arith
+
+-- src/lib.rt:41:53
+lookup-part-lookup-end : (t : ℕ) → lookup-lts.Need-part-lookup-end (
+  u16-at-reads.Asked,
+  u16-at-reads.Learnt,
+  find-reads.Asked,
+  find-reads.Learnt,
+  newest-reads.Asked,
+  newest-reads.Learnt,
+  owner-of-reads.Asked,
+  owner-of-reads.Learnt,
+  common-length-reads.Asked,
+  common-length-reads.Learnt,
+  lookup-below t,
+  lookup.Post,
+) (lookup-at t) lookup.Post
+lookup-part-lookup-end t c = let w = inner-places _ _ _ _ _ _ _ (c .before .before .before .before .before .before .owner-of .ensures) (c .before .before .before .before .o .given .1) in let l = cut-length (c .before .before .before .before .before .before .before .before .before .before .before .before .before .before .before .args .store .now) ((c .before .before .before .before .o .given .0 .1 .1 .0) .start) ((c .before .before .before .before .o .given .0 .1 .1 .0) .stop) (omega arith) (omega arith) in omega arith
+
+-- src/lib.rt:41:67
+lookup-sub-lookup-3 : (t : ℕ) → lookup-lts.Need-sub-lookup-3 (
+  u16-at-reads.Asked,
+  u16-at-reads.Learnt,
+  find-reads.Asked,
+  find-reads.Learnt,
+  newest-reads.Asked,
+  newest-reads.Learnt,
+  owner-of-reads.Asked,
+  owner-of-reads.Learnt,
+  common-length-reads.Asked,
+  common-length-reads.Learnt,
+  lookup-below t,
+  lookup.Post,
+) (lookup-at t) lookup.Post
+lookup-sub-lookup-3 t c = let l = inner-short (c .before .before .before .before .before .before .before .before .before .before .before .before .before .before .before .before .args .store .now) (c .before .before .before .before .before .before .before .before .before .before .before .before .before .before .before .before .args .num) (c .before .before .before .before .before .before .before .before .before .before .before .before .before .before .before .before .args .level) (c .before .before .before .before .before .before .before .before .before .before .before .before .before .before .before .before .pre .1) (c .before .before .before .before .before .before .before .before .before .before .before .before .before .before .before .before .args .hi .now) (c .before .before .before .before .before .before .before .before .before .before .before .before .before .before .before .before .args .rest .now) (c .before .before .before .before .before .before .before .before .before .before .before .before .u16-at .result) (c .before .before .before .before .before .before .before .before .before .before .before .before .u16-at .ensures .0) (omega arith) (c .before .before .before .before .before .before .before .before .before .before .newest .result) (c .before .before .before .before .before .before .before .before .before .before .newest .ensures) (c .before .before .before .before .before .before .before .before .enum-told2 .given .1) (c .before .before .before .before .before .before .before .owner-of .result) (c .before .before .before .before .before .before .before .owner-of .ensures) (c .before .before .before .before .before .o .given .0 .0) (c .before .before .before .before .before .o .given .0 .1 .0) (c .before .before .before .before .before .o .given .0 .1 .1 .0) (c .before .before .before .before .before .o .given .1) (c .before .common-length .result) (c .before .common-length .ensures .0) in omega arith
+
+-- src/lib.rt:41:67
+lookup-part-lookup-start-2 : (t : ℕ) → lookup-lts.Need-part-lookup-start-2 (
+  u16-at-reads.Asked,
+  u16-at-reads.Learnt,
+  find-reads.Asked,
+  find-reads.Learnt,
+  newest-reads.Asked,
+  newest-reads.Learnt,
+  owner-of-reads.Asked,
+  owner-of-reads.Learnt,
+  common-length-reads.Asked,
+  common-length-reads.Learnt,
+  lookup-below t,
+  lookup.Post,
+) (lookup-at t) lookup.Post
+lookup-part-lookup-start-2 t c = let l = inner-short (c .before .before .before .before .before .before .before .before .before .before .before .before .before .before .before .before .args .store .now) (c .before .before .before .before .before .before .before .before .before .before .before .before .before .before .before .before .args .num) (c .before .before .before .before .before .before .before .before .before .before .before .before .before .before .before .before .args .level) (c .before .before .before .before .before .before .before .before .before .before .before .before .before .before .before .before .pre .1) (c .before .before .before .before .before .before .before .before .before .before .before .before .before .before .before .before .args .hi .now) (c .before .before .before .before .before .before .before .before .before .before .before .before .before .before .before .before .args .rest .now) (c .before .before .before .before .before .before .before .before .before .before .before .before .u16-at .result) (c .before .before .before .before .before .before .before .before .before .before .before .before .u16-at .ensures .0) (omega arith) (c .before .before .before .before .before .before .before .before .before .before .newest .result) (c .before .before .before .before .before .before .before .before .before .before .newest .ensures) (c .before .before .before .before .before .before .before .before .enum-told2 .given .1) (c .before .before .before .before .before .before .before .owner-of .result) (c .before .before .before .before .before .before .before .owner-of .ensures) (c .before .before .before .before .before .o .given .0 .0) (c .before .before .before .before .before .o .given .0 .1 .0) (c .before .before .before .before .before .o .given .0 .1 .1 .0) (c .before .before .before .before .before .o .given .1) (c .before .common-length .result) (c .before .common-length .ensures .0) in omega arith
+
+-- src/lib.rt:41:67
+lookup-part-lookup-end-2 : (t : ℕ) → lookup-lts.Need-part-lookup-end-2 (
+  u16-at-reads.Asked,
+  u16-at-reads.Learnt,
+  find-reads.Asked,
+  find-reads.Learnt,
+  newest-reads.Asked,
+  newest-reads.Learnt,
+  owner-of-reads.Asked,
+  owner-of-reads.Learnt,
+  common-length-reads.Asked,
+  common-length-reads.Learnt,
+  lookup-below t,
+  lookup.Post,
+) (lookup-at t) lookup.Post
+lookup-part-lookup-end-2 t c = search needs
+
+-- src/lib.rt:41:21
+lookup-lookup-requires : (t : ℕ) → lookup-lts.Need-lookup-requires (
+  u16-at-reads.Asked,
+  u16-at-reads.Learnt,
+  find-reads.Asked,
+  find-reads.Learnt,
+  newest-reads.Asked,
+  newest-reads.Learnt,
+  owner-of-reads.Asked,
+  owner-of-reads.Learnt,
+  common-length-reads.Asked,
+  common-length-reads.Learnt,
+  lookup-below t,
+  lookup.Post,
+) (lookup-at t) lookup.Post
+lookup-lookup-requires t c κs = (omega arith, inner-usable (c .before .before .before .before .before .before .before .before .before .before .before .before .before .before .before .before .before .args .store .now) (c .before .before .before .before .before .before .before .before .before .before .before .before .before .before .before .before .before .args .num) (c .before .before .before .before .before .before .before .before .before .before .before .before .before .before .before .before .before .args .level) (c .before .before .before .before .before .before .before .before .before .before .before .before .before .before .before .before .before .pre .1) (c .before .before .before .before .before .before .before .before .before .before .before .before .before .before .before .before .before .args .hi .now) (c .before .before .before .before .before .before .before .before .before .before .before .before .before .before .before .before .before .args .rest .now) (c .before .before .before .before .before .before .before .before .before .before .before .before .before .u16-at .result) (c .before .before .before .before .before .before .before .before .before .before .before .before .before .u16-at .ensures .0) (omega arith) (c .before .before .before .before .before .before .before .before .before .before .before .newest .result) (c .before .before .before .before .before .before .before .before .before .before .before .newest .ensures) (c .before .before .before .before .before .before .before .before .before .enum-told2 .given .1) (c .before .before .before .before .before .before .before .before .owner-of .result) (c .before .before .before .before .before .before .before .before .owner-of .ensures) (c .before .before .before .before .before .before .o .given .0 .0) (c .before .before .before .before .before .before .o .given .0 .1 .0) (c .before .before .before .before .before .before .o .given .0 .1 .1 .0) (c .before .before .before .before .before .before .o .given .1))
+
+-- src/lib.rt:43:29
+lookup-enum-known-o-2 : (t : ℕ) → lookup-lts.Need-enum-known-o-2 (
+  u16-at-reads.Asked,
+  u16-at-reads.Learnt,
+  find-reads.Asked,
+  find-reads.Learnt,
+  newest-reads.Asked,
+  newest-reads.Learnt,
+  owner-of-reads.Asked,
+  owner-of-reads.Learnt,
+  common-length-reads.Asked,
+  common-length-reads.Learnt,
+  lookup-below t,
+  lookup.Post,
+) (lookup-at t) lookup.Post
+lookup-enum-known-o-2 t c = search needs
+
+-- src/lib.rt:46:42
+lookup-sub-common-length-3 : (t : ℕ) → lookup-lts.Need-sub-common-length-3 (
+  u16-at-reads.Asked,
+  u16-at-reads.Learnt,
+  find-reads.Asked,
+  find-reads.Learnt,
+  newest-reads.Asked,
+  newest-reads.Learnt,
+  owner-of-reads.Asked,
+  owner-of-reads.Learnt,
+  common-length-reads.Asked,
+  common-length-reads.Learnt,
+  lookup-below t,
+  lookup.Post,
+) (lookup-at t) lookup.Post
+lookup-sub-common-length-3 t c = let w = last-places _ _ _ _ _ _ (c .before .before .before .owner-of .ensures) (c .before .o2 .given .1) in omega arith
+
+-- src/lib.rt:46:42
+lookup-part-common-length-start-3 : (t : ℕ) → lookup-lts.Need-part-common-length-start-3 (
+  u16-at-reads.Asked,
+  u16-at-reads.Learnt,
+  find-reads.Asked,
+  find-reads.Learnt,
+  newest-reads.Asked,
+  newest-reads.Learnt,
+  owner-of-reads.Asked,
+  owner-of-reads.Learnt,
+  common-length-reads.Asked,
+  common-length-reads.Learnt,
+  lookup-below t,
+  lookup.Post,
+) (lookup-at t) lookup.Post
+lookup-part-common-length-start-3 t c = let w = last-places _ _ _ _ _ _ (c .before .before .before .owner-of .ensures) (c .before .o2 .given .1) in omega arith
+
+-- src/lib.rt:46:42
+lookup-part-common-length-end-3 : (t : ℕ) → lookup-lts.Need-part-common-length-end-3 (
+  u16-at-reads.Asked,
+  u16-at-reads.Learnt,
+  find-reads.Asked,
+  find-reads.Learnt,
+  newest-reads.Asked,
+  newest-reads.Learnt,
+  owner-of-reads.Asked,
+  owner-of-reads.Learnt,
+  common-length-reads.Asked,
+  common-length-reads.Learnt,
+  lookup-below t,
+  lookup.Post,
+) (lookup-at t) lookup.Post
+lookup-part-common-length-end-3 t c = let w = last-places _ _ _ _ _ _ (c .before .before .before .owner-of .ensures) (c .before .o2 .given .1) in omega arith
+
+-- src/lib.rt:46:25
+lookup-common-length-requires-2 : (t : ℕ) → lookup-lts.Need-common-length-requires-2 (
+  u16-at-reads.Asked,
+  u16-at-reads.Learnt,
+  find-reads.Asked,
+  find-reads.Learnt,
+  newest-reads.Asked,
+  newest-reads.Learnt,
+  owner-of-reads.Asked,
+  owner-of-reads.Learnt,
+  common-length-reads.Asked,
+  common-length-reads.Learnt,
+  lookup-below t,
+  lookup.Post,
+) (lookup-at t) lookup.Post
+lookup-common-length-requires-2 t c κs = search needs
+
+-- src/lib.rt:47:42
+lookup-sub-lookup-4 : (t : ℕ) → lookup-lts.Need-sub-lookup-4 (
+  u16-at-reads.Asked,
+  u16-at-reads.Learnt,
+  find-reads.Asked,
+  find-reads.Learnt,
+  newest-reads.Asked,
+  newest-reads.Learnt,
+  owner-of-reads.Asked,
+  owner-of-reads.Learnt,
+  common-length-reads.Asked,
+  common-length-reads.Learnt,
+  lookup-below t,
+  lookup.Post,
+) (lookup-at t) lookup.Post
+lookup-sub-lookup-4 t c = search needs
+
+-- src/lib.rt:47:53
+lookup-sub-lookup-5 : (t : ℕ) → lookup-lts.Need-sub-lookup-5 (
+  u16-at-reads.Asked,
+  u16-at-reads.Learnt,
+  find-reads.Asked,
+  find-reads.Learnt,
+  newest-reads.Asked,
+  newest-reads.Learnt,
+  owner-of-reads.Asked,
+  owner-of-reads.Learnt,
+  common-length-reads.Asked,
+  common-length-reads.Learnt,
+  lookup-below t,
+  lookup.Post,
+) (lookup-at t) lookup.Post
+lookup-sub-lookup-5 t c = search needs
+
+-- src/lib.rt:47:53
+lookup-part-lookup-start-3 : (t : ℕ) → lookup-lts.Need-part-lookup-start-3 (
+  u16-at-reads.Asked,
+  u16-at-reads.Learnt,
+  find-reads.Asked,
+  find-reads.Learnt,
+  newest-reads.Asked,
+  newest-reads.Learnt,
+  owner-of-reads.Asked,
+  owner-of-reads.Learnt,
+  common-length-reads.Asked,
+  common-length-reads.Learnt,
+  lookup-below t,
+  lookup.Post,
+) (lookup-at t) lookup.Post
+lookup-part-lookup-start-3 t c = search needs
+
+-- src/lib.rt:47:53
+lookup-part-lookup-end-3 : (t : ℕ) → lookup-lts.Need-part-lookup-end-3 (
+  u16-at-reads.Asked,
+  u16-at-reads.Learnt,
+  find-reads.Asked,
+  find-reads.Learnt,
+  newest-reads.Asked,
+  newest-reads.Learnt,
+  owner-of-reads.Asked,
+  owner-of-reads.Learnt,
+  common-length-reads.Asked,
+  common-length-reads.Learnt,
+  lookup-below t,
+  lookup.Post,
+) (lookup-at t) lookup.Post
+lookup-part-lookup-end-3 t c = search needs
+
+-- src/lib.rt:47:63
+lookup-sub-lookup-6 : (t : ℕ) → lookup-lts.Need-sub-lookup-6 (
+  u16-at-reads.Asked,
+  u16-at-reads.Learnt,
+  find-reads.Asked,
+  find-reads.Learnt,
+  newest-reads.Asked,
+  newest-reads.Learnt,
+  owner-of-reads.Asked,
+  owner-of-reads.Learnt,
+  common-length-reads.Asked,
+  common-length-reads.Learnt,
+  lookup-below t,
+  lookup.Post,
+) (lookup-at t) lookup.Post
+lookup-sub-lookup-6 t c = let l = last-short (c .before .before .before .before .before .before .before .before .before .before .before .before .before .before .before .args .store .now) (c .before .before .before .before .before .before .before .before .before .before .before .before .before .before .before .args .num) (c .before .before .before .before .before .before .before .before .before .before .before .before .before .before .before .args .level) (c .before .before .before .before .before .before .before .before .before .before .before .before .before .before .before .pre .1) (c .before .before .before .before .before .before .before .before .before .before .before .before .before .before .before .args .hi .now) (c .before .before .before .before .before .before .before .before .before .before .before .before .before .before .before .args .rest .now) (c .before .before .before .before .before .before .before .before .before .before .before .u16-at .result) (c .before .before .before .before .before .before .before .before .before .before .before .u16-at .ensures .0) (omega arith) (c .before .before .before .before .before .before .before .before .before .newest .result) (c .before .before .before .before .before .before .before .before .before .newest .ensures) (c .before .before .before .before .before .before .before .enum-told2 .given .1) (c .before .before .before .before .before .before .owner-of .result) (c .before .before .before .before .before .before .owner-of .ensures) (c .before .before .before .before .o2 .given .0 .0) (c .before .before .before .before .o2 .given .0 .1 .0) (c .before .before .before .before .o2 .given .1) (c .before .common-length2 .result) (c .before .common-length2 .ensures .0) in omega arith
+
+-- src/lib.rt:47:63
+lookup-part-lookup-start-4 : (t : ℕ) → lookup-lts.Need-part-lookup-start-4 (
+  u16-at-reads.Asked,
+  u16-at-reads.Learnt,
+  find-reads.Asked,
+  find-reads.Learnt,
+  newest-reads.Asked,
+  newest-reads.Learnt,
+  owner-of-reads.Asked,
+  owner-of-reads.Learnt,
+  common-length-reads.Asked,
+  common-length-reads.Learnt,
+  lookup-below t,
+  lookup.Post,
+) (lookup-at t) lookup.Post
+lookup-part-lookup-start-4 t c = let l = last-short (c .before .before .before .before .before .before .before .before .before .before .before .before .before .before .before .args .store .now) (c .before .before .before .before .before .before .before .before .before .before .before .before .before .before .before .args .num) (c .before .before .before .before .before .before .before .before .before .before .before .before .before .before .before .args .level) (c .before .before .before .before .before .before .before .before .before .before .before .before .before .before .before .pre .1) (c .before .before .before .before .before .before .before .before .before .before .before .before .before .before .before .args .hi .now) (c .before .before .before .before .before .before .before .before .before .before .before .before .before .before .before .args .rest .now) (c .before .before .before .before .before .before .before .before .before .before .before .u16-at .result) (c .before .before .before .before .before .before .before .before .before .before .before .u16-at .ensures .0) (omega arith) (c .before .before .before .before .before .before .before .before .before .newest .result) (c .before .before .before .before .before .before .before .before .before .newest .ensures) (c .before .before .before .before .before .before .before .enum-told2 .given .1) (c .before .before .before .before .before .before .owner-of .result) (c .before .before .before .before .before .before .owner-of .ensures) (c .before .before .before .before .o2 .given .0 .0) (c .before .before .before .before .o2 .given .0 .1 .0) (c .before .before .before .before .o2 .given .1) (c .before .common-length2 .result) (c .before .common-length2 .ensures .0) in omega arith
+
+-- src/lib.rt:47:63
+lookup-part-lookup-end-4 : (t : ℕ) → lookup-lts.Need-part-lookup-end-4 (
+  u16-at-reads.Asked,
+  u16-at-reads.Learnt,
+  find-reads.Asked,
+  find-reads.Learnt,
+  newest-reads.Asked,
+  newest-reads.Learnt,
+  owner-of-reads.Asked,
+  owner-of-reads.Learnt,
+  common-length-reads.Asked,
+  common-length-reads.Learnt,
+  lookup-below t,
+  lookup.Post,
+) (lookup-at t) lookup.Post
+lookup-part-lookup-end-4 t c = search needs
+
+-- src/lib.rt:47:21
+lookup-lookup-requires-2 : (t : ℕ) → lookup-lts.Need-lookup-requires-2 (
+  u16-at-reads.Asked,
+  u16-at-reads.Learnt,
+  find-reads.Asked,
+  find-reads.Learnt,
+  newest-reads.Asked,
+  newest-reads.Learnt,
+  owner-of-reads.Asked,
+  owner-of-reads.Learnt,
+  common-length-reads.Asked,
+  common-length-reads.Learnt,
+  lookup-below t,
+  lookup.Post,
+) (lookup-at t) lookup.Post
+lookup-lookup-requires-2 t c κs = (omega arith, last-usable (c .before .before .before .before .before .before .before .before .before .before .before .before .before .before .before .before .args .store .now) (c .before .before .before .before .before .before .before .before .before .before .before .before .before .before .before .before .args .num) (c .before .before .before .before .before .before .before .before .before .before .before .before .before .before .before .before .args .level) (c .before .before .before .before .before .before .before .before .before .before .before .before .before .before .before .before .pre .1) (c .before .before .before .before .before .before .before .before .before .before .before .before .before .before .before .before .args .hi .now) (c .before .before .before .before .before .before .before .before .before .before .before .before .before .before .before .before .args .rest .now) (c .before .before .before .before .before .before .before .before .before .before .before .before .u16-at .result) (c .before .before .before .before .before .before .before .before .before .before .before .before .u16-at .ensures .0) (omega arith) (c .before .before .before .before .before .before .before .before .before .before .newest .result) (c .before .before .before .before .before .before .before .before .before .before .newest .ensures) (c .before .before .before .before .before .before .before .before .enum-told2 .given .1) (c .before .before .before .before .before .before .before .owner-of .result) (c .before .before .before .before .before .before .before .owner-of .ensures) (c .before .before .before .before .before .o2 .given .0 .0) (c .before .before .before .before .before .o2 .given .0 .1 .0) (c .before .before .before .before .before .o2 .given .1))
+
+-- src/lib.rt:49:34
+lookup-enum-told-3 : (t : ℕ) → lookup-lts.Need-enum-told-3 (
+  u16-at-reads.Asked,
+  u16-at-reads.Learnt,
+  find-reads.Asked,
+  find-reads.Learnt,
+  newest-reads.Asked,
+  newest-reads.Learnt,
+  owner-of-reads.Asked,
+  owner-of-reads.Learnt,
+  common-length-reads.Asked,
+  common-length-reads.Learnt,
+  lookup-below t,
+  lookup.Post,
+) (lookup-at t) lookup.Post
+lookup-enum-told-3 t c = search needs
+
+-- src/lib.rt:16:1
+lookup-returns-2 : (t : ℕ) → lookup-lts.Need-returns-2 (
+  u16-at-reads.Asked,
+  u16-at-reads.Learnt,
+  find-reads.Asked,
+  find-reads.Learnt,
+  newest-reads.Asked,
+  newest-reads.Learnt,
+  owner-of-reads.Asked,
+  owner-of-reads.Learnt,
+  common-length-reads.Asked,
+  common-length-reads.Learnt,
+  lookup-below t,
+  lookup.Post,
+) (lookup-at t) lookup.Post
+lookup-returns-2 t c = look-value (c .before .before .before .before .before .before .before .before .before .args .store .now) (c .before .before .before .before .before .before .before .before .before .args .num) (c .before .before .before .before .before .before .before .before .before .args .level) (c .before .before .before .before .before .before .before .before .before .pre .1) (c .before .before .before .before .before .before .before .before .before .args .hi .now) (c .before .before .before .before .before .before .before .before .before .args .rest .now) (c .before .before .before .before .before .u16-at .result) (c .before .before .before .before .before .u16-at .ensures .0) (omega arith) (c .before .before .before .newest .result) (c .before .before .before .newest .ensures) _ (c .before .m .given .1)
+
+-- src/lib.rt:16:1
+lookup-returns-3 : (t : ℕ) → lookup-lts.Need-returns-3 (
+  u16-at-reads.Asked,
+  u16-at-reads.Learnt,
+  find-reads.Asked,
+  find-reads.Learnt,
+  newest-reads.Asked,
+  newest-reads.Learnt,
+  owner-of-reads.Asked,
+  owner-of-reads.Learnt,
+  common-length-reads.Asked,
+  common-length-reads.Learnt,
+  lookup-below t,
+  lookup.Post,
+) (lookup-at t) lookup.Post
+lookup-returns-3 t c = look-gone (c .before .before .before .before .before .before .before .before .args .store .now) (c .before .before .before .before .before .before .before .before .args .num) (c .before .before .before .before .before .before .before .before .args .level) (c .before .before .before .before .before .before .before .before .pre .1) (c .before .before .before .before .before .before .before .before .args .hi .now) (c .before .before .before .before .before .before .before .before .args .rest .now) (c .before .before .before .before .u16-at .result) (c .before .before .before .before .u16-at .ensures .0) (omega arith) (c .before .before .newest .result) (c .before .before .newest .ensures) (c .enum-told .given .1)
+
+-- src/lib.rt:16:1
+lookup-returns-4 : (t : ℕ) → lookup-lts.Need-returns-4 (
+  u16-at-reads.Asked,
+  u16-at-reads.Learnt,
+  find-reads.Asked,
+  find-reads.Learnt,
+  newest-reads.Asked,
+  newest-reads.Learnt,
+  owner-of-reads.Asked,
+  owner-of-reads.Learnt,
+  common-length-reads.Asked,
+  common-length-reads.Learnt,
+  lookup-below t,
+  lookup.Post,
+) (lookup-at t) lookup.Post
+lookup-returns-4 t c = let w = inner-places _ _ _ _ _ _ _ (c .before .before .before .before .before .before .before .before .before .owner-of .ensures) (c .before .before .before .before .before .before .before .o .given .1) in let l = cut-length (c .before .before .before .before .before .before .before .before .before .before .before .before .before .before .before .before .before .before .args .store .now) ((c .before .before .before .before .before .before .before .o .given .0 .1 .1 .0) .start) ((c .before .before .before .before .before .before .before .o .given .0 .1 .1 .0) .stop) (omega arith) (omega arith) in
+    look-inner (c .before .before .before .before .before .before .before .before .before .before .before .before .before .before .before .before .before .before .args .store .now) (c .before .before .before .before .before .before .before .before .before .before .before .before .before .before .before .before .before .before .args .num) (c .before .before .before .before .before .before .before .before .before .before .before .before .before .before .before .before .before .before .args .level) (c .before .before .before .before .before .before .before .before .before .before .before .before .before .before .before .before .before .before .pre .1) (c .before .before .before .before .before .before .before .before .before .before .before .before .before .before .before .before .before .before .args .hi .now) (c .before .before .before .before .before .before .before .before .before .before .before .before .before .before .before .before .before .before .args .rest .now) (c .before .before .before .before .before .before .before .before .before .before .before .before .before .before .u16-at .result) (c .before .before .before .before .before .before .before .before .before .before .before .before .before .before .u16-at .ensures .0) (omega arith) (c .before .before .before .before .before .before .before .before .before .before .before .before .newest .result) (c .before .before .before .before .before .before .before .before .before .before .before .before .newest .ensures) (c .before .before .before .before .before .before .before .before .before .before .enum-told2 .given .1) (c .before .before .before .before .before .before .before .before .before .owner-of .result) (c .before .before .before .before .before .before .before .before .before .owner-of .ensures) (c .before .before .before .before .before .before .before .o .given .0 .0) (c .before .before .before .before .before .before .before .o .given .0 .1 .0) (c .before .before .before .before .before .before .before .o .given .0 .1 .1 .0) (c .before .before .before .before .before .before .before .o .given .1) (c .before .before .before .common-length .result) (c .before .before .before .common-length .ensures .0) (omega arith) _ (c .lookup .ensures)
+
+-- src/lib.rt:16:1
+lookup-returns-5 : (t : ℕ) → lookup-lts.Need-returns-5 (
+  u16-at-reads.Asked,
+  u16-at-reads.Learnt,
+  find-reads.Asked,
+  find-reads.Learnt,
+  newest-reads.Asked,
+  newest-reads.Learnt,
+  owner-of-reads.Asked,
+  owner-of-reads.Learnt,
+  common-length-reads.Asked,
+  common-length-reads.Learnt,
+  lookup-below t,
+  lookup.Post,
+) (lookup-at t) lookup.Post
+lookup-returns-5 t c = look-last (c .before .before .before .before .before .before .before .before .before .before .before .before .before .before .before .before .before .args .store .now) (c .before .before .before .before .before .before .before .before .before .before .before .before .before .before .before .before .before .args .num) (c .before .before .before .before .before .before .before .before .before .before .before .before .before .before .before .before .before .args .level) (c .before .before .before .before .before .before .before .before .before .before .before .before .before .before .before .before .before .pre .1) (c .before .before .before .before .before .before .before .before .before .before .before .before .before .before .before .before .before .args .hi .now) (c .before .before .before .before .before .before .before .before .before .before .before .before .before .before .before .before .before .args .rest .now) (c .before .before .before .before .before .before .before .before .before .before .before .before .before .u16-at .result) (c .before .before .before .before .before .before .before .before .before .before .before .before .before .u16-at .ensures .0) (omega arith) (c .before .before .before .before .before .before .before .before .before .before .before .newest .result) (c .before .before .before .before .before .before .before .before .before .before .before .newest .ensures) (c .before .before .before .before .before .before .before .before .before .enum-told2 .given .1) (c .before .before .before .before .before .before .before .before .owner-of .result) (c .before .before .before .before .before .before .before .before .owner-of .ensures) (c .before .before .before .before .before .before .o2 .given .0 .0) (c .before .before .before .before .before .before .o2 .given .0 .1 .0) (c .before .before .before .before .before .before .o2 .given .1) (c .before .before .before .common-length2 .result) (c .before .before .before .common-length2 .ensures .0) _ (c .lookup2 .ensures)
+
+-- src/lib.rt:16:1
+lookup-returns-6 : (t : ℕ) → lookup-lts.Need-returns-6 (
+  u16-at-reads.Asked,
+  u16-at-reads.Learnt,
+  find-reads.Asked,
+  find-reads.Learnt,
+  newest-reads.Asked,
+  newest-reads.Learnt,
+  owner-of-reads.Asked,
+  owner-of-reads.Learnt,
+  common-length-reads.Asked,
+  common-length-reads.Learnt,
+  lookup-below t,
+  lookup.Post,
+) (lookup-at t) lookup.Post
+lookup-returns-6 t c = look-nobody (c .before .before .before .before .before .before .before .before .before .before .before .args .store .now) (c .before .before .before .before .before .before .before .before .before .before .before .args .num) (c .before .before .before .before .before .before .before .before .before .before .before .args .level) (c .before .before .before .before .before .before .before .before .before .before .before .pre .1) (c .before .before .before .before .before .before .before .before .before .before .before .args .hi .now) (c .before .before .before .before .before .before .before .before .before .before .before .args .rest .now) (c .before .before .before .before .before .before .before .u16-at .result) (c .before .before .before .before .before .before .before .u16-at .ensures .0) (omega arith) (c .before .before .before .before .before .newest .result) (c .before .before .before .before .before .newest .ensures) (c .before .before .before .enum-told2 .given .1) (c .before .before .owner-of .result) (c .before .before .owner-of .ensures) (c .enum-told3 .given .1)
+
+pub +lookup-spec : {M : Type 1} → statement M
++lookup-spec = close μ-lookup λ t. lookup-lts.spec (
+  u16-at-reads.Asked,
+  u16-at-reads.Learnt,
+  find-reads.Asked,
+  find-reads.Learnt,
+  newest-reads.Asked,
+  newest-reads.Learnt,
+  owner-of-reads.Asked,
+  owner-of-reads.Learnt,
+  common-length-reads.Asked,
+  common-length-reads.Learnt,
+  lookup-below t,
+  lookup.Post,
+)
+    (lookup-at t)
+    lookup.Post
+    (lookup-mul-at t)
+    (lookup-u16-at-requires t)
+    (lookup-add-from t)
+    (lookup-add-end t)
+    (lookup-find-requires t)
+    (lookup-returns t)
+    (lookup-newest-requires t)
+    (lookup-enum-known-m t)
+    (lookup-enum-told t)
+    (lookup-enum-told-2 t)
+    (lookup-owner-of-requires t)
+    (lookup-enum-known-o t)
+    (lookup-sub-common-length t)
+    (lookup-part-common-length-start t)
+    (lookup-part-common-length-end t)
+    (lookup-sub-common-length-2 t)
+    (lookup-part-common-length-start-2 t)
+    (lookup-part-common-length-end-2 t)
+    (lookup-common-length-requires t)
+    (lookup-add-z t)
+    (lookup-sub-lookup t)
+    (lookup-sub-lookup-2 t)
+    (lookup-part-lookup-start t)
+    (lookup-part-lookup-end t)
+    (lookup-sub-lookup-3 t)
+    (lookup-part-lookup-start-2 t)
+    (lookup-part-lookup-end-2 t)
+    (lookup-lookup-requires t)
+    (lookup-enum-known-o-2 t)
+    (lookup-sub-common-length-3 t)
+    (lookup-part-common-length-start-3 t)
+    (lookup-part-common-length-end-3 t)
+    (lookup-common-length-requires-2 t)
+    (lookup-sub-lookup-4 t)
+    (lookup-sub-lookup-5 t)
+    (lookup-part-lookup-start-3 t)
+    (lookup-part-lookup-end-3 t)
+    (lookup-sub-lookup-6 t)
+    (lookup-part-lookup-start-4 t)
+    (lookup-part-lookup-end-4 t)
+    (lookup-lookup-requires-2 t)
+    (lookup-enum-told-3 t)
+    (lookup-returns-2 t)
+    (lookup-returns-3 t)
+    (lookup-returns-4 t)
+    (lookup-returns-5 t)
+    (lookup-returns-6 t)

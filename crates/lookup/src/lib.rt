@@ -1,0 +1,64 @@
+// The value of a path, looked up one level at a time.
+use node::Place;
+use search::Found;
+use search::Heard;
+use search::Owner;
+ghost use mathlib.Core.Path.{_≡_};
+ghost use mathlib.Core.Bool.{true};
+ghost use Prim.Native.Nat.{ℕ, _+_, _-_, _*_, _<_, _≤_};
+ghost use lib.ListN.{length, getD};
+ghost use Rattle.image.specs.Image.{treeAt, nodesOf};
+ghost use Rattle.image.specs.Sound.{sound, valueIn};
+ghost use Rattle.reading.specs.Relative.{usable, fromHere};
+ghost use Rattle.search.specs.Pairs.{Finds};
+
+// The place of the value that the node `num` of this level has for a rest. Its high pivot and the rest are without what it lifts.
+pub fn lookup(store: &[u8], num: usize, level: usize, hi: &[u8], rest: &[u8]) -> Found
+    requires { ⌜ usable (nodesOf (length (now store))) (treeAt level (now store) num) ≡ true ⌝ }
+    ensures { λ r. ⌜ Finds (now (store .entry)) (fromHere (treeAt level (now (store .entry)) num) (now (hi .entry)) (now (rest .entry))) r ⌝ }
+{
+    let at = num * 1024;
+    let len = octets::u16_at(store, at);
+    let from = at + 8;
+    let end = from + len;
+    if level <= 1 {
+        return search::find(store, from, end, rest);
+    }
+    let m = search::newest(store, from, end, rest);
+    match m {
+        Heard::Value(p) => Found::Value(p),
+        Heard::Gone => Found::Nothing,
+        Heard::Silent => {
+            let o = search::owner_of(store, from, end, hi, rest);
+            match o {
+                Owner::Inner(child, low, high) => {
+                    let a = low.start;
+                    let b = low.stop;
+                    let x = high.start;
+                    let y = high.stop;
+                    let k = octets::common_length(&store[a..b], &store[x..y]);
+                    let z = x + k;
+                    lookup(store, child, level - 1, &store[z..y], &rest[k..])
+                }
+                Owner::Last(child, low) => {
+                    let a = low.start;
+                    let b = low.stop;
+                    let k = octets::common_length(&store[a..b], hi);
+                    lookup(store, child, level - 1, &hi[k..], &rest[k..])
+                }
+                Owner::Nobody => Found::Nothing,
+            }
+        }
+    }
+}
+
+// The value of a path in a sound image.
+pub fn value_of(store: &[u8], path: &[u8]) -> Found
+    requires { ⌜ sound (now store) ≡ true ⌝ }
+    ensures { λ r. ⌜ Finds (now (store .entry)) (valueIn (now (store .entry)) (now (path .entry))) r ⌝ }
+{
+    let root = octets::u16_at(store, 6);
+    let levels = octets::u16_at(store, 8);
+    let hi = [255u8; 1];
+    lookup(store, root, levels, &hi, path)
+}

@@ -1,0 +1,39 @@
+use borrow.Author.Needs.{needs}
+use native.Mathlib.Omega.{arith}
+use Prim.Native.Nat.{ℕ, suc, _+_, _-_, _≤_, _<_}
+use mathlib.Core.Path.{_≡_, refl, sym, ap, _∙_}
+use mathlib.Core.List.{List, [], _∷_, _++_}
+use lib.ListN.{length, getD, take, drop}
+use borrow.Author.Needs.{needs}
+use borrow.Author.Tests.{not-true, not-false}
+use Rattle.make.specs.Steps.{make-refused, make-done, room}
+use Rattle.make.proofs.make.Statement.{statement}
+use Rattle.make.proofs.make.Tie as tie
+use Rattle.make.proofs.make.Reads as reads
+use Rattle.make.proofs.make.Lts as lts
+use Rattle.make.proofs.write_empty.Reads as write-empty-reads
+use Rattle.node.proofs.whole_nodes.Reads as whole-nodes-reads
+
+-- src/lib.rt:32:9
+whole-nodes-requires : tie.Need-whole-nodes-requires
+whole-nodes-requires c κs = search needs
+
+-- src/lib.rt:33:9
+returns : tie.Need-returns
+returns c = search (needs, make-refused, not-true)
+
+-- src/lib.rt:35:5
+write-empty-requires : tie.Need-write-empty-requires
+write-empty-requires c κs = room _ _ (c .before .before .whole-nodes .ensures) (not-false _ (c .before .if1 .left))
+
+-- src/lib.rt:28:1
+same-length : tie.Need-same-length
+same-length c = search needs
+
+-- src/lib.rt:28:1
+returns-2 : tie.Need-returns-2
+returns-2 c = search (needs, make-done, not-false)
+
+pub make-spec : {M : Type 1} → statement M
+make-spec =
+    tie.close (tie.spec whole-nodes-requires returns write-empty-requires same-length returns-2)

@@ -1,0 +1,73 @@
+-- The bytes that make writes, one number after another, are those of `made-image`; and its two ways out meet the contract.
+use Prim.Native.Nat.{ℕ, zero, suc, _+_, _*_, _-_, _/_, _≤_, _<_}
+use mathlib.Core.Path.{_≡_, refl, sym, ap, subst, _∙_}
+use mathlib.Core.List.{List, [], _∷_, _++_, append-nil}
+use mathlib.Core.Bool.{Bool, true, false}
+use native.Mathlib.Omega.{arith}
+use lib.ListN.{length, take, drop, replicate, length-replicate, drop-of-length-le}
+use Rattle.image.specs.Bytes.{u16Bytes}
+use Rattle.image.specs.Image.{nodesOf, wholeNodes}
+use Rattle.image.specs.Calls.{firstNo}
+use Rattle.image.specs.Contract.{makeNo, Made, MakeMeets}
+use Rattle.octets.specs.Put.{put, put-size}
+use Rattle.laws.specs.Made.{made-image, head-bytes, leaf-bytes, made, made-length}
+use Rattle.node.specs.Whole.{Whole, whole-parts}
+use Rattle.image.specs.Answers.{outcomeNumber, refusalNumber}
+use Rattle.image.specs.declared.Outcome.{Outcome}
+use Rattle.image.specs.declared.Refusal.{Refusal}
+
+-- a store filled with zeros
+filled : (s : List ℕ) (len : ℕ) → length s ≡ len → put s 0 (replicate len 0) ≡ replicate len 0
+unfolding put
+filled s len e =
+    let z : length {A = ℕ} (replicate len 0) ≡ len = length-replicate {A = ℕ} len 0 in
+    let y : length s ≤ 0 + length {A = ℕ} (replicate len 0) = omega arith in
+    ap (λ l. replicate len 0 ++ l) (drop-of-length-le s y) ∙ append-nil (replicate len 0)
+
+apart : (v a b : ℕ) → replicate (a + b) v ≡ replicate a v ++ replicate b v
+apart v zero b = let z : 0 + b ≡ b = omega arith in ap (λ k. replicate k v) z
+apart v (suc a) b = let z : suc a + b ≡ suc (a + b) = omega arith in ap (λ k. replicate k v) z ∙ ap (λ l. v ∷ l) (apart v a b)
+
+-- what make writes into zeros
+unfoldable written : List ℕ → ℕ → List ℕ
+written s n = put (put (put (put (put (put (put s 0 (u16Bytes 8)) 2 (u16Bytes 256)) 4 (u16Bytes n)) 6 (u16Bytes 1)) 8 (u16Bytes 1)) 1026 (u16Bytes 1)) 1028 (u16Bytes 1)
+
+written-is : (n : ℕ) → written (replicate 2048 0 ++ replicate (1024 * (n - 2)) 0) n ≡ made-image n
+unfolding written put made-image head-bytes leaf-bytes
+written-is n = refl
+
+pub writes-empty : (s s₀ s₁ s₂ s₃ s₄ s₅ s₆ s₇ : List ℕ) (n : ℕ) → length s ≡ 1024 * n → 2 ≤ n
+    → s₀ ≡ put s 0 (replicate (1024 * n) 0) → s₁ ≡ put s₀ 0 (u16Bytes 8) → s₂ ≡ put s₁ 2 (u16Bytes 256) → s₃ ≡ put s₂ 4 (u16Bytes n)
+    → s₄ ≡ put s₃ 6 (u16Bytes 1) → s₅ ≡ put s₄ 8 (u16Bytes 1) → s₆ ≡ put s₅ 1026 (u16Bytes 1) → s₇ ≡ put s₆ 1028 (u16Bytes 1)
+    → s₇ ≡ made-image n
+unfolding written
+writes-empty s s₀ s₁ s₂ s₃ s₄ s₅ s₆ s₇ n e h e₀ e₁ e₂ e₃ e₄ e₅ e₆ e₇ =
+    let z : 1024 * n ≡ 2048 + 1024 * (n - 2) = omega arith in
+    let zeros : s₀ ≡ replicate 2048 0 ++ replicate (1024 * (n - 2)) 0 = e₀ ∙ filled s (1024 * n) e ∙ ap (λ k. replicate k 0) z ∙ apart 0 2048 (1024 * (n - 2)) in
+    let all : s₇ ≡ written s₀ n = rw (e₇, e₆, e₅, e₄, e₃, e₂, e₁) refl in
+    all ∙ ap (λ l. written l n) zeros ∙ written-is n
+
+-- the two ways out
+pub make-refused : (s : List ℕ) (b : Bool) → b ≡ wholeNodes (length s) → b ≡ false → MakeMeets s (outcomeNumber (Outcome.Refused Refusal.Length)) s
+unfolding makeNo firstNo outcomeNumber refusalNumber
+make-refused s b e f =
+    let no : makeNo (length s) ≡ 1 = rw (sym e ∙ f) refl in
+    record { size = refl; answer = sym no; stays = λ k h. refl; leaves = λ h. absurd (let z : _≡_ {A = ℕ} 1 0 = sym no ∙ h in omega arith) }
+
+pub make-done : (s s′ : List ℕ) (b : Bool) → b ≡ wholeNodes (length s) → b ≡ true → s′ ≡ made-image (length s / 1024) → MakeMeets s (outcomeNumber Outcome.Done) s′
+unfolding makeNo firstNo outcomeNumber nodesOf
+make-done s s′ b e f g =
+    let whole : Whole (length s) = whole-parts (length s) (sym e ∙ f) in
+    let yes : makeNo (length s) ≡ 0 = rw (sym e ∙ f) refl in
+    record {
+      size = ap length g ∙ made-length (length s / 1024) (omega (arith, whole .enough)) ∙ whole .filled;
+      answer = sym yes;
+      stays = λ k h. absurd (let z : _≡_ {A = ℕ} 0 (suc k) = sym yes ∙ h in omega arith);
+      leaves = λ h. subst Made (sym g) (made (length s / 1024) (whole .enough) (whole .few));
+    }
+
+pub room : (len : ℕ) (b : Bool) → b ≡ wholeNodes len → b ≡ true → (len ≡ 1024 * (len / 1024)) × (2 ≤ len / 1024) × (len / 1024 ≤ 1024)
+unfolding nodesOf
+room len b e f =
+    let whole : Whole len = whole-parts len (sym e ∙ f) in
+    (sym (whole .filled), omega (arith, whole .enough), whole .few)

@@ -1,0 +1,220 @@
+-- The move on a store: the image that movedImage gives, with node 0 written last.
+use Prim.Native.Nat.{ℕ, zero, suc, _+_, _*_, _-_, _/_, _%_, _≤_, _<_}
+use mathlib.Core.Path.{_≡_, refl, sym, ap, ap₂, subst, _∙_}
+use mathlib.Core.List.{List, [], _∷_, _++_}
+use mathlib.Core.Bool.{Bool, true, false, _&&_, _||_, not, cond, false≢true}
+use native.Mathlib.Omega.{arith}
+use lib.ListN.{length, drop, getD, replicate, length-append, length-replicate}
+use lib.Dec.{eqb, leb, ltb}
+use borrow.Author.Tests.{eqb-true, leb-true, ltb-true, ltb-false}
+use Rattle.image.specs.Bytes.{begins, u16, zeros, u16Bytes}
+use Rattle.image.specs.Path.{wellFormed}
+use Rattle.image.specs.Table.{Row, everyKey, moved}
+use Rattle.image.specs.Image.{Tree, unread, leaf, interior, Header, header, nodeBytes, nodesOf, wholeNodes, headerOf, headerLaidOut, treeAt, treeOf}
+use Rattle.image.specs.Sound.{sound, tableOf, lowest, highest, numbers, isIn, once, inRange}
+use Rattle.image.specs.Upkeep.{settled, changed}
+use Rattle.octets.specs.Order.{and-left, and-right, not-so}
+use Rattle.laws.specs.WriteNode.{writeNode, write-length, write-same, write-other}
+use Rattle.laws.specs.Pieces.{levelled, Good}
+use Rattle.slicing.specs.SliceNumbers.{one, hits, hits-met, met, spent}
+use Rattle.slicing.specs.SliceFits.{fits}
+use Rattle.slicing.specs.SliceWrite.{one-other, one-same, stays, number-read, Only}
+use Rattle.slicing.specs.ReadBack.{numberOf}
+use Rattle.moving.specs.Move.{movedTree}
+use Rattle.moving.specs.MoveLaws.{Well, move-well}
+use Rattle.moving.specs.MoveWrite.{movedImage, Holds, image-holds}
+use Rattle.moving.specs.MoveImage.{from-list, Free, Written, Roots, roots, hit-in, hits-once, range-hit, spent-list, move-sound, move-table, move-changed, move-settled}
+use Rattle.slicing.specs.FromImage.{image-good, image-fits}
+
+-- node 0
+unfoldable pub headPage : ℕ → ℕ → ℕ → ℕ → List ℕ
+headPage n root levels live = (u16Bytes 8 ++ (u16Bytes 0x0100 ++ (u16Bytes n ++ (u16Bytes root ++ (u16Bytes levels ++ u16Bytes live))))) ++ replicate 1012 0
+
+head-full : (n root levels live : ℕ) → length (headPage n root levels live) ≡ 1024
+unfolding headPage
+head-full n root levels live = refl
+
+head-laid : (n root levels live : ℕ) → headerLaidOut (headPage n root levels live) ≡ true
+unfolding headerLaidOut headPage u16 zeros
+head-laid n root levels live = refl
+
+head-count : (n root levels live : ℕ) → u16 (headPage n root levels live) 4 ≡ n
+unfolding headPage u16
+head-count n root levels live = omega arith
+
+head-root : (n root levels live : ℕ) → u16 (headPage n root levels live) 6 ≡ root
+unfolding headPage u16
+head-root n root levels live = omega arith
+
+head-levels : (n root levels live : ℕ) → u16 (headPage n root levels live) 8 ≡ levels
+unfolding headPage u16
+head-levels n root levels live = omega arith
+
+head-live : (n root levels live : ℕ) → u16 (headPage n root levels live) 10 ≡ live
+unfolding headPage u16
+head-live n root levels live = omega arith
+
+head-read : (n a b c : ℕ) → header (headPage n a b c) ≡ record { count = n; root = a; levels = b; live = c }
+unfolding header
+head-read n a b c = λ i. record { count = head-count n a b c i; root = head-root n a b c i; levels = head-levels n a b c i; live = head-live n a b c i }
+
+-- the image after the move, its free nodes listed
+unfoldable pub movedStore : List ℕ → List ℕ → List ℕ → List ℕ → List ℕ
+movedStore s free from to =
+    writeNode (movedImage (from-list free) (headerOf s .levels) (treeOf s) from to s) 0
+    (headPage (nodesOf (length s)) (from-list free (10 * headerOf s .levels)) (suc (headerOf s .levels)) (length (moved from to (tableOf s))))
+
+get-past : (xs : List ℕ) (i : ℕ) → length xs ≤ i → getD xs i 0 ≡ 0
+get-past [] i h = refl
+get-past (x ∷ xs) zero h = absurd (omega arith)
+get-past (x ∷ xs) (suc i) h = get-past xs i (omega arith)
+
+get-range : (n : ℕ) (xs : List ℕ) (i : ℕ) → 1 ≤ n → inRange n xs ≡ true → getD xs i 0 < n
+unfolding inRange
+get-range n [] i h e = h
+get-range n (x ∷ xs) zero h e = ltb-true x n (and-right (leb 1 x) _ (and-left _ _ e))
+get-range n (x ∷ xs) (suc i) h e = get-range n xs i h (and-right (leb 1 x && ltb x n) _ e)
+
+level-suc : (t : Tree) (h : ℕ) → levelled t h ≡ true → (k : ℕ) × (h ≡ suc k)
+unfolding levelled
+level-suc t (suc k) e = (k, refl)
+level-suc (unread i) zero e = absurd (false≢true e)
+level-suc (leaf i rs) zero e = absurd (false≢true e)
+level-suc (interior i f ms) zero e = absurd (false≢true e)
+
+module _ (s free from to : List ℕ) (whole : wholeNodes (length s) ≡ true) (ok : sound s ≡ true) (noMessage : settled s ≡ true) (low : headerOf s .levels ≤ 7)
+    (formed-from : wellFormed from ≡ true) (formed-to : wellFormed to ≡ true) (apart : begins from to ≡ false) (apart′ : begins to from ≡ false)
+    (q9 : everyKey wellFormed (moved from to (tableOf s)) ≡ true) (f : Free s free) where
+  h : ℕ
+  h = headerOf s .levels
+
+  t : Tree
+  t = treeOf s
+
+  fresh : ℕ → ℕ
+  fresh = from-list free
+
+  n : ℕ
+  n = nodesOf (length s)
+
+  bytes : 1024 * nodesOf (length s) ≡ length s
+  unfolding wholeNodes
+  bytes = eqb-true (1024 * nodesOf (length s)) (length s) (and-left _ _ (and-left _ _ whole))
+
+  some-nodes : 32 ≤ nodesOf (length s)
+  unfolding wholeNodes
+  some-nodes = leb-true 32 (nodesOf (length s)) (and-right (eqb (1024 * nodesOf (length s)) (length s)) _ (and-left _ _ whole))
+
+  room : (x : ℕ) → 1024 * fresh x + 1024 ≤ length s
+  unfolding fresh
+  room x = omega (arith, bytes, get-range (nodesOf (length s)) free x (omega (arith, some-nodes)) (f .within))
+
+  supply : (j : ℕ) → hits j (numbers (treeOf s)) + hits j free ≤ 1
+  supply j = go (isIn j free) refl
+    where
+      go : (x : Bool) → isIn j free ≡ x → hits j (numbers (treeOf s)) + hits j free ≤ 1
+      go true q = omega (arith, hits-once j free (f .distinct), hit-in j (numbers (treeOf s)) (f .unused j q))
+      go false q = omega (arith, hits-once j (numbers (treeOf s)) (roots s ok .alone), hit-in j free q)
+
+  D : (j : ℕ) → met j t + spent fresh j (suc (10 * h)) 0 ≤ 1
+  unfolding t fresh h
+  D j = omega (arith, supply j, hits-met j (treeOf s), spent-list j free (suc (10 * headerOf s .levels)) 0 (omega (arith, f .enough)))
+
+  good : Good h t [] highest
+  unfolding h t
+  good = image-good s ok noMessage
+
+  well : Well fresh h from to t (movedTree fresh h t from to)
+  unfolding h t tableOf
+  well = move-well fresh (headerOf s .levels) (treeOf s) from to (image-good s ok noMessage) (image-fits s) formed-from formed-to apart apart′ q9
+
+  reads-old : treeAt h s (numberOf t) ≡ t
+  unfolding h t treeOf
+  reads-old = ap (treeAt (headerOf s .levels) s) (number-read (headerOf s .levels) s (headerOf s .root))
+
+  fits-old : fits t ≡ true
+  unfolding t
+  fits-old = image-fits s
+
+  done : Holds fresh h (movedTree fresh h t from to) s (movedImage fresh h t from to s)
+  done =
+      image-holds fresh h (level-suc t h (good .level) .0) (level-suc t h (good .level) .1) t from to good fits-old formed-from formed-to apart apart′ well s room reads-old D
+
+  image : List ℕ
+  image = movedImage fresh h t from to s
+
+  pg : List ℕ
+  pg = headPage n (fresh (10 * h)) (suc h) (length (moved from to (tableOf s)))
+
+  size-image : length image ≡ length s
+  unfolding image
+  size-image = done .onlyNew .size
+
+  room-0 : 1024 * 0 + 1024 ≤ length image
+  room-0 = omega (arith, size-image, bytes, some-nodes)
+
+  full : length pg ≡ 1024
+  unfolding pg
+  full = head-full n (fresh (10 * h)) (suc h) (length (moved from to (tableOf s)))
+
+  root-is : numberOf (movedTree fresh h t from to) ≡ fresh (10 * h)
+  root-is = ap numberOf (sym (done .isThere)) ∙ number-read (suc h) (movedImage fresh h t from to s) (fresh (10 * h))
+
+  none-zero : met 0 (movedTree fresh h t from to) ≡ 0
+  unfolding t fresh h
+  none-zero = go (hits 0 (numbers (treeOf s))) refl (hits 0 free) refl
+    where
+      old : 1 ≤ hits 0 (numbers (treeOf s)) → ⊥
+      old q = let z : (1 ≤ 0) × (0 < nodesOf (length s)) = range-hit (nodesOf (length s)) 0 (numbers (treeOf s)) (roots s ok .within) q in omega (arith, z .0)
+
+      new : 1 ≤ hits 0 free → ⊥
+      new q = let z : (1 ≤ 0) × (0 < nodesOf (length s)) = range-hit (nodesOf (length s)) 0 free (f .within) q in omega (arith, z .0)
+
+      go : (a : ℕ) → hits 0 (numbers (treeOf s)) ≡ a → (b : ℕ) → hits 0 free ≡ b
+          → met 0 (movedTree (from-list free) (headerOf s .levels) (treeOf s) from to) ≡ 0
+      go (suc a) x b y = absurd (old (omega arith))
+      go zero x (suc b) y = absurd (new (omega arith))
+      go zero x zero y =
+          omega (arith, well .newNumbers 0, hits-met 0 (treeOf s), spent-list 0 free (suc (10 * headerOf s .levels)) 0 (omega (arith, f .enough)))
+
+  still-there : treeAt (suc h) (writeNode image 0 pg) (fresh (10 * h)) ≡ movedTree fresh h t from to
+  unfolding image
+  still-there =
+      ap (treeAt (suc h) (writeNode (movedImage fresh h t from to s) 0 pg)) (sym root-is)
+      ∙ stays (suc h) (movedImage fresh h t from to s) (writeNode (movedImage fresh h t from to s) 0 pg) (movedTree fresh h t from to)
+      (ap (treeAt (suc h) (movedImage fresh h t from to s)) root-is ∙ done .isThere)
+      (λ j m. write-other (movedImage fresh h t from to s) 0 pg room-0 full j (λ q. never j q m))
+    where
+      never : (j : ℕ) → j ≡ 0 → 1 ≤ met j (movedTree fresh h t from to) → ⊥
+      never j q m = let z : met j (movedTree fresh h t from to) ≡ 0 = ap (λ x. met x (movedTree fresh h t from to)) q ∙ none-zero in omega arith
+
+  node-0 : nodeBytes (writeNode image 0 pg) 0 ≡ pg
+  node-0 = write-same image 0 pg room-0 full
+
+  written : Written s (writeNode image 0 pg) free from to
+  unfolding headerOf h t fresh n image pg
+  written =
+      record {
+        size = write-length image 0 pg room-0 full ∙ size-image;
+        laid = ap headerLaidOut node-0 ∙ head-laid n (fresh (10 * h)) (suc h) (length (moved from to (tableOf s)));
+        head = ap header node-0 ∙ head-read n (fresh (10 * h)) (suc h) (length (moved from to (tableOf s)));
+        holds = still-there;
+        others = λ i z. write-other image 0 pg room-0 full i (one-other i 0 (omega arith)) ∙ done .onlyNew .others i (omega arith);
+      }
+
+  -- THE MOVE, on stores: sound, the moved map, and few nodes changed.
+  pub store-sound : sound (movedStore s free from to) ≡ true
+  unfolding movedStore h t fresh n image pg
+  store-sound = move-sound s (writeNode image 0 pg) free from to ok noMessage low formed-from formed-to apart apart′ q9 f written
+
+  pub store-table : tableOf (movedStore s free from to) ≡ moved from to (tableOf s)
+  unfolding movedStore h t fresh n image pg
+  store-table = move-table s (writeNode image 0 pg) free from to ok noMessage low formed-from formed-to apart apart′ q9 f written
+
+  pub store-changed : changed (nodesOf (length s)) s (movedStore s free from to) ≤ 10 * headerOf s .levels + 2
+  unfolding movedStore h t fresh n image pg
+  store-changed = move-changed s (writeNode image 0 pg) free from to ok noMessage low formed-from formed-to apart apart′ q9 f written
+
+  pub store-settled : settled (movedStore s free from to) ≡ true
+  unfolding movedStore h t fresh n image pg
+  store-settled = move-settled s (writeNode image 0 pg) free from to ok noMessage low formed-from formed-to apart apart′ q9 f written

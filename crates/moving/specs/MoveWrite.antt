@@ -1,0 +1,514 @@
+-- The move written into an image: eight slices into free nodes, one after another, then the new root. What is read back is the moved tree.
+use Prim.Native.Nat.{ℕ, zero, suc, _+_, _*_, _-_, _≤_, _<_}
+use mathlib.Core.Path.{_≡_, refl, sym, ap, ap₂, subst, _∙_}
+use mathlib.Core.List.{List, [], _∷_, _++_}
+use mathlib.Core.Bool.{Bool, true, false, _&&_, _||_, not, cond, false≢true}
+use native.Mathlib.Omega.{arith}
+use lib.ListN.{length}
+use Rattle.image.specs.Entry.{pivotLimit}
+use Rattle.image.specs.Bytes.{same, before, begins, shared}
+use Rattle.image.specs.Table.{Row}
+use Rattle.image.specs.Image.{Tree, unread, leaf, interior, Forest, end, tree, nodeBytes, treeAt}
+use Rattle.image.specs.Sound.{soundTree, highest}
+use Rattle.octets.specs.Order.{and-left, and-right, not-so, same-false, before-total}
+use Rattle.laws.specs.WriteNode.{writeNode, write-length, write-same, write-other}
+use Rattle.laws.specs.Pieces.{levelled, Good, joined, node}
+use Rattle.slicing.specs.Slice.{leftOf, rightOf}
+use Rattle.slicing.specs.SliceNumbers.{one, met, metIn, met-node, met-joined, spent, taken, left-numbers, right-numbers}
+use Rattle.slicing.specs.SliceFits.{fits, fitsIn, begins-refl}
+use Rattle.slicing.specs.ReadBack.{numberOf, ReadsIn}
+use Rattle.slicing.specs.SliceWrite.{pageOf, pageOf-full, stays, stays-in, node-done, leaf-done, one-same, one-other, Only, only-none, only-more, leftWrite, number-left, LeftDone, left-written}
+use Rattle.slicing.specs.RightWrite.{rightWrite, RightDone, right-written, reads-joined}
+use Rattle.slicing.specs.Tail.{firstOf, tailOf, gapOf, tail-good, tail-met, gap-fits, gap-met}
+use Rattle.image.specs.Path.{wellFormed}
+use Rattle.slicing.specs.Range.{past, before-past, before-aside, formed-inside}
+use Rattle.moving.specs.Move.{leftPastR, rightPastR, leftR, midR, leftPastP, rightPastP, leftP, midP, unmergeable, rootOver, movedTree}
+use Rattle.moving.specs.MoveLaws.{spent-split, taken-two, taken-one, begins-past, short-of, b-past-p, b-r, b-past-r, cut-1, cut-2, cut-3, cut-4, fit-1, fit-2, fit-3, fit-4, root-fits, short-past, Well}
+
+-- blocks of numbers
+spent-mono : (fresh : ℕ → ℕ) (j a b at : ℕ) → a ≤ b → spent fresh j a at ≤ spent fresh j b at
+spent-mono fresh j a b at h = omega (arith, spent-split fresh j a (b - a) b at (a + at) (omega arith) refl)
+
+spent-block : (fresh : ℕ → ℕ) (j c b at n : ℕ) → c ≤ at → at + b ≤ n → spent fresh j c 0 + spent fresh j b at ≤ spent fresh j n 0
+spent-block fresh j c b at n h g =
+    omega (arith, spent-mono fresh j c at 0 h, spent-split fresh j at b (at + b) 0 at refl (omega arith), spent-mono fresh j (at + b) n 0 g)
+
+only-then : (fresh : ℕ → ℕ) (s s′ s″ : List ℕ) (a b c at at′ : ℕ) → c ≡ a + b → at′ ≡ a + at → Only fresh s s′ a at → Only fresh s′ s″ b at′ → Only fresh s s″ c at
+only-then fresh s s′ s″ a b c at at′ e f o p =
+    record {
+      size = p .size ∙ o .size;
+      others = λ j z. p .others j (omega (arith, spent-split fresh j a b c at at′ e f)) ∙ o .others j (omega (arith, spent-split fresh j a b c at at′ e f));
+    }
+
+-- the empty chain
+unfoldable pub gapWrite : (ℕ → ℕ) → ℕ → List ℕ → List ℕ → ℕ → List ℕ → List ℕ
+gapWrite fresh zero lo hi at s = s
+gapWrite fresh (suc zero) lo hi at s = writeNode s (fresh at) (pageOf 1 (leaf (fresh at) []))
+gapWrite fresh (suc (suc h)) lo hi at s =
+    writeNode (gapWrite fresh (suc h) lo hi (suc at) s) (fresh at)
+    (pageOf (suc (suc h)) (node (fresh at) lo hi (tree lo (gapOf fresh (suc h) lo hi (suc at)) end)))
+
+gap-number : (fresh : ℕ → ℕ) (h : ℕ) (lo hi : List ℕ) (at : ℕ) → numberOf (gapOf fresh (suc h) lo hi at) ≡ fresh at
+unfolding gapOf numberOf node
+gap-number fresh zero lo hi at = refl
+gap-number fresh (suc h) lo hi at = refl
+
+gap-written : (fresh : ℕ → ℕ) (lo hi : List ℕ) → before lo hi ≡ true → length lo ≤ pivotLimit → (h at : ℕ) (s : List ℕ) → ((x : ℕ) → 1024 * fresh x + 1024 ≤ length s)
+    → ((j : ℕ) → spent fresh j (suc h) at ≤ 1) → LeftDone fresh s (gapWrite fresh (suc h) lo hi at s) (suc h) at (gapOf fresh (suc h) lo hi at)
+unfolding gapWrite gapOf spent ReadsIn metIn
+gap-written fresh lo hi lt short zero at s room d =
+    let fit : fits (leaf (fresh at) []) ≡ true = gap-fits fresh lo hi lt 0 at short in
+    record {
+      only = only-more fresh s s 0 at (pageOf 1 (leaf (fresh at) [])) (room at) (pageOf-full 1 (leaf (fresh at) []) fit) (only-none fresh s 0 (suc at));
+      reads = leaf-done s (fresh at) [] (room at) fit;
+    }
+gap-written fresh lo hi lt short (suc h) at s room d =
+    let ih : LeftDone fresh s (gapWrite fresh (suc h) lo hi (suc at) s) (suc h) (suc at) (gapOf fresh (suc h) lo hi (suc at)) =
+    gap-written fresh lo hi lt short h (suc at) s room (λ j. let q : one j (fresh at) + (one j (fresh (suc at)) + spent fresh j h (suc (suc at))) ≤ 1 = d j in omega arith) in
+    let s′ : List ℕ = gapWrite fresh (suc h) lo hi (suc at) s in
+    let g : Forest = tree lo (gapOf fresh (suc h) lo hi (suc at)) end in
+    let fit : fits (node (fresh at) lo hi g) ≡ true = gap-fits fresh lo hi lt (suc h) at short in
+    let new : metIn (fresh at) g ≡ 0 = own (d (fresh at)) (gap-met fresh lo hi lt (fresh at) h (suc at)) in
+    record {
+      only = only-more fresh s s′ (suc h) at (pageOf (suc (suc h)) (node (fresh at) lo hi g)) (room at) (pageOf-full (suc (suc h)) (node (fresh at) lo hi g) fit) (ih .only);
+      reads =
+          node-done h s′ (fresh at) lo hi g (omega (arith, room at, ih .only .size)) fit new
+          (ap (treeAt (suc h) s′) (gap-number fresh h lo hi (suc at)) ∙ ih .reads, tt);
+    }
+  where
+    own : one (fresh at) (fresh at) + spent fresh (fresh at) (suc h) (suc at) ≤ 1
+        → met (fresh at) (gapOf fresh (suc h) lo hi (suc at)) ≡ spent fresh (fresh at) (suc h) (suc at) → met (fresh at) (gapOf fresh (suc h) lo hi (suc at)) + 0 ≡ 0
+    own a b = omega (arith, one-same (fresh at))
+
+first-read : (under : ℕ → Tree) (f : Forest) (lo hi : List ℕ) → ReadsIn under f → soundTree (firstOf f) lo hi ≡ true → under (numberOf (firstOf f)) ≡ firstOf f
+unfolding ReadsIn firstOf soundTree
+first-read under end lo hi r e = absurd (false≢true e)
+first-read under (tree s t f) lo hi r e = r .0
+
+-- trees whose numbers are the old ones and the first c new ones
+module _ (fresh : ℕ → ℕ) (t : Tree) (N : ℕ) (D : (j : ℕ) → met j t + spent fresh j N 0 ≤ 1) where
+  unfoldable pub Within : ℕ → Tree → Type 0
+  Within c u = (j : ℕ) → met j u ≤ met j t + spent fresh j c 0
+
+  unfoldable pub WithinIn : ℕ → Forest → Type 0
+  WithinIn c f = (j : ℕ) → metIn j f ≤ met j t + spent fresh j c 0
+
+  keep-read : (h : ℕ) (s s′ : List ℕ) (u : Tree) (c b at : ℕ) → c ≤ at → at + b ≤ N → Within c u → Only fresh s s′ b at → treeAt h s (numberOf u) ≡ u → treeAt h s′ (numberOf u) ≡ u
+  unfolding Within
+  keep-read h s s′ u c b at x y w o e = stays h s s′ u e (λ j m. o .others j (omega (arith, w j, D j, spent-block fresh j c b at N x y)))
+
+  keep-reads : (h : ℕ) (s s′ : List ℕ) (f : Forest) (c b at : ℕ) → c ≤ at → at + b ≤ N → WithinIn c f → Only fresh s s′ b at → ReadsIn (λ j. treeAt h s j) f
+      → ReadsIn (λ j. treeAt h s′ j) f
+  unfolding WithinIn
+  keep-reads h s s′ f c b at x y w o e = stays-in h s s′ f e (λ j m. o .others j (omega (arith, w j, D j, spent-block fresh j c b at N x y)))
+
+  apart : (u : Tree) (c b at : ℕ) → c ≤ at → at + b ≤ N → Within c u → (j : ℕ) → met j u + spent fresh j b at ≤ 1
+  unfolding Within
+  apart u c b at x y w j = omega (arith, w j, D j, spent-block fresh j c b at N x y)
+
+  within-left : (u : Tree) (c h : ℕ) (lo hi k : List ℕ) (at d : ℕ) → c ≤ at → d ≡ at + h → levelled u h ≡ true → Within c u → Within d (leftOf fresh u lo hi k at)
+  unfolding Within
+  within-left u c h lo hi k at d x y e w j = omega (arith, w j, left-numbers j fresh u h lo hi k at e, spent-block fresh j c h at d x (omega arith))
+
+  within-right : (v : Bool) (u : Tree) (c h : ℕ) (lo hi k : List ℕ) (at d : ℕ) → c ≤ at → d ≡ at + taken v h → levelled u h ≡ true → Within c u
+      → WithinIn d (rightOf fresh v u lo hi k at)
+  unfolding Within WithinIn
+  within-right v u c h lo hi k at d x y e w j =
+      omega (arith, w j, right-numbers j fresh v u h lo hi k at e, spent-block fresh j c (taken v h) at d x (omega arith))
+
+  within-self : Within 0 t
+  unfolding Within
+  within-self j = omega arith
+
+  pub within-later : (u : Tree) (c d : ℕ) → c ≤ d → Within c u → Within d u
+  unfolding Within
+  within-later u c d x w j = omega (arith, w j, spent-mono fresh j c d 0 x)
+
+  within-tail : (u v : Tree) (c h : ℕ) (hi k : List ℕ) (at d : ℕ) → ((j : ℕ) → met j v ≡ metIn j (rightOf fresh false u [] hi k at)) → c ≤ at → d ≡ at + h
+      → levelled u h ≡ true → Within c u → Within d v
+  unfolding Within
+  within-tail u v c h hi k at d m x y e w j =
+      omega (arith, m j, w j, right-numbers j fresh false u h [] hi k at e, taken-one h, spent-block fresh j c (taken false h) at d x (omega (arith, taken-one h)))
+
+gap-at : (fresh : ℕ → ℕ) (h k : ℕ) → h ≡ suc k → (q : List ℕ) → length q ≤ pivotLimit → (at : ℕ) (s : List ℕ) → ((x : ℕ) → 1024 * fresh x + 1024 ≤ length s)
+    → ((j : ℕ) → spent fresh j h at ≤ 1) → LeftDone fresh s (gapWrite fresh h q (past q) at s) h at (gapOf fresh h q (past q) at)
+gap-at fresh h k e q short at s room d =
+    subst (λ x. LeftDone fresh s (gapWrite fresh x q (past q) at s) x at (gapOf fresh x q (past q) at)) (sym e)
+    (gap-written fresh q (past q) (before-past q) short k at s room (λ j. subst (λ x. spent fresh j x at ≤ 1) e (d j)))
+
+gap-number-at : (fresh : ℕ → ℕ) (h k : ℕ) → h ≡ suc k → (q : List ℕ) (at : ℕ) → numberOf (gapOf fresh h q (past q) at) ≡ fresh at
+gap-number-at fresh h k e q at = ap (λ x. numberOf (gapOf fresh x q (past q) at)) e ∙ gap-number fresh k q (past q) at
+
+node-at : (h k : ℕ) → h ≡ suc k → (s : List ℕ) (n : ℕ) (lo hi : List ℕ) (g : Forest) → 1024 * n + 1024 ≤ length s → fits (node n lo hi g) ≡ true → metIn n g ≡ 0
+    → ReadsIn (λ j. treeAt h s j) g → treeAt (suc h) (writeNode s n (pageOf (suc h) (node n lo hi g))) n ≡ node n lo hi g
+node-at h k e s n lo hi g room fit new r =
+    subst (λ x. treeAt (suc x) (writeNode s n (pageOf (suc x) (node n lo hi g))) n ≡ node n lo hi g) (sym e)
+    (node-done k s n lo hi g room fit new (subst (λ x. ReadsIn (λ j. treeAt x s j) g) e r))
+
+-- the images between
+module _ (fresh : ℕ → ℕ) (h : ℕ) (t : Tree) (p r s : List ℕ) where
+  unfoldable pub im1 : List ℕ
+  im1 = leftWrite fresh t h [] highest (past r) 0 s
+
+  unfoldable pub im2 : List ℕ
+  im2 = rightWrite fresh true t h [] highest (past r) h im1
+
+  unfoldable pub im3 : List ℕ
+  im3 = leftWrite fresh (leftPastR fresh h t p r) h [] (past r) r (3 * h) im2
+
+  unfoldable pub im4 : List ℕ
+  im4 = leftWrite fresh (leftR fresh h t p r) h [] r (past p) (4 * h) im3
+
+  unfoldable pub im5 : List ℕ
+  im5 = rightWrite fresh true (leftR fresh h t p r) h [] r (past p) (5 * h) im4
+
+  unfoldable pub im6 : List ℕ
+  im6 = leftWrite fresh (leftPastP fresh h t p r) h [] (past p) p (7 * h) im5
+
+  -- the tail, the gap, the root
+  unfoldable pub im7 : Tree → List ℕ → List ℕ
+  im7 u q = rightWrite fresh false u h [] (past q) q (8 * h) im6
+
+  unfoldable pub im8 : Tree → List ℕ → List ℕ
+  im8 u q = gapWrite fresh h q (past q) (9 * h) (im7 u q)
+
+  unfoldable pub im9 : Tree → List ℕ → Tree → Tree → List ℕ
+  im9 u q x y = writeNode (im8 u q) (fresh (10 * h)) (pageOf (suc h) (rootOver fresh h t p r x y))
+
+module _ (fresh : ℕ → ℕ) (h : ℕ) (t : Tree) (p r : List ℕ) (good : Good h t [] highest) (b-p : before [] p ≡ true) (lt : before (past p) r ≡ true)
+    (in-r : before (past r) highest ≡ true) (short-p : length (past p) ≤ pivotLimit) (short-r : length (past r) ≤ pivotLimit) (fit : fits t ≡ true)
+    (s : List ℕ) (room : (x : ℕ) → 1024 * fresh x + 1024 ≤ length s) (e : treeAt h s (numberOf t) ≡ t)
+    (D : (j : ℕ) → met j t + spent fresh j (suc (10 * h)) 0 ≤ 1) where
+  pub g1 : Good h (leftPastR fresh h t p r) [] (past r)
+  g1 = cut-1 fresh h t p r good b-p lt in-r .low
+
+  g3 : Good h (leftR fresh h t p r) [] r
+  g3 = cut-2 fresh h t p r good b-p lt in-r .low
+
+  pub g4 : Good h (leftPastP fresh h t p r) [] (past p)
+  g4 = cut-3 fresh h t p r good b-p lt in-r .low
+
+  pub f1 : fits (leftPastR fresh h t p r) ≡ true
+  f1 = fit-1 fresh h t p r good b-p lt in-r short-p short-r fit .0
+
+  f3 : fits (leftR fresh h t p r) ≡ true
+  f3 = fit-2 fresh h t p r good b-p lt in-r short-p short-r fit
+
+  pub f4 : fits (leftPastP fresh h t p r) ≡ true
+  f4 = fit-3 fresh h t p r good b-p lt in-r short-p short-r fit .0
+
+  -- whose numbers are whose
+  pub w1 : Within fresh t (suc (10 * h)) D h (leftPastR fresh h t p r)
+  unfolding leftPastR
+  w1 = within-left fresh t (suc (10 * h)) D t 0 h [] highest (past r) 0 h (omega arith) (omega arith) (good .level) (within-self fresh t (suc (10 * h)) D)
+
+  w2 : WithinIn fresh t (suc (10 * h)) D (3 * h) (rightPastR fresh h t p r)
+  unfolding rightPastR
+  w2 = within-right fresh t (suc (10 * h)) D true t 0 h [] highest (past r) h (3 * h) (omega arith) (omega (arith, taken-two h)) (good .level) (within-self fresh t (suc (10 * h)) D)
+
+  w3 : Within fresh t (suc (10 * h)) D (4 * h) (leftR fresh h t p r)
+  unfolding leftR
+  w3 = within-left fresh t (suc (10 * h)) D (leftPastR fresh h t p r) h h [] (past r) r (3 * h) (4 * h) (omega arith) (omega arith) (g1 .level) w1
+
+  pub w4 : Within fresh t (suc (10 * h)) D (5 * h) (leftPastP fresh h t p r)
+  unfolding leftPastP
+  w4 = within-left fresh t (suc (10 * h)) D (leftR fresh h t p r) (4 * h) h [] r (past p) (4 * h) (5 * h) (omega arith) (omega arith) (g3 .level) w3
+
+  w5 : WithinIn fresh t (suc (10 * h)) D (7 * h) (rightPastP fresh h t p r)
+  unfolding rightPastP
+  w5 = within-right fresh t (suc (10 * h)) D true (leftR fresh h t p r) (4 * h) h [] r (past p) (5 * h) (7 * h) (omega arith) (omega (arith, taken-two h)) (g3 .level) w3
+
+  w6 : Within fresh t (suc (10 * h)) D (8 * h) (leftP fresh h t p r)
+  unfolding leftP
+  w6 = within-left fresh t (suc (10 * h)) D (leftPastP fresh h t p r) (5 * h) h [] (past p) p (7 * h) (8 * h) (omega arith) (omega arith) (g4 .level) w4
+
+  -- slice by slice
+  d1 : LeftDone fresh s (im1 fresh h t p r s) h 0 (leftPastR fresh h t p r)
+  unfolding im1 leftPastR
+  d1 =
+      left-written fresh (length s) room t h [] highest (past r) 0 s (omega arith) good fit (b-past-r fresh h t p r good b-p lt in-r) in-r short-r e
+      (apart fresh t (suc (10 * h)) D t 0 h 0 (omega arith) (omega arith) (within-self fresh t (suc (10 * h)) D))
+
+  t1 : treeAt h (im1 fresh h t p r s) (numberOf t) ≡ t
+  t1 = keep-read fresh t (suc (10 * h)) D h s (im1 fresh h t p r s) t 0 h 0 (omega arith) (omega arith) (within-self fresh t (suc (10 * h)) D) (d1 .only) e
+
+  d2 : RightDone fresh (im1 fresh h t p r s) (im2 fresh h t p r s) h (taken true h) h (rightPastR fresh h t p r)
+  unfolding im2 rightPastR
+  d2 =
+      right-written fresh true t h [] highest (past r) h (im1 fresh h t p r s) (λ x. omega (arith, room x, d1 .only .size)) good fit (b-past-r fresh h t p r good b-p lt in-r) in-r
+      short-r refl t1
+      (apart fresh t (suc (10 * h)) D t 0 (taken true h) h (omega arith) (omega (arith, taken-two h)) (within-self fresh t (suc (10 * h)) D))
+
+  o2 : Only fresh (im1 fresh h t p r s) (im2 fresh h t p r s) (2 * h) h
+  o2 = subst (λ x. Only fresh (im1 fresh h t p r s) (im2 fresh h t p r s) x h) (taken-two h) (d2 .only)
+
+  n1 : numberOf (leftPastR fresh h t p r) ≡ fresh 0
+  unfolding leftPastR
+  n1 = number-left fresh t h [] highest (past r) 0 (good .level)
+
+  l1-2 : treeAt h (im2 fresh h t p r s) (numberOf (leftPastR fresh h t p r)) ≡ leftPastR fresh h t p r
+  l1-2 =
+      keep-read fresh t (suc (10 * h)) D h (im1 fresh h t p r s) (im2 fresh h t p r s) (leftPastR fresh h t p r) h (2 * h) h (omega arith) (omega arith) w1 o2
+      (ap (treeAt h (im1 fresh h t p r s)) n1 ∙ d1 .reads)
+
+  size2 : length (im2 fresh h t p r s) ≡ length s
+  size2 = o2 .size ∙ d1 .only .size
+
+  d3 : LeftDone fresh (im2 fresh h t p r s) (im3 fresh h t p r s) h (3 * h) (leftR fresh h t p r)
+  unfolding im3 leftR
+  d3 =
+      left-written fresh (length s) room (leftPastR fresh h t p r) h [] (past r) r (3 * h) (im2 fresh h t p r s) (omega (arith, size2)) g1 f1
+      (b-r fresh h t p r good b-p lt in-r) (before-past r) (short-of r short-r) l1-2
+      (apart fresh t (suc (10 * h)) D (leftPastR fresh h t p r) h h (3 * h) (omega arith) (omega arith) w1)
+
+  n3 : numberOf (leftR fresh h t p r) ≡ fresh (3 * h)
+  unfolding leftR
+  n3 = number-left fresh (leftPastR fresh h t p r) h [] (past r) r (3 * h) (g1 .level)
+
+  l3-3 : treeAt h (im3 fresh h t p r s) (numberOf (leftR fresh h t p r)) ≡ leftR fresh h t p r
+  l3-3 = ap (treeAt h (im3 fresh h t p r s)) n3 ∙ d3 .reads
+
+  d4 : LeftDone fresh (im3 fresh h t p r s) (im4 fresh h t p r s) h (4 * h) (leftPastP fresh h t p r)
+  unfolding im4 leftPastP
+  d4 =
+      left-written fresh (length s) room (leftR fresh h t p r) h [] r (past p) (4 * h) (im3 fresh h t p r s) (omega (arith, size2, d3 .only .size)) g3 f3
+      (b-past-p fresh h t p r good b-p lt in-r) lt short-p l3-3
+      (apart fresh t (suc (10 * h)) D (leftR fresh h t p r) (4 * h) h (4 * h) (omega arith) (omega arith) w3)
+
+  l3-4 : treeAt h (im4 fresh h t p r s) (numberOf (leftR fresh h t p r)) ≡ leftR fresh h t p r
+  l3-4 = keep-read fresh t (suc (10 * h)) D h (im3 fresh h t p r s) (im4 fresh h t p r s) (leftR fresh h t p r) (4 * h) h (4 * h) (omega arith) (omega arith) w3 (d4 .only) l3-3
+
+  d5 : RightDone fresh (im4 fresh h t p r s) (im5 fresh h t p r s) h (taken true h) (5 * h) (rightPastP fresh h t p r)
+  unfolding im5 rightPastP
+  d5 =
+      right-written fresh true (leftR fresh h t p r) h [] r (past p) (5 * h) (im4 fresh h t p r s)
+      (λ x. omega (arith, room x, size2, d3 .only .size, d4 .only .size)) g3 f3 (b-past-p fresh h t p r good b-p lt in-r) lt short-p refl l3-4
+      (apart fresh t (suc (10 * h)) D (leftR fresh h t p r) (4 * h) (taken true h) (5 * h) (omega arith) (omega (arith, taken-two h)) w3)
+
+  o5 : Only fresh (im4 fresh h t p r s) (im5 fresh h t p r s) (2 * h) (5 * h)
+  o5 = subst (λ x. Only fresh (im4 fresh h t p r s) (im5 fresh h t p r s) x (5 * h)) (taken-two h) (d5 .only)
+
+  n4 : numberOf (leftPastP fresh h t p r) ≡ fresh (4 * h)
+  unfolding leftPastP
+  n4 = number-left fresh (leftR fresh h t p r) h [] r (past p) (4 * h) (g3 .level)
+
+  l4-5 : treeAt h (im5 fresh h t p r s) (numberOf (leftPastP fresh h t p r)) ≡ leftPastP fresh h t p r
+  l4-5 =
+      keep-read fresh t (suc (10 * h)) D h (im4 fresh h t p r s) (im5 fresh h t p r s) (leftPastP fresh h t p r) (5 * h) (2 * h) (5 * h) (omega arith) (omega arith) w4 o5
+      (ap (treeAt h (im4 fresh h t p r s)) n4 ∙ d4 .reads)
+
+  size5 : length (im5 fresh h t p r s) ≡ length s
+  size5 = o5 .size ∙ d4 .only .size ∙ d3 .only .size ∙ size2
+
+  d6 : LeftDone fresh (im5 fresh h t p r s) (im6 fresh h t p r s) h (7 * h) (leftP fresh h t p r)
+  unfolding im6 leftP
+  d6 =
+      left-written fresh (length s) room (leftPastP fresh h t p r) h [] (past p) p (7 * h) (im5 fresh h t p r s) (omega (arith, size5)) g4 f4
+      b-p (before-past p) (short-of p short-p) l4-5
+      (apart fresh t (suc (10 * h)) D (leftPastP fresh h t p r) (5 * h) h (7 * h) (omega arith) (omega arith) w4)
+
+  n6 : numberOf (leftP fresh h t p r) ≡ fresh (7 * h)
+  unfolding leftP
+  n6 = number-left fresh (leftPastP fresh h t p r) h [] (past p) p (7 * h) (g4 .level)
+
+  -- what is read after the last left slice
+  o26 : Only fresh (im2 fresh h t p r s) (im6 fresh h t p r s) (5 * h) (3 * h)
+  o26 =
+      only-then fresh (im2 fresh h t p r s) (im3 fresh h t p r s) (im6 fresh h t p r s) h (4 * h) (5 * h) (3 * h) (4 * h) (omega arith) (omega arith) (d3 .only)
+      (only-then fresh (im3 fresh h t p r s) (im4 fresh h t p r s) (im6 fresh h t p r s) h (3 * h) (4 * h) (4 * h) (5 * h) (omega arith) (omega arith) (d4 .only)
+      (only-then fresh (im4 fresh h t p r s) (im5 fresh h t p r s) (im6 fresh h t p r s) (2 * h) h (3 * h) (5 * h) (7 * h) (omega arith) (omega arith) o5 (d6 .only)))
+
+  size6 : length (im6 fresh h t p r s) ≡ length s
+  size6 = o26 .size ∙ size2
+
+  pub l1-6 : treeAt h (im6 fresh h t p r s) (numberOf (leftPastR fresh h t p r)) ≡ leftPastR fresh h t p r
+  l1-6 =
+      keep-read fresh t (suc (10 * h)) D h (im2 fresh h t p r s) (im6 fresh h t p r s) (leftPastR fresh h t p r) h (5 * h) (3 * h) (omega arith) (omega arith) w1 o26 l1-2
+
+  pub l4-6 : treeAt h (im6 fresh h t p r s) (numberOf (leftPastP fresh h t p r)) ≡ leftPastP fresh h t p r
+  l4-6 =
+      keep-read fresh t (suc (10 * h)) D h (im5 fresh h t p r s) (im6 fresh h t p r s) (leftPastP fresh h t p r) (5 * h) h (7 * h) (omega arith) (omega arith) w4 (d6 .only) l4-5
+
+  -- the tail of u at q, the gap, and the root over them
+  module _ (k : ℕ) (eh : h ≡ suc k) (u : Tree) (q : List ℕ) (gu : Good h u [] (past q)) (fu : fits u ≡ true) (b-q : before [] q ≡ true) (short-q : length (past q) ≤ pivotLimit)
+      (wu : Within fresh t (suc (10 * h)) D (8 * h) u) (ru : treeAt h (im6 fresh h t p r s) (numberOf u) ≡ u) where
+    d7 : RightDone fresh (im6 fresh h t p r s) (im7 fresh h t p r s u q) h (taken false h) (8 * h) (rightOf fresh false u [] (past q) q (8 * h))
+    unfolding im7
+    d7 =
+        right-written fresh false u h [] (past q) q (8 * h) (im6 fresh h t p r s) (λ x. omega (arith, room x, size6)) gu fu b-q (before-past q) (short-of q short-q)
+        (begins-past q highest) ru (apart fresh t (suc (10 * h)) D u (8 * h) (taken false h) (8 * h) (omega arith) (omega (arith, taken-one h)) wu)
+
+    o7 : Only fresh (im6 fresh h t p r s) (im7 fresh h t p r s u q) h (8 * h)
+    o7 = subst (λ x. Only fresh (im6 fresh h t p r s) (im7 fresh h t p r s u q) x (8 * h)) (taken-one h) (d7 .only)
+
+    m7 : treeAt h (im7 fresh h t p r s u q) (numberOf (tailOf fresh u [] (past q) q (8 * h))) ≡ tailOf fresh u [] (past q) q (8 * h)
+    unfolding tailOf
+    m7 =
+        first-read (λ j. treeAt h (im7 fresh h t p r s u q) j) (rightOf fresh false u [] (past q) q (8 * h)) q (past q) (d7 .reads)
+        (tail-good fresh u h [] (past q) q (8 * h) gu b-q (before-past q) .sound)
+
+    wm : Within fresh t (suc (10 * h)) D (9 * h) (tailOf fresh u [] (past q) q (8 * h))
+    wm =
+        within-tail fresh t (suc (10 * h)) D u (tailOf fresh u [] (past q) q (8 * h)) (8 * h) h (past q) q (8 * h) (9 * h)
+        (λ j. tail-met fresh u h [] (past q) q (8 * h) gu b-q (before-past q) j) (omega arith) (omega arith) (gu .level) wu
+
+    gap-new : (j : ℕ) → spent fresh j h (9 * h) ≤ 1
+    gap-new j = omega (arith, D j, spent-block fresh j 0 h (9 * h) (suc (10 * h)) (omega arith) (omega arith))
+
+    d8 : LeftDone fresh (im7 fresh h t p r s u q) (im8 fresh h t p r s u q) h (9 * h) (gapOf fresh h q (past q) (9 * h))
+    unfolding im8
+    d8 =
+        gap-at fresh h k eh q (short-of q short-q) (9 * h) (im7 fresh h t p r s u q) (λ x. omega (arith, room x, size6, o7 .size)) gap-new
+
+    pub tail-8 : treeAt h (im8 fresh h t p r s u q) (numberOf (tailOf fresh u [] (past q) q (8 * h))) ≡ tailOf fresh u [] (past q) q (8 * h)
+    tail-8 =
+        keep-read fresh t (suc (10 * h)) D h (im7 fresh h t p r s u q) (im8 fresh h t p r s u q) (tailOf fresh u [] (past q) q (8 * h)) (9 * h) h (9 * h) (omega arith)
+        (omega arith) wm (d8 .only) m7
+
+    pub gap-8 : treeAt h (im8 fresh h t p r s u q) (numberOf (gapOf fresh h q (past q) (9 * h))) ≡ gapOf fresh h q (past q) (9 * h)
+    gap-8 = ap (treeAt h (im8 fresh h t p r s u q)) (gap-number-at fresh h k eh q (9 * h)) ∙ d8 .reads
+
+    o68 : Only fresh (im6 fresh h t p r s) (im8 fresh h t p r s u q) (2 * h) (8 * h)
+    o68 = only-then fresh (im6 fresh h t p r s) (im7 fresh h t p r s u q) (im8 fresh h t p r s u q) h h (2 * h) (8 * h) (9 * h) (omega arith) (omega arith) o7 (d8 .only)
+
+    o58 : Only fresh (im5 fresh h t p r s) (im8 fresh h t p r s u q) (3 * h) (7 * h)
+    o58 = only-then fresh (im5 fresh h t p r s) (im6 fresh h t p r s) (im8 fresh h t p r s u q) h (2 * h) (3 * h) (7 * h) (8 * h) (omega arith) (omega arith) (d6 .only) o68
+
+    o28 : Only fresh (im2 fresh h t p r s) (im8 fresh h t p r s u q) (7 * h) (3 * h)
+    o28 = only-then fresh (im2 fresh h t p r s) (im6 fresh h t p r s) (im8 fresh h t p r s u q) (5 * h) (2 * h) (7 * h) (3 * h) (8 * h) (omega arith) (omega arith) o26 o68
+
+    o08 : Only fresh s (im8 fresh h t p r s u q) (10 * h) 0
+    o08 =
+        only-then fresh s (im1 fresh h t p r s) (im8 fresh h t p r s u q) h (9 * h) (10 * h) 0 h (omega arith) (omega arith) (d1 .only)
+        (only-then fresh (im1 fresh h t p r s) (im2 fresh h t p r s) (im8 fresh h t p r s u q) (2 * h) (7 * h) (9 * h) h (3 * h) (omega arith) (omega arith) o2 o28)
+
+    left-8 : treeAt h (im8 fresh h t p r s u q) (numberOf (leftP fresh h t p r)) ≡ leftP fresh h t p r
+    left-8 =
+        keep-read fresh t (suc (10 * h)) D h (im6 fresh h t p r s) (im8 fresh h t p r s u q) (leftP fresh h t p r) (8 * h) (2 * h) (8 * h) (omega arith) (omega arith) w6 o68
+        (ap (treeAt h (im6 fresh h t p r s)) n6 ∙ d6 .reads)
+
+    right-p-8 : ReadsIn (λ j. treeAt h (im8 fresh h t p r s u q) j) (rightPastP fresh h t p r)
+    right-p-8 =
+        keep-reads fresh t (suc (10 * h)) D h (im5 fresh h t p r s) (im8 fresh h t p r s u q) (rightPastP fresh h t p r) (7 * h) (3 * h) (7 * h) (omega arith) (omega arith) w5
+        o58 (d5 .reads)
+
+    right-r-8 : ReadsIn (λ j. treeAt h (im8 fresh h t p r s u q) j) (rightPastR fresh h t p r)
+    right-r-8 =
+        keep-reads fresh t (suc (10 * h)) D h (im2 fresh h t p r s) (im8 fresh h t p r s u q) (rightPastR fresh h t p r) (3 * h) (7 * h) (3 * h) (omega arith) (omega arith) w2
+        o28 (d2 .reads)
+
+    module _ (x y : Tree) (rx : treeAt h (im8 fresh h t p r s u q) (numberOf x) ≡ x) (ry : treeAt h (im8 fresh h t p r s u q) (numberOf y) ≡ y)
+        (fr : fits (rootOver fresh h t p r x y) ≡ true) (nr : (j : ℕ) → met j (rootOver fresh h t p r x y) ≤ met j t + spent fresh j (suc (10 * h)) 0) where
+      spread-8 : ReadsIn (λ j. treeAt h (im8 fresh h t p r s u q) j) (unmergeable fresh h t p r x y)
+      unfolding unmergeable ReadsIn
+      spread-8 =
+          (left-8, (rx, reads-joined (λ j. treeAt h (im8 fresh h t p r s u q) j) (rightPastP fresh h t p r) (tree r y (rightPastR fresh h t p r)) right-p-8 (ry, right-r-8)))
+
+      root-new : metIn (fresh (10 * h)) (unmergeable fresh h t p r x y) ≡ 0
+      unfolding rootOver
+      root-new =
+          omega (arith, met-node (fresh (10 * h)) (fresh (10 * h)) [] highest (unmergeable fresh h t p r x y), nr (fresh (10 * h)), D (fresh (10 * h)), one-same (fresh (10 * h)))
+
+      -- the whole is read back
+      pub root-9 : treeAt (suc h) (im9 fresh h t p r s u q x y) (fresh (10 * h)) ≡ rootOver fresh h t p r x y
+      unfolding im9 rootOver
+      root-9 =
+          node-at h k eh (im8 fresh h t p r s u q) (fresh (10 * h)) [] highest (unmergeable fresh h t p r x y) (omega (arith, room (10 * h), o08 .size)) fr root-new spread-8
+
+      pub only-9 : Only fresh s (im9 fresh h t p r s u q x y) (suc (10 * h)) 0
+      unfolding im9
+      only-9 =
+          only-then fresh s (im8 fresh h t p r s u q) (writeNode (im8 fresh h t p r s u q) (fresh (10 * h)) (pageOf (suc h) (rootOver fresh h t p r x y))) (10 * h) 1 (suc (10 * h)) 0
+          (10 * h) (omega arith) (omega arith) o08
+          (only-more fresh (im8 fresh h t p r s u q) (im8 fresh h t p r s u q) 0 (10 * h) (pageOf (suc h) (rootOver fresh h t p r x y)) (omega (arith, room (10 * h), o08 .size))
+          (pageOf-full (suc h) (rootOver fresh h t p r x y) fr) (only-none fresh (im8 fresh h t p r s u q) 0 (suc (10 * h))))
+
+-- THE MOVE, as a function on images: all but node 0.
+unfoldable pub movedImage : (ℕ → ℕ) → ℕ → Tree → List ℕ → List ℕ → List ℕ → List ℕ
+movedImage fresh h t from to s =
+    cond (before from to)
+    (im9 fresh h t from to s (leftPastP fresh h t from to) from (gapOf fresh h from (past from) (9 * h)) (midP fresh h t from to))
+    (im9 fresh h t to from s (leftPastR fresh h t to from) from (midR fresh h t to from) (gapOf fresh h from (past from) (9 * h)))
+
+pub record Holds (fresh : ℕ → ℕ) (h : ℕ) (new : Tree) (s s′ : List ℕ) : Type 0 where
+  pub isThere : treeAt (suc h) s′ (fresh (10 * h)) ≡ new
+  pub onlyNew : Only fresh s s′ (suc (10 * h)) 0
+
+module _ (fresh : ℕ → ℕ) (h k : ℕ) (eh : h ≡ suc k) (t : Tree) (from to : List ℕ) (good : Good h t [] highest) (fit : fits t ≡ true)
+    (formed-from : wellFormed from ≡ true) (formed-to : wellFormed to ≡ true) (apart-1 : begins from to ≡ false) (apart-2 : begins to from ≡ false)
+    (w : Well fresh h from to t (movedTree fresh h t from to))
+    (s : List ℕ) (room : (x : ℕ) → 1024 * fresh x + 1024 ≤ length s) (e : treeAt h s (numberOf t) ≡ t)
+    (D : (j : ℕ) → met j t + spent fresh j (suc (10 * h)) 0 ≤ 1) where
+  in-from : (before [] from ≡ true) × (before (past from) highest ≡ true)
+  in-from = formed-inside from formed-from
+
+  in-to : (before [] to ≡ true) × (before (past to) highest ≡ true)
+  in-to = formed-inside to formed-to
+
+  s-from : length (past from) ≤ pivotLimit
+  s-from = short-past from formed-from
+
+  s-to : length (past to) ≤ pivotLimit
+  s-to = short-past to formed-to
+
+  holds-up : before from to ≡ true → Holds fresh h (movedTree fresh h t from to) s (movedImage fresh h t from to s)
+  unfolding movedImage movedTree midP
+  holds-up b =
+      let lt : before (past from) to ≡ true = before-aside from to highest b apart-1 in
+      let gap : Tree = gapOf fresh h from (past from) (9 * h) in
+      let u : Tree = leftPastP fresh h t from to in
+      let m : Tree = midP fresh h t from to in
+      let w′ : Well fresh h from to t (rootOver fresh h t from to gap m) = rw b at w in
+      let gu : Good h u [] (past from) = g4 fresh h t from to good (in-from .0) lt (in-to .1) s-from s-to fit s room e D in
+      let fu : fits u ≡ true = f4 fresh h t from to good (in-from .0) lt (in-to .1) s-from s-to fit s room e D in
+      let wu : Within fresh t (suc (10 * h)) D (8 * h) u =
+      within-later fresh t (suc (10 * h)) D u (5 * h) (8 * h) (omega arith) (w4 fresh h t from to good (in-from .0) lt (in-to .1) s-from s-to fit s room e D) in
+      let ru : treeAt h (im6 fresh h t from to s) (numberOf u) ≡ u = l4-6 fresh h t from to good (in-from .0) lt (in-to .1) s-from s-to fit s room e D in
+      rw b
+      (record {
+        isThere =
+            root-9 fresh h t from to good (in-from .0) lt (in-to .1) s-from s-to fit s room e D k eh u from gu fu (in-from .0) s-from wu ru gap m
+            (gap-8 fresh h t from to good (in-from .0) lt (in-to .1) s-from s-to fit s room e D k eh u from gu fu (in-from .0) s-from wu ru)
+            (tail-8 fresh h t from to good (in-from .0) lt (in-to .1) s-from s-to fit s room e D k eh u from gu fu (in-from .0) s-from wu ru)
+            (w′ .newFits) (w′ .newNumbers);
+        onlyNew =
+            only-9 fresh h t from to good (in-from .0) lt (in-to .1) s-from s-to fit s room e D k eh u from gu fu (in-from .0) s-from wu ru gap m
+            (gap-8 fresh h t from to good (in-from .0) lt (in-to .1) s-from s-to fit s room e D k eh u from gu fu (in-from .0) s-from wu ru)
+            (tail-8 fresh h t from to good (in-from .0) lt (in-to .1) s-from s-to fit s room e D k eh u from gu fu (in-from .0) s-from wu ru)
+            (w′ .newFits) (w′ .newNumbers);
+      })
+
+  holds-down : before from to ≡ false → Holds fresh h (movedTree fresh h t from to) s (movedImage fresh h t from to s)
+  unfolding movedImage movedTree midR
+  holds-down b =
+      let z : same to from ≡ false = same-false to from (λ q. not-so (rw q (begins-refl from)) apart-2) in
+      let lt : before (past to) from ≡ true = before-aside to from highest (before-total to from z b) apart-2 in
+      let gap : Tree = gapOf fresh h from (past from) (9 * h) in
+      let u : Tree = leftPastR fresh h t to from in
+      let m : Tree = midR fresh h t to from in
+      let w′ : Well fresh h from to t (rootOver fresh h t to from m gap) = rw b at w in
+      let gu : Good h u [] (past from) = g1 fresh h t to from good (in-to .0) lt (in-from .1) s-to s-from fit s room e D in
+      let fu : fits u ≡ true = f1 fresh h t to from good (in-to .0) lt (in-from .1) s-to s-from fit s room e D in
+      let wu : Within fresh t (suc (10 * h)) D (8 * h) u =
+      within-later fresh t (suc (10 * h)) D u h (8 * h) (omega arith) (w1 fresh h t to from good (in-to .0) lt (in-from .1) s-to s-from fit s room e D) in
+      let ru : treeAt h (im6 fresh h t to from s) (numberOf u) ≡ u = l1-6 fresh h t to from good (in-to .0) lt (in-from .1) s-to s-from fit s room e D in
+      rw b
+      (record {
+        isThere =
+            root-9 fresh h t to from good (in-to .0) lt (in-from .1) s-to s-from fit s room e D k eh u from gu fu (in-from .0) s-from wu ru m gap
+            (tail-8 fresh h t to from good (in-to .0) lt (in-from .1) s-to s-from fit s room e D k eh u from gu fu (in-from .0) s-from wu ru)
+            (gap-8 fresh h t to from good (in-to .0) lt (in-from .1) s-to s-from fit s room e D k eh u from gu fu (in-from .0) s-from wu ru)
+            (w′ .newFits) (w′ .newNumbers);
+        onlyNew =
+            only-9 fresh h t to from good (in-to .0) lt (in-from .1) s-to s-from fit s room e D k eh u from gu fu (in-from .0) s-from wu ru m gap
+            (tail-8 fresh h t to from good (in-to .0) lt (in-from .1) s-to s-from fit s room e D k eh u from gu fu (in-from .0) s-from wu ru)
+            (gap-8 fresh h t to from good (in-to .0) lt (in-from .1) s-to s-from fit s room e D k eh u from gu fu (in-from .0) s-from wu ru)
+            (w′ .newFits) (w′ .newNumbers);
+      })
+
+  pub image-holds : Holds fresh h (movedTree fresh h t from to) s (movedImage fresh h t from to s)
+  image-holds = go (before from to) refl
+    where
+      go : (x : Bool) → before from to ≡ x → Holds fresh h (movedTree fresh h t from to) s (movedImage fresh h t from to s)
+      go true b = holds-up b
+      go false b = holds-down b

@@ -1,0 +1,113 @@
+use Prim.Native.Nat.{_+_}
+use Rattle.node.specs.Entries.{entriesFrom, keyed-short, keyed-long, keyed-at, pointer-short, pointer-long, pointer-at, kind-pair, kind-child, kind-put, kind-drop, kind-clear, kind-other, entries-short, entries-cut, entries-step, listed-end, listed-short, listed-cut, listed-step}
+use Rattle.node.specs.Places.{entryIn, within, split-bad, split-at, split-bad-is, split-at-is, got-bad, got-good, got-bad-is, got-good-is, step-bad, step-read, step-bad-is, step-read-is, entry-wider, then-bad, then-good, cons-bad, cons-good}
+use Rattle.node.specs.declared.Split.{Split}
+use Rattle.node.specs.declared.Got.{Got}
+use Rattle.image.specs.Entry as defined
+use mathlib.Core.Option.{some}
+use mathlib.Core.Path.{_≡_, refl, sym, ap, _∙_}
+use native.Mathlib.Omega.{arith}
+use borrow.Author.Needs.{needs}
+use Rattle.node.proofs.Cursor.step.Statement.{statement}
+use Rattle.node.proofs.Cursor.step.Tie as tie
+use Rattle.node.proofs.Cursor.step.Reads as reads
+use Rattle.node.proofs.Cursor.step.Lts as lts
+use Rattle.node.proofs.entry_at.Reads as entry-at-reads
+use Rattle.octets.proofs.u16_at.Reads as u16-at-reads
+
+-- src/lib.rt:106:13
+returns : tie.Need-returns
+returns c = step-bad _ _ _ (λ lt. absurd (omega arith)) (listed-end _ _ _ (omega arith))
+
+-- src/lib.rt:108:12
+sub-if2 : tie.Need-sub-if2
+sub-if2 c = search needs
+
+-- src/lib.rt:109:13
+returns-2 : tie.Need-returns-2
+returns-2 c = step-bad _ _ _ (λ lt. entries-short _ _ _ (omega arith) (omega arith) (omega arith)) (listed-short _ _ _ (omega arith) (omega arith) (omega arith))
+
+-- src/lib.rt:111:13
+u16-at-requires : tie.Need-u16-at-requires
+u16-at-requires c κs = search needs
+
+-- src/lib.rt:112:38
+add-u16-at : tie.Need-add-u16-at
+add-u16-at c = search needs
+
+-- src/lib.rt:112:13
+u16-at-requires-2 : tie.Need-u16-at-requires-2
+u16-at-requires-2 c κs = search needs
+
+-- src/lib.rt:113:21
+add-start : tie.Need-add-start
+add-start c = search needs
+
+-- src/lib.rt:114:12
+sub-if3 : tie.Need-sub-if3
+sub-if3 c = search needs
+
+-- src/lib.rt:115:13
+returns-3 : tie.Need-returns-3
+returns-3 c = step-bad _ _ _ (λ lt. entries-cut _ _ _ (omega arith) (omega arith) (omega arith)) (listed-cut _ _ _ (omega arith) (omega arith) (omega arith))
+
+-- src/lib.rt:117:20
+add-stop : tie.Need-add-stop
+add-stop c = search needs
+
+-- src/lib.rt:118:28
+entry-at-requires : tie.Need-entry-at-requires
+entry-at-requires c κs = search needs
+
+-- src/lib.rt:118:23
+enum-known-e : tie.Need-enum-known-e
+enum-known-e c = search needs
+
+-- src/lib.rt:119:13
+enum-told : tie.Need-enum-told
+enum-told c = search needs
+
+-- src/lib.rt:119:13
+returns-4 : tie.Need-returns-4
+returns-4 c =
+    let n = c .before .before .before .before .before .u16-at .result in
+    let k = c .before .before .before .before .u16-at2 .result in
+    let h = got-bad-is _ _ _ _ _ (c .before .before .entry-at .ensures) (cc) in
+    step-bad _ _ _ (λ lt. then-bad _ _ _ (entries-step _ _ _ (omega arith) (omega arith) n k (omega arith) (omega arith) (omega arith)) h)
+    (cons-bad _ _ _ (listed-step _ _ _ (omega arith) (omega arith) n k (omega arith) (omega arith) (omega arith)) h)
+
+-- src/lib.rt:99:5
+returns-5 : tie.Need-returns-5
+returns-5 c =
+    let S = c .before .before .before .before .before .before .before .before .before .before .args .self in
+    let n = c .before .before .before .before .before .before .u16-at .result in
+    let k = c .before .before .before .before .before .u16-at2 .result in
+    let h = got-good-is _ _ _ _ _ (c .before .e .given .0 .0) (c .before .before .before .entry-at .ensures) (cc) in
+    step-read _ _ _ _ _ (record {
+      first = then-good _ _ _ _ (entries-step _ _ _ (omega arith) (omega arith) n k (omega arith) (omega arith) (omega arith)) (h .0);
+      lists = cons-good _ _ _ _ (listed-step _ _ _ (omega arith) (omega arith) n k (omega arith) (omega arith) (omega arith)) (h .0);
+      moves = omega arith;
+      stays = omega arith;
+      ends = refl;
+      reachable = entry-wider (S .at + 4) (S .at + 4 + n) (S .at) (S .end) (c .before .e .given .0 .0) (omega arith) (omega arith) (h .1);
+    })
+
+pub step-spec : {M : Type 1} → statement M
+step-spec =
+    tie.close
+    (tie.spec
+    returns
+    sub-if2
+    returns-2
+    u16-at-requires
+    add-u16-at
+    u16-at-requires-2
+    add-start
+    sub-if3
+    returns-3
+    add-stop
+    entry-at-requires
+    enum-known-e
+    enum-told
+    returns-4
+    returns-5)

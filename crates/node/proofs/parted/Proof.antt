@@ -1,0 +1,51 @@
+use Rattle.node.specs.Entries.{entriesFrom, keyed-short, keyed-long, keyed-at, pointer-short, pointer-long, pointer-at, kind-pair, kind-child, kind-put, kind-drop, kind-clear, kind-other, entries-short, entries-cut, entries-step}
+use Rattle.node.specs.Places.{entryIn, within, split-bad, split-at, split-bad-is, split-at-is, got-bad, got-good, got-bad-is, got-good-is, step-bad, step-read, step-bad-is, step-read-is, entry-wider, then-bad, then-good}
+use Rattle.node.specs.declared.Split.{Split}
+use Rattle.node.specs.declared.Got.{Got}
+use Rattle.image.specs.Entry as defined
+use mathlib.Core.Option.{some}
+use mathlib.Core.Path.{_≡_, refl, sym, ap, _∙_}
+use native.Mathlib.Omega.{arith}
+use borrow.Author.Needs.{needs}
+use Rattle.node.proofs.parted.Statement.{statement}
+use Rattle.node.proofs.parted.Tie as tie
+use Rattle.node.proofs.parted.Reads as reads
+use Rattle.node.proofs.parted.Lts as lts
+use Rattle.octets.proofs.u16_at.Reads as u16-at-reads
+
+-- src/lib.rt:50:8
+sub-if1 : tie.Need-sub-if1
+sub-if1 c = search needs
+
+-- src/lib.rt:51:9
+returns : tie.Need-returns
+returns c = let A = c .before .before .args in split-bad _ _ _ (keyed-short (A .s .now) (A .start) (A .stop) (omega arith) (omega arith) (omega arith))
+
+-- src/lib.rt:53:9
+u16-at-requires : tie.Need-u16-at-requires
+u16-at-requires c κs = search needs
+
+-- src/lib.rt:54:16
+add-body : tie.Need-add-body
+add-body c = search needs
+
+-- src/lib.rt:55:8
+sub-if2 : tie.Need-sub-if2
+sub-if2 c = search needs
+
+-- src/lib.rt:56:9
+returns-2 : tie.Need-returns-2
+returns-2 c = let A = c .before .before .before .before .args in split-bad _ _ _ (keyed-long (A .s .now) (A .start) (A .stop) (omega arith) (omega arith) (omega arith) (omega arith))
+
+-- src/lib.rt:58:15
+add-t6 : tie.Need-add-t6
+add-t6 c = search needs
+
+-- src/lib.rt:46:1
+returns-3 : tie.Need-returns-3
+returns-3 c = let A = c .before .before .before .before .args in split-at _ _ _ _ (omega arith) (omega arith) (keyed-at (A .s .now) (A .start) (A .stop) (omega arith) (omega arith) (omega arith) (c .before .u16-at .result) (omega arith) (omega arith))
+
+pub parted-spec : {M : Type 1} → statement M
+parted-spec =
+    tie.close
+    (tie.spec sub-if1 returns u16-at-requires add-body sub-if2 returns-2 add-t6 returns-3)

@@ -1,0 +1,30 @@
+use native.Mathlib.Omega.{arith}
+use Prim.Native.Nat.{ℕ, suc, _+_, _-_, _≤_, _<_}
+use mathlib.Core.Path.{_≡_, refl, sym, ap, _∙_}
+use mathlib.Core.List.{List, [], _∷_, _++_}
+use lib.ListN.{length, getD, take, drop}
+use borrow.Author.Needs.{needs}
+use Rattle.node.specs.Whole.{ragged, too-few, whole-by}
+use Rattle.node.proofs.whole_nodes.Statement.{statement}
+use Rattle.node.proofs.whole_nodes.Tie as tie
+use Rattle.node.proofs.whole_nodes.Reads as reads
+use Rattle.node.proofs.whole_nodes.Lts as lts
+
+-- src/lib.rt:14:8
+mul-if1 : tie.Need-mul-if1
+mul-if1 c = search needs
+
+-- src/lib.rt:15:9
+returns : tie.Need-returns
+returns c = search (needs, ragged)
+
+-- src/lib.rt:18:9
+returns-2 : tie.Need-returns-2
+returns-2 c = search (needs, too-few)
+
+-- src/lib.rt:10:1
+returns-3 : tie.Need-returns-3
+returns-3 c = search (needs, whole-by)
+
+pub whole-nodes-spec : {M : Type 1} → statement M
+whole-nodes-spec = tie.close (tie.spec mul-if1 returns returns-2 returns-3)

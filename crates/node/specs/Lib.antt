@@ -1,0 +1,4 @@
+pub mod Cut
+pub mod Entries
+pub mod Places
+pub mod Whole

@@ -1,0 +1,37 @@
+-- The steps of whole_nodes: each test that it makes, against the definition.
+use Prim.Native.Nat.{ℕ, _+_, _*_, _/_, _<_, _≤_}
+use mathlib.Core.Path.{_≡_, refl, sym, _∙_}
+use mathlib.Core.Bool.{Bool, true, false, _&&_}
+use native.Mathlib.Omega.{arith}
+use lib.Dec.{leb, eqb}
+use borrow.Author.Tests.{eq-eqb, ne-eqb, lt-leb, le-leb, eqb-true, leb-true}
+use Rattle.octets.specs.Order.{and-left, and-right}
+use Rattle.image.specs.Image.{nodesOf, wholeNodes}
+
+pub ragged : (len : ℕ) → (1024 * (len / 1024) ≡ len → ⊥) → false ≡ wholeNodes len
+unfolding wholeNodes nodesOf
+ragged len h = rw (ne-eqb (1024 * (len / 1024)) len h)
+
+pub too-few : (len : ℕ) → 1024 * (len / 1024) ≡ len → len / 1024 < 32 → false ≡ wholeNodes len
+unfolding wholeNodes nodesOf
+too-few len e h = rw (eq-eqb (1024 * (len / 1024)) len e, lt-leb 32 (len / 1024) h)
+
+pub whole-by : (len : ℕ) → 1024 * (len / 1024) ≡ len → 32 ≤ len / 1024 → leb (len / 1024) 1024 ≡ wholeNodes len
+unfolding wholeNodes nodesOf
+whole-by len e h = rw (eq-eqb (1024 * (len / 1024)) len e, le-leb 32 (len / 1024) h)
+
+-- what a caller reads off the answer
+pub record Whole (len : ℕ) : Type 0 where
+  pub filled : 1024 * nodesOf len ≡ len
+  pub enough : 32 ≤ nodesOf len
+  pub few : nodesOf len ≤ 1024
+
+pub whole-parts : (len : ℕ) → wholeNodes len ≡ true → Whole len
+unfolding wholeNodes
+whole-parts len e =
+    let first : eqb (1024 * nodesOf len) len && leb 32 (nodesOf len) ≡ true = and-left (eqb (1024 * nodesOf len) len && leb 32 (nodesOf len)) _ e in
+    record {
+      filled = eqb-true (1024 * nodesOf len) len (and-left (eqb (1024 * nodesOf len) len) _ first);
+      enough = leb-true 32 (nodesOf len) (and-right (eqb (1024 * nodesOf len) len) _ first);
+      few = leb-true (nodesOf len) 1024 (and-right (eqb (1024 * nodesOf len) len && leb 32 (nodesOf len)) _ e);
+    }

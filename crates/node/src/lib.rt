@@ -1,0 +1,157 @@
+// The nodes of a store: how many there are, and the entries of a node, read one by one by a cursor.
+// Every reader answers places in the slice that it was lent, and promises that they lie inside it.
+ghost use mathlib.Core.Path.{_≡_};
+ghost use Prim.Native.Nat.{ℕ, _+_, _-_, _*_, _<_, _≤_};
+ghost use lib.ListN.{length, getD};
+ghost use Rattle.node.specs.Places.{SplitAs, GotAs, Stepped};
+ghost use Rattle.image.specs.Image.{wholeNodes};
+
+// Whether a store of this length is a whole number of nodes, 32 to 1,024: question 1.
+pub fn whole_nodes(len: usize) -> bool
+    ensures { λ r. ⌜ r ≡ wholeNodes len ⌝ }
+{
+    let n = len / 1024;
+    if 1024 * n != len {
+        return false;
+    }
+    if n < 32 {
+        return false;
+    }
+    n <= 1024
+}
+
+// A part of a slice: from start up to, not including, stop.
+pub struct Place {
+    pub start: usize,
+    pub stop: usize,
+}
+
+pub enum Message {
+    Put(Place, Place),
+    Drop(Place),
+    Clear(Place),
+}
+
+pub enum Entry {
+    Pair(Place, Place),
+    Child(usize, Place),
+    Message(Message),
+}
+
+pub enum Got {
+    Good(Entry),
+    Bad,
+}
+
+pub enum Split {
+    At(usize),
+    Bad,
+}
+
+pub struct Cursor {
+    pub at: usize,
+    pub end: usize,
+}
+
+pub enum Step {
+    Read(Entry, Cursor),
+    Bad,
+}
+
+// Where the suffix ends and the value begins, in a rest that is u16 suffix length, suffix, value.
+pub fn parted(s: &[u8], start: usize, stop: usize) -> Split
+    requires { ⌜ (start ≤ stop) × (stop ≤ length (now s)) ⌝ }
+    ensures { λ r. ⌜ SplitAs (now (s .entry)) start stop r ⌝ }
+{
+    if stop - start < 2 {
+        return Split::Bad;
+    }
+    let n = octets::u16_at(s, start);
+    let body = start + 2;
+    if stop - body < n {
+        return Split::Bad;
+    }
+    Split::At(body + n)
+}
+
+// The entry of a kind whose rest is the part from start to stop.
+pub fn entry_at(s: &[u8], kind: usize, start: usize, stop: usize) -> Got
+    requires { ⌜ (start ≤ stop) × (stop ≤ length (now s)) ⌝ }
+    ensures { λ r. ⌜ GotAs (now (s .entry)) kind start stop r ⌝ }
+{
+    if kind == 33 {
+        return Got::Good(Entry::Message(Message::Drop(Place { start, stop })));
+    }
+    if kind == 34 {
+        return Got::Good(Entry::Message(Message::Clear(Place { start, stop })));
+    }
+    if kind == 16 {
+        if stop - start < 2 {
+            return Got::Bad;
+        }
+        if 67 < stop - start {
+            return Got::Bad;
+        }
+        let n = octets::u16_at(s, start);
+        return Got::Good(Entry::Child(
+            n,
+            Place {
+                start: start + 2,
+                stop,
+            },
+        ));
+    }
+    if kind == 1 {
+        let Split::At(m) = parted(s, start, stop) else {
+            return Got::Bad;
+        };
+        return Got::Good(Entry::Pair(
+            Place {
+                start: start + 2,
+                stop: m,
+            },
+            Place { start: m, stop },
+        ));
+    }
+    if kind == 32 {
+        let Split::At(m) = parted(s, start, stop) else {
+            return Got::Bad;
+        };
+        return Got::Good(Entry::Message(Message::Put(
+            Place {
+                start: start + 2,
+                stop: m,
+            },
+            Place { start: m, stop },
+        )));
+    }
+    Got::Bad
+}
+
+impl Cursor {
+    // The entry at the cursor, and the cursor past it.
+    pub fn step(self, s: &[u8]) -> Step
+        requires { ⌜ self .end ≤ length (now s) ⌝ }
+        ensures { λ r. ⌜ Stepped (now (s .entry)) (self .at) (self .end) r ⌝ }
+    {
+        let at = self.at;
+        let end = self.end;
+        if end <= at {
+            return Step::Bad;
+        }
+        if end - at < 4 {
+            return Step::Bad;
+        }
+        let len = octets::u16_at(s, at);
+        let kind = octets::u16_at(s, at + 2);
+        let start = at + 4;
+        if end - start < len {
+            return Step::Bad;
+        }
+        let stop = start + len;
+        let Got::Good(e) = entry_at(s, kind, start, stop) else {
+            return Step::Bad;
+        };
+        Step::Read(e, Cursor { at: stop, end })
+    }
+}

@@ -1,0 +1,118 @@
+use Rattle.node_check.specs.Messages.{noteIs, note-places, notes-bad, notes-end, notes-other, notes-stop, notes-on}
+use Rattle.node_check.specs.Inside.{messagesRun}
+use Rattle.node_check.specs.declared.Note.{Note}
+use Rattle.path.specs.Fed.{shapeIs}
+use Rattle.node.specs.Places.{MessageWithin, Next, step-bad-is, step-read-is, entry-wider}
+use Rattle.node.specs.Entries.{entriesFrom, entries-end}
+use lib.ListN.{length}
+use mathlib.Core.Path.{_≡_, refl, sym, ap, _∙_}
+use native.Mathlib.Omega.{arith}
+use Prim.Native.Nat.{ℕ, _≤_, _<_, _-_, _+_}
+use borrow.Author.Tests.{not-true, not-false}
+use borrow.Author.Needs.{needs}
+use Rattle.node_check.proofs.check_messages.Statement.{statement}
+use Rattle.node_check.proofs.check_messages.Tie as tie
+use Rattle.node_check.proofs.check_messages.Reads as reads
+use Rattle.node_check.proofs.check_messages.Lts as lts
+use Rattle.node_check.proofs.message_good.Reads as message-good-reads
+use Rattle.node_check.proofs.note_of.Reads as note-of-reads
+use Rattle.node.proofs.Cursor.step.Reads as step-reads
+
+abbrev Inv-loop : tie.InvT-loop
+Inv-loop s from end lo hi sh c₀ c =
+    (c .end ≡ end) × (messagesRun (shapeIs sh) lo hi (entriesFrom s (c .at) (c .end)) ≡ messagesRun (shapeIs sh) lo hi (entriesFrom s from end))
+
+abbrev μ-loop : tie.MeasureT-loop
+μ-loop s from end lo hi sh c₀ c = end - c .at
+
+next-is : (c : tie.After-known-told Inv-loop μ-loop) → Next (c .before .before .before .before .before .before .before .before .before .before .args .s .now) (c .before .before .before .before .before .before .loop .c .at) (c .before .before .before .before .before .before .loop .c .end) (c .before .e .given .0 .0) (c .before .e .given .0 .1 .0)
+next-is c = step-read-is _ _ _ _ _ _ (c .before .before .before .step .ensures) (c .before .e .given .1)
+
+note-is-of : (c : tie.After-known-told2 Inv-loop μ-loop) → noteIs (c .before .before .before .before .before .e .given .0 .0) ≡ Note.Of (c .before .m .given .0 .0)
+note-is-of c = sym (c .before .before .before .note-of .ensures) ∙ c .before .m .given .1
+
+-- src/lib.rt:141:5
+loop-holds : tie.Need-loop-holds Inv-loop μ-loop
+loop-holds c = (refl, refl)
+
+-- src/lib.rt:142:35
+step-requires : tie.Need-step-requires Inv-loop μ-loop
+step-requires c κs = omega arith
+
+-- src/lib.rt:142:24
+enum-known-e : tie.Need-enum-known-e Inv-loop μ-loop
+enum-known-e c = search needs
+
+-- src/lib.rt:143:13
+enum-told : tie.Need-enum-told Inv-loop μ-loop
+enum-told c = search needs
+
+-- src/lib.rt:143:13
+returns : tie.Need-returns Inv-loop μ-loop
+returns c = notes-bad _ _ _ _ _ (step-bad-is _ _ _ _ (c .before .before .step .ensures) (c .enum-told .given .1) .0 (omega arith)) (c .before .before .before .before .before .loop .inv .1)
+
+-- src/lib.rt:145:27
+note-of-requires : tie.Need-note-of-requires Inv-loop μ-loop
+note-of-requires c κs = search needs
+
+-- src/lib.rt:145:22
+enum-known-m : tie.Need-enum-known-m Inv-loop μ-loop
+enum-known-m c = search needs
+
+-- src/lib.rt:146:13
+enum-told-2 : tie.Need-enum-told-2 Inv-loop μ-loop
+enum-told-2 c = search needs
+
+-- src/lib.rt:146:13
+returns-2 : tie.Need-returns-2 Inv-loop μ-loop
+returns-2 c = notes-other _ _ _ _ _ _ _ _ (next-is (c .before .before .before) .first) (sym (c .before .before .note-of .ensures) ∙ c .enum-told2 .given .1) (c .before .before .before .before .before .before .before .before .before .loop .inv .1)
+
+-- src/lib.rt:148:13
+message-good-requires : tie.Need-message-good-requires Inv-loop μ-loop
+message-good-requires c κs =
+    let n = next-is (c .before .before .before .before) in
+    note-places 0 (length (c .before .before .before .before .before .before .before .before .before .before .before .before .before .before .args .s .now)) (c .before .before .before .before .before .e .given .0 .0) _ (note-is-of c)
+    (entry-wider (c .before .before .before .before .before .before .before .before .before .before .loop .c .at) (c .before .before .before .before .before .before .before .before .before .before .loop .c .end) 0 (length (c .before .before .before .before .before .before .before .before .before .before .before .before .before .before .args .s .now)) (c .before .before .before .before .before .e .given .0 .0) (omega arith) (omega arith) (n .reachable))
+
+-- src/lib.rt:149:13
+returns-3 : tie.Need-returns-3 Inv-loop μ-loop
+returns-3 c =
+    let n = next-is (c .before .before .before .before .before .before) in
+    notes-stop _ _ _ _ _ _ _ _ _ (c .before .message-good .result) (n .first) (note-is-of (c .before .before)) (c .before .message-good .ensures) (not-true _ (c .if2 .taken)) (c .before .before .before .before .before .before .before .before .before .before .before .before .loop .inv .1)
+
+-- src/lib.rt:141:5
+loop-less : tie.Need-loop-less Inv-loop μ-loop
+loop-less c = let n = next-is (c .before .before .before .before .before .before) in omega arith
+
+-- src/lib.rt:141:5
+loop-again : tie.Need-loop-again Inv-loop μ-loop
+loop-again c =
+    let n = next-is (c .before .before .before .before .before .before) in (
+      n .ends ∙ c .before .before .before .before .before .before .before .before .before .before .before .before .loop .inv .0,
+      notes-on _ _ _ _ _ _ _ _ _ (c .before .message-good .result) (n .first) (note-is-of (c .before .before)) (c .before .message-good .ensures) (not-false _ (c .if2 .left)) (c .before .before .before .before .before .before .before .before .before .before .before .before .loop .inv .1),
+    )
+
+-- src/lib.rt:136:1
+returns-4 : tie.Need-returns-4 Inv-loop μ-loop
+returns-4 c = notes-end _ _ _ _ _ (entries-end _ _ _ (omega arith)) (c .before .before .loop .inv .1)
+
+pub check-messages-spec : {M : Type 1} → statement M
+check-messages-spec =
+    tie.close
+    (tie.spec
+    Inv-loop
+    μ-loop
+    loop-holds
+    step-requires
+    enum-known-e
+    enum-told
+    returns
+    note-of-requires
+    enum-known-m
+    enum-told-2
+    returns-2
+    message-good-requires
+    returns-3
+    loop-less
+    loop-again
+    returns-4)

@@ -1,0 +1,154 @@
+// Whether a leaf, and the messages of an interior node, are sound.
+use node::Cursor;
+use node::Entry;
+use node::Message;
+use node::Place;
+use node::Step;
+use path::Shape;
+use search::Pair;
+ghost use mathlib.Core.Path.{_≡_};
+ghost use Prim.Native.Nat.{ℕ, _+_, _-_, _*_, _<_, _≤_};
+ghost use lib.ListN.{length, getD};
+ghost use Rattle.node.specs.Places.{Within, MessageWithin, part, messageIn};
+ghost use Rattle.reading.specs.SoundHere.{messageHere};
+ghost use Rattle.node_check.specs.Inside.{messagesRun};
+ghost use Rattle.node_check.specs.Messages.{noteIs};
+ghost use Rattle.node.specs.Entries.{entriesFrom};
+ghost use Rattle.path.specs.Fed.{shapeIs};
+ghost use Rattle.node_check.specs.Leaf.{prevIn, PrevFits, follows, rowHere, leafRun};
+ghost use mathlib.Core.Option.{none};
+
+// The key before this one.
+pub enum Prev {
+    Start,
+    Key(Place),
+}
+
+pub fn follows_on(s: &[u8], prev: Prev, key: &[u8]) -> bool
+    requires { ⌜ PrevFits (length (now s)) prev ⌝ }
+    ensures { λ r. ⌜ r ≡ follows (prevIn (now (s .entry)) prev) (now (key .entry)) ⌝ }
+{
+    let Prev::Key(p) = prev else {
+        return true;
+    };
+    let a = p.start;
+    let b = p.stop;
+    octets::precedes(&s[a..b], key)
+}
+
+pub fn row_good(s: &[u8], prev: Prev, p: Place, v: Place, lo: &[u8], hi: &[u8], sh: Shape) -> bool
+    requires { ⌜ PrevFits (length (now s)) prev × Within 0 (length (now s)) p × Within 0 (length (now s)) v ⌝ }
+    ensures { λ r. ⌜ r ≡ rowHere (shapeIs sh) (now (lo .entry)) (now (hi .entry)) (prevIn (now (s .entry)) prev) (part (now (s .entry)) p) (part (now (s .entry)) v) ⌝ }
+{
+    let a = p.start;
+    let b = p.stop;
+    let x = v.start;
+    let y = v.stop;
+    if 32 < y - x {
+        return false;
+    }
+    if !follows_on(s, prev, &s[a..b]) {
+        return false;
+    }
+    if !octets::owned(lo, hi, &s[a..b]) {
+        return false;
+    }
+    path::goes_on(sh, &s[a..b])
+}
+
+// Whether the entries from a place up to another are the pairs of a sound leaf.
+pub fn check_leaf(s: &[u8], from: usize, end: usize, lo: &[u8], hi: &[u8], sh: Shape) -> bool
+    requires { ⌜ end ≤ length (now s) ⌝ }
+    ensures { λ r. ⌜ r ≡ leafRun (shapeIs sh) (now (lo .entry)) (now (hi .entry)) none (entriesFrom (now (s .entry)) from end) ⌝ }
+{
+    let mut c = Cursor { at: from, end };
+    let mut prev = Prev::Start;
+    while c.at < end {
+        let Step::Read(e, next) = c.step(s) else {
+            return false;
+        };
+        let Pair::Of(p, v) = search::pair_of(e) else {
+            return false;
+        };
+        if !row_good(s, prev, p, v, lo, hi, sh) {
+            return false;
+        }
+        prev = Prev::Key(p);
+        c = next;
+    }
+    true
+}
+
+// A message of an interior node.
+pub enum Note {
+    Of(Message),
+    Other,
+}
+
+pub fn note_of(e: Entry) -> Note
+    ensures { λ r. ⌜ r ≡ noteIs e ⌝ }
+{
+    match e {
+        Entry::Pair(_, _) => Note::Other,
+        Entry::Child(_, _) => Note::Other,
+        Entry::Message(m) => Note::Of(m),
+    }
+}
+
+pub fn message_good(s: &[u8], m: Message, lo: &[u8], hi: &[u8], sh: Shape) -> bool
+    requires { ⌜ MessageWithin 0 (length (now s)) m ⌝ }
+    ensures { λ r. ⌜ r ≡ messageHere (shapeIs sh) (now (lo .entry)) (now (hi .entry)) (messageIn (now (s .entry)) m) ⌝ }
+{
+    match m {
+        Message::Put(p, v) => {
+            let a = p.start;
+            let b = p.stop;
+            let x = v.start;
+            let y = v.stop;
+            if 32 < y - x {
+                return false;
+            }
+            if !octets::owned(lo, hi, &s[a..b]) {
+                return false;
+            }
+            path::goes_on(sh, &s[a..b])
+        }
+        Message::Drop(p) => {
+            let a = p.start;
+            let b = p.stop;
+            if !octets::owned(lo, hi, &s[a..b]) {
+                return false;
+            }
+            path::goes_on(sh, &s[a..b])
+        }
+        Message::Clear(p) => {
+            let a = p.start;
+            let b = p.stop;
+            if b <= a {
+                return true;
+            }
+            path::goes_on(sh, &s[a..b])
+        }
+    }
+}
+
+// Whether the entries from a place up to another are sound messages.
+pub fn check_messages(s: &[u8], from: usize, end: usize, lo: &[u8], hi: &[u8], sh: Shape) -> bool
+    requires { ⌜ end ≤ length (now s) ⌝ }
+    ensures { λ r. ⌜ r ≡ messagesRun (shapeIs sh) (now (lo .entry)) (now (hi .entry)) (entriesFrom (now (s .entry)) from end) ⌝ }
+{
+    let mut c = Cursor { at: from, end };
+    while c.at < end {
+        let Step::Read(e, next) = c.step(s) else {
+            return false;
+        };
+        let Note::Of(m) = note_of(e) else {
+            return false;
+        };
+        if !message_good(s, m, lo, hi, sh) {
+            return false;
+        }
+        c = next;
+    }
+    true
+}

@@ -1,0 +1,23 @@
+use native.Mathlib.Omega.{arith}
+use Rattle.octets.specs.Compare.{starts-by, equal-by, not-equal, no-by, yes-by, at-by}
+use borrow.Author.Needs.{needs}
+use Rattle.octets.proofs.equal.Statement.{statement}
+use Rattle.octets.proofs.equal.Tie as tie
+use Rattle.octets.proofs.equal.Reads as reads
+use Rattle.octets.proofs.equal.Lts as lts
+use Rattle.octets.proofs.common_length.Reads as common-length-reads
+
+-- src/lib.rt:49:9
+returns : tie.Need-returns
+returns c = not-equal _ _ (λ h. omega arith)
+
+-- src/lib.rt:51:5
+common-length-requires : tie.Need-common-length-requires
+common-length-requires c κs = search needs
+
+-- src/lib.rt:45:1
+returns-2 : tie.Need-returns-2
+returns-2 c = equal-by _ _ _ (c .common-length .ensures .0) (omega arith)
+
+pub equal-spec : {M : Type 1} → statement M
+equal-spec = tie.close (tie.spec returns common-length-requires returns-2)

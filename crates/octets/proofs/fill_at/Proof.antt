@@ -1,0 +1,64 @@
+use borrow.Author.Needs.{needs}
+use native.Mathlib.Omega.{arith}
+use Prim.Native.Nat.{ℕ, suc, _+_, _-_, _≤_, _<_}
+use mathlib.Core.Path.{_≡_, refl, sym, ap, _∙_}
+use mathlib.Core.List.{List, [], _∷_, _++_}
+use lib.ListN.{length, set, replicate, length-set}
+use Rattle.octets.specs.Put.{put, put-nil, put-fill, fill-more, fill-done}
+use Rattle.octets.proofs.fill_at.Statement.{statement}
+use Rattle.octets.proofs.fill_at.Tie as tie
+use Rattle.octets.proofs.fill_at.Reads as reads
+use Rattle.octets.proofs.fill_at.Lts as lts
+
+abbrev Inv-loop : tie.InvT-loop
+Inv-loop page₀ at count byte i₀ page i = (i ≤ count) × (length page ≡ length page₀) × (page ≡ put page₀ at (replicate i byte))
+
+abbrev μ-loop : tie.MeasureT-loop
+μ-loop page₀ at count byte i₀ page i = count - i
+
+-- src/lib.rt:138:5
+loop-holds : tie.Need-loop-holds Inv-loop μ-loop
+loop-holds c = (omega arith, refl, sym (put-nil _ _))
+
+-- src/lib.rt:139:14
+add-page : tie.Need-add-page Inv-loop μ-loop
+add-page c = search needs
+
+-- src/lib.rt:139:9
+slice-write-page : tie.Need-slice-write-page Inv-loop μ-loop
+slice-write-page c = search needs
+
+-- src/lib.rt:140:13
+add-i : tie.Need-add-i Inv-loop μ-loop
+add-i c = search needs
+
+-- src/lib.rt:138:5
+loop-less : tie.Need-loop-less Inv-loop μ-loop
+loop-less c = search needs
+
+-- src/lib.rt:138:5
+loop-again : tie.Need-loop-again Inv-loop μ-loop
+loop-again c = (search needs, search needs, search (needs, fill-more))
+
+-- src/lib.rt:133:1
+same-length : tie.Need-same-length Inv-loop μ-loop
+same-length c = search needs
+
+-- src/lib.rt:133:1
+returns : tie.Need-returns Inv-loop μ-loop
+returns c = search (needs, fill-done)
+
+pub fill-at-spec : {M : Type 1} → statement M
+fill-at-spec =
+    tie.close
+    (tie.spec
+    Inv-loop
+    μ-loop
+    loop-holds
+    add-page
+    slice-write-page
+    add-i
+    loop-less
+    loop-again
+    same-length
+    returns)

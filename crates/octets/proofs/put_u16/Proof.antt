@@ -1,0 +1,44 @@
+use Prim.Native.Nat.{ℕ, _+_, _*_, _-_, _/_, _%_, _≤_, _<_}
+use mathlib.Core.Path.{_≡_, refl, sym, ap, _∙_}
+use lib.ListN.{length, getD, set, take, length-set}
+use lib.Seq.{take-length}
+use Rattle.octets.specs.Put.{put, put-size, put-nil, put-more, put-two}
+use native.Mathlib.Omega.{arith}
+use borrow.Author.Needs.{needs}
+use Rattle.octets.proofs.put_u16.Statement.{statement}
+use Rattle.octets.proofs.put_u16.Tie as tie
+use Rattle.octets.proofs.put_u16.Reads as reads
+use Rattle.octets.proofs.put_u16.Lts as lts
+
+cast-page : tie.Need-cast-page
+cast-page c = search needs
+
+slice-write-page : tie.Need-slice-write-page
+slice-write-page c = search needs
+
+cast-page-2 : tie.Need-cast-page-2
+cast-page-2 c = search needs
+
+add-page : tie.Need-add-page
+add-page c = search needs
+
+slice-write-page-2 : tie.Need-slice-write-page-2
+slice-write-page-2 c = simp length-set (omega arith)
+
+same-length : tie.Need-same-length
+same-length c = search needs
+
+returns : tie.Need-returns
+returns c = put-two _ _ _ (omega arith)
+
+pub put-u16-spec : {M : Type 1} → statement M
+put-u16-spec =
+    tie.close
+    (tie.spec
+    cast-page
+    slice-write-page
+    cast-page-2
+    add-page
+    slice-write-page-2
+    same-length
+    returns)

@@ -1,0 +1,4 @@
+pub mod Order
+pub mod Compare
+pub mod Ordering
+pub mod Put

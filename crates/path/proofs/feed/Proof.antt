@@ -1,0 +1,60 @@
+use Rattle.path.specs.Fed.{shapeIs, feed-step, feed-end}
+use Rattle.path.specs.Shape as defined
+use lib.ListN.{length, drop}
+use mathlib.Core.Path.{_≡_, refl}
+use Prim.Native.Nat.{_≤_, _-_}
+use native.Mathlib.Omega.{arith}
+use borrow.Author.Needs.{needs}
+use Rattle.path.proofs.feed.Statement.{statement}
+use Rattle.path.proofs.feed.Tie as tie
+use Rattle.path.proofs.feed.Reads as reads
+use Rattle.path.proofs.feed.Lts as lts
+use Rattle.path.proofs.fed.Reads as fed-reads
+
+abbrev Inv-loop : tie.InvT-loop
+Inv-loop s sh₀ i₀ sh i = (i ≤ length s) × (defined.feed (shapeIs sh) (drop i s) ≡ defined.feed (shapeIs sh₀) s)
+
+abbrev μ-loop : tie.MeasureT-loop
+μ-loop s sh₀ i₀ sh i = length s - i
+
+-- src/lib.rt:56:5
+loop-holds : tie.Need-loop-holds Inv-loop μ-loop
+loop-holds c = (omega arith, refl)
+
+-- src/lib.rt:57:22
+shared-slice-read-fed : tie.Need-shared-slice-read-fed Inv-loop μ-loop
+shared-slice-read-fed c = search needs
+
+-- src/lib.rt:57:9
+fed-requires : tie.Need-fed-requires Inv-loop μ-loop
+fed-requires c κs = search needs
+
+-- src/lib.rt:58:9
+add-i : tie.Need-add-i Inv-loop μ-loop
+add-i c = search needs
+
+-- src/lib.rt:56:5
+loop-less : tie.Need-loop-less Inv-loop μ-loop
+loop-less c = search needs
+
+-- src/lib.rt:56:5
+loop-again : tie.Need-loop-again Inv-loop μ-loop
+loop-again c = (omega arith, feed-step _ (c .before .before .before .before .before .args .s .now) (c .before .before .before .loop .i) _ _ (omega arith) (c .fed .ensures) (c .before .before .before .loop .inv .1))
+
+-- src/lib.rt:51:1
+returns : tie.Need-returns Inv-loop μ-loop
+returns c = feed-end _ (c .before .before .before .args .s .now) (c .before .loop .i) _ (omega arith) (c .before .loop .inv .1)
+
+pub feed-spec : {M : Type 1} → statement M
+feed-spec =
+    tie.close
+    (tie.spec
+    Inv-loop
+    μ-loop
+    loop-holds
+    shared-slice-read-fed
+    fed-requires
+    add-i
+    loop-less
+    loop-again
+    returns)

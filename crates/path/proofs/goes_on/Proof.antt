@@ -1,0 +1,23 @@
+use Rattle.path.specs.Fed.{goes-is}
+use borrow.Author.Needs.{needs}
+use Rattle.path.proofs.goes_on.Statement.{statement}
+use Rattle.path.proofs.goes_on.Tie as tie
+use Rattle.path.proofs.goes_on.Reads as reads
+use Rattle.path.proofs.goes_on.Lts as lts
+use Rattle.path.proofs.closed.Reads as closed-reads
+use Rattle.path.proofs.feed.Reads as feed-reads
+
+-- src/lib.rt:85:12
+feed-requires : tie.Need-feed-requires
+feed-requires c κs = search needs
+
+-- src/lib.rt:85:5
+closed-requires : tie.Need-closed-requires
+closed-requires c κs = search needs
+
+-- src/lib.rt:82:1
+returns : tie.Need-returns
+returns c = goes-is _ (c .before .feed .result) _ _ (c .before .feed .ensures) (c .closed .ensures)
+
+pub goes-on-spec : {M : Type 1} → statement M
+goes-on-spec = tie.close (tie.spec feed-requires closed-requires returns)

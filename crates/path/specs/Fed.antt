@@ -1,0 +1,106 @@
+-- The code's shape as the definition's, and each case of a byte more.
+use Prim.Native.Nat.{ℕ, zero, suc, _+_, _-_, _*_, _<_, _≤_}
+use mathlib.Core.Path.{_≡_, refl, sym, ap, _∙_}
+use mathlib.Core.List.{List, [], _∷_, _++_}
+use mathlib.Core.Bool.{Bool, true, false, _&&_, not, cond}
+use native.Mathlib.Omega.{arith}
+use native.Mathlib.Numerals.{add-one}
+use lib.ListN.{length, drop, getD, drop-of-length-le}
+use lib.Seq.{drop-cons}
+use lib.Dec.{ltb, leb, eqb}
+use borrow.Author.Tests.{lt-ltb, le-ltb, le-leb, lt-leb, eq-eqb, ne-eqb}
+use Rattle.image.specs.Path.{letter, pathLimit, wellFormed}
+use Rattle.path.specs.Shape as defined
+use Rattle.path.specs.declared.Shape.{Shape}
+
+unfoldable pub shapeIs : Shape → defined.Shape
+shapeIs Shape.Dead = defined.dead
+shapeIs (Shape.Partway done here len) = defined.partway done here len
+
+pub dead-fed : (sh : Shape) (b : ℕ) → sh ≡ Shape.Dead → shapeIs Shape.Dead ≡ defined.fed (shapeIs sh) b
+unfolding shapeIs defined.fed
+dead-fed sh b e = rw e
+
+module _ (sh : Shape) (done here len b : ℕ) (e : sh ≡ Shape.Partway done here len) where
+  pub fed-long : 64 ≤ len → shapeIs Shape.Dead ≡ defined.fed (shapeIs sh) b
+  unfolding shapeIs defined.fed pathLimit
+  fed-long l = rw (e, le-ltb len 64 l)
+
+  module _ (l : len < 64) where
+    pub fed-empty : b ≡ 0 → here < 1 → shapeIs Shape.Dead ≡ defined.fed (shapeIs sh) b
+    unfolding shapeIs defined.fed pathLimit
+    fed-empty z h = rw (e, lt-ltb len 64 l, eq-eqb b 0 z, lt-leb 1 here h)
+
+    pub fed-wide : b ≡ 0 → 16 < here → shapeIs Shape.Dead ≡ defined.fed (shapeIs sh) b
+    unfolding shapeIs defined.fed pathLimit
+    fed-wide z h = rw (e, lt-ltb len 64 l, eq-eqb b 0 z, le-leb 1 here (omega arith), lt-leb here 16 h)
+
+    pub fed-many : b ≡ 0 → 1 ≤ here → here ≤ 16 → 8 ≤ done → shapeIs Shape.Dead ≡ defined.fed (shapeIs sh) b
+    unfolding shapeIs defined.fed pathLimit
+    fed-many z h k d = rw (e, lt-ltb len 64 l, eq-eqb b 0 z, le-leb 1 here h, le-leb here 16 k, le-ltb done 8 d)
+
+    pub fed-end : b ≡ 0 → 1 ≤ here → here ≤ 16 → done < 8 → shapeIs (Shape.Partway (done + 1) 0 (len + 1)) ≡ defined.fed (shapeIs sh) b
+    unfolding shapeIs defined.fed pathLimit
+    fed-end z h k d = rw (e, lt-ltb len 64 l, eq-eqb b 0 z, le-leb 1 here h, le-leb here 16 k, lt-ltb done 8 d, add-one done, add-one len)
+
+    module _ (nz : b ≡ 0 → ⊥) where
+      pub fed-low : b < 33 → shapeIs Shape.Dead ≡ defined.fed (shapeIs sh) b
+      unfolding shapeIs defined.fed pathLimit letter
+      fed-low h = rw (e, lt-ltb len 64 l, ne-eqb b 0 nz, lt-leb 33 b h)
+
+      pub fed-high : 33 ≤ b → 126 < b → shapeIs Shape.Dead ≡ defined.fed (shapeIs sh) b
+      unfolding shapeIs defined.fed pathLimit letter
+      fed-high g h = rw (e, lt-ltb len 64 l, ne-eqb b 0 nz, le-leb 33 b g, lt-leb b 126 h)
+
+      pub fed-slash : 33 ≤ b → b ≤ 126 → b ≡ 47 → shapeIs Shape.Dead ≡ defined.fed (shapeIs sh) b
+      unfolding shapeIs defined.fed pathLimit letter
+      fed-slash g h k = rw (e, lt-ltb len 64 l, ne-eqb b 0 nz, le-leb 33 b g, le-leb b 126 h, eq-eqb b 47 k)
+
+      pub fed-full : 33 ≤ b → b ≤ 126 → (b ≡ 47 → ⊥) → 16 ≤ here → shapeIs Shape.Dead ≡ defined.fed (shapeIs sh) b
+      unfolding shapeIs defined.fed pathLimit letter
+      fed-full g h k w = rw (e, lt-ltb len 64 l, ne-eqb b 0 nz, le-leb 33 b g, le-leb b 126 h, ne-eqb b 47 k, le-ltb here 16 w)
+
+      pub fed-on : 33 ≤ b → b ≤ 126 → (b ≡ 47 → ⊥) → here < 16 → shapeIs (Shape.Partway done (here + 1) (len + 1)) ≡ defined.fed (shapeIs sh) b
+      unfolding shapeIs defined.fed pathLimit letter
+      fed-on g h k w = rw (e, lt-ltb len 64 l, ne-eqb b 0 nz, le-leb 33 b g, le-leb b 126 h, ne-eqb b 47 k, lt-ltb here 16 w, add-one here, add-one len)
+
+-- the loop
+pub feed-step : (sh : defined.Shape) (s : List ℕ) (i : ℕ) (X : defined.Shape) (r : defined.Shape) → i < length s → r ≡ defined.fed sh (getD s i 0) → defined.feed sh (drop i s) ≡ X → defined.feed r (drop (i + 1) s) ≡ X
+unfolding defined.feed
+feed-step sh s i X r h e inv =
+    let w : defined.feed (defined.fed sh (getD s i 0)) (drop (suc i) s) ≡ X = rw (drop-cons s i 0 h) at inv in
+    rw (add-one i, e) w
+
+pub feed-end : (sh : defined.Shape) (s : List ℕ) (i : ℕ) (X : defined.Shape) → length s ≤ i → defined.feed sh (drop i s) ≡ X → sh ≡ X
+unfolding defined.feed
+feed-end sh s i X h inv = rw (drop-of-length-le s h) at inv
+
+pub closed-dead : (sh : Shape) → sh ≡ Shape.Dead → false ≡ defined.closed (shapeIs sh)
+unfolding shapeIs defined.closed
+closed-dead sh e = rw e
+
+module _ (sh : Shape) (done here len : ℕ) (e : sh ≡ Shape.Partway done here len) where
+  pub closed-long : 64 < len → false ≡ defined.closed (shapeIs sh)
+  unfolding shapeIs defined.closed pathLimit
+  closed-long h = rw (e, lt-leb len 64 h)
+
+  pub closed-none : len ≤ 64 → done < 1 → false ≡ defined.closed (shapeIs sh)
+  unfolding shapeIs defined.closed pathLimit
+  closed-none h k = rw (e, le-leb len 64 h, lt-leb 1 done k)
+
+  pub closed-many : len ≤ 64 → 1 ≤ done → 8 < done → false ≡ defined.closed (shapeIs sh)
+  unfolding shapeIs defined.closed pathLimit
+  closed-many h k m = rw (e, le-leb len 64 h, le-leb 1 done k, lt-leb done 8 m)
+
+  pub closed-is : len ≤ 64 → 1 ≤ done → done ≤ 8 → eqb here 0 ≡ defined.closed (shapeIs sh)
+  unfolding shapeIs defined.closed pathLimit
+  closed-is h k m = rw (e, le-leb len 64 h, le-leb 1 done k, le-leb done 8 m)
+
+pub goes-is : (sh r : Shape) (s : List ℕ) (b : Bool) → shapeIs r ≡ defined.feed (shapeIs sh) s → b ≡ defined.closed (shapeIs r) → b ≡ defined.goesOn (shapeIs sh) s
+unfolding defined.goesOn
+goes-is sh r s b e f = f ∙ ap (λ x. defined.closed x) e
+
+-- from no byte on it is the definition
+pub path-is : (r : Bool) (p : List ℕ) → r ≡ defined.goesOn (shapeIs (Shape.Partway 0 0 0)) p → r ≡ wellFormed p
+unfolding shapeIs defined.feed
+path-is r p e = e ∙ defined.shape-is [] p

@@ -1,0 +1,1 @@
+// get, next and same.

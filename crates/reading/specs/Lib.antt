@@ -1,0 +1,5 @@
+pub mod Relative
+pub mod Seek
+pub mod SeekHere
+pub mod SoundHere
+pub mod Visit

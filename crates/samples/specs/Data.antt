@@ -1,0 +1,360 @@
+-- Images and what they are, printed by the second program: tests/samples writes this file anew. Do not edit.
+use Prim.Native.Nat.{ℕ, _*_}
+use mathlib.Core.List.{List, [], _∷_, _++_}
+use mathlib.Core.Bool.{true, false}
+use lib.ListN.{replicate}
+use Rattle.samples.specs.Verdict.{Verdict, node, row}
+
+-- made: just made: the root is an empty leaf
+abbrev pub made-0 : List ℕ
+made-0 = 8 ∷ 0 ∷ 0 ∷ 1 ∷ 32 ∷ 0 ∷ 1 ∷ 0 ∷ 1 ∷ []
+
+abbrev pub made-1 : List ℕ
+made-1 = 0 ∷ 0 ∷ 1 ∷ 0 ∷ 1 ∷ []
+
+abbrev pub made : List ℕ
+made = node made-0 ++ node made-1 ++ replicate (30 * 1024) 0
+
+abbrev pub made-says : Verdict
+made-says = record { sound = true; settled = true; used = 2; free = 30; table = [] }
+
+-- one-leaf: a single leaf with pairs
+abbrev pub one-leaf-0 : List ℕ
+one-leaf-0 = 8 ∷ 0 ∷ 0 ∷ 1 ∷ 32 ∷ 0 ∷ 5 ∷ 0 ∷ 1 ∷ 0 ∷ 5 ∷ []
+
+abbrev pub one-leaf-5 : List ℕ
+one-leaf-5 = 62 ∷ 0 ∷ 1 ∷ 0 ∷ 1 ∷ 0 ∷ 0 ∷ 0 ∷ 5 ∷ 0 ∷ 1 ∷ 0 ∷ 2 ∷ 0 ∷ 97 ∷ 0 ∷ 1 ∷ 5 ∷ 0 ∷ 1 ∷ 0 ∷ 3 ∷ 0 ∷ 114 ∷ 49 ∷ 0 ∷ 12 ∷ 0 ∷ 1 ∷ 0 ∷ 9 ∷ 0 ∷ 114 ∷ 49 ∷ 0 ∷ 99 ∷ 55 ∷ 0 ∷ 116 ∷ 49 ∷ 0 ∷ 10 ∷ 11 ∷ 0 ∷ 1 ∷ 0 ∷ 9 ∷ 0 ∷ 114 ∷ 49 ∷ 0 ∷ 99 ∷ 55 ∷ 0 ∷ 116 ∷ 50 ∷ 0 ∷ 9 ∷ 0 ∷ 1 ∷ 0 ∷ 4 ∷ 0 ∷ 114 ∷ 49 ∷ 48 ∷ 0 ∷ 255 ∷ 0 ∷ 33 ∷ []
+
+abbrev pub one-leaf : List ℕ
+one-leaf = node one-leaf-0 ++ replicate (4 * 1024) 0 ++ node one-leaf-5 ++ replicate (26 * 1024) 0
+
+abbrev pub one-leaf-says : Verdict
+one-leaf-says = record { sound = true; settled = true; used = 2; free = 30; table = row (97 ∷ 0 ∷ []) (1 ∷ []) ∷ row (114 ∷ 49 ∷ 0 ∷ []) [] ∷ row (114 ∷ 49 ∷ 0 ∷ 99 ∷ 55 ∷ 0 ∷ 116 ∷ 49 ∷ 0 ∷ []) (10 ∷ []) ∷ row (114 ∷ 49 ∷ 0 ∷ 99 ∷ 55 ∷ 0 ∷ 116 ∷ 50 ∷ 0 ∷ []) [] ∷ row (114 ∷ 49 ∷ 48 ∷ 0 ∷ []) (255 ∷ 0 ∷ 33 ∷ []) ∷ [] }
+
+-- two-levels: messages of all kinds wait at the root, a clear of all before the last puts
+abbrev pub two-levels-0 : List ℕ
+two-levels-0 = 8 ∷ 0 ∷ 0 ∷ 1 ∷ 32 ∷ 0 ∷ 1 ∷ 0 ∷ 2 ∷ 0 ∷ 4 ∷ []
+
+abbrev pub two-levels-1 : List ℕ
+two-levels-1 = 128 ∷ 0 ∷ 2 ∷ 0 ∷ 2 ∷ 0 ∷ 0 ∷ 0 ∷ 2 ∷ 0 ∷ 16 ∷ 0 ∷ 2 ∷ 0 ∷ 5 ∷ 0 ∷ 16 ∷ 0 ∷ 3 ∷ 0 ∷ 114 ∷ 49 ∷ 0 ∷ 6 ∷ 0 ∷ 16 ∷ 0 ∷ 4 ∷ 0 ∷ 114 ∷ 49 ∷ 0 ∷ 255 ∷ 7 ∷ 0 ∷ 32 ∷ 0 ∷ 4 ∷ 0 ∷ 97 ∷ 0 ∷ 122 ∷ 0 ∷ 7 ∷ 5 ∷ 0 ∷ 33 ∷ 0 ∷ 114 ∷ 49 ∷ 0 ∷ 97 ∷ 0 ∷ 3 ∷ 0 ∷ 34 ∷ 0 ∷ 114 ∷ 50 ∷ 0 ∷ 0 ∷ 0 ∷ 34 ∷ 0 ∷ 6 ∷ 0 ∷ 32 ∷ 0 ∷ 3 ∷ 0 ∷ 114 ∷ 49 ∷ 0 ∷ 9 ∷ 9 ∷ 0 ∷ 32 ∷ 0 ∷ 5 ∷ 0 ∷ 114 ∷ 49 ∷ 0 ∷ 98 ∷ 0 ∷ 7 ∷ 7 ∷ 7 ∷ 0 ∷ 32 ∷ 0 ∷ 5 ∷ 0 ∷ 114 ∷ 50 ∷ 0 ∷ 120 ∷ 0 ∷ 9 ∷ 0 ∷ 32 ∷ 0 ∷ 6 ∷ 0 ∷ 114 ∷ 49 ∷ 48 ∷ 0 ∷ 113 ∷ 0 ∷ 8 ∷ 6 ∷ 0 ∷ 33 ∷ 0 ∷ 114 ∷ 49 ∷ 48 ∷ 0 ∷ 113 ∷ 0 ∷ 2 ∷ 0 ∷ 34 ∷ 0 ∷ 98 ∷ 0 ∷ 5 ∷ 0 ∷ 32 ∷ 0 ∷ 2 ∷ 0 ∷ 97 ∷ 0 ∷ 11 ∷ []
+
+abbrev pub two-levels-2 : List ℕ
+two-levels-2 = 20 ∷ 0 ∷ 1 ∷ 0 ∷ 1 ∷ 0 ∷ 0 ∷ 0 ∷ 5 ∷ 0 ∷ 1 ∷ 0 ∷ 2 ∷ 0 ∷ 97 ∷ 0 ∷ 1 ∷ 7 ∷ 0 ∷ 1 ∷ 0 ∷ 4 ∷ 0 ∷ 98 ∷ 0 ∷ 120 ∷ 0 ∷ 2 ∷ []
+
+abbrev pub two-levels-3 : List ℕ
+two-levels-3 = 24 ∷ 0 ∷ 1 ∷ 0 ∷ 1 ∷ 0 ∷ 0 ∷ 0 ∷ 2 ∷ 0 ∷ 1 ∷ 0 ∷ 0 ∷ 0 ∷ 5 ∷ 0 ∷ 1 ∷ 0 ∷ 2 ∷ 0 ∷ 97 ∷ 0 ∷ 3 ∷ 5 ∷ 0 ∷ 1 ∷ 0 ∷ 2 ∷ 0 ∷ 99 ∷ 0 ∷ 4 ∷ []
+
+abbrev pub two-levels-4 : List ℕ
+two-levels-4 = 23 ∷ 0 ∷ 1 ∷ 0 ∷ 1 ∷ 0 ∷ 0 ∷ 0 ∷ 7 ∷ 0 ∷ 1 ∷ 0 ∷ 4 ∷ 0 ∷ 114 ∷ 49 ∷ 48 ∷ 0 ∷ 5 ∷ 8 ∷ 0 ∷ 1 ∷ 0 ∷ 5 ∷ 0 ∷ 114 ∷ 50 ∷ 0 ∷ 120 ∷ 0 ∷ 6 ∷ []
+
+abbrev pub two-levels : List ℕ
+two-levels = node two-levels-0 ++ node two-levels-1 ++ node two-levels-2 ++ node two-levels-3 ++ node two-levels-4 ++ replicate (27 * 1024) 0
+
+abbrev pub two-levels-says : Verdict
+two-levels-says = record { sound = true; settled = false; used = 5; free = 27; table = row (97 ∷ 0 ∷ []) (11 ∷ []) ∷ row (114 ∷ 49 ∷ 0 ∷ []) (9 ∷ []) ∷ row (114 ∷ 49 ∷ 0 ∷ 98 ∷ 0 ∷ []) (7 ∷ 7 ∷ []) ∷ row (114 ∷ 50 ∷ 0 ∷ 120 ∷ 0 ∷ []) [] ∷ [] }
+
+-- three-levels: messages wait at two levels; clears at, under and above a lifted prefix; an empty leaf, an only child, a pivot of 65 bytes
+abbrev pub three-levels-0 : List ℕ
+three-levels-0 = 8 ∷ 0 ∷ 0 ∷ 1 ∷ 32 ∷ 0 ∷ 3 ∷ 0 ∷ 3 ∷ 0 ∷ 10 ∷ []
+
+abbrev pub three-levels-3 : List ℕ
+three-levels-3 = 193 ∷ 0 ∷ 2 ∷ 0 ∷ 3 ∷ 0 ∷ 0 ∷ 0 ∷ 2 ∷ 0 ∷ 16 ∷ 0 ∷ 4 ∷ 0 ∷ 5 ∷ 0 ∷ 16 ∷ 0 ∷ 6 ∷ 0 ∷ 114 ∷ 49 ∷ 0 ∷ 6 ∷ 0 ∷ 16 ∷ 0 ∷ 10 ∷ 0 ∷ 114 ∷ 49 ∷ 0 ∷ 255 ∷ 67 ∷ 0 ∷ 16 ∷ 0 ∷ 15 ∷ 0 ∷ 118 ∷ 50 ∷ 51 ∷ 52 ∷ 53 ∷ 54 ∷ 55 ∷ 56 ∷ 57 ∷ 48 ∷ 49 ∷ 50 ∷ 51 ∷ 52 ∷ 53 ∷ 54 ∷ 0 ∷ 118 ∷ 50 ∷ 51 ∷ 52 ∷ 53 ∷ 54 ∷ 55 ∷ 56 ∷ 57 ∷ 48 ∷ 49 ∷ 50 ∷ 51 ∷ 52 ∷ 53 ∷ 54 ∷ 0 ∷ 118 ∷ 50 ∷ 51 ∷ 52 ∷ 53 ∷ 54 ∷ 55 ∷ 56 ∷ 57 ∷ 48 ∷ 49 ∷ 50 ∷ 51 ∷ 52 ∷ 53 ∷ 54 ∷ 0 ∷ 118 ∷ 50 ∷ 51 ∷ 52 ∷ 53 ∷ 54 ∷ 55 ∷ 56 ∷ 57 ∷ 48 ∷ 49 ∷ 50 ∷ 0 ∷ 255 ∷ 7 ∷ 0 ∷ 32 ∷ 0 ∷ 4 ∷ 0 ∷ 97 ∷ 0 ∷ 120 ∷ 0 ∷ 9 ∷ 5 ∷ 0 ∷ 34 ∷ 0 ∷ 114 ∷ 49 ∷ 0 ∷ 100 ∷ 0 ∷ 2 ∷ 0 ∷ 33 ∷ 0 ∷ 98 ∷ 0 ∷ 67 ∷ 0 ∷ 32 ∷ 0 ∷ 64 ∷ 0 ∷ 118 ∷ 50 ∷ 51 ∷ 52 ∷ 53 ∷ 54 ∷ 55 ∷ 56 ∷ 57 ∷ 48 ∷ 49 ∷ 50 ∷ 51 ∷ 52 ∷ 53 ∷ 54 ∷ 0 ∷ 118 ∷ 50 ∷ 51 ∷ 52 ∷ 53 ∷ 54 ∷ 55 ∷ 56 ∷ 57 ∷ 48 ∷ 49 ∷ 50 ∷ 51 ∷ 52 ∷ 53 ∷ 54 ∷ 0 ∷ 118 ∷ 50 ∷ 51 ∷ 52 ∷ 53 ∷ 54 ∷ 55 ∷ 56 ∷ 57 ∷ 48 ∷ 49 ∷ 50 ∷ 51 ∷ 52 ∷ 53 ∷ 54 ∷ 0 ∷ 118 ∷ 50 ∷ 51 ∷ 52 ∷ 53 ∷ 54 ∷ 55 ∷ 56 ∷ 57 ∷ 48 ∷ 49 ∷ 50 ∷ 0 ∷ 10 ∷ []
+
+abbrev pub three-levels-4 : List ℕ
+three-levels-4 = 6 ∷ 0 ∷ 2 ∷ 0 ∷ 2 ∷ 0 ∷ 0 ∷ 0 ∷ 2 ∷ 0 ∷ 16 ∷ 0 ∷ 5 ∷ []
+
+abbrev pub three-levels-5 : List ℕ
+three-levels-5 = 18 ∷ 0 ∷ 1 ∷ 0 ∷ 1 ∷ 0 ∷ 0 ∷ 0 ∷ 5 ∷ 0 ∷ 1 ∷ 0 ∷ 2 ∷ 0 ∷ 97 ∷ 0 ∷ 1 ∷ 5 ∷ 0 ∷ 1 ∷ 0 ∷ 2 ∷ 0 ∷ 98 ∷ 0 ∷ 2 ∷ []
+
+abbrev pub three-levels-6 : List ℕ
+three-levels-6 = 53 ∷ 0 ∷ 2 ∷ 0 ∷ 2 ∷ 0 ∷ 0 ∷ 0 ∷ 2 ∷ 0 ∷ 16 ∷ 0 ∷ 7 ∷ 0 ∷ 4 ∷ 0 ∷ 16 ∷ 0 ∷ 8 ∷ 0 ∷ 99 ∷ 0 ∷ 5 ∷ 0 ∷ 16 ∷ 0 ∷ 9 ∷ 0 ∷ 99 ∷ 0 ∷ 255 ∷ 3 ∷ 0 ∷ 32 ∷ 0 ∷ 0 ∷ 0 ∷ 7 ∷ 2 ∷ 0 ∷ 34 ∷ 0 ∷ 99 ∷ 0 ∷ 7 ∷ 0 ∷ 32 ∷ 0 ∷ 4 ∷ 0 ∷ 99 ∷ 0 ∷ 109 ∷ 0 ∷ 8 ∷ 2 ∷ 0 ∷ 33 ∷ 0 ∷ 97 ∷ []
+
+abbrev pub three-levels-7 : List ℕ
+three-levels-7 = 16 ∷ 0 ∷ 1 ∷ 0 ∷ 1 ∷ 0 ∷ 0 ∷ 0 ∷ 3 ∷ 0 ∷ 1 ∷ 0 ∷ 0 ∷ 0 ∷ 1 ∷ 5 ∷ 0 ∷ 1 ∷ 0 ∷ 2 ∷ 0 ∷ 97 ∷ 0 ∷ 2 ∷ []
+
+abbrev pub three-levels-8 : List ℕ
+three-levels-8 = 16 ∷ 0 ∷ 1 ∷ 0 ∷ 1 ∷ 0 ∷ 0 ∷ 0 ∷ 3 ∷ 0 ∷ 1 ∷ 0 ∷ 0 ∷ 0 ∷ 3 ∷ 5 ∷ 0 ∷ 1 ∷ 0 ∷ 2 ∷ 0 ∷ 107 ∷ 0 ∷ 4 ∷ []
+
+abbrev pub three-levels-9 : List ℕ
+three-levels-9 = 20 ∷ 0 ∷ 1 ∷ 0 ∷ 1 ∷ 0 ∷ 0 ∷ 0 ∷ 5 ∷ 0 ∷ 1 ∷ 0 ∷ 2 ∷ 0 ∷ 100 ∷ 0 ∷ 5 ∷ 7 ∷ 0 ∷ 1 ∷ 0 ∷ 4 ∷ 0 ∷ 100 ∷ 0 ∷ 101 ∷ 0 ∷ 6 ∷ []
+
+abbrev pub three-levels-10 : List ℕ
+three-levels-10 = 63 ∷ 0 ∷ 2 ∷ 0 ∷ 2 ∷ 0 ∷ 0 ∷ 0 ∷ 6 ∷ 0 ∷ 16 ∷ 0 ∷ 12 ∷ 0 ∷ 114 ∷ 49 ∷ 0 ∷ 255 ∷ 6 ∷ 0 ∷ 16 ∷ 0 ∷ 13 ∷ 0 ∷ 116 ∷ 0 ∷ 117 ∷ 0 ∷ 7 ∷ 0 ∷ 16 ∷ 0 ∷ 14 ∷ 0 ∷ 116 ∷ 0 ∷ 117 ∷ 0 ∷ 255 ∷ 9 ∷ 0 ∷ 32 ∷ 0 ∷ 6 ∷ 0 ∷ 116 ∷ 0 ∷ 117 ∷ 0 ∷ 97 ∷ 0 ∷ 3 ∷ 2 ∷ 0 ∷ 34 ∷ 0 ∷ 116 ∷ 0 ∷ 9 ∷ 0 ∷ 32 ∷ 0 ∷ 6 ∷ 0 ∷ 116 ∷ 0 ∷ 117 ∷ 0 ∷ 98 ∷ 0 ∷ 4 ∷ []
+
+abbrev pub three-levels-12 : List ℕ
+three-levels-12 = 19 ∷ 0 ∷ 1 ∷ 0 ∷ 1 ∷ 0 ∷ 0 ∷ 0 ∷ 7 ∷ 0 ∷ 1 ∷ 0 ∷ 4 ∷ 0 ∷ 114 ∷ 49 ∷ 48 ∷ 0 ∷ 1 ∷ 4 ∷ 0 ∷ 1 ∷ 0 ∷ 2 ∷ 0 ∷ 115 ∷ []
+
+abbrev pub three-levels-13 : List ℕ
+three-levels-13 = 16 ∷ 0 ∷ 1 ∷ 0 ∷ 1 ∷ 0 ∷ 0 ∷ 0 ∷ 3 ∷ 0 ∷ 1 ∷ 0 ∷ 0 ∷ 0 ∷ 2 ∷ 5 ∷ 0 ∷ 1 ∷ 0 ∷ 2 ∷ 0 ∷ 97 ∷ 0 ∷ 2 ∷ []
+
+abbrev pub three-levels-14 : List ℕ
+three-levels-14 = 20 ∷ 0 ∷ 1 ∷ 0 ∷ 1 ∷ 0 ∷ 0 ∷ 0 ∷ 7 ∷ 0 ∷ 1 ∷ 0 ∷ 4 ∷ 0 ∷ 116 ∷ 0 ∷ 118 ∷ 0 ∷ 3 ∷ 5 ∷ 0 ∷ 1 ∷ 0 ∷ 2 ∷ 0 ∷ 117 ∷ 0 ∷ 3 ∷ []
+
+abbrev pub three-levels-15 : List ℕ
+three-levels-15 = 84 ∷ 0 ∷ 2 ∷ 0 ∷ 2 ∷ 0 ∷ 0 ∷ 0 ∷ 67 ∷ 0 ∷ 16 ∷ 0 ∷ 16 ∷ 0 ∷ 118 ∷ 50 ∷ 51 ∷ 52 ∷ 53 ∷ 54 ∷ 55 ∷ 56 ∷ 57 ∷ 48 ∷ 49 ∷ 50 ∷ 51 ∷ 52 ∷ 53 ∷ 54 ∷ 0 ∷ 118 ∷ 50 ∷ 51 ∷ 52 ∷ 53 ∷ 54 ∷ 55 ∷ 56 ∷ 57 ∷ 48 ∷ 49 ∷ 50 ∷ 51 ∷ 52 ∷ 53 ∷ 54 ∷ 0 ∷ 118 ∷ 50 ∷ 51 ∷ 52 ∷ 53 ∷ 54 ∷ 55 ∷ 56 ∷ 57 ∷ 48 ∷ 49 ∷ 50 ∷ 51 ∷ 52 ∷ 53 ∷ 54 ∷ 0 ∷ 118 ∷ 50 ∷ 51 ∷ 52 ∷ 53 ∷ 54 ∷ 55 ∷ 56 ∷ 57 ∷ 48 ∷ 49 ∷ 50 ∷ 0 ∷ 255 ∷ 0 ∷ 0 ∷ 34 ∷ 0 ∷ 5 ∷ 0 ∷ 32 ∷ 0 ∷ 2 ∷ 0 ∷ 122 ∷ 0 ∷ 5 ∷ []
+
+abbrev pub three-levels-16 : List ℕ
+three-levels-16 = 0 ∷ 0 ∷ 1 ∷ 0 ∷ 1 ∷ []
+
+abbrev pub three-levels : List ℕ
+three-levels = node three-levels-0 ++ replicate (2 * 1024) 0 ++ node three-levels-3 ++ node three-levels-4 ++ node three-levels-5 ++ node three-levels-6 ++ node three-levels-7 ++ node three-levels-8 ++ node three-levels-9 ++ node three-levels-10 ++ replicate (1 * 1024) 0 ++ node three-levels-12 ++ node three-levels-13 ++ node three-levels-14 ++ node three-levels-15 ++ node three-levels-16 ++ replicate (15 * 1024) 0
+
+abbrev pub three-levels-says : Verdict
+three-levels-says = record { sound = true; settled = false; used = 14; free = 18; table = row (97 ∷ 0 ∷ []) (1 ∷ []) ∷ row (97 ∷ 0 ∷ 120 ∷ 0 ∷ []) (9 ∷ []) ∷ row (114 ∷ 49 ∷ 0 ∷ []) (7 ∷ []) ∷ row (114 ∷ 49 ∷ 0 ∷ 99 ∷ 0 ∷ 109 ∷ 0 ∷ []) (8 ∷ []) ∷ row (114 ∷ 49 ∷ 48 ∷ 0 ∷ []) (1 ∷ []) ∷ row (115 ∷ 0 ∷ []) [] ∷ row (116 ∷ 0 ∷ 117 ∷ 0 ∷ 98 ∷ 0 ∷ []) (4 ∷ []) ∷ row (117 ∷ 0 ∷ []) (3 ∷ []) ∷ row (118 ∷ 50 ∷ 51 ∷ 52 ∷ 53 ∷ 54 ∷ 55 ∷ 56 ∷ 57 ∷ 48 ∷ 49 ∷ 50 ∷ 51 ∷ 52 ∷ 53 ∷ 54 ∷ 0 ∷ 118 ∷ 50 ∷ 51 ∷ 52 ∷ 53 ∷ 54 ∷ 55 ∷ 56 ∷ 57 ∷ 48 ∷ 49 ∷ 50 ∷ 51 ∷ 52 ∷ 53 ∷ 54 ∷ 0 ∷ 118 ∷ 50 ∷ 51 ∷ 52 ∷ 53 ∷ 54 ∷ 55 ∷ 56 ∷ 57 ∷ 48 ∷ 49 ∷ 50 ∷ 51 ∷ 52 ∷ 53 ∷ 54 ∷ 0 ∷ 118 ∷ 50 ∷ 51 ∷ 52 ∷ 53 ∷ 54 ∷ 55 ∷ 56 ∷ 57 ∷ 48 ∷ 49 ∷ 50 ∷ 0 ∷ []) (10 ∷ []) ∷ row (122 ∷ 0 ∷ []) (5 ∷ []) ∷ [] }
+
+-- long-pivot: settled, with pivots longer than a path, as after a move
+abbrev pub long-pivot-0 : List ℕ
+long-pivot-0 = 8 ∷ 0 ∷ 0 ∷ 1 ∷ 32 ∷ 0 ∷ 9 ∷ 0 ∷ 3 ∷ 0 ∷ 6 ∷ []
+
+abbrev pub long-pivot-1 : List ℕ
+long-pivot-1 = 40 ∷ 0 ∷ 2 ∷ 0 ∷ 2 ∷ 0 ∷ 0 ∷ 0 ∷ 36 ∷ 0 ∷ 16 ∷ 0 ∷ 8 ∷ 0 ∷ 116 ∷ 50 ∷ 51 ∷ 52 ∷ 53 ∷ 54 ∷ 55 ∷ 56 ∷ 57 ∷ 48 ∷ 49 ∷ 50 ∷ 51 ∷ 52 ∷ 53 ∷ 54 ∷ 0 ∷ 116 ∷ 50 ∷ 51 ∷ 52 ∷ 53 ∷ 54 ∷ 55 ∷ 56 ∷ 57 ∷ 48 ∷ 49 ∷ 50 ∷ 51 ∷ 52 ∷ 53 ∷ 0 ∷ 255 ∷ []
+
+abbrev pub long-pivot-2 : List ℕ
+long-pivot-2 = 6 ∷ 0 ∷ 2 ∷ 0 ∷ 2 ∷ 0 ∷ 0 ∷ 0 ∷ 2 ∷ 0 ∷ 16 ∷ 0 ∷ 3 ∷ []
+
+abbrev pub long-pivot-3 : List ℕ
+long-pivot-3 = 9 ∷ 0 ∷ 1 ∷ 0 ∷ 1 ∷ 0 ∷ 0 ∷ 0 ∷ 5 ∷ 0 ∷ 1 ∷ 0 ∷ 2 ∷ 0 ∷ 97 ∷ 0 ∷ 5 ∷ []
+
+abbrev pub long-pivot-4 : List ℕ
+long-pivot-4 = 117 ∷ 0 ∷ 2 ∷ 0 ∷ 2 ∷ 0 ∷ 0 ∷ 0 ∷ 2 ∷ 0 ∷ 16 ∷ 0 ∷ 5 ∷ 0 ∷ 51 ∷ 0 ∷ 16 ∷ 0 ∷ 6 ∷ 0 ∷ 109 ∷ 50 ∷ 51 ∷ 52 ∷ 53 ∷ 54 ∷ 55 ∷ 56 ∷ 57 ∷ 48 ∷ 49 ∷ 50 ∷ 51 ∷ 52 ∷ 53 ∷ 54 ∷ 0 ∷ 109 ∷ 50 ∷ 51 ∷ 52 ∷ 53 ∷ 54 ∷ 55 ∷ 56 ∷ 57 ∷ 48 ∷ 49 ∷ 50 ∷ 51 ∷ 52 ∷ 53 ∷ 54 ∷ 0 ∷ 109 ∷ 50 ∷ 51 ∷ 52 ∷ 53 ∷ 54 ∷ 55 ∷ 56 ∷ 57 ∷ 48 ∷ 49 ∷ 50 ∷ 51 ∷ 52 ∷ 0 ∷ 52 ∷ 0 ∷ 16 ∷ 0 ∷ 7 ∷ 0 ∷ 109 ∷ 50 ∷ 51 ∷ 52 ∷ 53 ∷ 54 ∷ 55 ∷ 56 ∷ 57 ∷ 48 ∷ 49 ∷ 50 ∷ 51 ∷ 52 ∷ 53 ∷ 54 ∷ 0 ∷ 109 ∷ 50 ∷ 51 ∷ 52 ∷ 53 ∷ 54 ∷ 55 ∷ 56 ∷ 57 ∷ 48 ∷ 49 ∷ 50 ∷ 51 ∷ 52 ∷ 53 ∷ 54 ∷ 0 ∷ 109 ∷ 50 ∷ 51 ∷ 52 ∷ 53 ∷ 54 ∷ 55 ∷ 56 ∷ 57 ∷ 48 ∷ 49 ∷ 50 ∷ 51 ∷ 52 ∷ 0 ∷ 255 ∷ []
+
+abbrev pub long-pivot-5 : List ℕ
+long-pivot-5 = 18 ∷ 0 ∷ 1 ∷ 0 ∷ 1 ∷ 0 ∷ 0 ∷ 0 ∷ 5 ∷ 0 ∷ 1 ∷ 0 ∷ 2 ∷ 0 ∷ 97 ∷ 0 ∷ 1 ∷ 5 ∷ 0 ∷ 1 ∷ 0 ∷ 2 ∷ 0 ∷ 98 ∷ 0 ∷ 2 ∷ []
+
+abbrev pub long-pivot-6 : List ℕ
+long-pivot-6 = 0 ∷ 0 ∷ 1 ∷ 0 ∷ 1 ∷ []
+
+abbrev pub long-pivot-7 : List ℕ
+long-pivot-7 = 20 ∷ 0 ∷ 1 ∷ 0 ∷ 1 ∷ 0 ∷ 0 ∷ 0 ∷ 5 ∷ 0 ∷ 1 ∷ 0 ∷ 2 ∷ 0 ∷ 120 ∷ 0 ∷ 3 ∷ 7 ∷ 0 ∷ 1 ∷ 0 ∷ 4 ∷ 0 ∷ 121 ∷ 0 ∷ 122 ∷ 0 ∷ 4 ∷ []
+
+abbrev pub long-pivot-8 : List ℕ
+long-pivot-8 = 9 ∷ 0 ∷ 1 ∷ 0 ∷ 1 ∷ 0 ∷ 0 ∷ 0 ∷ 5 ∷ 0 ∷ 1 ∷ 0 ∷ 2 ∷ 0 ∷ 117 ∷ 0 ∷ 6 ∷ []
+
+abbrev pub long-pivot-9 : List ℕ
+long-pivot-9 = 85 ∷ 0 ∷ 2 ∷ 0 ∷ 3 ∷ 0 ∷ 0 ∷ 0 ∷ 2 ∷ 0 ∷ 16 ∷ 0 ∷ 2 ∷ 0 ∷ 35 ∷ 0 ∷ 16 ∷ 0 ∷ 4 ∷ 0 ∷ 116 ∷ 50 ∷ 51 ∷ 52 ∷ 53 ∷ 54 ∷ 55 ∷ 56 ∷ 57 ∷ 48 ∷ 49 ∷ 50 ∷ 51 ∷ 52 ∷ 53 ∷ 54 ∷ 0 ∷ 116 ∷ 50 ∷ 51 ∷ 52 ∷ 53 ∷ 54 ∷ 55 ∷ 56 ∷ 57 ∷ 48 ∷ 49 ∷ 50 ∷ 51 ∷ 52 ∷ 53 ∷ 0 ∷ 36 ∷ 0 ∷ 16 ∷ 0 ∷ 1 ∷ 0 ∷ 116 ∷ 50 ∷ 51 ∷ 52 ∷ 53 ∷ 54 ∷ 55 ∷ 56 ∷ 57 ∷ 48 ∷ 49 ∷ 50 ∷ 51 ∷ 52 ∷ 53 ∷ 54 ∷ 0 ∷ 116 ∷ 50 ∷ 51 ∷ 52 ∷ 53 ∷ 54 ∷ 55 ∷ 56 ∷ 57 ∷ 48 ∷ 49 ∷ 50 ∷ 51 ∷ 52 ∷ 53 ∷ 0 ∷ 255 ∷ []
+
+abbrev pub long-pivot : List ℕ
+long-pivot = node long-pivot-0 ++ node long-pivot-1 ++ node long-pivot-2 ++ node long-pivot-3 ++ node long-pivot-4 ++ node long-pivot-5 ++ node long-pivot-6 ++ node long-pivot-7 ++ node long-pivot-8 ++ node long-pivot-9 ++ replicate (22 * 1024) 0
+
+abbrev pub long-pivot-says : Verdict
+long-pivot-says = record { sound = true; settled = true; used = 10; free = 22; table = row (97 ∷ 0 ∷ []) (5 ∷ []) ∷ row (116 ∷ 50 ∷ 51 ∷ 52 ∷ 53 ∷ 54 ∷ 55 ∷ 56 ∷ 57 ∷ 48 ∷ 49 ∷ 50 ∷ 51 ∷ 52 ∷ 53 ∷ 54 ∷ 0 ∷ 116 ∷ 50 ∷ 51 ∷ 52 ∷ 53 ∷ 54 ∷ 55 ∷ 56 ∷ 57 ∷ 48 ∷ 49 ∷ 50 ∷ 51 ∷ 52 ∷ 53 ∷ 0 ∷ 97 ∷ 0 ∷ []) (1 ∷ []) ∷ row (116 ∷ 50 ∷ 51 ∷ 52 ∷ 53 ∷ 54 ∷ 55 ∷ 56 ∷ 57 ∷ 48 ∷ 49 ∷ 50 ∷ 51 ∷ 52 ∷ 53 ∷ 54 ∷ 0 ∷ 116 ∷ 50 ∷ 51 ∷ 52 ∷ 53 ∷ 54 ∷ 55 ∷ 56 ∷ 57 ∷ 48 ∷ 49 ∷ 50 ∷ 51 ∷ 52 ∷ 53 ∷ 0 ∷ 98 ∷ 0 ∷ []) (2 ∷ []) ∷ row (116 ∷ 50 ∷ 51 ∷ 52 ∷ 53 ∷ 54 ∷ 55 ∷ 56 ∷ 57 ∷ 48 ∷ 49 ∷ 50 ∷ 51 ∷ 52 ∷ 53 ∷ 54 ∷ 0 ∷ 116 ∷ 50 ∷ 51 ∷ 52 ∷ 53 ∷ 54 ∷ 55 ∷ 56 ∷ 57 ∷ 48 ∷ 49 ∷ 50 ∷ 51 ∷ 52 ∷ 53 ∷ 0 ∷ 120 ∷ 0 ∷ []) (3 ∷ []) ∷ row (116 ∷ 50 ∷ 51 ∷ 52 ∷ 53 ∷ 54 ∷ 55 ∷ 56 ∷ 57 ∷ 48 ∷ 49 ∷ 50 ∷ 51 ∷ 52 ∷ 53 ∷ 54 ∷ 0 ∷ 116 ∷ 50 ∷ 51 ∷ 52 ∷ 53 ∷ 54 ∷ 55 ∷ 56 ∷ 57 ∷ 48 ∷ 49 ∷ 50 ∷ 51 ∷ 52 ∷ 53 ∷ 0 ∷ 121 ∷ 0 ∷ 122 ∷ 0 ∷ []) (4 ∷ []) ∷ row (117 ∷ 0 ∷ []) (6 ∷ []) ∷ [] }
+
+-- four-levels: messages at three levels speak of the same paths; a one-child chain; garbage in free nodes
+abbrev pub four-levels-0 : List ℕ
+four-levels-0 = 8 ∷ 0 ∷ 0 ∷ 1 ∷ 32 ∷ 0 ∷ 31 ∷ 0 ∷ 4 ∷ 0 ∷ 8 ∷ []
+
+abbrev pub four-levels-1 : List ℕ
+four-levels-1 = 9 ∷ 0 ∷ 2 ∷ 0 ∷ 7 ∷ 0 ∷ 0 ∷ 0 ∷ 255 ∷ 1 ∷ 0 ∷ 77 ∷ []
+
+abbrev pub four-levels-7 : List ℕ
+four-levels-7 = 21 ∷ 0 ∷ 2 ∷ 0 ∷ 3 ∷ 0 ∷ 0 ∷ 0 ∷ 2 ∷ 0 ∷ 16 ∷ 0 ∷ 30 ∷ 0 ∷ 2 ∷ 0 ∷ 33 ∷ 0 ∷ 97 ∷ 0 ∷ 5 ∷ 0 ∷ 32 ∷ 0 ∷ 2 ∷ 0 ∷ 101 ∷ 0 ∷ 3 ∷ []
+
+abbrev pub four-levels-8 : List ℕ
+four-levels-8 = 18 ∷ 0 ∷ 1 ∷ 0 ∷ 1 ∷ 0 ∷ 0 ∷ 0 ∷ 5 ∷ 0 ∷ 1 ∷ 0 ∷ 2 ∷ 0 ∷ 97 ∷ 0 ∷ 1 ∷ 5 ∷ 0 ∷ 1 ∷ 0 ∷ 2 ∷ 0 ∷ 99 ∷ 0 ∷ 1 ∷ []
+
+abbrev pub four-levels-9 : List ℕ
+four-levels-9 = 45 ∷ 0 ∷ 2 ∷ 0 ∷ 3 ∷ 0 ∷ 0 ∷ 0 ∷ 4 ∷ 0 ∷ 16 ∷ 0 ∷ 28 ∷ 0 ∷ 109 ∷ 0 ∷ 5 ∷ 0 ∷ 16 ∷ 0 ∷ 27 ∷ 0 ∷ 109 ∷ 0 ∷ 255 ∷ 7 ∷ 0 ∷ 32 ∷ 0 ∷ 4 ∷ 0 ∷ 109 ∷ 0 ∷ 121 ∷ 0 ∷ 3 ∷ 2 ∷ 0 ∷ 34 ∷ 0 ∷ 110 ∷ 0 ∷ 7 ∷ 0 ∷ 32 ∷ 0 ∷ 4 ∷ 0 ∷ 110 ∷ 0 ∷ 111 ∷ 0 ∷ 3 ∷ []
+
+abbrev pub four-levels-10 : List ℕ
+four-levels-10 = 16 ∷ 0 ∷ 1 ∷ 0 ∷ 1 ∷ 0 ∷ 0 ∷ 0 ∷ 3 ∷ 0 ∷ 1 ∷ 0 ∷ 0 ∷ 0 ∷ 1 ∷ 5 ∷ 0 ∷ 1 ∷ 0 ∷ 2 ∷ 0 ∷ 120 ∷ 0 ∷ 1 ∷ []
+
+abbrev pub four-levels-11 : List ℕ
+four-levels-11 = 9 ∷ 0 ∷ 1 ∷ 0 ∷ 1 ∷ 0 ∷ 0 ∷ 0 ∷ 5 ∷ 0 ∷ 1 ∷ 0 ∷ 2 ∷ 0 ∷ 110 ∷ 0 ∷ 1 ∷ []
+
+abbrev pub four-levels-12 : List ℕ
+four-levels-12 = 9 ∷ 0 ∷ 2 ∷ 0 ∷ 7 ∷ 0 ∷ 0 ∷ 0 ∷ 255 ∷ 1 ∷ 0 ∷ 77 ∷ []
+
+abbrev pub four-levels-13 : List ℕ
+four-levels-13 = 8 ∷ 0 ∷ 2 ∷ 0 ∷ 2 ∷ 0 ∷ 0 ∷ 0 ∷ 4 ∷ 0 ∷ 16 ∷ 0 ∷ 25 ∷ 0 ∷ 113 ∷ []
+
+abbrev pub four-levels-25 : List ℕ
+four-levels-25 = 9 ∷ 0 ∷ 1 ∷ 0 ∷ 1 ∷ 0 ∷ 0 ∷ 0 ∷ 5 ∷ 0 ∷ 1 ∷ 0 ∷ 2 ∷ 0 ∷ 113 ∷ 0 ∷ 1 ∷ []
+
+abbrev pub four-levels-26 : List ℕ
+four-levels-26 = 19 ∷ 0 ∷ 2 ∷ 0 ∷ 3 ∷ 0 ∷ 0 ∷ 0 ∷ 4 ∷ 0 ∷ 16 ∷ 0 ∷ 13 ∷ 0 ∷ 113 ∷ 0 ∷ 7 ∷ 0 ∷ 32 ∷ 0 ∷ 4 ∷ 0 ∷ 113 ∷ 0 ∷ 114 ∷ 0 ∷ 3 ∷ []
+
+abbrev pub four-levels-27 : List ℕ
+four-levels-27 = 9 ∷ 0 ∷ 2 ∷ 0 ∷ 2 ∷ 0 ∷ 0 ∷ 0 ∷ 5 ∷ 0 ∷ 16 ∷ 0 ∷ 11 ∷ 0 ∷ 109 ∷ 0 ∷ 255 ∷ []
+
+abbrev pub four-levels-28 : List ℕ
+four-levels-28 = 19 ∷ 0 ∷ 2 ∷ 0 ∷ 2 ∷ 0 ∷ 0 ∷ 0 ∷ 2 ∷ 0 ∷ 16 ∷ 0 ∷ 10 ∷ 0 ∷ 0 ∷ 0 ∷ 34 ∷ 0 ∷ 5 ∷ 0 ∷ 32 ∷ 0 ∷ 2 ∷ 0 ∷ 120 ∷ 0 ∷ 2 ∷ []
+
+abbrev pub four-levels-29 : List ℕ
+four-levels-29 = 18 ∷ 0 ∷ 1 ∷ 0 ∷ 1 ∷ 0 ∷ 0 ∷ 0 ∷ 5 ∷ 0 ∷ 1 ∷ 0 ∷ 2 ∷ 0 ∷ 101 ∷ 0 ∷ 1 ∷ 5 ∷ 0 ∷ 1 ∷ 0 ∷ 2 ∷ 0 ∷ 103 ∷ 0 ∷ 1 ∷ []
+
+abbrev pub four-levels-30 : List ℕ
+four-levels-30 = 38 ∷ 0 ∷ 2 ∷ 0 ∷ 2 ∷ 0 ∷ 0 ∷ 0 ∷ 2 ∷ 0 ∷ 16 ∷ 0 ∷ 8 ∷ 0 ∷ 4 ∷ 0 ∷ 16 ∷ 0 ∷ 29 ∷ 0 ∷ 101 ∷ 0 ∷ 5 ∷ 0 ∷ 32 ∷ 0 ∷ 2 ∷ 0 ∷ 97 ∷ 0 ∷ 2 ∷ 5 ∷ 0 ∷ 32 ∷ 0 ∷ 2 ∷ 0 ∷ 99 ∷ 0 ∷ 2 ∷ 2 ∷ 0 ∷ 33 ∷ 0 ∷ 103 ∷ []
+
+abbrev pub four-levels-31 : List ℕ
+four-levels-31 = 50 ∷ 0 ∷ 2 ∷ 0 ∷ 4 ∷ 0 ∷ 0 ∷ 0 ∷ 2 ∷ 0 ∷ 16 ∷ 0 ∷ 7 ∷ 0 ∷ 4 ∷ 0 ∷ 16 ∷ 0 ∷ 9 ∷ 0 ∷ 109 ∷ 0 ∷ 4 ∷ 0 ∷ 16 ∷ 0 ∷ 26 ∷ 0 ∷ 113 ∷ 0 ∷ 5 ∷ 0 ∷ 32 ∷ 0 ∷ 2 ∷ 0 ∷ 97 ∷ 0 ∷ 4 ∷ 4 ∷ 0 ∷ 33 ∷ 0 ∷ 109 ∷ 0 ∷ 121 ∷ 0 ∷ 7 ∷ 0 ∷ 32 ∷ 0 ∷ 4 ∷ 0 ∷ 99 ∷ 0 ∷ 100 ∷ 0 ∷ 4 ∷ []
+
+abbrev pub four-levels : List ℕ
+four-levels = node four-levels-0 ++ node four-levels-1 ++ replicate (5 * 1024) 0 ++ node four-levels-7 ++ node four-levels-8 ++ node four-levels-9 ++ node four-levels-10 ++ node four-levels-11 ++ node four-levels-12 ++ node four-levels-13 ++ replicate (11 * 1024) 0 ++ node four-levels-25 ++ node four-levels-26 ++ node four-levels-27 ++ node four-levels-28 ++ node four-levels-29 ++ node four-levels-30 ++ node four-levels-31
+
+abbrev pub four-levels-says : Verdict
+four-levels-says = record { sound = true; settled = false; used = 14; free = 18; table = row (97 ∷ 0 ∷ []) (4 ∷ []) ∷ row (99 ∷ 0 ∷ []) (2 ∷ []) ∷ row (99 ∷ 0 ∷ 100 ∷ 0 ∷ []) (4 ∷ []) ∷ row (101 ∷ 0 ∷ []) (3 ∷ []) ∷ row (109 ∷ 0 ∷ 120 ∷ 0 ∷ []) (2 ∷ []) ∷ row (110 ∷ 0 ∷ 111 ∷ 0 ∷ []) (3 ∷ []) ∷ row (113 ∷ 0 ∷ []) (1 ∷ []) ∷ row (113 ∷ 0 ∷ 114 ∷ 0 ∷ []) (3 ∷ []) ∷ [] }
+
+-- bad-live-count: two-levels with live-count broken
+abbrev pub bad-live-count-0 : List ℕ
+bad-live-count-0 = 8 ∷ 0 ∷ 0 ∷ 1 ∷ 32 ∷ 0 ∷ 1 ∷ 0 ∷ 2 ∷ 0 ∷ 5 ∷ []
+
+abbrev pub bad-live-count-1 : List ℕ
+bad-live-count-1 = 128 ∷ 0 ∷ 2 ∷ 0 ∷ 2 ∷ 0 ∷ 0 ∷ 0 ∷ 2 ∷ 0 ∷ 16 ∷ 0 ∷ 2 ∷ 0 ∷ 5 ∷ 0 ∷ 16 ∷ 0 ∷ 3 ∷ 0 ∷ 114 ∷ 49 ∷ 0 ∷ 6 ∷ 0 ∷ 16 ∷ 0 ∷ 4 ∷ 0 ∷ 114 ∷ 49 ∷ 0 ∷ 255 ∷ 7 ∷ 0 ∷ 32 ∷ 0 ∷ 4 ∷ 0 ∷ 97 ∷ 0 ∷ 122 ∷ 0 ∷ 7 ∷ 5 ∷ 0 ∷ 33 ∷ 0 ∷ 114 ∷ 49 ∷ 0 ∷ 97 ∷ 0 ∷ 3 ∷ 0 ∷ 34 ∷ 0 ∷ 114 ∷ 50 ∷ 0 ∷ 0 ∷ 0 ∷ 34 ∷ 0 ∷ 6 ∷ 0 ∷ 32 ∷ 0 ∷ 3 ∷ 0 ∷ 114 ∷ 49 ∷ 0 ∷ 9 ∷ 9 ∷ 0 ∷ 32 ∷ 0 ∷ 5 ∷ 0 ∷ 114 ∷ 49 ∷ 0 ∷ 98 ∷ 0 ∷ 7 ∷ 7 ∷ 7 ∷ 0 ∷ 32 ∷ 0 ∷ 5 ∷ 0 ∷ 114 ∷ 50 ∷ 0 ∷ 120 ∷ 0 ∷ 9 ∷ 0 ∷ 32 ∷ 0 ∷ 6 ∷ 0 ∷ 114 ∷ 49 ∷ 48 ∷ 0 ∷ 113 ∷ 0 ∷ 8 ∷ 6 ∷ 0 ∷ 33 ∷ 0 ∷ 114 ∷ 49 ∷ 48 ∷ 0 ∷ 113 ∷ 0 ∷ 2 ∷ 0 ∷ 34 ∷ 0 ∷ 98 ∷ 0 ∷ 5 ∷ 0 ∷ 32 ∷ 0 ∷ 2 ∷ 0 ∷ 97 ∷ 0 ∷ 11 ∷ []
+
+abbrev pub bad-live-count-2 : List ℕ
+bad-live-count-2 = 20 ∷ 0 ∷ 1 ∷ 0 ∷ 1 ∷ 0 ∷ 0 ∷ 0 ∷ 5 ∷ 0 ∷ 1 ∷ 0 ∷ 2 ∷ 0 ∷ 97 ∷ 0 ∷ 1 ∷ 7 ∷ 0 ∷ 1 ∷ 0 ∷ 4 ∷ 0 ∷ 98 ∷ 0 ∷ 120 ∷ 0 ∷ 2 ∷ []
+
+abbrev pub bad-live-count-3 : List ℕ
+bad-live-count-3 = 24 ∷ 0 ∷ 1 ∷ 0 ∷ 1 ∷ 0 ∷ 0 ∷ 0 ∷ 2 ∷ 0 ∷ 1 ∷ 0 ∷ 0 ∷ 0 ∷ 5 ∷ 0 ∷ 1 ∷ 0 ∷ 2 ∷ 0 ∷ 97 ∷ 0 ∷ 3 ∷ 5 ∷ 0 ∷ 1 ∷ 0 ∷ 2 ∷ 0 ∷ 99 ∷ 0 ∷ 4 ∷ []
+
+abbrev pub bad-live-count-4 : List ℕ
+bad-live-count-4 = 23 ∷ 0 ∷ 1 ∷ 0 ∷ 1 ∷ 0 ∷ 0 ∷ 0 ∷ 7 ∷ 0 ∷ 1 ∷ 0 ∷ 4 ∷ 0 ∷ 114 ∷ 49 ∷ 48 ∷ 0 ∷ 5 ∷ 8 ∷ 0 ∷ 1 ∷ 0 ∷ 5 ∷ 0 ∷ 114 ∷ 50 ∷ 0 ∷ 120 ∷ 0 ∷ 6 ∷ []
+
+abbrev pub bad-live-count : List ℕ
+bad-live-count = node bad-live-count-0 ++ node bad-live-count-1 ++ node bad-live-count-2 ++ node bad-live-count-3 ++ node bad-live-count-4 ++ replicate (27 * 1024) 0
+
+abbrev pub bad-live-count-says : Verdict
+bad-live-count-says = record { sound = false; settled = false; used = 0; free = 0; table = [] }
+
+-- bad-reached-once: two-levels with reached-once broken
+abbrev pub bad-reached-once-0 : List ℕ
+bad-reached-once-0 = 8 ∷ 0 ∷ 0 ∷ 1 ∷ 32 ∷ 0 ∷ 1 ∷ 0 ∷ 2 ∷ 0 ∷ 4 ∷ []
+
+abbrev pub bad-reached-once-1 : List ℕ
+bad-reached-once-1 = 128 ∷ 0 ∷ 2 ∷ 0 ∷ 2 ∷ 0 ∷ 0 ∷ 0 ∷ 2 ∷ 0 ∷ 16 ∷ 0 ∷ 2 ∷ 0 ∷ 5 ∷ 0 ∷ 16 ∷ 0 ∷ 1 ∷ 0 ∷ 114 ∷ 49 ∷ 0 ∷ 6 ∷ 0 ∷ 16 ∷ 0 ∷ 4 ∷ 0 ∷ 114 ∷ 49 ∷ 0 ∷ 255 ∷ 7 ∷ 0 ∷ 32 ∷ 0 ∷ 4 ∷ 0 ∷ 97 ∷ 0 ∷ 122 ∷ 0 ∷ 7 ∷ 5 ∷ 0 ∷ 33 ∷ 0 ∷ 114 ∷ 49 ∷ 0 ∷ 97 ∷ 0 ∷ 3 ∷ 0 ∷ 34 ∷ 0 ∷ 114 ∷ 50 ∷ 0 ∷ 0 ∷ 0 ∷ 34 ∷ 0 ∷ 6 ∷ 0 ∷ 32 ∷ 0 ∷ 3 ∷ 0 ∷ 114 ∷ 49 ∷ 0 ∷ 9 ∷ 9 ∷ 0 ∷ 32 ∷ 0 ∷ 5 ∷ 0 ∷ 114 ∷ 49 ∷ 0 ∷ 98 ∷ 0 ∷ 7 ∷ 7 ∷ 7 ∷ 0 ∷ 32 ∷ 0 ∷ 5 ∷ 0 ∷ 114 ∷ 50 ∷ 0 ∷ 120 ∷ 0 ∷ 9 ∷ 0 ∷ 32 ∷ 0 ∷ 6 ∷ 0 ∷ 114 ∷ 49 ∷ 48 ∷ 0 ∷ 113 ∷ 0 ∷ 8 ∷ 6 ∷ 0 ∷ 33 ∷ 0 ∷ 114 ∷ 49 ∷ 48 ∷ 0 ∷ 113 ∷ 0 ∷ 2 ∷ 0 ∷ 34 ∷ 0 ∷ 98 ∷ 0 ∷ 5 ∷ 0 ∷ 32 ∷ 0 ∷ 2 ∷ 0 ∷ 97 ∷ 0 ∷ 11 ∷ []
+
+abbrev pub bad-reached-once-2 : List ℕ
+bad-reached-once-2 = 20 ∷ 0 ∷ 1 ∷ 0 ∷ 1 ∷ 0 ∷ 0 ∷ 0 ∷ 5 ∷ 0 ∷ 1 ∷ 0 ∷ 2 ∷ 0 ∷ 97 ∷ 0 ∷ 1 ∷ 7 ∷ 0 ∷ 1 ∷ 0 ∷ 4 ∷ 0 ∷ 98 ∷ 0 ∷ 120 ∷ 0 ∷ 2 ∷ []
+
+abbrev pub bad-reached-once-3 : List ℕ
+bad-reached-once-3 = 24 ∷ 0 ∷ 1 ∷ 0 ∷ 1 ∷ 0 ∷ 0 ∷ 0 ∷ 2 ∷ 0 ∷ 1 ∷ 0 ∷ 0 ∷ 0 ∷ 5 ∷ 0 ∷ 1 ∷ 0 ∷ 2 ∷ 0 ∷ 97 ∷ 0 ∷ 3 ∷ 5 ∷ 0 ∷ 1 ∷ 0 ∷ 2 ∷ 0 ∷ 99 ∷ 0 ∷ 4 ∷ []
+
+abbrev pub bad-reached-once-4 : List ℕ
+bad-reached-once-4 = 23 ∷ 0 ∷ 1 ∷ 0 ∷ 1 ∷ 0 ∷ 0 ∷ 0 ∷ 7 ∷ 0 ∷ 1 ∷ 0 ∷ 4 ∷ 0 ∷ 114 ∷ 49 ∷ 48 ∷ 0 ∷ 5 ∷ 8 ∷ 0 ∷ 1 ∷ 0 ∷ 5 ∷ 0 ∷ 114 ∷ 50 ∷ 0 ∷ 120 ∷ 0 ∷ 6 ∷ []
+
+abbrev pub bad-reached-once : List ℕ
+bad-reached-once = node bad-reached-once-0 ++ node bad-reached-once-1 ++ node bad-reached-once-2 ++ node bad-reached-once-3 ++ node bad-reached-once-4 ++ replicate (27 * 1024) 0
+
+abbrev pub bad-reached-once-says : Verdict
+bad-reached-once-says = record { sound = false; settled = false; used = 0; free = 0; table = [] }
+
+-- bad-pair-order: one-leaf with pair-order broken
+abbrev pub bad-pair-order-0 : List ℕ
+bad-pair-order-0 = 8 ∷ 0 ∷ 0 ∷ 1 ∷ 32 ∷ 0 ∷ 5 ∷ 0 ∷ 1 ∷ 0 ∷ 5 ∷ []
+
+abbrev pub bad-pair-order-5 : List ℕ
+bad-pair-order-5 = 62 ∷ 0 ∷ 1 ∷ 0 ∷ 1 ∷ 0 ∷ 0 ∷ 0 ∷ 5 ∷ 0 ∷ 1 ∷ 0 ∷ 2 ∷ 0 ∷ 97 ∷ 0 ∷ 1 ∷ 5 ∷ 0 ∷ 1 ∷ 0 ∷ 3 ∷ 0 ∷ 114 ∷ 49 ∷ 0 ∷ 12 ∷ 0 ∷ 1 ∷ 0 ∷ 9 ∷ 0 ∷ 114 ∷ 49 ∷ 0 ∷ 99 ∷ 55 ∷ 0 ∷ 116 ∷ 49 ∷ 0 ∷ 10 ∷ 9 ∷ 0 ∷ 1 ∷ 0 ∷ 4 ∷ 0 ∷ 114 ∷ 49 ∷ 48 ∷ 0 ∷ 255 ∷ 0 ∷ 33 ∷ 11 ∷ 0 ∷ 1 ∷ 0 ∷ 9 ∷ 0 ∷ 114 ∷ 49 ∷ 0 ∷ 99 ∷ 55 ∷ 0 ∷ 116 ∷ 50 ∷ []
+
+abbrev pub bad-pair-order : List ℕ
+bad-pair-order = node bad-pair-order-0 ++ replicate (4 * 1024) 0 ++ node bad-pair-order-5 ++ replicate (26 * 1024) 0
+
+abbrev pub bad-pair-order-says : Verdict
+bad-pair-order-says = record { sound = false; settled = false; used = 0; free = 0; table = [] }
+
+-- bad-put-owned: three-levels with put-owned broken
+abbrev pub bad-put-owned-0 : List ℕ
+bad-put-owned-0 = 8 ∷ 0 ∷ 0 ∷ 1 ∷ 32 ∷ 0 ∷ 3 ∷ 0 ∷ 3 ∷ 0 ∷ 10 ∷ []
+
+abbrev pub bad-put-owned-3 : List ℕ
+bad-put-owned-3 = 193 ∷ 0 ∷ 2 ∷ 0 ∷ 3 ∷ 0 ∷ 0 ∷ 0 ∷ 2 ∷ 0 ∷ 16 ∷ 0 ∷ 4 ∷ 0 ∷ 5 ∷ 0 ∷ 16 ∷ 0 ∷ 6 ∷ 0 ∷ 114 ∷ 49 ∷ 0 ∷ 6 ∷ 0 ∷ 16 ∷ 0 ∷ 10 ∷ 0 ∷ 114 ∷ 49 ∷ 0 ∷ 255 ∷ 67 ∷ 0 ∷ 16 ∷ 0 ∷ 15 ∷ 0 ∷ 118 ∷ 50 ∷ 51 ∷ 52 ∷ 53 ∷ 54 ∷ 55 ∷ 56 ∷ 57 ∷ 48 ∷ 49 ∷ 50 ∷ 51 ∷ 52 ∷ 53 ∷ 54 ∷ 0 ∷ 118 ∷ 50 ∷ 51 ∷ 52 ∷ 53 ∷ 54 ∷ 55 ∷ 56 ∷ 57 ∷ 48 ∷ 49 ∷ 50 ∷ 51 ∷ 52 ∷ 53 ∷ 54 ∷ 0 ∷ 118 ∷ 50 ∷ 51 ∷ 52 ∷ 53 ∷ 54 ∷ 55 ∷ 56 ∷ 57 ∷ 48 ∷ 49 ∷ 50 ∷ 51 ∷ 52 ∷ 53 ∷ 54 ∷ 0 ∷ 118 ∷ 50 ∷ 51 ∷ 52 ∷ 53 ∷ 54 ∷ 55 ∷ 56 ∷ 57 ∷ 48 ∷ 49 ∷ 50 ∷ 0 ∷ 255 ∷ 7 ∷ 0 ∷ 32 ∷ 0 ∷ 4 ∷ 0 ∷ 97 ∷ 0 ∷ 120 ∷ 0 ∷ 9 ∷ 5 ∷ 0 ∷ 34 ∷ 0 ∷ 114 ∷ 49 ∷ 0 ∷ 100 ∷ 0 ∷ 2 ∷ 0 ∷ 33 ∷ 0 ∷ 98 ∷ 0 ∷ 67 ∷ 0 ∷ 32 ∷ 0 ∷ 64 ∷ 0 ∷ 118 ∷ 50 ∷ 51 ∷ 52 ∷ 53 ∷ 54 ∷ 55 ∷ 56 ∷ 57 ∷ 48 ∷ 49 ∷ 50 ∷ 51 ∷ 52 ∷ 53 ∷ 54 ∷ 0 ∷ 118 ∷ 50 ∷ 51 ∷ 52 ∷ 53 ∷ 54 ∷ 55 ∷ 56 ∷ 57 ∷ 48 ∷ 49 ∷ 50 ∷ 51 ∷ 52 ∷ 53 ∷ 54 ∷ 0 ∷ 118 ∷ 50 ∷ 51 ∷ 52 ∷ 53 ∷ 54 ∷ 55 ∷ 56 ∷ 57 ∷ 48 ∷ 49 ∷ 50 ∷ 51 ∷ 52 ∷ 53 ∷ 54 ∷ 0 ∷ 118 ∷ 50 ∷ 51 ∷ 52 ∷ 53 ∷ 54 ∷ 55 ∷ 56 ∷ 57 ∷ 48 ∷ 49 ∷ 50 ∷ 0 ∷ 10 ∷ []
+
+abbrev pub bad-put-owned-4 : List ℕ
+bad-put-owned-4 = 6 ∷ 0 ∷ 2 ∷ 0 ∷ 2 ∷ 0 ∷ 0 ∷ 0 ∷ 2 ∷ 0 ∷ 16 ∷ 0 ∷ 5 ∷ []
+
+abbrev pub bad-put-owned-5 : List ℕ
+bad-put-owned-5 = 18 ∷ 0 ∷ 1 ∷ 0 ∷ 1 ∷ 0 ∷ 0 ∷ 0 ∷ 5 ∷ 0 ∷ 1 ∷ 0 ∷ 2 ∷ 0 ∷ 97 ∷ 0 ∷ 1 ∷ 5 ∷ 0 ∷ 1 ∷ 0 ∷ 2 ∷ 0 ∷ 98 ∷ 0 ∷ 2 ∷ []
+
+abbrev pub bad-put-owned-6 : List ℕ
+bad-put-owned-6 = 53 ∷ 0 ∷ 2 ∷ 0 ∷ 2 ∷ 0 ∷ 0 ∷ 0 ∷ 2 ∷ 0 ∷ 16 ∷ 0 ∷ 7 ∷ 0 ∷ 4 ∷ 0 ∷ 16 ∷ 0 ∷ 8 ∷ 0 ∷ 99 ∷ 0 ∷ 5 ∷ 0 ∷ 16 ∷ 0 ∷ 9 ∷ 0 ∷ 99 ∷ 0 ∷ 255 ∷ 3 ∷ 0 ∷ 32 ∷ 0 ∷ 0 ∷ 0 ∷ 7 ∷ 2 ∷ 0 ∷ 34 ∷ 0 ∷ 99 ∷ 0 ∷ 7 ∷ 0 ∷ 32 ∷ 0 ∷ 4 ∷ 0 ∷ 99 ∷ 0 ∷ 109 ∷ 0 ∷ 8 ∷ 2 ∷ 0 ∷ 33 ∷ 0 ∷ 97 ∷ []
+
+abbrev pub bad-put-owned-7 : List ℕ
+bad-put-owned-7 = 16 ∷ 0 ∷ 1 ∷ 0 ∷ 1 ∷ 0 ∷ 0 ∷ 0 ∷ 3 ∷ 0 ∷ 1 ∷ 0 ∷ 0 ∷ 0 ∷ 1 ∷ 5 ∷ 0 ∷ 1 ∷ 0 ∷ 2 ∷ 0 ∷ 97 ∷ 0 ∷ 2 ∷ []
+
+abbrev pub bad-put-owned-8 : List ℕ
+bad-put-owned-8 = 16 ∷ 0 ∷ 1 ∷ 0 ∷ 1 ∷ 0 ∷ 0 ∷ 0 ∷ 3 ∷ 0 ∷ 1 ∷ 0 ∷ 0 ∷ 0 ∷ 3 ∷ 5 ∷ 0 ∷ 1 ∷ 0 ∷ 2 ∷ 0 ∷ 107 ∷ 0 ∷ 4 ∷ []
+
+abbrev pub bad-put-owned-9 : List ℕ
+bad-put-owned-9 = 20 ∷ 0 ∷ 1 ∷ 0 ∷ 1 ∷ 0 ∷ 0 ∷ 0 ∷ 5 ∷ 0 ∷ 1 ∷ 0 ∷ 2 ∷ 0 ∷ 100 ∷ 0 ∷ 5 ∷ 7 ∷ 0 ∷ 1 ∷ 0 ∷ 4 ∷ 0 ∷ 100 ∷ 0 ∷ 101 ∷ 0 ∷ 6 ∷ []
+
+abbrev pub bad-put-owned-10 : List ℕ
+bad-put-owned-10 = 63 ∷ 0 ∷ 2 ∷ 0 ∷ 2 ∷ 0 ∷ 0 ∷ 0 ∷ 6 ∷ 0 ∷ 16 ∷ 0 ∷ 12 ∷ 0 ∷ 114 ∷ 49 ∷ 0 ∷ 255 ∷ 6 ∷ 0 ∷ 16 ∷ 0 ∷ 13 ∷ 0 ∷ 116 ∷ 0 ∷ 117 ∷ 0 ∷ 7 ∷ 0 ∷ 16 ∷ 0 ∷ 14 ∷ 0 ∷ 116 ∷ 0 ∷ 117 ∷ 0 ∷ 255 ∷ 9 ∷ 0 ∷ 32 ∷ 0 ∷ 6 ∷ 0 ∷ 116 ∷ 0 ∷ 117 ∷ 0 ∷ 97 ∷ 0 ∷ 3 ∷ 2 ∷ 0 ∷ 34 ∷ 0 ∷ 116 ∷ 0 ∷ 9 ∷ 0 ∷ 32 ∷ 0 ∷ 6 ∷ 0 ∷ 116 ∷ 0 ∷ 117 ∷ 0 ∷ 98 ∷ 0 ∷ 4 ∷ []
+
+abbrev pub bad-put-owned-12 : List ℕ
+bad-put-owned-12 = 19 ∷ 0 ∷ 1 ∷ 0 ∷ 1 ∷ 0 ∷ 0 ∷ 0 ∷ 7 ∷ 0 ∷ 1 ∷ 0 ∷ 4 ∷ 0 ∷ 114 ∷ 49 ∷ 48 ∷ 0 ∷ 1 ∷ 4 ∷ 0 ∷ 1 ∷ 0 ∷ 2 ∷ 0 ∷ 115 ∷ []
+
+abbrev pub bad-put-owned-13 : List ℕ
+bad-put-owned-13 = 16 ∷ 0 ∷ 1 ∷ 0 ∷ 1 ∷ 0 ∷ 0 ∷ 0 ∷ 3 ∷ 0 ∷ 1 ∷ 0 ∷ 0 ∷ 0 ∷ 2 ∷ 5 ∷ 0 ∷ 1 ∷ 0 ∷ 2 ∷ 0 ∷ 97 ∷ 0 ∷ 2 ∷ []
+
+abbrev pub bad-put-owned-14 : List ℕ
+bad-put-owned-14 = 20 ∷ 0 ∷ 1 ∷ 0 ∷ 1 ∷ 0 ∷ 0 ∷ 0 ∷ 7 ∷ 0 ∷ 1 ∷ 0 ∷ 4 ∷ 0 ∷ 116 ∷ 0 ∷ 118 ∷ 0 ∷ 3 ∷ 5 ∷ 0 ∷ 1 ∷ 0 ∷ 2 ∷ 0 ∷ 117 ∷ 0 ∷ 3 ∷ []
+
+abbrev pub bad-put-owned-15 : List ℕ
+bad-put-owned-15 = 93 ∷ 0 ∷ 2 ∷ 0 ∷ 2 ∷ 0 ∷ 0 ∷ 0 ∷ 67 ∷ 0 ∷ 16 ∷ 0 ∷ 16 ∷ 0 ∷ 118 ∷ 50 ∷ 51 ∷ 52 ∷ 53 ∷ 54 ∷ 55 ∷ 56 ∷ 57 ∷ 48 ∷ 49 ∷ 50 ∷ 51 ∷ 52 ∷ 53 ∷ 54 ∷ 0 ∷ 118 ∷ 50 ∷ 51 ∷ 52 ∷ 53 ∷ 54 ∷ 55 ∷ 56 ∷ 57 ∷ 48 ∷ 49 ∷ 50 ∷ 51 ∷ 52 ∷ 53 ∷ 54 ∷ 0 ∷ 118 ∷ 50 ∷ 51 ∷ 52 ∷ 53 ∷ 54 ∷ 55 ∷ 56 ∷ 57 ∷ 48 ∷ 49 ∷ 50 ∷ 51 ∷ 52 ∷ 53 ∷ 54 ∷ 0 ∷ 118 ∷ 50 ∷ 51 ∷ 52 ∷ 53 ∷ 54 ∷ 55 ∷ 56 ∷ 57 ∷ 48 ∷ 49 ∷ 50 ∷ 0 ∷ 255 ∷ 5 ∷ 0 ∷ 32 ∷ 0 ∷ 2 ∷ 0 ∷ 115 ∷ 0 ∷ 42 ∷ 0 ∷ 0 ∷ 34 ∷ 0 ∷ 5 ∷ 0 ∷ 32 ∷ 0 ∷ 2 ∷ 0 ∷ 122 ∷ 0 ∷ 5 ∷ []
+
+abbrev pub bad-put-owned-16 : List ℕ
+bad-put-owned-16 = 0 ∷ 0 ∷ 1 ∷ 0 ∷ 1 ∷ []
+
+abbrev pub bad-put-owned : List ℕ
+bad-put-owned = node bad-put-owned-0 ++ replicate (2 * 1024) 0 ++ node bad-put-owned-3 ++ node bad-put-owned-4 ++ node bad-put-owned-5 ++ node bad-put-owned-6 ++ node bad-put-owned-7 ++ node bad-put-owned-8 ++ node bad-put-owned-9 ++ node bad-put-owned-10 ++ replicate (1 * 1024) 0 ++ node bad-put-owned-12 ++ node bad-put-owned-13 ++ node bad-put-owned-14 ++ node bad-put-owned-15 ++ node bad-put-owned-16 ++ replicate (15 * 1024) 0
+
+abbrev pub bad-put-owned-says : Verdict
+bad-put-owned-says = record { sound = false; settled = false; used = 0; free = 0; table = [] }
+
+-- bad-clear-shape: two-levels with clear-shape broken
+abbrev pub bad-clear-shape-0 : List ℕ
+bad-clear-shape-0 = 8 ∷ 0 ∷ 0 ∷ 1 ∷ 32 ∷ 0 ∷ 1 ∷ 0 ∷ 2 ∷ 0 ∷ 4 ∷ []
+
+abbrev pub bad-clear-shape-1 : List ℕ
+bad-clear-shape-1 = 137 ∷ 0 ∷ 2 ∷ 0 ∷ 2 ∷ 0 ∷ 0 ∷ 0 ∷ 2 ∷ 0 ∷ 16 ∷ 0 ∷ 2 ∷ 0 ∷ 5 ∷ 0 ∷ 16 ∷ 0 ∷ 3 ∷ 0 ∷ 114 ∷ 49 ∷ 0 ∷ 6 ∷ 0 ∷ 16 ∷ 0 ∷ 4 ∷ 0 ∷ 114 ∷ 49 ∷ 0 ∷ 255 ∷ 7 ∷ 0 ∷ 32 ∷ 0 ∷ 4 ∷ 0 ∷ 97 ∷ 0 ∷ 122 ∷ 0 ∷ 7 ∷ 5 ∷ 0 ∷ 33 ∷ 0 ∷ 114 ∷ 49 ∷ 0 ∷ 97 ∷ 0 ∷ 5 ∷ 0 ∷ 34 ∷ 0 ∷ 33 ∷ 0 ∷ 99 ∷ 55 ∷ 127 ∷ 3 ∷ 0 ∷ 34 ∷ 0 ∷ 114 ∷ 50 ∷ 0 ∷ 0 ∷ 0 ∷ 34 ∷ 0 ∷ 6 ∷ 0 ∷ 32 ∷ 0 ∷ 3 ∷ 0 ∷ 114 ∷ 49 ∷ 0 ∷ 9 ∷ 9 ∷ 0 ∷ 32 ∷ 0 ∷ 5 ∷ 0 ∷ 114 ∷ 49 ∷ 0 ∷ 98 ∷ 0 ∷ 7 ∷ 7 ∷ 7 ∷ 0 ∷ 32 ∷ 0 ∷ 5 ∷ 0 ∷ 114 ∷ 50 ∷ 0 ∷ 120 ∷ 0 ∷ 9 ∷ 0 ∷ 32 ∷ 0 ∷ 6 ∷ 0 ∷ 114 ∷ 49 ∷ 48 ∷ 0 ∷ 113 ∷ 0 ∷ 8 ∷ 6 ∷ 0 ∷ 33 ∷ 0 ∷ 114 ∷ 49 ∷ 48 ∷ 0 ∷ 113 ∷ 0 ∷ 2 ∷ 0 ∷ 34 ∷ 0 ∷ 98 ∷ 0 ∷ 5 ∷ 0 ∷ 32 ∷ 0 ∷ 2 ∷ 0 ∷ 97 ∷ 0 ∷ 11 ∷ []
+
+abbrev pub bad-clear-shape-2 : List ℕ
+bad-clear-shape-2 = 20 ∷ 0 ∷ 1 ∷ 0 ∷ 1 ∷ 0 ∷ 0 ∷ 0 ∷ 5 ∷ 0 ∷ 1 ∷ 0 ∷ 2 ∷ 0 ∷ 97 ∷ 0 ∷ 1 ∷ 7 ∷ 0 ∷ 1 ∷ 0 ∷ 4 ∷ 0 ∷ 98 ∷ 0 ∷ 120 ∷ 0 ∷ 2 ∷ []
+
+abbrev pub bad-clear-shape-3 : List ℕ
+bad-clear-shape-3 = 24 ∷ 0 ∷ 1 ∷ 0 ∷ 1 ∷ 0 ∷ 0 ∷ 0 ∷ 2 ∷ 0 ∷ 1 ∷ 0 ∷ 0 ∷ 0 ∷ 5 ∷ 0 ∷ 1 ∷ 0 ∷ 2 ∷ 0 ∷ 97 ∷ 0 ∷ 3 ∷ 5 ∷ 0 ∷ 1 ∷ 0 ∷ 2 ∷ 0 ∷ 99 ∷ 0 ∷ 4 ∷ []
+
+abbrev pub bad-clear-shape-4 : List ℕ
+bad-clear-shape-4 = 23 ∷ 0 ∷ 1 ∷ 0 ∷ 1 ∷ 0 ∷ 0 ∷ 0 ∷ 7 ∷ 0 ∷ 1 ∷ 0 ∷ 4 ∷ 0 ∷ 114 ∷ 49 ∷ 48 ∷ 0 ∷ 5 ∷ 8 ∷ 0 ∷ 1 ∷ 0 ∷ 5 ∷ 0 ∷ 114 ∷ 50 ∷ 0 ∷ 120 ∷ 0 ∷ 6 ∷ []
+
+abbrev pub bad-clear-shape : List ℕ
+bad-clear-shape = node bad-clear-shape-0 ++ node bad-clear-shape-1 ++ node bad-clear-shape-2 ++ node bad-clear-shape-3 ++ node bad-clear-shape-4 ++ replicate (27 * 1024) 0
+
+abbrev pub bad-clear-shape-says : Verdict
+bad-clear-shape-says = record { sound = false; settled = false; used = 0; free = 0; table = [] }
+
+-- bad-node-zeros: long-pivot with node-zeros broken
+abbrev pub bad-node-zeros-0 : List ℕ
+bad-node-zeros-0 = 8 ∷ 0 ∷ 0 ∷ 1 ∷ 32 ∷ 0 ∷ 9 ∷ 0 ∷ 3 ∷ 0 ∷ 6 ∷ []
+
+abbrev pub bad-node-zeros-1 : List ℕ
+bad-node-zeros-1 = 40 ∷ 0 ∷ 2 ∷ 0 ∷ 2 ∷ 0 ∷ 0 ∷ 0 ∷ 36 ∷ 0 ∷ 16 ∷ 0 ∷ 8 ∷ 0 ∷ 116 ∷ 50 ∷ 51 ∷ 52 ∷ 53 ∷ 54 ∷ 55 ∷ 56 ∷ 57 ∷ 48 ∷ 49 ∷ 50 ∷ 51 ∷ 52 ∷ 53 ∷ 54 ∷ 0 ∷ 116 ∷ 50 ∷ 51 ∷ 52 ∷ 53 ∷ 54 ∷ 55 ∷ 56 ∷ 57 ∷ 48 ∷ 49 ∷ 50 ∷ 51 ∷ 52 ∷ 53 ∷ 0 ∷ 255 ∷ []
+
+abbrev pub bad-node-zeros-2 : List ℕ
+bad-node-zeros-2 = 6 ∷ 0 ∷ 2 ∷ 0 ∷ 2 ∷ 0 ∷ 0 ∷ 0 ∷ 2 ∷ 0 ∷ 16 ∷ 0 ∷ 3 ∷ []
+
+abbrev pub bad-node-zeros-3 : List ℕ
+bad-node-zeros-3 = 9 ∷ 0 ∷ 1 ∷ 0 ∷ 1 ∷ 0 ∷ 0 ∷ 0 ∷ 5 ∷ 0 ∷ 1 ∷ 0 ∷ 2 ∷ 0 ∷ 97 ∷ 0 ∷ 5 ∷ []
+
+abbrev pub bad-node-zeros-4 : List ℕ
+bad-node-zeros-4 = 117 ∷ 0 ∷ 2 ∷ 0 ∷ 2 ∷ 0 ∷ 0 ∷ 0 ∷ 2 ∷ 0 ∷ 16 ∷ 0 ∷ 5 ∷ 0 ∷ 51 ∷ 0 ∷ 16 ∷ 0 ∷ 6 ∷ 0 ∷ 109 ∷ 50 ∷ 51 ∷ 52 ∷ 53 ∷ 54 ∷ 55 ∷ 56 ∷ 57 ∷ 48 ∷ 49 ∷ 50 ∷ 51 ∷ 52 ∷ 53 ∷ 54 ∷ 0 ∷ 109 ∷ 50 ∷ 51 ∷ 52 ∷ 53 ∷ 54 ∷ 55 ∷ 56 ∷ 57 ∷ 48 ∷ 49 ∷ 50 ∷ 51 ∷ 52 ∷ 53 ∷ 54 ∷ 0 ∷ 109 ∷ 50 ∷ 51 ∷ 52 ∷ 53 ∷ 54 ∷ 55 ∷ 56 ∷ 57 ∷ 48 ∷ 49 ∷ 50 ∷ 51 ∷ 52 ∷ 0 ∷ 52 ∷ 0 ∷ 16 ∷ 0 ∷ 7 ∷ 0 ∷ 109 ∷ 50 ∷ 51 ∷ 52 ∷ 53 ∷ 54 ∷ 55 ∷ 56 ∷ 57 ∷ 48 ∷ 49 ∷ 50 ∷ 51 ∷ 52 ∷ 53 ∷ 54 ∷ 0 ∷ 109 ∷ 50 ∷ 51 ∷ 52 ∷ 53 ∷ 54 ∷ 55 ∷ 56 ∷ 57 ∷ 48 ∷ 49 ∷ 50 ∷ 51 ∷ 52 ∷ 53 ∷ 54 ∷ 0 ∷ 109 ∷ 50 ∷ 51 ∷ 52 ∷ 53 ∷ 54 ∷ 55 ∷ 56 ∷ 57 ∷ 48 ∷ 49 ∷ 50 ∷ 51 ∷ 52 ∷ 0 ∷ 255 ∷ []
+
+abbrev pub bad-node-zeros-5 : List ℕ
+bad-node-zeros-5 = 18 ∷ 0 ∷ 1 ∷ 0 ∷ 1 ∷ 0 ∷ 0 ∷ 0 ∷ 5 ∷ 0 ∷ 1 ∷ 0 ∷ 2 ∷ 0 ∷ 97 ∷ 0 ∷ 1 ∷ 5 ∷ 0 ∷ 1 ∷ 0 ∷ 2 ∷ 0 ∷ 98 ∷ 0 ∷ 2 ∷ []
+
+abbrev pub bad-node-zeros-6 : List ℕ
+bad-node-zeros-6 = 0 ∷ 0 ∷ 1 ∷ 0 ∷ 1 ∷ []
+
+abbrev pub bad-node-zeros-7 : List ℕ
+bad-node-zeros-7 = 20 ∷ 0 ∷ 1 ∷ 0 ∷ 1 ∷ 0 ∷ 0 ∷ 0 ∷ 5 ∷ 0 ∷ 1 ∷ 0 ∷ 2 ∷ 0 ∷ 120 ∷ 0 ∷ 3 ∷ 7 ∷ 0 ∷ 1 ∷ 0 ∷ 4 ∷ 0 ∷ 121 ∷ 0 ∷ 122 ∷ 0 ∷ 4 ∷ []
+
+abbrev pub bad-node-zeros-8 : List ℕ
+bad-node-zeros-8 = 9 ∷ 0 ∷ 1 ∷ 0 ∷ 1 ∷ 0 ∷ 0 ∷ 0 ∷ 5 ∷ 0 ∷ 1 ∷ 0 ∷ 2 ∷ 0 ∷ 117 ∷ 0 ∷ 6 ∷ 0 ∷ 0 ∷ 0 ∷ 0 ∷ 0 ∷ 0 ∷ 0 ∷ 0 ∷ 0 ∷ 0 ∷ 0 ∷ 0 ∷ 0 ∷ 0 ∷ 0 ∷ 0 ∷ 0 ∷ 0 ∷ 0 ∷ 0 ∷ 0 ∷ 0 ∷ 0 ∷ 0 ∷ 0 ∷ 0 ∷ 0 ∷ 0 ∷ 0 ∷ 0 ∷ 0 ∷ 0 ∷ 0 ∷ 0 ∷ 0 ∷ 95 ∷ []
+
+abbrev pub bad-node-zeros-9 : List ℕ
+bad-node-zeros-9 = 85 ∷ 0 ∷ 2 ∷ 0 ∷ 3 ∷ 0 ∷ 0 ∷ 0 ∷ 2 ∷ 0 ∷ 16 ∷ 0 ∷ 2 ∷ 0 ∷ 35 ∷ 0 ∷ 16 ∷ 0 ∷ 4 ∷ 0 ∷ 116 ∷ 50 ∷ 51 ∷ 52 ∷ 53 ∷ 54 ∷ 55 ∷ 56 ∷ 57 ∷ 48 ∷ 49 ∷ 50 ∷ 51 ∷ 52 ∷ 53 ∷ 54 ∷ 0 ∷ 116 ∷ 50 ∷ 51 ∷ 52 ∷ 53 ∷ 54 ∷ 55 ∷ 56 ∷ 57 ∷ 48 ∷ 49 ∷ 50 ∷ 51 ∷ 52 ∷ 53 ∷ 0 ∷ 36 ∷ 0 ∷ 16 ∷ 0 ∷ 1 ∷ 0 ∷ 116 ∷ 50 ∷ 51 ∷ 52 ∷ 53 ∷ 54 ∷ 55 ∷ 56 ∷ 57 ∷ 48 ∷ 49 ∷ 50 ∷ 51 ∷ 52 ∷ 53 ∷ 54 ∷ 0 ∷ 116 ∷ 50 ∷ 51 ∷ 52 ∷ 53 ∷ 54 ∷ 55 ∷ 56 ∷ 57 ∷ 48 ∷ 49 ∷ 50 ∷ 51 ∷ 52 ∷ 53 ∷ 0 ∷ 255 ∷ []
+
+abbrev pub bad-node-zeros : List ℕ
+bad-node-zeros = node bad-node-zeros-0 ++ node bad-node-zeros-1 ++ node bad-node-zeros-2 ++ node bad-node-zeros-3 ++ node bad-node-zeros-4 ++ node bad-node-zeros-5 ++ node bad-node-zeros-6 ++ node bad-node-zeros-7 ++ node bad-node-zeros-8 ++ node bad-node-zeros-9 ++ replicate (22 * 1024) 0
+
+abbrev pub bad-node-zeros-says : Verdict
+bad-node-zeros-says = record { sound = false; settled = false; used = 0; free = 0; table = [] }

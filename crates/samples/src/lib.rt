@@ -1,0 +1,1 @@
+// Images made outside Rattle, judged by the definitions: see specs/.

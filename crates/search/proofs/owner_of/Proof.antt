@@ -1,0 +1,84 @@
+use Rattle.search.specs.Own.{kid, kidIs, kidsE, ownerOf, Owned, kid-place, kids-none, kids-other, kids-more, nobody-is, as-kids}
+use Rattle.search.specs.declared.Kid.{Kid}
+use Rattle.node.specs.Places.{part, Within, Next, step-bad-is, step-read-is, entry-wider}
+use Rattle.node.specs.Entries.{listed, listed-end}
+use lib.ListN.{length}
+use mathlib.Core.List.{[], _∷_}
+use mathlib.Core.Path.{_≡_, refl, sym, ap, _∙_}
+use native.Mathlib.Omega.{arith}
+use Prim.Native.Nat.{ℕ, _≤_, _<_, _-_, _+_}
+use borrow.Author.Needs.{needs}
+use Rattle.search.proofs.owner_of.Statement.{statement}
+use Rattle.search.proofs.owner_of.Tie as tie
+use Rattle.search.proofs.owner_of.Reads as reads
+use Rattle.search.proofs.owner_of.Lts as lts
+use Rattle.node.proofs.Cursor.step.Reads as step-reads
+use Rattle.search.proofs.kid_of.Reads as kid-of-reads
+use Rattle.search.proofs.owner_after.Reads as owner-after-reads
+
+next-is : (c : tie.After-known-told) → Next (c .before .before .before .before .before .before .before .args .s .now) (c .before .before .before .before .before .before .before .args .from) (c .before .before .before .before .before .before .before .args .end) (c .before .e .given .0 .0) (c .before .e .given .0 .1 .0)
+next-is c = step-read-is _ _ _ _ _ _ (c .before .before .before .step .ensures) (c .before .e .given .1)
+
+kid-is-of : (c : tie.After-known-told2) → kidIs (c .before .before .before .before .before .e .given .0 .0) ≡ Kid.Of (c .before .k .given .0 .0) (c .before .k .given .0 .1 .0)
+kid-is-of c = sym (c .before .before .before .kid-of .ensures) ∙ c .before .k .given .1
+
+place-in : (c : tie.After-known-told2) → Within 0 (length (c .before .before .before .before .before .before .before .before .before .before .before .args .s .now)) (c .before .k .given .0 .1 .0)
+place-in c =
+    let n = next-is (c .before .before .before .before) in
+    let w = kid-place (c .before .before .before .before .before .before .before .before .before .before .before .args .from) (c .before .before .before .before .before .before .before .before .before .before .before .args .end) (c .before .before .before .before .before .e .given .0 .0) _ _ (kid-is-of c) (n .reachable) in
+    record { low = omega arith; rises = omega arith; high = omega arith }
+
+-- src/lib.rt:191:31
+step-requires : tie.Need-step-requires
+step-requires c κs = search needs
+
+-- src/lib.rt:191:20
+enum-known-e : tie.Need-enum-known-e
+enum-known-e c = search needs
+
+-- src/lib.rt:192:9
+enum-told : tie.Need-enum-told
+enum-told c = search needs
+
+-- src/lib.rt:192:9
+returns : tie.Need-returns
+returns c = nobody-is _ _ _ _ (kids-none _ (step-bad-is _ _ _ _ (c .before .before .step .ensures) (c .enum-told .given .1) .1))
+
+-- src/lib.rt:194:25
+kid-of-requires : tie.Need-kid-of-requires
+kid-of-requires c κs = search needs
+
+-- src/lib.rt:194:17
+enum-known-k : tie.Need-enum-known-k
+enum-known-k c = search needs
+
+-- src/lib.rt:195:9
+enum-told-2 : tie.Need-enum-told-2
+enum-told-2 c = search needs
+
+-- src/lib.rt:195:9
+returns-2 : tie.Need-returns-2
+returns-2 c = nobody-is _ _ _ _ (kids-other _ _ _ _ (next-is (c .before .before .before) .lists) (sym (c .before .before .kid-of .ensures) ∙ c .enum-told2 .given .1))
+
+-- src/lib.rt:197:5
+owner-after-requires : tie.Need-owner-after-requires
+owner-after-requires c κs = let n = next-is (c .before .before .before .before) in (omega arith, place-in c)
+
+-- src/lib.rt:186:1
+returns-3 : tie.Need-returns-3
+returns-3 c = as-kids _ _ _ _ _ _ (kids-more _ _ _ _ _ _ (next-is (c .before .before .before .before .before) .lists) (kid-is-of (c .before))) (c .owner-after .ensures)
+
+pub owner-of-spec : {M : Type 1} → statement M
+owner-of-spec =
+    tie.close
+    (tie.spec
+    step-requires
+    enum-known-e
+    enum-told
+    returns
+    kid-of-requires
+    enum-known-k
+    enum-told-2
+    returns-2
+    owner-after-requires
+    returns-3)

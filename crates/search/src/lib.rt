@@ -1,0 +1,217 @@
+// Readers of a node and of the tree under it.
+use node::Cursor;
+use node::Entry;
+use node::Message;
+use node::Place;
+use node::Step;
+ghost use mathlib.Core.Path.{_≡_};
+ghost use mathlib.Core.Bool.{true};
+ghost use Prim.Native.Nat.{ℕ, _+_, _-_, _*_, _<_, _≤_};
+ghost use lib.ListN.{length, getD};
+ghost use mathlib.Core.List.{[], _∷_};
+ghost use Rattle.node.specs.Places.{EntryWithin, MessageWithin, Within, part};
+ghost use Rattle.search.specs.Own.{kidIs, kid, kidsE, ownerOf, Owned};
+ghost use Rattle.node.specs.Entries.{listed};
+ghost use Rattle.search.specs.Hear.{Hears, HeardFits, heardIn, said, saidBy, newestE};
+ghost use Rattle.search.specs.Pairs.{Finds, findE, pairIs};
+
+// What the messages of a node say of a path.
+pub enum Heard {
+    Silent,
+    Gone,
+    Value(Place),
+}
+
+// One message, after what was heard before it.
+pub fn hear_message(s: &[u8], best: Heard, m: Message, rest: &[u8]) -> Heard
+    requires { ⌜ HeardFits (length (now s)) best × MessageWithin 0 (length (now s)) m ⌝ }
+    ensures { λ r. ⌜ Hears (now (s .entry)) (saidBy (now (s .entry)) best m (now (rest .entry))) r ⌝ }
+{
+    match m {
+        Message::Put(p, v) => {
+            let a = p.start;
+            let b = p.stop;
+            if octets::equal(&s[a..b], rest) {
+                Heard::Value(v)
+            } else {
+                best
+            }
+        }
+        Message::Drop(p) => {
+            let a = p.start;
+            let b = p.stop;
+            if octets::equal(&s[a..b], rest) {
+                Heard::Gone
+            } else {
+                best
+            }
+        }
+        Message::Clear(p) => {
+            let a = p.start;
+            let b = p.stop;
+            if octets::begins_with(&s[a..b], rest) {
+                Heard::Gone
+            } else {
+                best
+            }
+        }
+    }
+}
+
+pub fn hear(s: &[u8], best: Heard, e: Entry, rest: &[u8]) -> Heard
+    requires { ⌜ HeardFits (length (now s)) best × EntryWithin 0 (length (now s)) e ⌝ }
+    ensures { λ r. ⌜ Hears (now (s .entry)) (said (now (s .entry)) best e (now (rest .entry))) r ⌝ }
+{
+    match e {
+        Entry::Pair(_, _) => best,
+        Entry::Child(_, _) => best,
+        Entry::Message(m) => hear_message(s, best, m, rest),
+    }
+}
+
+// The newest message on a rest, of the entries from a place up to another.
+pub fn newest(s: &[u8], from: usize, end: usize, rest: &[u8]) -> Heard
+    requires { ⌜ end ≤ length (now s) ⌝ }
+    ensures { λ r. ⌜ Hears (now (s .entry)) (newestE (listed (now (s .entry)) from end) (now (rest .entry))) r ⌝ }
+{
+    let mut c = Cursor { at: from, end };
+    let mut best = Heard::Silent;
+    while c.at < end {
+        let Step::Read(e, next) = c.step(s) else {
+            return best;
+        };
+        best = hear(s, best, e, rest);
+        c = next;
+    }
+    best
+}
+
+pub enum Found {
+    Value(Place),
+    Nothing,
+}
+
+pub enum Pair {
+    Of(Place, Place),
+    Other,
+}
+
+pub fn pair_of(e: Entry) -> Pair
+    ensures { λ r. ⌜ r ≡ pairIs e ⌝ }
+{
+    match e {
+        Entry::Pair(p, v) => Pair::Of(p, v),
+        Entry::Child(_, _) => Pair::Other,
+        Entry::Message(_) => Pair::Other,
+    }
+}
+
+// The pair of a leaf on a rest.
+pub fn find(s: &[u8], from: usize, end: usize, rest: &[u8]) -> Found
+    requires { ⌜ end ≤ length (now s) ⌝ }
+    ensures { λ r. ⌜ Finds (now (s .entry)) (findE (listed (now (s .entry)) from end) (now (rest .entry))) r ⌝ }
+{
+    let mut c = Cursor { at: from, end };
+    while c.at < end {
+        let Step::Read(e, next) = c.step(s) else {
+            return Found::Nothing;
+        };
+        let Pair::Of(p, v) = pair_of(e) else {
+            return Found::Nothing;
+        };
+        let a = p.start;
+        let b = p.stop;
+        if octets::equal(rest, &s[a..b]) {
+            return Found::Value(v);
+        }
+        c = next;
+    }
+    Found::Nothing
+}
+
+// The child that owns a rest: its number, its low pivot, and its high pivot where the next child has it.
+pub enum Owner {
+    Inner(usize, Place, Place),
+    Last(usize, Place),
+    Nobody,
+}
+
+pub enum Kid {
+    Of(usize, Place),
+    Other,
+}
+
+pub fn kid_of(e: Entry) -> Kid
+    ensures { λ r. ⌜ r ≡ kidIs e ⌝ }
+{
+    match e {
+        Entry::Pair(_, _) => Kid::Other,
+        Entry::Child(k, p) => Kid::Of(k, p),
+        Entry::Message(_) => Kid::Other,
+    }
+}
+
+// The last child, if it owns the rest.
+pub fn last_of(s: &[u8], num: usize, low: Place, hi: &[u8], rest: &[u8]) -> Owner
+    requires { ⌜ Within 0 (length (now s)) low ⌝ }
+    ensures { λ r. ⌜ Owned (now (s .entry)) (now (hi .entry)) (ownerOf (kid num (part (now (s .entry)) low) ∷ []) (now (hi .entry)) (now (rest .entry))) r ⌝ }
+{
+    let a = low.start;
+    let b = low.stop;
+    if octets::owned(&s[a..b], hi, rest) {
+        return Owner::Last(num, low);
+    }
+    Owner::Nobody
+}
+
+// A child, and those that follow from the cursor on.
+pub fn owner_after(
+    s: &[u8],
+    first: usize,
+    pivot: Place,
+    start: Cursor,
+    hi: &[u8],
+    rest: &[u8],
+) -> Owner
+    requires { ⌜ (start .end ≤ length (now s)) × Within 0 (length (now s)) pivot ⌝ }
+    ensures { λ r. ⌜ Owned (now (s .entry)) (now (hi .entry)) (ownerOf (kid first (part (now (s .entry)) pivot) ∷ kidsE (listed (now (s .entry)) (start .at) (start .end))) (now (hi .entry)) (now (rest .entry))) r ⌝ }
+{
+    let end = start.end;
+    let mut c = start;
+    let mut num = first;
+    let mut low = pivot;
+    while c.at < end {
+        let Step::Read(e, next) = c.step(s) else {
+            return last_of(s, num, low, hi, rest);
+        };
+        let Kid::Of(k, p) = kid_of(e) else {
+            return last_of(s, num, low, hi, rest);
+        };
+        let a = low.start;
+        let b = low.stop;
+        let x = p.start;
+        let y = p.stop;
+        if octets::owned(&s[a..b], &s[x..y], rest) {
+            return Owner::Inner(num, low, p);
+        }
+        num = k;
+        low = p;
+        c = next;
+    }
+    last_of(s, num, low, hi, rest)
+}
+
+// The child that owns a rest, of the entries from a place up to another.
+pub fn owner_of(s: &[u8], from: usize, end: usize, hi: &[u8], rest: &[u8]) -> Owner
+    requires { ⌜ end ≤ length (now s) ⌝ }
+    ensures { λ r. ⌜ Owned (now (s .entry)) (now (hi .entry)) (ownerOf (kidsE (listed (now (s .entry)) from end)) (now (hi .entry)) (now (rest .entry))) r ⌝ }
+{
+    let c = Cursor { at: from, end };
+    let Step::Read(e, next) = c.step(s) else {
+        return Owner::Nobody;
+    };
+    let Kid::Of(k, p) = kid_of(e) else {
+        return Owner::Nobody;
+    };
+    owner_after(s, k, p, next, hi, rest)
+}

@@ -1,0 +1,15 @@
+pub mod Slice
+pub mod SliceLaws
+pub mod SliceNumbers
+pub mod SliceFits
+pub mod SliceShift
+pub mod SliceStrip
+pub mod Tail
+pub mod Range
+pub mod Swing
+pub mod CutOrder
+pub mod ReadBack
+pub mod FromImage
+pub mod SliceWrite
+pub mod RightWrite
+pub mod WriteStrip

@@ -1,0 +1,277 @@
+-- A flush by one level meets document 01's rule: no reachable node of the flushed node's level that owns any of what it owned holds a message.
+use Prim.Native.Nat.{ℕ, zero, suc, _+_, _-_, _≤_, _<_}
+use mathlib.Core.Path.{_≡_, refl, sym, ap, ap₂, subst, _∙_}
+use mathlib.Core.List.{List, [], _∷_, _++_}
+use mathlib.Core.Bool.{Bool, true, false, _&&_, _||_, not, cond, false≢true, true≢false}
+use mathlib.Core.Option.{Option, none, some, Option·some-injective, Option·none-ne-some}
+use native.Mathlib.Omega.{arith}
+use lib.ListN.{length}
+use lib.Dec.{leb, eqb}
+use borrow.Author.Tests.{eqb-true, eq-eqb, ne-eqb, le-leb, leb-true}
+use Rattle.image.specs.Bytes.{same, before, shared}
+use Rattle.image.specs.Entry.{Message}
+use Rattle.image.specs.Table.{Row}
+use Rattle.image.specs.Image.{Tree, unread, leaf, interior, Forest, end, tree}
+use Rattle.image.specs.Meaning.{highOf}
+use Rattle.image.specs.Sound.{soundTree, soundForest}
+use Rattle.image.specs.Upkeep.{Reachable, reachable, reachableIn, reachableAt, every, holdsNoMessage, overlap, flushed}
+use Rattle.octets.specs.Order.{and-left, and-right, and-false, not-so, not-true, not-false, before-irrefl, before-le, before-trans}
+use Rattle.laws.specs.Rising.{both}
+use Rattle.laws.specs.Frame.{or-left, or-right}
+use Rattle.laws.specs.LookupTable.{Parts, parts, Inner, inner, high-under}
+use Rattle.upkeep.specs.Merge.{tall, tallIn, first-high, first-of}
+use Rattle.upkeep.specs.Mends.{Mends, MendsIn, tall-kids, tall-first, tall-later}
+use Rattle.upkeep.specs.Alter.{altered, alteredIn, high-altered, altered-mends, altered-mends-in}
+use Rattle.upkeep.specs.Healed.{orElse, place-append, every-places, place-test}
+use Rattle.upkeep.specs.Flush.{pushedAll, flushedNode, flush-sane, flushedTree}
+
+every-weaker : (a b : Reachable → Bool) (xs : List Reachable) → ((y : Reachable) → a y ≡ true → b y ≡ true) → every a xs ≡ true → every b xs ≡ true
+unfolding every
+every-weaker a b [] h e = refl
+every-weaker a b (x ∷ xs) h e = both (h x (and-left (a x) _ e)) (every-weaker a b xs h (and-right (a x) _ e))
+
+-- LEVELS: the nodes of a tree are of its level or under it
+mutual
+  unfolding reachable reachableIn every
+
+  pub places-under : (t : Tree) (level : ℕ) (lo hi : List ℕ) → every (λ y. leb (y .level) level) (reachable t level lo hi) ≡ true
+  places-under (unread i) level lo hi = refl
+  places-under (leaf i rs) level lo hi = both (le-leb level level (omega arith)) refl
+  places-under (interior i f ms) level lo hi =
+      both (le-leb level level (omega arith))
+      (every-weaker (λ y. leb (y .level) (level - 1)) (λ y. leb (y .level) level) (reachableIn f (level - 1) (shared lo hi) hi)
+      (λ y h. le-leb (y .level) level (omega (arith, leb-true (y .level) (level - 1) h))) (places-under-in f (level - 1) (shared lo hi) hi))
+
+  pub places-under-in : (f : Forest) (level : ℕ) (lifted hi : List ℕ) → every (λ y. leb (y .level) level) (reachableIn f level lifted hi) ≡ true
+  places-under-in end level lifted hi = refl
+  places-under-in (tree s t f) level lifted hi =
+      every-places (λ y. leb (y .level) level) (reachable t level (lifted ++ s) (highOf lifted hi f)) (reachableIn f level lifted hi)
+      (places-under t level (lifted ++ s) (highOf lifted hi f)) (places-under-in f level lifted hi)
+
+-- RANGES: the nodes of a sound tree lie in its range
+unfoldable pub within : List ℕ → List ℕ → Reachable → Bool
+within lo hi y = not (before (y .low) lo) && not (before hi (y .high))
+
+itself : (i level : ℕ) (lo hi : List ℕ) (ms : List Message) (f : Forest)
+    → within lo hi (record { number = i; level = level; low = lo; high = hi; messages = ms; children = f }) ≡ true
+unfolding within
+itself i level lo hi ms f = rw (before-irrefl lo, before-irrefl hi)
+
+within-low : (lo hi : List ℕ) (y : Reachable) → within lo hi y ≡ true → before (y .low) lo ≡ false
+unfolding within
+within-low lo hi y e = not-true (before (y .low) lo) (and-left _ _ e)
+
+within-high : (lo hi : List ℕ) (y : Reachable) → within lo hi y ≡ true → before hi (y .high) ≡ false
+unfolding within
+within-high lo hi y e = not-true (before hi (y .high)) (and-right (not (before (y .low) lo)) _ e)
+
+is-within : (lo hi : List ℕ) (y : Reachable) → before (y .low) lo ≡ false → before hi (y .high) ≡ false → within lo hi y ≡ true
+unfolding within
+is-within lo hi y a b = rw (a, b)
+
+-- a ≤ b, b ≤ c: a ≤ c, each told as "not the other way"
+le-le : (a b c : List ℕ) → before b a ≡ false → before c b ≡ false → before c a ≡ false
+le-le a b c e f = go (before c a) refl
+  where
+    go : (x : Bool) → before c a ≡ x → before c a ≡ false
+    go true g = not-so (before-le c a b g e) f
+    go false g = g
+
+lt-not : (a b : List ℕ) → before a b ≡ true → before b a ≡ false
+lt-not a b e = go (before b a) refl
+  where
+    go : (x : Bool) → before b a ≡ x → before b a ≡ false
+    go true g = not-so (before-trans a b a e g) (before-irrefl a)
+    go false g = g
+
+high-low : (f : Forest) (lifted lo hi : List ℕ) → soundForest f lifted lo hi ≡ true → before hi (highOf lifted hi f) ≡ false
+high-low f lifted lo hi e = go (before hi (highOf lifted hi f)) refl
+  where
+    go : (x : Bool) → before hi (highOf lifted hi f) ≡ x → before hi (highOf lifted hi f) ≡ false
+    go true g = not-so (high-under f lifted lo hi hi e g) (before-irrefl hi)
+    go false g = g
+
+within-kids : (i : ℕ) (f : Forest) (ms : List Message) (lo hi : List ℕ) (xs : List Reachable) → soundTree (interior i f ms) lo hi ≡ true
+    → every (within (highOf (shared lo hi) hi f) hi) xs ≡ true → every (within lo hi) xs ≡ true
+within-kids i f ms lo hi xs e k = subst (λ l. every (within l hi) xs ≡ true) (first-high f (shared lo hi) lo hi (first-of i f ms lo hi e)) k
+
+within-tree : (s : List ℕ) (t : Tree) (f : Forest) (lifted lo hi : List ℕ) (xs ys : List Reachable) → soundForest (tree s t f) lifted lo hi ≡ true
+    → every (within (lifted ++ s) (highOf lifted hi f)) xs ≡ true → every (within (highOf lifted hi f) hi) ys ≡ true
+    → every (within (highOf lifted hi (tree s t f)) hi) (xs ++ ys) ≡ true
+unfolding highOf
+within-tree s t f lifted lo hi xs ys e a b =
+    every-places (within (lifted ++ s) hi) xs ys
+    (every-weaker (within (lifted ++ s) (highOf lifted hi f)) (within (lifted ++ s) hi) xs
+    (λ y h. is-within (lifted ++ s) hi y (within-low (lifted ++ s) (highOf lifted hi f) y h)
+    (le-le (y .high) (highOf lifted hi f) hi (within-high (lifted ++ s) (highOf lifted hi f) y h) (high-low f lifted lo hi (parts s t f lifted lo hi e .later)))) a)
+    (every-weaker (within (highOf lifted hi f) hi) (within (lifted ++ s) hi) ys
+    (λ y h. is-within (lifted ++ s) hi y
+    (le-le (lifted ++ s) (highOf lifted hi f) (y .low) (lt-not (lifted ++ s) (highOf lifted hi f) (parts s t f lifted lo hi e .rises)) (within-low (highOf lifted hi f) hi y h))
+    (within-high (highOf lifted hi f) hi y h)) b)
+
+mutual
+  unfolding reachable reachableIn every
+
+  pub places-within : (t : Tree) (level : ℕ) (lo hi : List ℕ) → soundTree t lo hi ≡ true → every (within lo hi) (reachable t level lo hi) ≡ true
+  places-within (unread i) level lo hi e = refl
+  places-within (leaf i rs) level lo hi e = both (itself i level lo hi [] end) refl
+  places-within (interior i f ms) level lo hi e =
+      both (itself i level lo hi ms f)
+      (within-kids i f ms lo hi (reachableIn f (level - 1) (shared lo hi) hi) e (places-within-in f (level - 1) (shared lo hi) lo hi (inner i f ms lo hi e .kids)))
+
+  pub places-within-in : (f : Forest) (level : ℕ) (lifted lo hi : List ℕ) → soundForest f lifted lo hi ≡ true
+      → every (within (highOf lifted hi f) hi) (reachableIn f level lifted hi) ≡ true
+  places-within-in end level lifted lo hi e = refl
+  places-within-in (tree s t f) level lifted lo hi e =
+      within-tree s t f lifted lo hi (reachable t level (lifted ++ s) (highOf lifted hi f)) (reachableIn f level lifted hi) e
+      (places-within t level (lifted ++ s) (highOf lifted hi f) (parts s t f lifted lo hi e .first))
+      (places-within-in f level lifted lo hi (parts s t f lifted lo hi e .later))
+
+-- THE RULE, node by node
+unfoldable pub rested : Reachable → Reachable → Bool
+rested x y = not (eqb (y .level) (x .level) && overlap x y) || holdsNoMessage y
+
+rested-quiet : (x y : Reachable) → holdsNoMessage y ≡ true → rested x y ≡ true
+unfolding rested
+rested-quiet x y e = or-right (not (eqb (y .level) (x .level) && overlap x y)) (holdsNoMessage y) e
+
+rested-level : (x y : Reachable) → (y .level ≡ x .level → ⊥) → rested x y ≡ true
+unfolding rested
+rested-level x y n = rw (ne-eqb (y .level) (x .level) n)
+
+not-and : (a b : Bool) → b ≡ false → not (a && b) ≡ true
+not-and true b e = rw e
+not-and false b e = refl
+
+rested-after : (x y : Reachable) → before (y .low) (x .high) ≡ false → rested x y ≡ true
+unfolding rested overlap
+rested-after x y e =
+    or-left (not (eqb (y .level) (x .level) && (before (x .low) (y .high) && before (y .low) (x .high)))) (holdsNoMessage y)
+    (not-and (eqb (y .level) (x .level)) (before (x .low) (y .high) && before (y .low) (x .high)) (rw e (and-false (before (x .low) (y .high)))))
+
+rested-before : (x y : Reachable) → before (x .low) (y .high) ≡ false → rested x y ≡ true
+unfolding rested overlap
+rested-before x y e =
+    or-left (not (eqb (y .level) (x .level) && (before (x .low) (y .high) && before (y .low) (x .high)))) (holdsNoMessage y)
+    (not-and (eqb (y .level) (x .level)) (before (x .low) (y .high) && before (y .low) (x .high)) (rw e))
+
+leaf-rested : (x : Reachable) (i : ℕ) (rs : List Row) (level : ℕ) (lo hi : List ℕ) → every (rested x) (reachable (leaf i rs) level lo hi) ≡ true
+unfolding every reachable holdsNoMessage
+leaf-rested x i rs level lo hi = both (rested-quiet x (record { number = i; level = level; low = lo; high = hi; messages = []; children = end }) refl) refl
+
+unread-rested : (x : Reachable) (i level : ℕ) (lo hi : List ℕ) → every (rested x) (reachable (unread i) level lo hi) ≡ true
+unfolding every reachable
+unread-rested x i level lo hi = refl
+
+end-rested : (x : Reachable) (level : ℕ) (lifted hi : List ℕ) → every (rested x) (reachableIn end level lifted hi) ≡ true
+unfolding every reachableIn
+end-rested x level lifted hi = refl
+
+tall-two : (i : ℕ) (f : Forest) (ms : List Message) (level : ℕ) → tall (interior i f ms) level ≡ true → 2 ≤ level
+unfolding tall
+tall-two i f ms level h = leb-true 2 level (and-left (leb 2 level) _ h)
+
+-- the flushed node itself: it is quiet, and all others under it are of lower levels
+here-rested : (x : Reachable) (i : ℕ) (f : Forest) (ms : List Message) (level : ℕ) (lo hi : List ℕ) → 2 ≤ level → x .level ≡ level
+    → every (rested x) (reachable (flushedNode (interior i f ms) lo hi) level lo hi) ≡ true
+unfolding every reachable holdsNoMessage flushedNode
+here-rested x i f ms level lo hi l e =
+    both (rested-quiet x (record { number = i; level = level; low = lo; high = hi; messages = []; children = pushedAll ms f (shared lo hi) hi }) refl)
+    (every-weaker (λ y. leb (y .level) (level - 1)) (rested x) (reachableIn (pushedAll ms f (shared lo hi) hi) (level - 1) (shared lo hi) hi)
+    (λ y h. rested-level x y (λ q. omega (arith, leb-true (y .level) (level - 1) h)))
+    (places-under-in (pushedAll ms f (shared lo hi) hi) (level - 1) (shared lo hi) hi))
+
+-- a node above it is of a higher level
+above-rested : (x : Reachable) (n i : ℕ) (f g : Forest) (ms : List Message) (level : ℕ) (lo hi : List ℕ) → 2 ≤ level
+    → reachableAt n (reachableIn f (level - 1) (shared lo hi) hi) ≡ some x → every (rested x) (reachableIn g (level - 1) (shared lo hi) hi) ≡ true
+    → every (rested x) (reachable (interior i g ms) level lo hi) ≡ true
+unfolding every reachable
+above-rested x n i f g ms level lo hi l p k =
+    let low : leb (x .level) (level - 1) ≡ true =
+    place-test (λ y. leb (y .level) (level - 1)) n (reachableIn f (level - 1) (shared lo hi) hi) x (places-under-in f (level - 1) (shared lo hi) hi) p in
+    both (rested-level x (record { number = i; level = level; low = lo; high = hi; messages = ms; children = g })
+    (λ q. omega (arith, leb-true (x .level) (level - 1) low))) k
+
+node-rested : (b : Bool) (x : Reachable) (n i : ℕ) (f g : Forest) (ms : List Message) (level : ℕ) (lo hi : List ℕ) → eqb n i ≡ b → 2 ≤ level
+    → reachableAt n (reachable (interior i f ms) level lo hi) ≡ some x
+    → (reachableAt n (reachableIn f (level - 1) (shared lo hi) hi) ≡ some x → every (rested x) (reachableIn g (level - 1) (shared lo hi) hi) ≡ true)
+    → every (rested x) (reachable (cond b (flushedNode (interior i f ms) lo hi) (interior i g ms)) level lo hi) ≡ true
+unfolding reachableAt reachable
+node-rested true x n i f g ms level lo hi e l p k =
+    let q : some (record { number = i; level = level; low = lo; high = hi; messages = ms; children = f }) ≡ some x = rw e at p in
+    here-rested x i f ms level lo hi l
+    (ap (λ (z : Reachable). z .level) (sym (Option·some-injective (record { number = i; level = level; low = lo; high = hi; messages = ms; children = f }) x q)))
+node-rested false x n i f g ms level lo hi e l p k =
+    let q : reachableAt n (reachableIn f (level - 1) (shared lo hi) hi) ≡ some x = rw e at p in
+    above-rested x n i f g ms level lo hi l q (k q)
+
+-- a child and the later children: the ranges of the others do not meet it
+module _ (x : Reachable) (n : ℕ) (s : List ℕ) (t u : Tree) (f g : Forest) (level : ℕ) (lifted lo hi : List ℕ) (e : soundForest (tree s t f) lifted lo hi ≡ true)
+    (a : soundTree u (lifted ++ s) (highOf lifted hi f) ≡ true) (b : soundForest g lifted lo hi ≡ true) (h : highOf lifted hi g ≡ highOf lifted hi f)
+    (first : reachableAt n (reachable t level (lifted ++ s) (highOf lifted hi f)) ≡ some x → every (rested x) (reachable u level (lifted ++ s) (highOf lifted hi f)) ≡ true)
+    (later : reachableAt n (reachableIn f level lifted hi) ≡ some x → every (rested x) (reachableIn g level lifted hi) ≡ true) where
+  in-first : reachableAt n (reachable t level (lifted ++ s) (highOf lifted hi f)) ≡ some x
+      → every (rested x) (reachable u level (lifted ++ s) (highOf lifted hi f) ++ reachableIn g level lifted hi) ≡ true
+  in-first p =
+      let w : within (lifted ++ s) (highOf lifted hi f) x ≡ true =
+      place-test (within (lifted ++ s) (highOf lifted hi f)) n (reachable t level (lifted ++ s) (highOf lifted hi f)) x
+      (places-within t level (lifted ++ s) (highOf lifted hi f) (parts s t f lifted lo hi e .first)) p in
+      let others : every (within (highOf lifted hi f) hi) (reachableIn g level lifted hi) ≡ true =
+      subst (λ l. every (within l hi) (reachableIn g level lifted hi) ≡ true) h (places-within-in g level lifted lo hi b) in
+      every-places (rested x) (reachable u level (lifted ++ s) (highOf lifted hi f)) (reachableIn g level lifted hi) (first p)
+      (every-weaker (within (highOf lifted hi f) hi) (rested x) (reachableIn g level lifted hi)
+      (λ y k. rested-after x y (le-le (x .high) (highOf lifted hi f) (y .low) (within-high (lifted ++ s) (highOf lifted hi f) x w) (within-low (highOf lifted hi f) hi y k)))
+      others)
+
+  in-later : reachableAt n (reachableIn f level lifted hi) ≡ some x
+      → every (rested x) (reachable u level (lifted ++ s) (highOf lifted hi f) ++ reachableIn g level lifted hi) ≡ true
+  in-later p =
+      let w : within (highOf lifted hi f) hi x ≡ true =
+      place-test (within (highOf lifted hi f) hi) n (reachableIn f level lifted hi) x (places-within-in f level lifted lo hi (parts s t f lifted lo hi e .later)) p in
+      every-places (rested x) (reachable u level (lifted ++ s) (highOf lifted hi f)) (reachableIn g level lifted hi)
+      (every-weaker (within (lifted ++ s) (highOf lifted hi f)) (rested x) (reachable u level (lifted ++ s) (highOf lifted hi f))
+      (λ y k. rested-before x y (le-le (y .high) (highOf lifted hi f) (x .low) (within-high (lifted ++ s) (highOf lifted hi f) y k) (within-low (highOf lifted hi f) hi x w)))
+      (places-within u level (lifted ++ s) (highOf lifted hi f) a))
+      (later p)
+
+  in-either : (o : Option Reachable) → reachableAt n (reachable t level (lifted ++ s) (highOf lifted hi f)) ≡ o
+      → orElse (reachableAt n (reachable t level (lifted ++ s) (highOf lifted hi f))) (reachableAt n (reachableIn f level lifted hi)) ≡ some x
+      → every (rested x) (reachable u level (lifted ++ s) (highOf lifted hi f) ++ reachableIn g level lifted hi) ≡ true
+  unfolding orElse
+  in-either none k p = in-later (subst (λ o. orElse o (reachableAt n (reachableIn f level lifted hi)) ≡ some x) k p)
+  in-either (some z) k p = in-first (k ∙ subst (λ o. orElse o (reachableAt n (reachableIn f level lifted hi)) ≡ some x) k p)
+
+  tree-rested : reachableAt n (reachableIn (tree s t f) level lifted hi) ≡ some x → every (rested x) (reachableIn (tree s u g) level lifted hi) ≡ true
+  unfolding reachableIn
+  tree-rested p =
+      rw h (in-either (reachableAt n (reachable t level (lifted ++ s) (highOf lifted hi f))) refl
+      (sym (place-append n (reachable t level (lifted ++ s) (highOf lifted hi f)) (reachableIn f level lifted hi)) ∙ p))
+
+mutual
+  unfolding altered alteredIn
+
+  flush-rested : (t : Tree) (n : ℕ) (x : Reachable) (level : ℕ) (lo hi : List ℕ) → soundTree t lo hi ≡ true → tall t level ≡ true
+      → reachableAt n (reachable t level lo hi) ≡ some x → every (rested x) (reachable (altered t n flushedNode lo hi) level lo hi) ≡ true
+  flush-rested (unread i) n x level lo hi e h p = unread-rested x i level lo hi
+  flush-rested (leaf i rs) n x level lo hi e h p = leaf-rested x i rs level lo hi
+  flush-rested (interior i f ms) n x level lo hi e h p =
+      node-rested (eqb n i) x n i f (alteredIn f n flushedNode (shared lo hi) hi) ms level lo hi refl (tall-two i f ms level h) p
+      (λ q. flush-rested-in f n x (level - 1) (shared lo hi) lo hi (inner i f ms lo hi e .kids) (tall-kids i f ms level h) q)
+
+  flush-rested-in : (f : Forest) (n : ℕ) (x : Reachable) (level : ℕ) (lifted lo hi : List ℕ) → soundForest f lifted lo hi ≡ true → tallIn f level ≡ true
+      → reachableAt n (reachableIn f level lifted hi) ≡ some x → every (rested x) (reachableIn (alteredIn f n flushedNode lifted hi) level lifted hi) ≡ true
+  flush-rested-in end n x level lifted lo hi e h p = end-rested x level lifted hi
+  flush-rested-in (tree s t f) n x level lifted lo hi e h p =
+      tree-rested x n s t (altered t n flushedNode (lifted ++ s) (highOf lifted hi f)) f (alteredIn f n flushedNode lifted hi) level lifted lo hi e
+      (altered-mends t n flushedNode flush-sane (lifted ++ s) (highOf lifted hi f) level (parts s t f lifted lo hi e .first) (tall-first s t f level h) .sound)
+      (altered-mends-in f n flushedNode flush-sane lifted lo hi level (parts s t f lifted lo hi e .later) (tall-later s t f level h) .sound)
+      (high-altered f n flushedNode lifted hi lifted hi)
+      (λ q. flush-rested t n x level (lifted ++ s) (highOf lifted hi f) (parts s t f lifted lo hi e .first) (tall-first s t f level h) q)
+      (λ q. flush-rested-in f n x level lifted lo hi (parts s t f lifted lo hi e .later) (tall-later s t f level h) q)
+      p
+
+-- Document 01's flush, of node n whose place was x.
+pub flush-flushed : (t : Tree) (n : ℕ) (lo hi : List ℕ) (level : ℕ) (x : Reachable) → soundTree t lo hi ≡ true → tall t level ≡ true
+    → reachableAt n (reachable t level lo hi) ≡ some x → flushed x (reachable (flushedTree t n lo hi) level lo hi) ≡ true
+unfolding flushed flushedTree rested
+flush-flushed t n lo hi level x e h p = flush-rested t n x level lo hi e h p

@@ -1,0 +1,177 @@
+// Random calls with arguments of every kind: right ones near what the store holds, and wrong
+// ones of every question.
+
+use crate::image;
+use crate::limits::*;
+use crate::plain::Call;
+use crate::rng::Rng;
+use crate::sound::{judge, Sound};
+use crate::words;
+
+/// What a caller may know of a store, to make calls that hit.
+pub struct Known {
+    pub n: usize,
+    pub paths: Vec<Vec<u8>>,
+    pub nodes: Vec<u16>,
+    pub interior: Vec<u16>,
+    /// The interior nodes that hold messages.
+    pub waiting: Vec<u16>,
+}
+
+impl Known {
+    pub fn of(store: &[u8]) -> Known {
+        match judge(store) {
+            Ok(sound) => Known::of_sound(&sound),
+            Err(_) => Known {
+                n: image::nodes_of(store.len()).unwrap_or(NODES_LEAST),
+                paths: Vec::new(),
+                nodes: vec![1],
+                interior: vec![1],
+                waiting: vec![1],
+            },
+        }
+    }
+
+    fn of_sound(sound: &Sound) -> Known {
+        let walk = sound.tree.walk();
+        let interior = walk.iter().filter(|v| v.node.is_interior());
+        let waiting = walk.iter().filter(|v| !v.node.messages().is_empty());
+        Known {
+            n: sound.n,
+            paths: sound.table.keys().cloned().collect(),
+            nodes: sound.used.clone(),
+            interior: interior.map(|v| v.node.number).collect(),
+            waiting: waiting.map(|v| v.node.number).collect(),
+        }
+    }
+}
+
+pub fn random(rng: &mut Rng, known: &Known) -> Call {
+    let work = work(rng, known.n);
+    match rng.below(24) {
+        0..=6 => Call::Put {
+            path: path(rng, known),
+            value: value(rng),
+            work,
+        },
+        7 | 8 => Call::Drop {
+            path: path(rng, known),
+            work,
+        },
+        9 => Call::Clear {
+            path: path(rng, known),
+            work,
+        },
+        10..=12 => random_move(rng, known, work),
+        13 => Call::Settle { work },
+        14 => Call::Tidy { work },
+        15 | 16 => Call::Flush {
+            node: node(rng, known),
+            work,
+        },
+        17 | 18 => Call::Heal {
+            node: node(rng, known),
+            work,
+        },
+        19..=21 => Call::Get {
+            path: path(rng, known),
+            buffer: buffer(rng, GET_BUFFER),
+        },
+        _ => random_next(rng, known),
+    }
+}
+
+/// A call that moves messages or nodes about: a flush where messages wait, a heal, a settle.
+pub fn upkeep(rng: &mut Rng, known: &Known) -> Call {
+    let work = work(rng, known.n);
+    let number = |chosen: Option<&u16>| chosen.map_or(1, |number| u32::from(*number));
+    match rng.below(8) {
+        0 => Call::Settle { work },
+        1..=4 => Call::Flush {
+            node: number(rng.pick(&known.waiting)),
+            work,
+        },
+        _ => Call::Heal {
+            node: number(rng.pick(&known.interior)),
+            work,
+        },
+    }
+}
+
+fn random_move(rng: &mut Rng, known: &Known, work: usize) -> Call {
+    let from = path(rng, known);
+    let to = match rng.below(8) {
+        0 => from.clone(),
+        1 => [&from[..], b"x\0"].concat(),
+        2 => words::longest(rng),
+        _ => path(rng, known),
+    };
+    Call::Move { from, to, work }
+}
+
+fn random_next(rng: &mut Rng, known: &Known) -> Call {
+    let top = path(rng, known);
+    let after = match rng.below(3) {
+        0 => Vec::new(),
+        1 => rng.pick(&known.paths).cloned().unwrap_or_default(),
+        _ => path(rng, known),
+    };
+    Call::Next {
+        path: top,
+        after,
+        buffer: buffer(rng, NEXT_BUFFER),
+    }
+}
+
+fn path(rng: &mut Rng, known: &Known) -> Vec<u8> {
+    match rng.below(16) {
+        0 => words::malformed(rng),
+        1..=8 => words::near(rng, &known.paths),
+        _ => words::path(rng),
+    }
+}
+
+fn value(rng: &mut Rng) -> Vec<u8> {
+    match rng.below(20) {
+        0 => {
+            let more = rng.between(1, 300);
+            rng.bytes(VALUE_LIMIT + more)
+        }
+        _ => words::value(rng),
+    }
+}
+
+/// A buffer that is long enough, mostly.
+fn buffer(rng: &mut Rng, enough: usize) -> Vec<u8> {
+    let length = match rng.below(16) {
+        0 => enough - 1,
+        1 => rng.below(enough),
+        2..=8 => enough,
+        _ => enough + rng.below(40),
+    };
+    rng.bytes(length)
+}
+
+/// A length of a work area that is long enough, mostly.
+fn work(rng: &mut Rng, n: usize) -> usize {
+    let enough = WORK_PER_NODE * n;
+    match rng.below(24) {
+        0 => enough - 1,
+        1 => rng.below(enough),
+        2..=14 => enough,
+        _ => enough + rng.below(200),
+    }
+}
+
+fn node(rng: &mut Rng, known: &Known) -> u32 {
+    let interior = rng.pick(&known.interior).copied().unwrap_or(1);
+    match rng.below(12) {
+        0 => 0,
+        1 => known.n as u32,
+        2 => rng.word() as u32,
+        3 => u32::from(interior) + 0x1_0000,
+        4 => rng.pick(&known.nodes).copied().unwrap_or(1).into(),
+        5 => rng.below(known.n) as u32,
+        _ => interior.into(),
+    }
+}

@@ -1,0 +1,213 @@
+// The contract of one call, judged from outside: the image before, the call, its answer, and
+// what it left in buffer, work area and store. Whatever is wrong is told in words.
+
+use crate::image;
+use crate::limits::{NODE, WORK_PER_NODE};
+use crate::plain::{self, Answer, Call, Outcome, Plain};
+use crate::sound::{self, Sound};
+use crate::upkeep;
+
+/// One call as it was seen.
+#[derive(Clone, Copy, Debug)]
+pub struct Seen<'a> {
+    pub store_before: &'a [u8],
+    pub call: &'a Call,
+    pub work_before: &'a [u8],
+    pub answer: Answer,
+    pub buffer_after: &'a [u8],
+    pub work_after: &'a [u8],
+    pub store_after: &'a [u8],
+}
+
+/// Which promises the subject is held to beyond those of every call.
+#[derive(Clone, Copy, Debug)]
+pub struct Held {
+    /// The bound on the nodes that a move changes.
+    pub move_bound: bool,
+}
+
+pub type Verdict = Result<(), String>;
+
+/// Judges one call on one store.
+pub fn check(seen: &Seen<'_>, held: Held) -> Verdict {
+    let asked = ask_of_bytes(seen);
+    let expected = match &asked {
+        Err(number) => Outcome {
+            answer: Answer::refused(*number),
+            buffer: seen.call.buffer().to_vec(),
+        },
+        Ok(before) => outcome_on(before, seen.call),
+    };
+    equal("answer", &seen.answer, &expected.answer)?;
+    same_bytes("buffer", seen.buffer_after, &expected.buffer)?;
+    let n = seen.store_before.len() / NODE;
+    let work = plain::work_after(n, expected.answer, seen.work_before);
+    same_bytes("work area", seen.work_after, &work)?;
+    match asked {
+        Ok(before) if expected.answer.accepted() => accepted(seen, &before, held),
+        _ => same_bytes(
+            "store of a refused call",
+            seen.store_after,
+            seen.store_before,
+        ),
+    }
+}
+
+/// Questions 1 and 2, of the bytes alone.
+fn ask_of_bytes(seen: &Seen<'_>) -> Result<Sound, u32> {
+    let n = image::nodes_of(seen.store_before.len()).ok_or(plain::NO_LENGTHS)?;
+    let lent = seen.call.work().map(|_| seen.work_before.len());
+    if lent.is_some_and(|length| length < WORK_PER_NODE * n) {
+        return Err(plain::NO_LENGTHS);
+    }
+    sound::judge(seen.store_before).map_err(|_| plain::NO_SOUND)
+}
+
+/// The answer and the buffer that a call must give on a sound image.
+pub fn outcome_on(before: &Sound, call: &Call) -> Outcome {
+    let mut plain = Plain {
+        n: before.n,
+        table: before.table.clone(),
+    };
+    plain.step(call).unwrap_or_else(|| Outcome {
+        answer: node_answer(before, call),
+        buffer: Vec::new(),
+    })
+}
+
+/// Question 6: is the number that of a reachable interior node?
+fn node_answer(before: &Sound, call: &Call) -> Answer {
+    let (Call::Flush { node, .. } | Call::Heal { node, .. }) = call else {
+        return Answer::DONE;
+    };
+    match before.tree.find(*node) {
+        Some(visit) if visit.node.is_interior() => Answer::DONE,
+        _ => Answer::refused(plain::NO_NODE),
+    }
+}
+
+fn accepted(seen: &Seen<'_>, before: &Sound, held: Held) -> Verdict {
+    let stays = match seen.call {
+        Call::Move { from, to, .. } => from == to,
+        call => call.only_reads(),
+    };
+    if stays {
+        return same_bytes("store", seen.store_after, seen.store_before);
+    }
+    let after = sound::judge(seen.store_after)
+        .map_err(|rule| format!("the store is unsound after the call: {}", rule.name()))?;
+    map_follows(seen.call, before, &after)?;
+    layout_follows(seen, before, &after, held)
+}
+
+/// The table after the call is the one that the plain map's step leaves.
+fn map_follows(call: &Call, before: &Sound, after: &Sound) -> Verdict {
+    let mut plain = Plain {
+        n: before.n,
+        table: before.table.clone(),
+    };
+    plain.step(call);
+    if plain.table == after.table {
+        return Ok(());
+    }
+    let (found, expected) = (after.table.len(), plain.table.len());
+    Err(format!(
+        "the map after the call is not the rule's: it has {found} rows, the rule's {expected}"
+    ))
+}
+
+/// What a call promises of the nodes themselves.
+fn layout_follows(seen: &Seen<'_>, before: &Sound, after: &Sound, held: Held) -> Verdict {
+    match seen.call {
+        Call::Settle { .. } => upkeep::settled(after),
+        Call::Tidy { .. } => upkeep::tidied(after),
+        Call::Flush { node, .. } => upkeep::flushed(*node, before, after),
+        Call::Heal { node, .. } => upkeep::healed(*node, before, after),
+        Call::Move { .. } if held.move_bound => {
+            move_bound(before, seen.store_before, seen.store_after)
+        }
+        _ => Ok(()),
+    }
+}
+
+/// How many nodes a move on this store may change, if it is held to any number: the store is
+/// settled, with enough levels and free nodes left.
+pub fn move_bound_of(before: &Sound) -> Option<usize> {
+    let levels = usize::from(before.levels());
+    let held = before.settled() && levels <= 7 && before.free() >= 12 * levels + 8;
+    held.then_some(16 * levels + 8)
+}
+
+fn move_bound(before: &Sound, store_before: &[u8], store_after: &[u8]) -> Verdict {
+    let changed = changed_nodes(store_before, store_after);
+    match move_bound_of(before) {
+        Some(most) if changed > most => {
+            Err(format!("the move changed {changed} nodes, over {most}"))
+        }
+        _ => Ok(()),
+    }
+}
+
+/// How many nodes, node 0 too, have any byte that differs.
+pub fn changed_nodes(before: &[u8], after: &[u8]) -> usize {
+    let pairs = before.chunks(NODE).zip(after.chunks(NODE));
+    pairs.filter(|(a, b)| a != b).count()
+}
+
+/// Judges make.
+pub fn check_make(before: &[u8], answer: Answer, after: &[u8]) -> Verdict {
+    let expected = plain::make(before.len());
+    equal("answer of make", &answer, &expected)?;
+    if !expected.accepted() {
+        return same_bytes("store of a refused make", after, before);
+    }
+    let made = sound::judge(after)
+        .map_err(|rule| format!("the made store is unsound: {}", rule.name()))?;
+    if made.table.is_empty() {
+        Ok(())
+    } else {
+        Err("the made store is not empty".into())
+    }
+}
+
+/// The answer that same must give.
+pub fn same_answer(a: &[u8], b: &[u8]) -> Answer {
+    if image::nodes_of(a.len()).is_none() || image::nodes_of(b.len()).is_none() {
+        return Answer::refused(plain::NO_LENGTHS);
+    }
+    match (sound::judge(a), sound::judge(b)) {
+        (Ok(a), Ok(b)) => Answer {
+            number: 0,
+            beside: plain::same(&a.table, &b.table).into(),
+        },
+        _ => Answer::refused(plain::NO_SOUND),
+    }
+}
+
+/// Judges same: each store as it was before and as it is after.
+pub fn check_same(a: (&[u8], &[u8]), b: (&[u8], &[u8]), answer: Answer) -> Verdict {
+    equal("answer of same", &answer, &same_answer(a.0, b.0))?;
+    same_bytes("first store of same", a.1, a.0)?;
+    same_bytes("second store of same", b.1, b.0)
+}
+
+fn equal<T: PartialEq + std::fmt::Debug>(what: &str, found: &T, expected: &T) -> Verdict {
+    if found == expected {
+        return Ok(());
+    }
+    Err(format!("{what}: {found:?}, expected {expected:?}"))
+}
+
+fn same_bytes(what: &str, found: &[u8], expected: &[u8]) -> Verdict {
+    if found.len() != expected.len() {
+        return Err(format!("{what}: its length changed"));
+    }
+    let differ = found.iter().zip(expected).position(|(a, b)| a != b);
+    match differ {
+        None => Ok(()),
+        Some(at) => Err(format!(
+            "{what}: byte {at} is {}, expected {}",
+            found[at], expected[at]
+        )),
+    }
+}

@@ -1,0 +1,113 @@
+// The command line of the second program: prints the antt file, judges and reads images, runs
+// the line language, and writes generated or damaged images to standard output.
+#![forbid(unsafe_code)]
+#![deny(warnings)]
+
+use second::feature::Feature;
+use second::sound::{judge, Rule};
+use second::{antt, generate, mutate, path, program};
+use std::io::{Read, Write};
+use std::process::ExitCode;
+
+const USAGE: &str = "\
+usage: second antt                   the examples as antt data
+       second sound FILE             is the image sound; the first broken rule if not
+       second table FILE             the paths of a sound image with their values
+       second program < LINES        the line language with the plain map behind it
+       second generate PRESET SEED   a sound image; PRESET random, or a feature's name
+       second mutate RULE SEED       a damaged image
+       second names                  the presets and the rules";
+
+fn main() -> ExitCode {
+    let arguments: Vec<String> = std::env::args().skip(1).collect();
+    let words: Vec<&str> = arguments.iter().map(|a| &a[..]).collect();
+    match answer(&words) {
+        Ok(bytes) => print(&bytes),
+        Err(what) => {
+            eprintln!("{what}");
+            ExitCode::FAILURE
+        }
+    }
+}
+
+fn print(bytes: &[u8]) -> ExitCode {
+    match std::io::stdout().write_all(bytes) {
+        Ok(()) => ExitCode::SUCCESS,
+        Err(_) => ExitCode::FAILURE,
+    }
+}
+
+fn answer(words: &[&str]) -> Result<Vec<u8>, String> {
+    match words {
+        ["antt"] => Ok(antt::file().into_bytes()),
+        ["sound", file] => sound(&read(file)?),
+        ["table", file] => table(&read(file)?),
+        ["program"] => Ok(program::run(&input()?)),
+        ["generate", preset, seed] => generated(preset, number(seed)?),
+        ["mutate", rule, seed] => mutated(rule, number(seed)?),
+        ["names"] => Ok(names().into_bytes()),
+        _ => Err(USAGE.into()),
+    }
+}
+
+fn read(file: &str) -> Result<Vec<u8>, String> {
+    std::fs::read(file).map_err(|error| format!("{file}: {error}"))
+}
+
+fn input() -> Result<Vec<u8>, String> {
+    let mut input = Vec::new();
+    let read = std::io::stdin().read_to_end(&mut input);
+    read.map_err(|error| error.to_string())?;
+    Ok(input)
+}
+
+fn number(seed: &str) -> Result<u64, String> {
+    seed.parse().map_err(|_| format!("{seed} is no number"))
+}
+
+fn sound(image: &[u8]) -> Result<Vec<u8>, String> {
+    let sound = judge(image).map_err(|rule| format!("unsound: {}", rule.name()))?;
+    let told = format!(
+        "sound: {} nodes, {} levels, {} paths, {} nodes in use with node 0, {} messages waiting\n",
+        sound.n,
+        sound.levels(),
+        sound.table.len(),
+        sound.used.len() + 1,
+        sound.waiting
+    );
+    Ok(told.into_bytes())
+}
+
+fn table(image: &[u8]) -> Result<Vec<u8>, String> {
+    let sound = judge(image).map_err(|rule| format!("unsound: {}", rule.name()))?;
+    let mut printed = Vec::new();
+    for (found, value) in &sound.table {
+        printed.extend(path::to_text(found));
+        printed.extend(format!(" {}\n", program::shown(value)).into_bytes());
+    }
+    Ok(printed)
+}
+
+fn generated(preset: &str, seed: u64) -> Result<Vec<u8>, String> {
+    if preset == "random" {
+        return Ok(generate::random(seed));
+    }
+    let feature = Feature::named(preset).ok_or(format!("no preset {preset}"))?;
+    Ok(generate::preset(feature, seed))
+}
+
+/// Generated images are tried until one has a place for the damage.
+fn mutated(rule: &str, seed: u64) -> Result<Vec<u8>, String> {
+    let rule = Rule::named(rule).ok_or(format!("no rule {rule}"))?;
+    let mut seeds = (0..100).map(|more| seed.wrapping_add(more << 32));
+    let damaged = seeds.find_map(|seed| mutate::damage(rule, &generate::random(seed), seed));
+    damaged.ok_or(format!("no image had a place to break {}", rule.name()))
+}
+
+fn names() -> String {
+    let presets = Feature::ALL.iter().map(|f| f.name());
+    let rules = Rule::ALL.iter().map(|r| r.name());
+    let lines = |title: &str, names: Vec<&str>| format!("{title}\n  {}\n", names.join("\n  "));
+    lines("presets", ["random"].into_iter().chain(presets).collect())
+        + &lines("rules", rules.collect())
+}

@@ -1,0 +1,124 @@
+// Paths as byte strings: well-formedness, order, "below", ownership and the lifted prefix.
+// The order of paths is the order of byte slices, which puts a beginning before its extension.
+
+use crate::limits::{COMPONENTS, COMPONENT_LIMIT, PATH_LIMIT};
+
+/// Is this a path that the store may hold?
+pub fn well_formed(path: &[u8]) -> bool {
+    let Some((&0, text)) = path.split_last() else {
+        return false;
+    };
+    path.len() <= PATH_LIMIT
+        && text.split(|b| *b == 0).count() <= COMPONENTS
+        && text.split(|b| *b == 0).all(component_well_formed)
+}
+
+fn component_well_formed(component: &[u8]) -> bool {
+    (1..=COMPONENT_LIMIT).contains(&component.len())
+        && component
+            .iter()
+            .all(|b| (0x21..=0x7E).contains(b) && *b != 0x2F)
+}
+
+/// Is `path` below `top`? Every path is below itself.
+pub fn below(path: &[u8], top: &[u8]) -> bool {
+    path.starts_with(top)
+}
+
+/// Is neither path a proper beginning of the other?
+pub fn apart_or_equal(a: &[u8], b: &[u8]) -> bool {
+    a == b || !(a.starts_with(b) || b.starts_with(a))
+}
+
+/// Does a node with these pivots own the string?
+pub fn owns(low: &[u8], high: &[u8], string: &[u8]) -> bool {
+    low <= string && string < high
+}
+
+/// Do two nodes with these pivots own any string in common?
+pub fn overlap(a: (&[u8], &[u8]), b: (&[u8], &[u8])) -> bool {
+    a.0.max(b.0) < a.1.min(b.1)
+}
+
+/// The length of the longest common beginning.
+pub fn common_beginning(a: &[u8], b: &[u8]) -> usize {
+    a.iter().zip(b).take_while(|(x, y)| x == y).count()
+}
+
+/// The prefix that a node with these pivots leaves off every suffix in it.
+pub fn lifted<'a>(low: &'a [u8], high: &[u8]) -> &'a [u8] {
+    &low[..common_beginning(low, high)]
+}
+
+/// The bytes of a path written with `/` between its components.
+/// A byte 00 in the text would read as a separator that nobody wrote: such a text gives the
+/// empty string, which no call takes for a path.
+pub fn from_text(text: &[u8]) -> Vec<u8> {
+    if text.contains(&0) {
+        return Vec::new();
+    }
+    let mut path: Vec<u8> = text
+        .iter()
+        .map(|b| if *b == b'/' { 0 } else { *b })
+        .collect();
+    path.push(0);
+    path
+}
+
+/// A path written with `/` between its components.
+pub fn to_text(path: &[u8]) -> Vec<u8> {
+    let text = path.strip_suffix(&[0]).unwrap_or(path);
+    text.iter()
+        .map(|b| if *b == 0 { b'/' } else { *b })
+        .collect()
+}
+
+/// The beginnings of a well-formed path that are paths themselves, shortest first.
+pub fn beginnings(path: &[u8]) -> impl Iterator<Item = &[u8]> {
+    (0..path.len())
+        .filter(|i| path[*i] == 0)
+        .map(|i| &path[..=i])
+}
+
+#[cfg(test)]
+mod tests {
+    use super::*;
+
+    #[test]
+    fn malformed_paths_are_told() {
+        for bad in [
+            &b""[..],
+            b"\0",
+            b"a",
+            b"a\0\0",
+            b"\0a\0",
+            b"a/\0",
+            b" \0",
+            b"\x7F\0",
+        ] {
+            assert!(!well_formed(bad), "{bad:?}");
+        }
+        assert!(well_formed(b"!\0~\0"));
+    }
+
+    #[test]
+    fn text_and_bytes_agree() {
+        assert_eq!(from_text(b"r1/c7"), b"r1\0c7\0");
+        assert_eq!(to_text(b"r1\0c7\0"), b"r1/c7");
+        assert!(!well_formed(&from_text(b"a\0b")));
+        assert!(!well_formed(&from_text(b"/a")));
+        assert!(!well_formed(&from_text(b"a/")));
+    }
+
+    #[test]
+    fn ranges_overlap_as_intervals() {
+        assert!(overlap((b"a", b"c"), (b"b", b"d")));
+        assert!(!overlap((b"a", b"b"), (b"b", b"d")));
+    }
+
+    #[test]
+    fn beginnings_are_the_paths_above() {
+        let all: Vec<&[u8]> = beginnings(b"a\0bc\0").collect();
+        assert_eq!(all, [&b"a\0"[..], b"a\0bc\0"]);
+    }
+}

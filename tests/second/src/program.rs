@@ -1,0 +1,147 @@
+// The line language of the paper's program, with the plain map behind it:
+// a function from all that is read to all that is printed.
+
+use crate::limits::{GET_BUFFER, WORK_PER_NODE};
+use crate::path::{below, from_text, to_text, well_formed};
+use crate::plain::{Call, Plain, NO_PATH};
+
+const PROGRAM_NODES: usize = 64;
+const LINE_LIMIT: usize = 255;
+const WORK: usize = WORK_PER_NODE * PROGRAM_NODES;
+
+/// What the program prints for this input.
+pub fn run(input: &[u8]) -> Vec<u8> {
+    let mut map = Plain::new(PROGRAM_NODES);
+    let mut printed = Vec::new();
+    for line in lines(input) {
+        printed.extend(answer(&mut map, line));
+    }
+    printed
+}
+
+/// The lines; what follows the last line feed is a line unless it is empty.
+fn lines(input: &[u8]) -> Vec<&[u8]> {
+    let mut lines: Vec<&[u8]> = input.split(|b| *b == b'\n').collect();
+    if lines.last().is_some_and(|last| last.is_empty()) {
+        lines.pop();
+    }
+    lines
+}
+
+enum Line {
+    Acts(Call),
+    Get(Vec<u8>),
+    List(Vec<u8>),
+}
+
+fn answer(map: &mut Plain, line: &[u8]) -> Vec<u8> {
+    match read(line) {
+        None => b"bad\n".to_vec(),
+        Some(Line::Acts(call)) => act(map, &call),
+        Some(Line::Get(path)) => get(map, path),
+        Some(Line::List(path)) => list(map, &path),
+    }
+}
+
+fn read(line: &[u8]) -> Option<Line> {
+    if line.len() > LINE_LIMIT {
+        return None;
+    }
+    let fields: Vec<&[u8]> = line.split(|b| *b == b' ').collect();
+    if fields.iter().any(|field| field.is_empty()) {
+        return None;
+    }
+    let path = from_text;
+    let work = WORK;
+    Some(match fields[..] {
+        [b"put", p, hex] => Line::Acts(Call::Put {
+            path: path(p),
+            value: value(hex)?,
+            work,
+        }),
+        [b"drop", p] => Line::Acts(Call::Drop {
+            path: path(p),
+            work,
+        }),
+        [b"clear", p] => Line::Acts(Call::Clear {
+            path: path(p),
+            work,
+        }),
+        [b"move", from, to] => Line::Acts(Call::Move {
+            from: path(from),
+            to: path(to),
+            work,
+        }),
+        [b"settle"] => Line::Acts(Call::Settle { work }),
+        [b"tidy"] => Line::Acts(Call::Tidy { work }),
+        [b"get", p] => Line::Get(path(p)),
+        [b"list", p] => Line::List(path(p)),
+        _ => return None,
+    })
+}
+
+fn value(hex: &[u8]) -> Option<Vec<u8>> {
+    if hex == b"-" {
+        return Some(Vec::new());
+    }
+    if !hex.len().is_multiple_of(2) {
+        return None;
+    }
+    hex.chunks(2)
+        .map(|pair| Some(digit(pair[0])? * 16 + digit(pair[1])?))
+        .collect()
+}
+
+fn digit(letter: u8) -> Option<u8> {
+    match letter {
+        b'0'..=b'9' => Some(letter - b'0'),
+        b'a'..=b'f' => Some(letter - b'a' + 10),
+        b'A'..=b'F' => Some(letter - b'A' + 10),
+        _ => None,
+    }
+}
+
+/// A value as the program prints it.
+pub fn shown(value: &[u8]) -> String {
+    if value.is_empty() {
+        return "-".into();
+    }
+    value.iter().map(|b| format!("{b:02x}")).collect()
+}
+
+fn refused(number: u32) -> Vec<u8> {
+    format!("refused {number}\n").into_bytes()
+}
+
+fn act(map: &mut Plain, call: &Call) -> Vec<u8> {
+    match map.step(call) {
+        Some(outcome) if !outcome.answer.accepted() => refused(outcome.answer.number),
+        _ => b"ok\n".to_vec(),
+    }
+}
+
+fn get(map: &mut Plain, path: Vec<u8>) -> Vec<u8> {
+    let buffer = vec![0; GET_BUFFER];
+    match map.step(&Call::Get { path, buffer }) {
+        Some(outcome) if outcome.answer.accepted() => {
+            let length = outcome.answer.beside as usize;
+            let value = outcome.buffer.get(..length).unwrap_or(&[]);
+            format!("{}\n", shown(value)).into_bytes()
+        }
+        Some(outcome) => refused(outcome.answer.number),
+        None => Vec::new(),
+    }
+}
+
+fn list(map: &Plain, path: &[u8]) -> Vec<u8> {
+    if !well_formed(path) {
+        return refused(NO_PATH);
+    }
+    let mut printed = Vec::new();
+    for (found, value) in map.table.iter().filter(|(p, _)| below(p, path)) {
+        printed.extend(to_text(found));
+        printed.extend(format!(" {}\n", shown(value)).into_bytes());
+    }
+    printed.extend(b"end\n");
+    printed
+}

@@ -1,0 +1,89 @@
+// A store in the hands of one subject, for lists of calls written by hand: each call is made,
+// judged by the contract, and gives its answer.
+
+use crate::contract::{self, Held, Seen};
+use crate::limits::*;
+use crate::path::from_text;
+use crate::plain::{Answer, Call};
+use crate::subject::{perform, Subject};
+
+pub struct Script<'a> {
+    pub subject: &'a mut dyn Subject,
+    pub store: Vec<u8>,
+}
+
+impl<'a> Script<'a> {
+    /// On a store of `n` nodes just made, whatever `make` answers.
+    pub fn made(subject: &'a mut dyn Subject, n: usize) -> Result<Script<'a>, String> {
+        let mut store = vec![0xA5; n * NODE];
+        let before = store.clone();
+        let (number, beside) = subject.make(&mut store);
+        contract::check_make(&before, Answer { number, beside }, &store)?;
+        Ok(Script { subject, store })
+    }
+
+    /// On an image as it stands.
+    pub fn on(subject: &'a mut dyn Subject, store: Vec<u8>) -> Script<'a> {
+        Script { subject, store }
+    }
+
+    fn work(&self) -> usize {
+        WORK_PER_NODE * (self.store.len() / NODE)
+    }
+
+    /// The call's answer and its buffer, judged.
+    pub fn call(&mut self, call: &Call) -> Result<(Answer, Vec<u8>), String> {
+        let store_before = self.store.clone();
+        let work_before = vec![0x5A; call.work().unwrap_or(0)];
+        let mut work_after = work_before.clone();
+        let mut buffer_after = call.buffer().to_vec();
+        let answer = perform(
+            self.subject,
+            call,
+            &mut self.store,
+            &mut work_after,
+            &mut buffer_after,
+        );
+        let seen = Seen {
+            store_before: &store_before,
+            call,
+            work_before: &work_before,
+            answer,
+            buffer_after: &buffer_after,
+            work_after: &work_after,
+            store_after: &self.store,
+        };
+        let move_bound = self.subject.capabilities().move_bound;
+        contract::check(&seen, Held { move_bound })?;
+        Ok((answer, buffer_after))
+    }
+
+    fn number(&mut self, call: &Call) -> Result<u32, String> {
+        self.call(call).map(|(answer, _)| answer.number)
+    }
+
+    pub fn put(&mut self, text: &str, value: &[u8]) -> Result<u32, String> {
+        let (path, value, work) = (from_text(text.as_bytes()), value.to_vec(), self.work());
+        self.number(&Call::Put { path, value, work })
+    }
+
+    pub fn clear(&mut self, text: &str) -> Result<u32, String> {
+        let (path, work) = (from_text(text.as_bytes()), self.work());
+        self.number(&Call::Clear { path, work })
+    }
+
+    pub fn move_(&mut self, from: &str, to: &str) -> Result<u32, String> {
+        let (from, to) = (from_text(from.as_bytes()), from_text(to.as_bytes()));
+        let work = self.work();
+        self.number(&Call::Move { from, to, work })
+    }
+
+    /// The value, or none where the path is absent.
+    pub fn get(&mut self, text: &str) -> Result<Option<Vec<u8>>, String> {
+        let path = from_text(text.as_bytes());
+        let buffer = vec![0xEE; GET_BUFFER];
+        let (answer, buffer) = self.call(&Call::Get { path, buffer })?;
+        let length = answer.beside as usize;
+        Ok(answer.accepted().then(|| buffer[..length].to_vec()))
+    }
+}

@@ -1,0 +1,123 @@
+// Random paths, values and other byte strings for generated images and calls.
+// Few distinct components are used, so that paths meet, begin one another and collide often.
+
+use crate::limits::*;
+use crate::path::beginnings;
+use crate::rng::Rng;
+
+const COMPONENTS_USED: [&[u8]; 7] = [b"r1", b"a", b"r10", b"b", b"c7", b"!", b"~~"];
+const WIDE: [&[u8; COMPONENT_LIMIT]; 3] = [
+    b"aaaaaaaaaaaaaaaa",
+    b"aaaaaaaaaaaaaaab",
+    b"r1r1r1r1r1r1r1r1",
+];
+
+fn joined(components: &[&[u8]]) -> Vec<u8> {
+    let mut path = Vec::new();
+    for component in components {
+        path.extend_from_slice(component);
+        path.push(0);
+    }
+    path
+}
+
+/// A short path over few components.
+pub fn short(rng: &mut Rng) -> Vec<u8> {
+    let count = rng.between(1, 4);
+    let components: Vec<&[u8]> = (0..count)
+        .map(|_| COMPONENTS_USED[rng.below(COMPONENTS_USED.len())])
+        .collect();
+    joined(&components)
+}
+
+/// A path of exactly 64 bytes with components of exactly 16.
+pub fn longest(rng: &mut Rng) -> Vec<u8> {
+    let wide = |rng: &mut Rng| &WIDE[rng.below(WIDE.len())][..];
+    let last = &wide(rng)[..12];
+    joined(&[wide(rng), wide(rng), wide(rng), last])
+}
+
+/// A path of eight components.
+pub fn deepest(rng: &mut Rng) -> Vec<u8> {
+    let components: Vec<&[u8]> = (0..COMPONENTS)
+        .map(|_| COMPONENTS_USED[rng.below(3)])
+        .collect();
+    joined(&components)
+}
+
+/// A path with a component of sixteen bytes somewhere.
+pub fn wide(rng: &mut Rng) -> Vec<u8> {
+    let first = COMPONENTS_USED[rng.below(COMPONENTS_USED.len())];
+    joined(&[first, WIDE[rng.below(WIDE.len())]])
+}
+
+/// Any well-formed path, most often a short one.
+pub fn path(rng: &mut Rng) -> Vec<u8> {
+    match rng.below(12) {
+        0 => longest(rng),
+        1 => deepest(rng),
+        2 => wide(rng),
+        _ => short(rng),
+    }
+}
+
+/// A path, or often a beginning of one, near those of a map.
+pub fn near(rng: &mut Rng, present: &[Vec<u8>]) -> Vec<u8> {
+    let Some(path) = rng.pick(present).cloned() else {
+        return self::path(rng);
+    };
+    let all: Vec<&[u8]> = beginnings(&path).collect();
+    match rng.below(4) {
+        0 => self::path(rng),
+        1 => path,
+        _ => rng.pick(&all).map_or(path.clone(), |p| p.to_vec()),
+    }
+}
+
+/// A string that is no well-formed path.
+pub fn malformed(rng: &mut Rng) -> Vec<u8> {
+    let mut path = path(rng);
+    let at = rng.below(path.len());
+    match rng.below(9) {
+        0 => path.clear(),
+        1 => drop(path.pop()),
+        2 => path[at] = *rng.pick(&[0x2F, 0x20, 0x7F, 0xFF, 0x80]).unwrap_or(&0x20),
+        3 => path.insert(0, 0),
+        4 => path.push(0),
+        5 => path = joined(&[&[b'a'; COMPONENT_LIMIT + 1]]),
+        6 => path = joined(&[&b"a"[..]; COMPONENTS + 1]),
+        7 => path = joined(&[&WIDE[0][..], &WIDE[0][..], &WIDE[0][..], &WIDE[0][..13]]),
+        _ => path = joined(&[&WIDE[0][..]; 9]),
+    }
+    path
+}
+
+/// A value that a store may hold.
+pub fn value(rng: &mut Rng) -> Vec<u8> {
+    let length = match rng.below(6) {
+        0 => 0,
+        1 => VALUE_LIMIT,
+        2 => rng.below(VALUE_LIMIT + 1),
+        _ => rng.between(1, 3),
+    };
+    rng.bytes(length)
+}
+
+#[cfg(test)]
+mod tests {
+    use super::*;
+    use crate::path::well_formed;
+
+    #[test]
+    fn paths_are_what_they_say() {
+        let mut rng = Rng::new(7);
+        for _ in 0..500 {
+            assert!(well_formed(&path(&mut rng)));
+            assert!(!well_formed(&malformed(&mut rng)));
+            assert!(value(&mut rng).len() <= VALUE_LIMIT);
+            let longest = longest(&mut rng);
+            assert!(well_formed(&longest) && longest.len() == PATH_LIMIT);
+            assert_eq!(beginnings(&deepest(&mut rng)).count(), COMPONENTS);
+        }
+    }
+}

@@ -1,0 +1,171 @@
+// The contract's own edges that random lists seldom meet: the bound on a move, a move onto
+// itself, and what a checker must not mistake for an error.
+
+use second::contract::{changed_nodes, check, check_make, check_same, Held, Seen};
+use second::feature::Feature;
+use second::generate;
+use second::judge::{run, run_case, Stats};
+use second::pack;
+use second::plain::{Answer, Call};
+use second::reference::Reference;
+use second::sound::judge;
+use second::subject::{Capabilities, Numbers, Subject};
+use second::tree::Table;
+
+/// A store of many rows, settled, in which a move has enough free nodes.
+fn large() -> Vec<u8> {
+    let row = |i: usize| (format!("r{}\0p{i}\0", i % 7).into_bytes(), vec![1; 32]);
+    let table: Table = (0..1000).map(row).collect();
+    pack::image(&table, 1024).expect("it fits")
+}
+
+fn seen_move(before: &[u8], after: &[u8], held: bool) -> Result<(), String> {
+    let n = before.len() / 1024;
+    let call = Call::Move {
+        from: b"r1\0".to_vec(),
+        to: b"r1x\0".to_vec(),
+        work: 128 * n,
+    };
+    let seen = Seen {
+        store_before: before,
+        call: &call,
+        work_before: &vec![3; 128 * n],
+        answer: Answer::DONE,
+        buffer_after: &[],
+        work_after: &vec![0; 128 * n],
+        store_after: after,
+    };
+    check(&seen, Held { move_bound: held })
+}
+
+#[test]
+fn a_move_that_rebuilds_breaks_the_bound() {
+    let before = large();
+    let mut after = before.clone();
+    let mut work = vec![3; 128 * 1024];
+    Reference::default().move_(&mut after, b"r1\0", b"r1x\0", &mut work);
+    assert!(changed_nodes(&before, &after) > 40);
+    assert!(seen_move(&before, &after, false).is_ok());
+    let wrong = seen_move(&before, &after, true).expect_err("over the bound");
+    assert!(wrong.contains("over 40"), "{wrong}");
+}
+
+#[test]
+fn the_bound_counts_wiped_free_nodes() {
+    let row = (b"r1\0a\0".to_vec(), vec![1]);
+    let mut before = pack::image(&Table::from([row]), 32).expect("it fits");
+    before[2 * 1024..].fill(7);
+    let moved = (b"r1x\0a\0".to_vec(), vec![1]);
+    let after = pack::image(&Table::from([moved]), 32).expect("it fits");
+    assert_eq!(changed_nodes(&before, &after), 31);
+    assert!(seen_move(&before, &after, true).is_err());
+    let mut spared = before.clone();
+    spared[..2 * 1024].copy_from_slice(&after[..2 * 1024]);
+    assert!(seen_move(&before, &spared, true).is_ok());
+}
+
+#[test]
+fn made_stores_are_empty_and_sound() {
+    let made = pack::image(&Table::new(), 32).expect("it fits");
+    let before = vec![9; 32 * 1024];
+    assert!(check_make(&before, Answer::DONE, &made).is_ok());
+    assert!(check_make(&before, Answer::DONE, &before).is_err());
+    assert!(check_make(&before, Answer::refused(1), &before).is_err());
+    let holds = pack::image(&Table::from([(b"a\0".to_vec(), vec![])]), 32).expect("it fits");
+    assert!(check_make(&before, Answer::DONE, &holds).is_err());
+    let short = vec![9; 31 * 1024];
+    assert!(check_make(&short, Answer::refused(1), &short).is_ok());
+}
+
+#[test]
+fn same_goes_by_paths() {
+    let of = |value: &[u8], n| {
+        let table = Table::from([(b"a\0".to_vec(), value.to_vec())]);
+        pack::image(&table, n).expect("it fits")
+    };
+    let (a, b) = (of(b"1", 32), of(b"2", 40));
+    let yes = Answer {
+        number: 0,
+        beside: 1,
+    };
+    assert!(check_same((&a, &a), (&b, &b), yes).is_ok());
+    assert!(check_same((&a, &a), (&b, &b), Answer::DONE).is_err());
+    let mut touched = b.clone();
+    touched[20_000] = 1;
+    assert!(check_same((&a, &a), (&b, &touched), yes).is_err());
+    assert!(check_same((&a, &a), (&b[1..], &b[1..]), Answer::refused(1)).is_ok());
+}
+
+/// A subject with the reading calls alone.
+struct Reader(Reference);
+
+impl Subject for Reader {
+    fn capabilities(&self) -> Capabilities {
+        Capabilities::READS
+    }
+    fn make(&mut self, store: &mut [u8]) -> Numbers {
+        self.0.make(store)
+    }
+    fn get(&mut self, store: &mut [u8], path: &[u8], buffer: &mut [u8]) -> Numbers {
+        self.0.get(store, path, buffer)
+    }
+    fn next(&mut self, store: &mut [u8], path: &[u8], after: &[u8], to: &mut [u8]) -> Numbers {
+        self.0.next(store, path, after, to)
+    }
+    fn same(&mut self, a: &mut [u8], b: &mut [u8]) -> Numbers {
+        self.0.same(a, b)
+    }
+}
+
+#[test]
+fn a_subject_that_only_reads_is_judged() {
+    let mut subject = Reader(Reference::default());
+    let stats = run(&mut subject, 5, 60).unwrap_or_else(|what| panic!("{what}"));
+    assert!(stats.answers.keys().all(|(name, _)| *name != "put"));
+    assert!(stats.calls > 100);
+}
+
+/// The bound is met on generated images too, and a store that is held to it and rebuilds
+/// everything is found by the random lists.
+struct Bound(Reference);
+
+impl Subject for Bound {
+    fn capabilities(&self) -> Capabilities {
+        Capabilities {
+            move_: true,
+            move_bound: true,
+            ..Capabilities::READS
+        }
+    }
+    fn make(&mut self, store: &mut [u8]) -> Numbers {
+        self.0.make(store)
+    }
+    fn get(&mut self, store: &mut [u8], path: &[u8], buffer: &mut [u8]) -> Numbers {
+        self.0.get(store, path, buffer)
+    }
+    fn next(&mut self, store: &mut [u8], path: &[u8], after: &[u8], to: &mut [u8]) -> Numbers {
+        self.0.next(store, path, after, to)
+    }
+    fn same(&mut self, a: &mut [u8], b: &mut [u8]) -> Numbers {
+        self.0.same(a, b)
+    }
+    fn move_(&mut self, store: &mut [u8], from: &[u8], to: &[u8], work: &mut [u8]) -> Numbers {
+        self.0.move_(store, from, to, work)
+    }
+}
+
+#[test]
+fn random_lists_meet_the_bound() {
+    let mut stats = Stats::default();
+    let mut subject = Bound(Reference::default());
+    let found = (0..200).find_map(|case| run_case(&mut subject, 1, case, &mut stats).err());
+    let wrong = found.expect("a rebuilding move is found");
+    assert!(wrong.contains("nodes, over"), "{wrong}");
+}
+
+#[test]
+fn presets_hold_rows_to_move() {
+    let image = generate::preset(Feature::MoveBound, 3);
+    let sound = judge(&image).expect("it is sound");
+    assert!(sound.settled() && sound.table.len() >= 8);
+}

@@ -1,0 +1,112 @@
+// The paper's own table of cases and its example, and the corners of the line language.
+
+use second::paper::{reads_all, CASES};
+use second::program::run;
+use second::reference::Reference;
+
+#[test]
+fn the_thirteen_cases() {
+    for (number, case) in CASES {
+        if let Err(what) = case(&mut Reference::default()) {
+            panic!("case {number}: {what}");
+        }
+    }
+}
+
+#[test]
+fn listings_go_through() {
+    for seed in 0..20 {
+        reads_all(&mut Reference::default(), seed).expect("every step is right");
+    }
+}
+
+fn printed(input: &[u8]) -> String {
+    String::from_utf8(run(input)).expect("it prints text")
+}
+
+#[test]
+fn the_example_session() {
+    let input = b"put r1/c7/t1 0a\nput r1/c7/t2 -\nmove r1/c7 r1/c9\nget r1/c7/t1\nlist r1\n";
+    let expected = "ok\nok\nok\nrefused 8\nr1/c9/t1 0a\nr1/c9/t2 -\nend\n";
+    assert_eq!(printed(input), expected);
+    let without_last_feed = &input[..input.len() - 1];
+    assert_eq!(printed(without_last_feed), expected);
+}
+
+#[test]
+fn bad_lines() {
+    let bad: [&[u8]; 17] = [
+        b"\n",
+        b" get a\n",
+        b"get a \n",
+        b"get  a\n",
+        b"get\n",
+        b"get a b\n",
+        b"Get a\n",
+        b"settle now\n",
+        b"put a\n",
+        b"put a 0\n",
+        b"put a 0g\n",
+        b"put a 0a 0b\n",
+        b"put a --\n",
+        b"flush 1\n",
+        b"get\ta\n",
+        b"put / 0\n",
+        b"settle\r\n",
+    ];
+    for line in bad {
+        assert_eq!(printed(line), "bad\n", "{line:?}");
+    }
+}
+
+#[test]
+fn refused_lines() {
+    let refused: [(&[u8], u32); 9] = [
+        (b"get /\n", 3),
+        (b"get a//b\n", 3),
+        (b"get a\0b\n", 3),
+        (b"get a\r\n", 3),
+        (b"list a/\n", 3),
+        (b"get a\n", 8),
+        (b"move a a\n", 8),
+        (b"move a a/b\n", 7),
+        (b"put a/ 00\n", 3),
+    ];
+    for (line, number) in refused {
+        assert_eq!(printed(line), format!("refused {number}\n"), "{line:?}");
+    }
+    let long = format!("put a {}\n", "0A".repeat(33));
+    assert_eq!(printed(long.as_bytes()), "refused 4\n");
+}
+
+#[test]
+fn lines_of_the_longest_length_are_taken() {
+    let line = |length: usize| format!("get {}", "a".repeat(length - 4));
+    assert_eq!(printed(line(255).as_bytes()), "refused 3\n");
+    assert_eq!(printed(line(256).as_bytes()), "bad\n");
+    assert_eq!(printed((line(255) + "\n").as_bytes()), "refused 3\n");
+}
+
+#[test]
+fn what_lines_print() {
+    assert_eq!(printed(b""), "");
+    assert_eq!(printed(b"\n\n"), "bad\nbad\n");
+    assert_eq!(printed(b"put a -\nget a"), "ok\n-\n");
+    assert_eq!(printed(b"put a AbCd\nget a\n"), "ok\nabcd\n");
+    assert_eq!(printed(b"list a\nsettle\ntidy\n"), "end\nok\nok\n");
+    assert_eq!(
+        printed(b"drop a\nclear a\nput a 00\nmove a a\n"),
+        "ok\nok\nok\nok\n"
+    );
+}
+
+#[test]
+fn the_program_takes_64_paths() {
+    let input: String = (0..65).map(|i| format!("put p{i} 01\n")).collect();
+    assert_eq!(
+        printed(input.as_bytes()),
+        "ok\n".repeat(64) + "refused 10\n"
+    );
+    let again = input + "put p3 02\nget p3\n";
+    assert!(printed(again.as_bytes()).ends_with("refused 10\nok\n02\n"));
+}

@@ -13,3 +13,5 @@ pub mod Filter
 pub mod Pieces
 pub mod LiveCount
 pub mod Demand
+pub mod ValuesFit
+pub mod ButLive

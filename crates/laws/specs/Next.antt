@@ -17,15 +17,15 @@ pub record Fits (p q : List ℕ) (t : List Row) (k : List ℕ) : Type 0 where
   pub after : before q k ≡ true
 
 -- the first row decides, or else the later ones
-least-yes : (p q : List ℕ) (r : Row) (t : List Row) → begins p (r .key) ≡ true → before q (r .key) ≡ true → leastAfter p q (r ∷ t) ≡ some (r .key)
+pub least-yes : (p q : List ℕ) (r : Row) (t : List Row) → begins p (r .key) ≡ true → before q (r .key) ≡ true → leastAfter p q (r ∷ t) ≡ some (r .key)
 unfolding leastAfter rowsBelow rowsAfter firstKey below
 least-yes p q r t a b = rw (a, b)
 
-least-far : (p q : List ℕ) (r : Row) (t : List Row) → begins p (r .key) ≡ false → leastAfter p q (r ∷ t) ≡ leastAfter p q t
+pub least-far : (p q : List ℕ) (r : Row) (t : List Row) → begins p (r .key) ≡ false → leastAfter p q (r ∷ t) ≡ leastAfter p q t
 unfolding leastAfter rowsBelow rowsAfter firstKey below
 least-far p q r t a = rw a
 
-least-early : (p q : List ℕ) (r : Row) (t : List Row) → before q (r .key) ≡ false → leastAfter p q (r ∷ t) ≡ leastAfter p q t
+pub least-early : (p q : List ℕ) (r : Row) (t : List Row) → before q (r .key) ≡ false → leastAfter p q (r ∷ t) ≡ leastAfter p q t
 unfolding leastAfter rowsBelow rowsAfter firstKey below
 least-early p q r t b = go (begins p (r .key)) refl
   where
@@ -34,7 +34,7 @@ least-early p q r t b = go (begins p (r .key)) refl
     go false a = rw a
 
 -- a later row's path, seen from the whole table
-later-fits : (p q : List ℕ) (r : Row) (t : List Row) (k : List ℕ) → rising (r ∷ t) ≡ true → Fits p q t k → Fits p q (r ∷ t) k
+pub later-fits : (p q : List ℕ) (r : Row) (t : List Row) (k : List ℕ) → rising (r ∷ t) ≡ true → Fits p q t k → Fits p q (r ∷ t) k
 unfolding rising
 later-fits p q r t k e f = record { present = go (same k (r .key)) refl; under = f .under; after = f .after }
   where
@@ -49,7 +49,7 @@ later-fits p q r t k e f = record { present = go (same k (r .key)) refl; under =
 not-first : (p q : List ℕ) (r : Row) (t : List Row) (k : List ℕ) → Fits p q (r ∷ t) k → same k (r .key) ≡ false → Fits p q t k
 not-first p q r t k f s = record { present = rw (find-no k r t s) at (f .present); under = f .under; after = f .after }
 
-nil-none : (p q : List ℕ) → leastAfter p q [] ≡ none
+pub nil-none : (p q : List ℕ) → leastAfter p q [] ≡ none
 unfolding leastAfter rowsBelow rowsAfter firstKey
 nil-none p q = refl
 
@@ -60,7 +60,7 @@ nil-present k h = false≢true h
 nil-fits : (p q k : List ℕ) → Fits p q [] k → ⊥
 nil-fits p q k f = nil-present k (f .present)
 
-first-present : (r : Row) (t : List Row) → isSome (find (r .key) (r ∷ t)) ≡ true
+pub first-present : (r : Row) (t : List Row) → isSome (find (r .key) (r ∷ t)) ≡ true
 unfolding isSome
 first-present r t = rw (find-yes (r .key) r t (same-refl (r .key)))
 

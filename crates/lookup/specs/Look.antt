@@ -40,12 +40,12 @@ module _ (s : List ℕ) (i : ℕ) (inside : i * 1024 + 1024 ≤ length s) where
       let b : 1024 * i ≡ i * 1024 = omega arith in
       rw (a, b)
 
-  count-is : u16 (nodeBytes s i) 0 ≡ u16 s (i * 1024)
+  pub count-is : u16 (nodeBytes s i) 0 ≡ u16 s (i * 1024)
   count-is =
       let z : u16 s (i * 1024 + 0) ≡ u16 s (i * 1024) = ap (λ k. u16 s k) (omega arith) in
       ap (λ l. u16 l 0) node-is ∙ cut-u16 s (i * 1024) (i * 1024 + 1024) 0 (omega arith) ∙ z
 
-  bytes-is : u16 s (i * 1024) ≤ 1016 → entryBytes (nodeBytes s i) ≡ cut s (i * 1024 + 8) (i * 1024 + 8 + u16 s (i * 1024))
+  pub bytes-is : u16 s (i * 1024) ≤ 1016 → entryBytes (nodeBytes s i) ≡ cut s (i * 1024 + 8) (i * 1024 + 8 + u16 s (i * 1024))
   unfolding entryBytes
   bytes-is h =
       ap₂ (λ n l. take n (drop 8 l)) count-is node-is
@@ -68,7 +68,7 @@ below-length s i h =
     let b : 1024 * (length s / 1024) ≤ length s = mul-div-le (length s) 1024 in
     omega arith
 
-laid-short : (kind level : ℕ) (node : List ℕ) → laidOut kind level node ≡ true → u16 node 0 ≤ 1016
+pub laid-short : (kind level : ℕ) (node : List ℕ) → laidOut kind level node ≡ true → u16 node 0 ≤ 1016
 unfolding laidOut
 laid-short kind level node h = leb-true (u16 node 0) 1016 (and-left _ _ (and-left _ _ (and-left _ _ (and-left _ _ h))))
 
@@ -194,7 +194,7 @@ nil-newest : (rest : List ℕ) → newestE [] rest ≡ newest [] rest
 unfolding newestE newest
 nil-newest rest = refl
 
-messages-newest : (es : List defined.Entry) (ms : List defined.Message) (rest : List ℕ) → messagesOf es ≡ some ms → newestE es rest ≡ newest ms rest
+pub messages-newest : (es : List defined.Entry) (ms : List defined.Message) (rest : List ℕ) → messagesOf es ≡ some ms → newestE es rest ≡ newest ms rest
 unfolding messagesOf newestE newest saysE
 messages-newest [] ms rest h = let q : ms ≡ [] = cc in rw q
 messages-newest (defined.pair k v ∷ es) ms rest h = let q : none ≡ some ms = h in let z : _≡_ {A = ℕ} 0 1 = cc in absurd (omega arith)

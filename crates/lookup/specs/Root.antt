@@ -43,12 +43,12 @@ starts s e =
 pub long-enough : (s : List ℕ) → sound s ≡ true → 1024 ≤ length s
 long-enough s e = let h = below-length s (headerOf s .root) (starts s e .root) in omega arith
 
-first-u16 : (s : List ℕ) (k : ℕ) → 1024 ≤ length s → k + 1 < 1024 → u16 (nodeBytes s 0) k ≡ u16 s k
+pub first-u16 : (s : List ℕ) (k : ℕ) → 1024 ≤ length s → k + 1 < 1024 → u16 (nodeBytes s 0) k ≡ u16 s k
 first-u16 s k l h =
     let z : u16 s (0 * 1024 + k) ≡ u16 s k = ap (λ j. u16 s j) (omega arith) in
     ap (λ b. u16 b k) (node-is s 0 (omega arith)) ∙ cut-u16 s (0 * 1024) (0 * 1024 + 1024) k (omega arith) ∙ z
 
-root-is : (s : List ℕ) (root levels : ℕ) → sound s ≡ true → root ≡ u16 s 6 → levels ≡ u16 s 8 → treeAt levels s root ≡ treeOf s
+pub root-is : (s : List ℕ) (root levels : ℕ) → sound s ≡ true → root ≡ u16 s 6 → levels ≡ u16 s 8 → treeAt levels s root ≡ treeOf s
 unfolding treeOf headerOf header
 root-is s root levels e a b =
     let l = long-enough s e in

@@ -39,7 +39,7 @@ messages-are sh lo hi (defined.message m ∷ es) ms h = go (messagesOf es) refl 
         let p : ms ≡ m ∷ ts = cc in
         rw p (ap (λ z. messageHere sh lo hi m && z) (ih ts e))
 
-messages-not : (sh : Shape) (lo hi : List ℕ) (es : List defined.Entry) → messagesOf es ≡ none → messagesRun sh lo hi (some es) ≡ false
+pub messages-not : (sh : Shape) (lo hi : List ℕ) (es : List defined.Entry) → messagesOf es ≡ none → messagesRun sh lo hi (some es) ≡ false
 unfolding messagesRun messagesOf
 messages-not sh lo hi [] h = let z : _≡_ {A = ℕ} 0 1 = cc in absurd (omega arith)
 messages-not sh lo hi (defined.pair k v ∷ es) h = refl

@@ -110,7 +110,7 @@ pub fn owned(lo: &[u8], hi: &[u8], p: &[u8]) -> bool
 
 // A number below 65,536 as two bytes at a place.
 pub fn put_u16(page: &mut [u8], at: usize, v: usize)
-    requires { ⌜ (at + 2 ≤ length (now page)) × (length (now page) ≤ 2000000) × (v < 65536) ⌝ }
+    requires { ⌜ (at + 2 ≤ length (now page)) × (v < 65536) ⌝ }
     ensures { λ _. ⌜ now (page .exit) ≡ put (now (page .entry)) at (u16Bytes v) ⌝ }
 {
     page[at] = (v % 256) as u8;
@@ -119,7 +119,7 @@ pub fn put_u16(page: &mut [u8], at: usize, v: usize)
 
 // The bytes of `src` at a place.
 pub fn copy_at(page: &mut [u8], at: usize, src: &[u8])
-    requires { ⌜ (at + length (now src) ≤ length (now page)) × (length (now page) ≤ 2000000) ⌝ }
+    requires { ⌜ at + length (now src) ≤ length (now page) ⌝ }
     ensures { λ _. ⌜ now (page .exit) ≡ put (now (page .entry)) at (now (src .entry)) ⌝ }
 {
     let mut i = 0;
@@ -131,7 +131,7 @@ pub fn copy_at(page: &mut [u8], at: usize, src: &[u8])
 
 // The same byte `count` times at a place.
 pub fn fill_at(page: &mut [u8], at: usize, count: usize, byte: u8)
-    requires { ⌜ (at + count ≤ length (now page)) × (length (now page) ≤ 2000000) ⌝ }
+    requires { ⌜ at + count ≤ length (now page) ⌝ }
     ensures { λ _. ⌜ now (page .exit) ≡ put (now (page .entry)) at (replicate count byte) ⌝ }
 {
     let mut i = 0;

@@ -139,7 +139,7 @@ leaves-rows nums (r ∷ t) h =
     ∙ groups-flat pairWeight (r ∷ t)
 
 -- a well-formed path is before FF
-formed-under : (p : List ℕ) → wellFormed p ≡ true → before p highest ≡ true
+pub formed-under : (p : List ℕ) → wellFormed p ≡ true → before p highest ≡ true
 unfolding wellFormed readsOn before letter
 formed-under [] h = refl
 formed-under (b ∷ p) h = go (eqb b 0) refl

@@ -41,7 +41,7 @@ abbrev pub Trim : ℕ → Item → Type 0
 Trim l x = Neat (x .node) l × (length (x .low) ≤ 64)
 
 -- stored suffixes are no longer than what they stand for
-short-weight : (k : ℕ) (rs : List Row) → total pairWeight (shortRows k rs) ≤ total pairWeight rs
+pub short-weight : (k : ℕ) (rs : List Row) → total pairWeight (shortRows k rs) ≤ total pairWeight rs
 unfolding total shortRows
 short-weight k [] = omega arith
 short-weight k (r ∷ rs) = let h = short-weight k rs in let d = length-drop k (r .key) in omega arith

@@ -427,7 +427,7 @@ unfolding found present shared
 found-is t hi e k = ap (λ o. isSome o) (lookup-find t [] hi k e refl)
 
 -- the walk depends on the test of presence only by its answers
-walk-same : (a b : List ℕ → Bool) (P Q : List ℕ) → ((k : List ℕ) → a k ≡ b k) → (best : Option (List ℕ)) (ks : List (List ℕ)) → walk a P Q best ks ≡ walk b P Q best ks
+pub walk-same : (a b : List ℕ → Bool) (P Q : List ℕ) → ((k : List ℕ) → a k ≡ b k) → (best : Option (List ℕ)) (ks : List (List ℕ)) → walk a P Q best ks ≡ walk b P Q best ks
 unfolding walk try
 walk-same a b P Q h best [] = refl
 walk-same a b P Q h best (k ∷ ks) = rw (h k) (walk-same a b P Q h (try b P Q best k) ks)

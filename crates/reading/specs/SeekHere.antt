@@ -32,12 +32,12 @@ unfoldable mutual
   keysKids (tree s t f) hi =
       under (shared s (highOf [] hi f)) (keysHere t (drop (lifts s (highOf [] hi f)) (highOf [] hi f))) ++ keysKids f hi
 
-under-append : (X : List ℕ) (a b : List (List ℕ)) → under X (a ++ b) ≡ under X a ++ under X b
+pub under-append : (X : List ℕ) (a b : List (List ℕ)) → under X (a ++ b) ≡ under X a ++ under X b
 unfolding under
 under-append X [] b = refl
 under-append X (k ∷ a) b = ap (λ l. (X ++ k) ∷ l) (under-append X a b)
 
-under-under : (X Y : List ℕ) (a : List (List ℕ)) → under (X ++ Y) a ≡ under X (under Y a)
+pub under-under : (X Y : List ℕ) (a : List (List ℕ)) → under (X ++ Y) a ≡ under X (under Y a)
 unfolding under
 under-under X Y [] = refl
 under-under X Y (k ∷ a) = ap₂ (λ x l. x ∷ l) (append-assoc X Y k) (under-under X Y a)
@@ -58,18 +58,18 @@ nil-under : (X : List ℕ) → [] ≡ under X []
 unfolding under
 nil-under X = refl
 
-high-under : (X hi : List ℕ) (f : Forest) → highOf X (X ++ hi) f ≡ X ++ highOf [] hi f
+pub high-under : (X hi : List ℕ) (f : Forest) → highOf X (X ++ hi) f ≡ X ++ highOf [] hi f
 unfolding highOf
 high-under X hi end = refl
 high-under X hi (tree s t f) = refl
 
-child-under : (X s h : List ℕ) (t : Tree)
+pub child-under : (X s h : List ℕ) (t : Tree)
     → under (shared (X ++ s) (X ++ h)) (keysHere t (drop (lifts (X ++ s) (X ++ h)) (X ++ h))) ≡ under X (under (shared s h) (keysHere t (drop (lifts s h) h)))
 unfolding lifts
 child-under X s h t =
     rw (shared-append X s h, length-append X (shared s h), drop-append-add X h (length (shared s h))) (under-under X (shared s h) (keysHere t (drop (length (shared s h)) h)))
 
-high-split : (lo hi : List ℕ) → shared lo hi ++ drop (lifts lo hi) hi ≡ hi
+pub high-split : (lo hi : List ℕ) → shared lo hi ++ drop (lifts lo hi) hi ≡ hi
 unfolding lifts
 high-split lo hi = begins-split (shared lo hi) hi (shared-right lo hi)
 

@@ -217,7 +217,7 @@ unmet-once n seen h (i ∷ is) = go (ltb i n) refl (unmet-once n (mark seen i) (
 abbrev pub blank : ℕ → List ℕ
 blank m = replicate m 0
 
-zero-at : (m i : ℕ) → getD (blank m) i 0 ≡ 0
+pub zero-at : (m i : ℕ) → getD (blank m) i 0 ≡ 0
 zero-at zero i = refl
 zero-at (suc m) zero = refl
 zero-at (suc m) (suc i) = zero-at m i

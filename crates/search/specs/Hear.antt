@@ -85,7 +85,7 @@ module _ (s : List ℕ) (best : Heard) (rest : List ℕ) where
   hear-on m r h = h
 
 -- the loop: what was heard so far, then the entries left, say what all the entries say
-newer-nothing : (x : Said) → newer nothing x ≡ x
+pub newer-nothing : (x : Said) → newer nothing x ≡ x
 unfolding newer
 newer-nothing nothing = refl
 newer-nothing (says v) = refl

@@ -72,7 +72,7 @@ pub message-kid : (e : Entry) (m : Message) → e ≡ Entry.Message m → Kid.Ot
 unfolding kidIs
 message-kid e m h = rw h
 
-child-entry : (e : Entry) (i : ℕ) (p : Place) → kidIs e ≡ Kid.Of i p → e ≡ Entry.Child i p
+pub child-entry : (e : Entry) (i : ℕ) (p : Place) → kidIs e ≡ Kid.Of i p → e ≡ Entry.Child i p
 unfolding kidIs
 child-entry (Entry.Pair p v) i q h = let z : _≡_ {A = ℕ} 0 1 = cc in absurd (omega arith)
 child-entry (Entry.Child j p) i q h = cc

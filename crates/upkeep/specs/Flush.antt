@@ -255,7 +255,7 @@ unfolding pushed firstPivot
 first-pushed m end lifted hi l k = refl
 first-pushed m (tree s t f) lifted hi l k = refl
 
-numbers-taken : (m : Message) (t : Tree) → numbers (taken m t) ≡ numbers t
+pub numbers-taken : (m : Message) (t : Tree) → numbers (taken m t) ≡ numbers t
 unfolding taken numbers
 numbers-taken m (unread i) = refl
 numbers-taken m (leaf i rs) = refl

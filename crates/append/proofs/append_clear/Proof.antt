@@ -1,0 +1,67 @@
+-- `append::append_clear` meets its contract: what it writes is `appended`; the room that it requires bounds every place.
+use Rattle.append.specs.WriteSteps.{appends-clear, room-at, small-store}
+use borrow.Author.Needs.{needs}
+use native.Mathlib.Omega.{arith}
+use Rattle.append.proofs.append_clear.Statement.{statement}
+use Rattle.append.proofs.append_clear.Tie as tie
+use Rattle.append.proofs.append_clear.Reads as reads
+use Rattle.append.proofs.append_clear.Lts as lts
+use Rattle.append.proofs.root_at.Reads as root-at-reads
+use Rattle.append.proofs.write_short.Reads as write-short-reads
+use Rattle.octets.proofs.put_u16.Reads as put-u16-reads
+use Rattle.octets.proofs.u16_at.Reads as u16-at-reads
+
+-- src/lib.rt:99:9
+root-at-requires : tie.Need-root-at-requires
+root-at-requires c κs = search needs
+
+-- src/lib.rt:100:9
+u16-at-requires : tie.Need-u16-at-requires
+u16-at-requires c κs = search needs
+
+-- src/lib.rt:101:24
+add-write-short : tie.Need-add-write-short
+add-write-short c = search needs
+
+-- src/lib.rt:101:24
+add-write-short-2 : tie.Need-add-write-short-2
+add-write-short-2 c = search needs
+
+-- src/lib.rt:101:5
+write-short-requires : tie.Need-write-short-requires
+write-short-requires c κs = let r = room-at _ _ _ _ (c .before .before .before .before .before .before .before .pre .2) (c .before .before .before .root-at .ensures .0) (c .before .u16-at .ensures .0) in let w = small-store (c .before .before .before .before .before .before .before .args .store .now) (c .before .before .before .before .before .before .before .pre .0) in search needs
+
+-- src/lib.rt:102:32
+add-put-u16 : tie.Need-add-put-u16
+add-put-u16 c = search needs
+
+-- src/lib.rt:102:32
+add-put-u16-2 : tie.Need-add-put-u16-2
+add-put-u16-2 c = search needs
+
+-- src/lib.rt:102:5
+put-u16-requires : tie.Need-put-u16-requires
+put-u16-requires c κs = let r = room-at _ _ _ _ (c .before .before .before .before .before .before .before .before .before .before .before .pre .2) (c .before .before .before .before .before .before .before .root-at .ensures .0) (c .before .before .before .before .before .u16-at .ensures .0) in let w = small-store (c .before .before .before .before .before .before .before .before .before .before .before .args .store .now) (c .before .before .before .before .before .before .before .before .before .before .before .pre .0) in search needs
+
+-- src/lib.rt:95:1
+same-length : tie.Need-same-length
+same-length c = search needs
+
+-- src/lib.rt:95:1
+returns : tie.Need-returns
+returns c = appends-clear _ _ _ _ _ _ (c .before .before .before .before .before .before .before .before .before .before .root-at .ensures .0) (c .before .before .before .before .before .before .before .before .u16-at .ensures .0) (c .before .before .before .before .before .before .write-short .ensures) (c .before .before .put-u16 .ensures)
+
+pub append-clear-spec : {M : Type 1} → statement M
+append-clear-spec =
+    tie.close
+    (tie.spec
+    root-at-requires
+    u16-at-requires
+    add-write-short
+    add-write-short-2
+    write-short-requires
+    add-put-u16
+    add-put-u16-2
+    put-u16-requires
+    same-length
+    returns)

@@ -1,0 +1,38 @@
+-- `append::install_root` meets its contract: its three writes, in this order.
+use Rattle.append.specs.WriteSteps.{installs}
+use borrow.Author.Needs.{needs}
+use Rattle.append.proofs.install_root.Statement.{statement}
+use Rattle.append.proofs.install_root.Tie as tie
+use Rattle.append.proofs.install_root.Reads as reads
+use Rattle.append.proofs.install_root.Lts as lts
+use Rattle.octets.proofs.copy_at.Reads as copy-at-reads
+use Rattle.octets.proofs.put_u16.Reads as put-u16-reads
+
+-- src/lib.rt:124:28
+mul-copy-at : tie.Need-mul-copy-at
+mul-copy-at c = search needs
+
+-- src/lib.rt:124:5
+copy-at-requires : tie.Need-copy-at-requires
+copy-at-requires c κs = search needs
+
+-- src/lib.rt:125:5
+put-u16-requires : tie.Need-put-u16-requires
+put-u16-requires c κs = search needs
+
+-- src/lib.rt:126:5
+put-u16-requires-2 : tie.Need-put-u16-requires-2
+put-u16-requires-2 c κs = search needs
+
+-- src/lib.rt:120:1
+same-length : tie.Need-same-length
+same-length c = search needs
+
+-- src/lib.rt:120:1
+returns : tie.Need-returns
+returns c = installs _ _ _ _ _ _ _ (c .before .before .before .before .before .before .before .before .before .before .copy-at .ensures) (c .before .before .before .before .before .before .put-u16 .ensures) (c .before .before .put-u162 .ensures)
+
+pub install-root-spec : {M : Type 1} → statement M
+install-root-spec =
+    tie.close
+    (tie.spec mul-copy-at copy-at-requires put-u16-requires put-u16-requires-2 same-length returns)

@@ -1,0 +1,35 @@
+-- `append::is_message` meets its contract, variant by variant.
+use Rattle.append.specs.HeldSteps.{pair-is-none, child-is-none, message-is-one}
+use borrow.Author.Needs.{needs}
+use Rattle.append.proofs.is_message.Statement.{statement}
+use Rattle.append.proofs.is_message.Tie as tie
+use Rattle.append.proofs.is_message.Reads as reads
+use Rattle.append.proofs.is_message.Lts as lts
+
+-- src/lib.rt:180:30
+enum-told : tie.Need-enum-told
+enum-told c = search needs
+
+-- src/lib.rt:181:31
+enum-told-2 : tie.Need-enum-told-2
+enum-told-2 c = search needs
+
+-- src/lib.rt:182:30
+enum-told-3 : tie.Need-enum-told-3
+enum-told-3 c = search needs
+
+-- src/lib.rt:176:1
+returns : tie.Need-returns
+returns c = pair-is-none _ _ _ (c .enum-told .given .1)
+
+-- src/lib.rt:176:1
+returns-2 : tie.Need-returns-2
+returns-2 c = child-is-none _ _ _ (c .enum-told2 .given .1)
+
+-- src/lib.rt:176:1
+returns-3 : tie.Need-returns-3
+returns-3 c = message-is-one _ _ (c .enum-told3 .given .1)
+
+pub is-message-spec : {M : Type 1} → statement M
+is-message-spec =
+    tie.close (tie.spec enum-told enum-told-2 enum-told-3 returns returns-2 returns-3)

@@ -1,0 +1,24 @@
+-- `append::root_at` meets its contract: the root of an image that is sound but for its count lies in the store.
+use Rattle.append.specs.WriteSteps.{long, root-place}
+use borrow.Author.Needs.{needs}
+use native.Mathlib.Omega.{arith}
+use Rattle.append.proofs.root_at.Statement.{statement}
+use Rattle.append.proofs.root_at.Tie as tie
+use Rattle.append.proofs.root_at.Reads as reads
+use Rattle.append.proofs.root_at.Lts as lts
+use Rattle.octets.proofs.u16_at.Reads as u16-at-reads
+
+-- src/lib.rt:30:9
+u16-at-requires : tie.Need-u16-at-requires
+u16-at-requires c κs = let l = long (c .before .args .store .now) (c .before .pre) in omega arith
+
+-- src/lib.rt:31:5
+mul-result : tie.Need-mul-result
+mul-result c = search needs
+
+-- src/lib.rt:26:1
+returns : tie.Need-returns
+returns c = root-place _ _ (c .before .before .pre) (c .u16-at .ensures .0)
+
+pub root-at-spec : {M : Type 1} → statement M
+root-at-spec = tie.close (tie.spec u16-at-requires mul-result returns)

@@ -1,0 +1,23 @@
+-- `append::set_live` meets its contract: one number of node 0.
+use Rattle.append.specs.WriteSteps.{sets-live}
+use borrow.Author.Needs.{needs}
+use Rattle.append.proofs.set_live.Statement.{statement}
+use Rattle.append.proofs.set_live.Tie as tie
+use Rattle.append.proofs.set_live.Reads as reads
+use Rattle.append.proofs.set_live.Lts as lts
+use Rattle.octets.proofs.put_u16.Reads as put-u16-reads
+
+-- src/lib.rt:173:5
+put-u16-requires : tie.Need-put-u16-requires
+put-u16-requires c κs = search needs
+
+-- src/lib.rt:169:1
+same-length : tie.Need-same-length
+same-length c = search needs
+
+-- src/lib.rt:169:1
+returns : tie.Need-returns
+returns c = sets-live _ _ _ (c .before .before .put-u16 .ensures)
+
+pub set-live-spec : {M : Type 1} → statement M
+set-live-spec = tie.close (tie.spec put-u16-requires same-length returns)

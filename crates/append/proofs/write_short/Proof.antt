@@ -1,0 +1,49 @@
+-- `append::write_short` meets its contract: three writes, one after the other, are one put of the entry's bytes.
+use Rattle.append.specs.WriteSteps.{writes-short}
+use borrow.Author.Needs.{needs}
+use Rattle.append.proofs.write_short.Statement.{statement}
+use Rattle.append.proofs.write_short.Tie as tie
+use Rattle.append.proofs.write_short.Reads as reads
+use Rattle.append.proofs.write_short.Lts as lts
+use Rattle.octets.proofs.copy_at.Reads as copy-at-reads
+use Rattle.octets.proofs.put_u16.Reads as put-u16-reads
+
+-- src/lib.rt:67:5
+put-u16-requires : tie.Need-put-u16-requires
+put-u16-requires c κs = search needs
+
+-- src/lib.rt:68:27
+add-put-u16 : tie.Need-add-put-u16
+add-put-u16 c = search needs
+
+-- src/lib.rt:68:5
+put-u16-requires-2 : tie.Need-put-u16-requires-2
+put-u16-requires-2 c κs = search needs
+
+-- src/lib.rt:69:27
+add-copy-at : tie.Need-add-copy-at
+add-copy-at c = search needs
+
+-- src/lib.rt:69:5
+copy-at-requires : tie.Need-copy-at-requires
+copy-at-requires c κs = search needs
+
+-- src/lib.rt:63:1
+same-length : tie.Need-same-length
+same-length c = search needs
+
+-- src/lib.rt:63:1
+returns : tie.Need-returns
+returns c = writes-short _ _ _ _ _ _ _ (c .before .before .before .before .before .before .before .before .before .before .before .before .before .before .pre .0) (c .before .before .before .before .before .before .before .before .before .before .put-u16 .ensures) (c .before .before .before .before .before .before .put-u162 .ensures) (c .before .before .copy-at .ensures)
+
+pub write-short-spec : {M : Type 1} → statement M
+write-short-spec =
+    tie.close
+    (tie.spec
+    put-u16-requires
+    add-put-u16
+    put-u16-requires-2
+    add-copy-at
+    copy-at-requires
+    same-length
+    returns)

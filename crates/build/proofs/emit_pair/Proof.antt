@@ -1,0 +1,91 @@
+-- What the borrow checker leaves of `emit_pair` to prove.
+-- Relies on specs/PairSteps.
+use Rattle.build.specs.PairSteps.{pair-put}
+use native.Mathlib.Omega.{arith}
+use lib.ListN.{length, getD}
+use mathlib.Core.Path.{_≡_, refl, sym, ap, ap₂, _∙_}
+use Prim.Native.Nat.{ℕ, _+_, _*_, _-_, _/_, _%_, _≤_, _<_}
+use borrow.Author.Needs.{needs}
+use Rattle.build.proofs.emit_pair.Statement.{statement}
+use Rattle.build.proofs.emit_pair.Tie as tie
+use Rattle.build.proofs.emit_pair.Reads as reads
+use Rattle.build.proofs.emit_pair.Lts as lts
+use Rattle.octets.proofs.copy_at.Reads as copy-at-reads
+use Rattle.octets.proofs.put_u16.Reads as put-u16-reads
+
+add-put-u16 : tie.Need-add-put-u16
+add-put-u16 c = search needs
+
+add-put-u16-2 : tie.Need-add-put-u16-2
+add-put-u16-2 c = search needs
+
+put-u16-requires : tie.Need-put-u16-requires
+put-u16-requires c κs = search needs
+
+add-put-u16-3 : tie.Need-add-put-u16-3
+add-put-u16-3 c = search needs
+
+put-u16-requires-2 : tie.Need-put-u16-requires-2
+put-u16-requires-2 c κs = search needs
+
+add-put-u16-4 : tie.Need-add-put-u16-4
+add-put-u16-4 c = search needs
+
+put-u16-requires-3 : tie.Need-put-u16-requires-3
+put-u16-requires-3 c κs = search needs
+
+add-copy-at : tie.Need-add-copy-at
+add-copy-at c = search needs
+
+copy-at-requires : tie.Need-copy-at-requires
+copy-at-requires c κs = search needs
+
+add-copy-at-2 : tie.Need-add-copy-at-2
+add-copy-at-2 c = search needs
+
+add-copy-at-3 : tie.Need-add-copy-at-3
+add-copy-at-3 c = search needs
+
+copy-at-requires-2 : tie.Need-copy-at-requires-2
+copy-at-requires-2 c κs = search needs
+
+add-result : tie.Need-add-result
+add-result c = search needs
+
+add-result-2 : tie.Need-add-result-2
+add-result-2 c = search needs
+
+add-result-3 : tie.Need-add-result-3
+add-result-3 c = search needs
+
+same-length : tie.Need-same-length
+same-length c = search needs
+
+returns : tie.Need-returns
+returns c = (
+  pair-put (c .before .before .before .before .before .before .before .before .before .before .before .before .before .before .before .before .before .before .before .before .before .before .before .args .page .now) _ _ _ _ _ (c .before .before .before .before .before .before .before .before .before .before .before .before .before .before .before .before .before .before .before .before .before .before .before .args .at) (c .before .before .before .before .before .before .before .before .before .before .before .before .before .before .before .before .before .before .before .before .before .before .before .args .path .now) (c .before .before .before .before .before .before .before .before .before .before .before .before .before .before .before .before .before .before .before .before .before .before .before .args .value .now) (omega arith)
+      (c .before .before .before .before .before .before .before .before .before .before .before .before .before .before .before .before .before .before .put-u16 .ensures) (c .before .before .before .before .before .before .before .before .before .before .before .before .before .before .put-u162 .ensures) (c .before .before .before .before .before .before .before .before .before .before .put-u163 .ensures) (c .before .before .before .before .before .before .copy-at .ensures) (c .before .before .copy-at2 .ensures),
+  refl,
+)
+
+pub emit-pair-spec : {M : Type 1} → statement M
+emit-pair-spec =
+    tie.close
+    (tie.spec
+    add-put-u16
+    add-put-u16-2
+    put-u16-requires
+    add-put-u16-3
+    put-u16-requires-2
+    add-put-u16-4
+    put-u16-requires-3
+    add-copy-at
+    copy-at-requires
+    add-copy-at-2
+    add-copy-at-3
+    copy-at-requires-2
+    add-result
+    add-result-2
+    add-result-3
+    same-length
+    returns)

@@ -1,0 +1,66 @@
+-- What the borrow checker leaves of `put_row` to prove.
+-- Relies on specs/RowSteps.
+use Rattle.build.specs.RowSteps.{row-put}
+use native.Mathlib.Omega.{arith}
+use lib.ListN.{length, getD, set, length-set}
+use mathlib.Core.Path.{_≡_, refl, sym, ap, ap₂, _∙_}
+use Prim.Native.Nat.{ℕ, _+_, _*_, _-_, _/_, _%_, _≤_, _<_}
+use borrow.Author.Needs.{needs}
+use Rattle.build.proofs.put_row.Statement.{statement}
+use Rattle.build.proofs.put_row.Tie as tie
+use Rattle.build.proofs.put_row.Reads as reads
+use Rattle.build.proofs.put_row.Lts as lts
+use Rattle.octets.proofs.copy_at.Reads as copy-at-reads
+
+mul-at : tie.Need-mul-at
+mul-at c = search needs
+
+cast-area : tie.Need-cast-area
+cast-area c = search needs
+
+slice-write-area : tie.Need-slice-write-area
+slice-write-area c = search needs
+
+cast-area-2 : tie.Need-cast-area-2
+cast-area-2 c = search needs
+
+add-area : tie.Need-add-area
+add-area c = search needs
+
+slice-write-area-2 : tie.Need-slice-write-area-2
+slice-write-area-2 c = simp length-set (omega arith)
+
+add-copy-at : tie.Need-add-copy-at
+add-copy-at c = search needs
+
+copy-at-requires : tie.Need-copy-at-requires
+copy-at-requires c κs = let x = length-set (c .before .before .before .before .args .area .now) (c .before .before .before .before .args .i * 128) (length (c .before .before .before .before .args .path .now)) in let y = length-set (set (c .before .before .before .before .args .area .now) (c .before .before .before .before .args .i * 128) (length (c .before .before .before .before .args .path .now))) (c .before .before .before .before .args .i * 128 + 1) (length (c .before .before .before .before .args .value .now)) in omega arith
+
+add-copy-at-2 : tie.Need-add-copy-at-2
+add-copy-at-2 c = search needs
+
+copy-at-requires-2 : tie.Need-copy-at-requires-2
+copy-at-requires-2 c κs = let x = length-set (c .before .before .before .before .before .before .before .before .args .area .now) (c .before .before .before .before .before .before .before .before .args .i * 128) (length (c .before .before .before .before .before .before .before .before .args .path .now)) in let y = length-set (set (c .before .before .before .before .before .before .before .before .args .area .now) (c .before .before .before .before .before .before .before .before .args .i * 128) (length (c .before .before .before .before .before .before .before .before .args .path .now))) (c .before .before .before .before .before .before .before .before .args .i * 128 + 1) (length (c .before .before .before .before .before .before .before .before .args .value .now)) in let k = c .before .before .before .copy-at .kept .0 in omega arith
+
+same-length : tie.Need-same-length
+same-length c = let x = length-set (c .before .before .before .before .before .before .before .before .before .before .before .args .area .now) (c .before .before .before .before .before .before .before .before .before .before .before .args .i * 128) (length (c .before .before .before .before .before .before .before .before .before .before .before .args .path .now)) in let y = length-set (set (c .before .before .before .before .before .before .before .before .before .before .before .args .area .now) (c .before .before .before .before .before .before .before .before .before .before .before .args .i * 128) (length (c .before .before .before .before .before .before .before .before .before .before .before .args .path .now))) (c .before .before .before .before .before .before .before .before .before .before .before .args .i * 128 + 1) (length (c .before .before .before .before .before .before .before .before .before .before .before .args .value .now)) in let k = c .before .before .before .before .before .before .copy-at .kept .0 in let l = c .before .before .copy-at2 .kept .0 in omega arith
+
+returns : tie.Need-returns
+returns c = row-put (c .before .before .before .before .before .before .before .before .before .before .before .args .area .now) (c .before .before .before .before .before .before .before .before .before .before .before .args .i) (c .before .before .before .before .before .before .before .before .before .before .before .args .path .now) (c .before .before .before .before .before .before .before .before .before .before .before .args .value .now) (c .before .before .before .before .before .before .before .before .before .before .before .pre .0) (c .before .before .before .before .before .before .before .before .before .before .before .pre .1) (c .before .before .before .before .before .before .before .before .before .before .before .pre .2) (c .before .before .before .before .before .before .before .before .before .before .before .pre .3) _ _ _ _ refl refl (c .before .before .before .before .before .before .copy-at .ensures) (c .before .before .copy-at2 .ensures)
+
+pub put-row-spec : {M : Type 1} → statement M
+put-row-spec =
+    tie.close
+    (tie.spec
+    mul-at
+    cast-area
+    slice-write-area
+    cast-area-2
+    add-area
+    slice-write-area-2
+    add-copy-at
+    copy-at-requires
+    add-copy-at-2
+    copy-at-requires-2
+    same-length
+    returns)

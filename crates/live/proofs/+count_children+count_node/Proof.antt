@@ -1,0 +1,959 @@
+-- `count_node` and `count_children` meet their contracts. The level falls from a node to its children. The loop over the children: the
+-- total so far and the count of the child in hand and those after it make the count of all. Relies on specs/NodeSteps and specs/WalkLaws.
+use borrow.Author.Needs.{needs}
+use Prim.Native.Nat.{_≤_, _-_, _+_, _*_}
+use native.Mathlib.Omega.{arith}
+use lib.Seq.{length-take-le}
+use lib.ListN.{length, take}
+use mathlib.Core.List.{_∷_}
+use mathlib.Core.Path.{_≡_}
+use mathlib.Core.Bool.{true}
+use Rattle.image.specs.Image.{treeAt, nodesOf, forestOf}
+use Rattle.reading.specs.Relative.{usableIn}
+use Rattle.node.specs.Places.{part, Within}
+use Rattle.node.specs.Entries.{listed}
+use Rattle.search.specs.Own.{kid, kidsE}
+use Rattle.lookup.specs.Look.{node-inside}
+use Rattle.live.specs.PathBuffers.{pathIn}
+use Rattle.live.specs.Live.{liveKids}
+use Rattle.live.specs.Walk.{passing, cap, NextChild}
+use Rattle.live.specs.Steps.{trail-wider, pends-child, pends-end}
+use Rattle.live.specs.WalkLaws.{walk-start, walk-last, walk-on, later-usable}
+use Rattle.live.specs.NodeSteps.{node-long, node-leaf, node-bare, kids-ready, node-inner, node-above, child-ready}
+use Prim.Native.Nat.{ℕ, _<_}
+use borrow.Fn.Kinds.{In}
+use borrow.Fn.PlainCycle.{Measures, is, falls, and}
+use Rattle.live.proofs.count_children.Reads as count-children
+use Rattle.live.proofs.count_children.Kinds as count-children-kinds
+use Rattle.live.proofs.+count_children+count_node.Lts-count_children as count-children-lts
+use Rattle.live.proofs.count_node.Reads as count-node
+use Rattle.live.proofs.count_node.Kinds as count-node-kinds
+use Rattle.live.proofs.+count_children+count_node.Lts-count_node as count-node-lts
+use Rattle.live.proofs.add_capped.Reads as add-capped-reads
+use Rattle.live.proofs.count_entries.Reads as count-entries-reads
+use Rattle.live.proofs.read_child.Reads as read-child-reads
+use Rattle.live.proofs.path_buffer.extend.Reads as extend-reads
+use Rattle.live.proofs.lengthen_trail.Reads as lengthen-trail-reads
+use Rattle.octets.proofs.common_length.Reads as common-length-reads
+use Rattle.octets.proofs.u16_at.Reads as u16-at-reads
+use Rattle.live.proofs.+count_children+count_node.{statement}
+use Rattle.live.proofs.+count_children+count_node.Tie.{close}
+
+abbrev μ-count-children : Measures 2 count-children-kinds.ps ℕ
+μ-count-children κs a = a .1 .1 .1 .1 .0 * 2 + 1
+
+abbrev μ-count-node : Measures 3 count-node-kinds.ps ℕ
+μ-count-node κs a = a .1 .1 .0 * 2
+
+abbrev count-children-at : ℕ → In 2 count-children-kinds.ps
+count-children-at t =
+    and 2 count-children-kinds.ps (is 2 count-children-kinds.ps μ-count-children t) count-children.Pre
+
+abbrev count-children-below : ℕ → In 2 count-children-kinds.ps
+count-children-below t =
+    and 2 count-children-kinds.ps (falls 2 count-children-kinds.ps _<_ μ-count-children t) count-children.Pre
+
+abbrev count-node-at : ℕ → In 3 count-node-kinds.ps
+count-node-at t =
+    and 3 count-node-kinds.ps (is 3 count-node-kinds.ps μ-count-node t) count-node.Pre
+
+abbrev count-node-below : ℕ → In 3 count-node-kinds.ps
+count-node-below t =
+    and 3 count-node-kinds.ps (falls 3 count-node-kinds.ps _<_ μ-count-node t) count-node.Pre
+
+abbrev count-children-Inv-loop : count-children-lts.InvT-loop
+count-children-Inv-loop store first level prefix hi trail c₀ num₀ low₀ total₀ c num low total =
+    (c .end ≤ length store) × Within 0 (length store) low × (total ≤ 65535) × (usableIn (nodesOf (length store)) (forestOf (λ j. treeAt level store j) (kid num (part store low) ∷ kidsE (listed store (c .at) (c .end)))) ≡ true)
+    × (cap (total + liveKids (forestOf (λ j. treeAt level store j) (kid num (part store low) ∷ kidsE (listed store (c .at) (c .end)))) (passing store trail) (pathIn prefix) hi) ≡ cap (liveKids (forestOf (λ j. treeAt level store j) (kid first (part store low₀) ∷ kidsE (listed store (c₀ .at) (c₀ .end)))) (passing store trail) (pathIn prefix) hi))
+
+abbrev count-children-μ-loop : count-children-lts.MeasureT-loop
+count-children-μ-loop store first level prefix hi trail c₀ num₀ low₀ total₀ c num low total = c .end - c .at
+
+-- the next child that was read, and where it leaves the cursor
+kid-next : (t : ℕ) (c : count-children-lts.After-known-told (
+  read-child-reads.Asked,
+  read-child-reads.Learnt,
+  count-node-below t,
+  count-node.Post,
+  add-capped-reads.Asked,
+  add-capped-reads.Learnt,
+) (count-children-at t) count-children.Post count-children-Inv-loop count-children-μ-loop)
+    → NextChild (c .before .before .before .before .before .before .before .args .store .now) (c .before .before .before .before .loop .c .at) (c .before .before .before .before .loop .c .end) (c .before .k .given .0 .0) (c .before .k .given .0 .1 .0) (c .before .k .given .0 .1 .1 .0)
+kid-next t c = pends-child _ _ _ _ _ _ _ (c .before .before .before .read-child .ensures) (c .before .k .given .1)
+
+here-length : (t : ℕ) (c : count-node-lts.After-extend (
+  common-length-reads.Asked,
+  common-length-reads.Learnt,
+  extend-reads.Asked,
+  extend-reads.Learnt,
+  u16-at-reads.Asked,
+  u16-at-reads.Learnt,
+  count-entries-reads.Asked,
+  count-entries-reads.Learnt,
+  read-child-reads.Asked,
+  read-child-reads.Learnt,
+  lengthen-trail-reads.Asked,
+  lengthen-trail-reads.Learnt,
+  count-children-below t,
+  count-children.Post,
+  add-capped-reads.Asked,
+  add-capped-reads.Learnt,
+) (count-node-at t) count-node.Post) → length (c .extend .result .bytes) ≡ 64
+here-length t c = search needs
+
+first-next : (t : ℕ) (c : count-node-lts.After-known-told (
+  common-length-reads.Asked,
+  common-length-reads.Learnt,
+  extend-reads.Asked,
+  extend-reads.Learnt,
+  u16-at-reads.Asked,
+  u16-at-reads.Learnt,
+  count-entries-reads.Asked,
+  count-entries-reads.Learnt,
+  read-child-reads.Asked,
+  read-child-reads.Learnt,
+  lengthen-trail-reads.Asked,
+  lengthen-trail-reads.Learnt,
+  count-children-below t,
+  count-children.Post,
+  add-capped-reads.Asked,
+  add-capped-reads.Learnt,
+) (count-node-at t) count-node.Post)
+    → NextChild (c .before .before .before .before .before .before .before .before .before .before .before .before .before .before .before .args .store .now) (c .before .before .before .before .before .before .before .before .before .before .before .before .before .before .before .args .num * 1024 + 8) (c .before .before .before .before .before .before .before .before .before .before .before .before .before .before .before .args .num * 1024 + 8 + c .before .before .before .before .before .before .u16-at .result) (c .before .first .given .0 .0) (c .before .first .given .0 .1 .0) (c .before .first .given .0 .1 .1 .0)
+first-next t c = pends-child _ _ _ _ _ _ _ (c .before .before .before .read-child .ensures) (c .before .first .given .1)
+
+-- src/lib.rt:283:5
+count-children-loop-holds : (t : ℕ) → count-children-lts.Need-loop-holds (
+  read-child-reads.Asked,
+  read-child-reads.Learnt,
+  count-node-below t,
+  count-node.Post,
+  add-capped-reads.Asked,
+  add-capped-reads.Learnt,
+) (count-children-at t) count-children.Post count-children-Inv-loop count-children-μ-loop
+count-children-loop-holds t c = ((c .before .before .pre .1) .ends, (c .before .before .pre .1) .place, omega arith, (c .before .before .pre .1) .reads, walk-start _)
+
+-- src/lib.rt:286:42
+count-kids-read-child-requires : (t : ℕ) → count-children-lts.Need-read-child-requires (
+  read-child-reads.Asked,
+  read-child-reads.Learnt,
+  count-node-below t,
+  count-node.Post,
+  add-capped-reads.Asked,
+  add-capped-reads.Learnt,
+) (count-children-at t) count-children.Post count-children-Inv-loop count-children-μ-loop
+count-kids-read-child-requires t c κs = c .loop .inv .0
+
+-- src/lib.rt:286:28
+count-children-enum-known-k : (t : ℕ) → count-children-lts.Need-enum-known-k (
+  read-child-reads.Asked,
+  read-child-reads.Learnt,
+  count-node-below t,
+  count-node.Post,
+  add-capped-reads.Asked,
+  add-capped-reads.Learnt,
+) (count-children-at t) count-children.Post count-children-Inv-loop count-children-μ-loop
+count-children-enum-known-k t c = search needs
+
+-- src/lib.rt:287:62
+count-children-enum-told : (t : ℕ) → count-children-lts.Need-enum-told (
+  read-child-reads.Asked,
+  read-child-reads.Learnt,
+  count-node-below t,
+  count-node.Post,
+  add-capped-reads.Asked,
+  add-capped-reads.Learnt,
+) (count-children-at t) count-children.Post count-children-Inv-loop count-children-μ-loop
+count-children-enum-told t c = search needs
+
+-- src/lib.rt:287:62
+count-children-sub-count-node : (t : ℕ) → count-children-lts.Need-sub-count-node (
+  read-child-reads.Asked,
+  read-child-reads.Learnt,
+  count-node-below t,
+  count-node.Post,
+  add-capped-reads.Asked,
+  add-capped-reads.Learnt,
+) (count-children-at t) count-children.Post count-children-Inv-loop count-children-μ-loop
+count-children-sub-count-node t c = let w = c .before .before .before .loop .inv .1 in omega arith
+
+-- src/lib.rt:287:62
+count-children-part-count-node-start : (t : ℕ) → count-children-lts.Need-part-count-node-start (
+  read-child-reads.Asked,
+  read-child-reads.Learnt,
+  count-node-below t,
+  count-node.Post,
+  add-capped-reads.Asked,
+  add-capped-reads.Learnt,
+) (count-children-at t) count-children.Post count-children-Inv-loop count-children-μ-loop
+count-children-part-count-node-start t c = let w = c .before .before .before .loop .inv .1 in omega arith
+
+-- src/lib.rt:287:62
+count-children-part-count-node-end : (t : ℕ) → count-children-lts.Need-part-count-node-end (
+  read-child-reads.Asked,
+  read-child-reads.Learnt,
+  count-node-below t,
+  count-node.Post,
+  add-capped-reads.Asked,
+  add-capped-reads.Learnt,
+) (count-children-at t) count-children.Post count-children-Inv-loop count-children-μ-loop
+count-children-part-count-node-end t c = let w = c .before .before .before .loop .inv .1 in omega arith
+
+-- src/lib.rt:287:17
+count-children-count-node-requires : (t : ℕ) → count-children-lts.Need-count-node-requires (
+  read-child-reads.Asked,
+  read-child-reads.Learnt,
+  count-node-below t,
+  count-node.Post,
+  add-capped-reads.Asked,
+  add-capped-reads.Learnt,
+) (count-children-at t) count-children.Post count-children-Inv-loop count-children-μ-loop
+count-children-count-node-requires t c κs = (omega arith, child-ready (c .before .before .before .before .before .before .before .args .store .now) (c .before .before .before .before .before .before .before .args .level) (c .before .before .before .before .loop .num) (part (c .before .before .before .before .before .before .before .args .store .now) (c .before .before .before .before .loop .low)) (kidsE (listed (c .before .before .before .before .before .before .before .args .store .now) (c .before .before .before .before .loop .c .at) (c .before .before .before .before .loop .c .end))) (c .before .before .before .before .before .before .before .args .prefix) (c .before .before .before .before .before .before .before .args .trail) (c .before .before .before .before .loop .inv .3) ((c .before .before .before .before .before .before .before .pre .1) .room) ((c .before .before .before .before .before .before .before .pre .1) .trail) ((c .before .before .before .before .before .before .before .pre .1) .deep))
+
+-- src/lib.rt:288:13
+count-children-add-capped-requires : (t : ℕ) → count-children-lts.Need-add-capped-requires (
+  read-child-reads.Asked,
+  read-child-reads.Learnt,
+  count-node-below t,
+  count-node.Post,
+  add-capped-reads.Asked,
+  add-capped-reads.Learnt,
+) (count-children-at t) count-children.Post count-children-Inv-loop count-children-μ-loop
+count-children-add-capped-requires t c κs = (omega arith, c .count-node .ensures .1)
+
+-- src/lib.rt:288:13
+count-children-returns : (t : ℕ) → count-children-lts.Need-returns (
+  read-child-reads.Asked,
+  read-child-reads.Learnt,
+  count-node-below t,
+  count-node.Post,
+  add-capped-reads.Asked,
+  add-capped-reads.Learnt,
+) (count-children-at t) count-children.Post count-children-Inv-loop count-children-μ-loop
+count-children-returns t c = (walk-last (λ j. treeAt (c .before .before .before .before .before .before .before .before .before .args .level) (c .before .before .before .before .before .before .before .before .before .args .store .now) j) (passing (c .before .before .before .before .before .before .before .before .before .args .store .now) (c .before .before .before .before .before .before .before .before .before .args .trail)) (pathIn (c .before .before .before .before .before .before .before .before .before .args .prefix)) (c .before .before .before .before .before .before .before .before .before .args .hi .now) (c .before .before .before .before .before .before .loop .num) (part (c .before .before .before .before .before .before .before .before .before .args .store .now) (c .before .before .before .before .before .before .loop .low)) _ (c .before .before .before .before .before .before .loop .total) (c .before .count-node .result) _ _ (pends-end _ _ _ _ (c .before .before .before .before .before .read-child .ensures) (c .before .before .before .enum-told .given .1)) (c .before .count-node .ensures .0) (c .add-capped .ensures .0) (c .before .before .before .before .before .before .loop .inv .4), c .add-capped .ensures .1)
+
+-- src/lib.rt:292:55
+count-children-sub-count-node-2 : (t : ℕ) → count-children-lts.Need-sub-count-node-2 (
+  read-child-reads.Asked,
+  read-child-reads.Learnt,
+  count-node-below t,
+  count-node.Post,
+  add-capped-reads.Asked,
+  add-capped-reads.Learnt,
+) (count-children-at t) count-children.Post count-children-Inv-loop count-children-μ-loop
+count-children-sub-count-node-2 t c = let w = c .before .before .before .before .loop .inv .1 in omega arith
+
+-- src/lib.rt:292:55
+count-children-part-count-node-start-2 : (t : ℕ) → count-children-lts.Need-part-count-node-start-2 (
+  read-child-reads.Asked,
+  read-child-reads.Learnt,
+  count-node-below t,
+  count-node.Post,
+  add-capped-reads.Asked,
+  add-capped-reads.Learnt,
+) (count-children-at t) count-children.Post count-children-Inv-loop count-children-μ-loop
+count-children-part-count-node-start-2 t c = let w = c .before .before .before .before .loop .inv .1 in omega arith
+
+-- src/lib.rt:292:55
+count-children-part-count-node-end-2 : (t : ℕ) → count-children-lts.Need-part-count-node-end-2 (
+  read-child-reads.Asked,
+  read-child-reads.Learnt,
+  count-node-below t,
+  count-node.Post,
+  add-capped-reads.Asked,
+  add-capped-reads.Learnt,
+) (count-children-at t) count-children.Post count-children-Inv-loop count-children-μ-loop
+count-children-part-count-node-end-2 t c = let w = c .before .before .before .before .loop .inv .1 in omega arith
+
+-- src/lib.rt:292:69
+count-children-sub-count-node-3 : (t : ℕ) → count-children-lts.Need-sub-count-node-3 (
+  read-child-reads.Asked,
+  read-child-reads.Learnt,
+  count-node-below t,
+  count-node.Post,
+  add-capped-reads.Asked,
+  add-capped-reads.Learnt,
+) (count-children-at t) count-children.Post count-children-Inv-loop count-children-μ-loop
+count-children-sub-count-node-3 t c = let n = kid-next t (c .before) in let w = n .place in omega arith
+
+-- src/lib.rt:292:69
+count-children-part-count-node-start-3 : (t : ℕ) → count-children-lts.Need-part-count-node-start-3 (
+  read-child-reads.Asked,
+  read-child-reads.Learnt,
+  count-node-below t,
+  count-node.Post,
+  add-capped-reads.Asked,
+  add-capped-reads.Learnt,
+) (count-children-at t) count-children.Post count-children-Inv-loop count-children-μ-loop
+count-children-part-count-node-start-3 t c = let n = kid-next t (c .before) in let w = n .place in omega arith
+
+-- src/lib.rt:292:69
+count-children-part-count-node-end-3 : (t : ℕ) → count-children-lts.Need-part-count-node-end-3 (
+  read-child-reads.Asked,
+  read-child-reads.Learnt,
+  count-node-below t,
+  count-node.Post,
+  add-capped-reads.Asked,
+  add-capped-reads.Learnt,
+) (count-children-at t) count-children.Post count-children-Inv-loop count-children-μ-loop
+count-children-part-count-node-end-3 t c = let n = kid-next t (c .before) in let w = n .place in omega arith
+
+-- src/lib.rt:292:13
+count-children-count-node-requires-2 : (t : ℕ) → count-children-lts.Need-count-node-requires-2 (
+  read-child-reads.Asked,
+  read-child-reads.Learnt,
+  count-node-below t,
+  count-node.Post,
+  add-capped-reads.Asked,
+  add-capped-reads.Learnt,
+) (count-children-at t) count-children.Post count-children-Inv-loop count-children-μ-loop
+count-children-count-node-requires-2 t c κs = (omega arith, child-ready (c .before .before .before .before .before .before .before .before .before .args .store .now) (c .before .before .before .before .before .before .before .before .before .args .level) (c .before .before .before .before .before .before .loop .num) (part (c .before .before .before .before .before .before .before .before .before .args .store .now) (c .before .before .before .before .before .before .loop .low)) (kidsE (listed (c .before .before .before .before .before .before .before .before .before .args .store .now) (c .before .before .before .before .before .before .loop .c .at) (c .before .before .before .before .before .before .loop .c .end))) (c .before .before .before .before .before .before .before .before .before .args .prefix) (c .before .before .before .before .before .before .before .before .before .args .trail) (c .before .before .before .before .before .before .loop .inv .3) ((c .before .before .before .before .before .before .before .before .before .pre .1) .room) ((c .before .before .before .before .before .before .before .before .before .pre .1) .trail) ((c .before .before .before .before .before .before .before .before .before .pre .1) .deep))
+
+-- src/lib.rt:293:9
+count-children-add-capped-requires-2 : (t : ℕ) → count-children-lts.Need-add-capped-requires-2 (
+  read-child-reads.Asked,
+  read-child-reads.Learnt,
+  count-node-below t,
+  count-node.Post,
+  add-capped-reads.Asked,
+  add-capped-reads.Learnt,
+) (count-children-at t) count-children.Post count-children-Inv-loop count-children-μ-loop
+count-children-add-capped-requires-2 t c κs = (omega arith, c .count-node2 .ensures .1)
+
+-- src/lib.rt:283:5
+count-children-loop-less : (t : ℕ) → count-children-lts.Need-loop-less (
+  read-child-reads.Asked,
+  read-child-reads.Learnt,
+  count-node-below t,
+  count-node.Post,
+  add-capped-reads.Asked,
+  add-capped-reads.Learnt,
+) (count-children-at t) count-children.Post count-children-Inv-loop count-children-μ-loop
+count-children-loop-less t c = let n = kid-next t (c .before .before .before .before) in omega arith
+
+-- src/lib.rt:283:5
+count-children-loop-again : (t : ℕ) → count-children-lts.Need-loop-again (
+  read-child-reads.Asked,
+  read-child-reads.Learnt,
+  count-node-below t,
+  count-node.Post,
+  add-capped-reads.Asked,
+  add-capped-reads.Learnt,
+) (count-children-at t) count-children.Post count-children-Inv-loop count-children-μ-loop
+count-children-loop-again t c =
+    let n = kid-next t (c .before .before .before .before) in (
+      omega arith,
+      n .place,
+      c .add-capped2 .ensures .1,
+      later-usable (nodesOf (length (c .before .before .before .before .before .before .before .before .before .before .before .args .store .now))) (λ j. treeAt (c .before .before .before .before .before .before .before .before .before .before .before .args .level) (c .before .before .before .before .before .before .before .before .before .before .before .args .store .now) j) (kid (c .before .before .before .before .before .before .before .before .loop .num) (part (c .before .before .before .before .before .before .before .before .before .before .before .args .store .now) (c .before .before .before .before .before .before .before .before .loop .low))) _ _ (n .lists) (c .before .before .before .before .before .before .before .before .loop .inv .3),
+      walk-on (λ j. treeAt (c .before .before .before .before .before .before .before .before .before .before .before .args .level) (c .before .before .before .before .before .before .before .before .before .before .before .args .store .now) j) (passing (c .before .before .before .before .before .before .before .before .before .before .before .args .store .now) (c .before .before .before .before .before .before .before .before .before .before .before .args .trail)) (pathIn (c .before .before .before .before .before .before .before .before .before .before .before .args .prefix)) (c .before .before .before .before .before .before .before .before .before .before .before .args .hi .now) (c .before .before .before .before .before .before .before .before .loop .num) (part (c .before .before .before .before .before .before .before .before .before .before .before .args .store .now) (c .before .before .before .before .before .before .before .before .loop .low)) (c .before .before .before .before .before .k .given .0 .0) (part (c .before .before .before .before .before .before .before .before .before .before .before .args .store .now) (c .before .before .before .before .before .k .given .0 .1 .0)) _ (kidsE (listed (c .before .before .before .before .before .before .before .before .before .before .before .args .store .now) ((c .before .before .before .before .before .k .given .0 .1 .1 .0) .at) ((c .before .before .before .before .before .k .given .0 .1 .1 .0) .end))) (c .before .before .before .before .before .before .before .before .loop .total) (c .before .count-node2 .result) _ _ (n .lists) (c .before .count-node2 .ensures .0) (c .add-capped2 .ensures .0) (c .before .before .before .before .before .before .before .before .loop .inv .4),
+    )
+
+-- src/lib.rt:251:9
+count-node-common-length-requires : (t : ℕ) → count-node-lts.Need-common-length-requires (
+  common-length-reads.Asked,
+  common-length-reads.Learnt,
+  extend-reads.Asked,
+  extend-reads.Learnt,
+  u16-at-reads.Asked,
+  u16-at-reads.Learnt,
+  count-entries-reads.Asked,
+  count-entries-reads.Learnt,
+  read-child-reads.Asked,
+  read-child-reads.Learnt,
+  lengthen-trail-reads.Asked,
+  lengthen-trail-reads.Learnt,
+  count-children-below t,
+  count-children.Post,
+  add-capped-reads.Asked,
+  add-capped-reads.Learnt,
+) (count-node-at t) count-node.Post
+count-node-common-length-requires t c κs = search needs
+
+-- src/lib.rt:252:16
+count-node-sub-room : (t : ℕ) → count-node-lts.Need-sub-room (
+  common-length-reads.Asked,
+  common-length-reads.Learnt,
+  extend-reads.Asked,
+  extend-reads.Learnt,
+  u16-at-reads.Asked,
+  u16-at-reads.Learnt,
+  count-entries-reads.Asked,
+  count-entries-reads.Learnt,
+  read-child-reads.Asked,
+  read-child-reads.Learnt,
+  lengthen-trail-reads.Asked,
+  lengthen-trail-reads.Learnt,
+  count-children-below t,
+  count-children.Post,
+  add-capped-reads.Asked,
+  add-capped-reads.Learnt,
+) (count-node-at t) count-node.Post
+count-node-sub-room t c = let r = (c .before .before .before .before .before .pre .1) .room in omega arith
+
+-- src/lib.rt:254:9
+count-node-returns : (t : ℕ) → count-node-lts.Need-returns (
+  common-length-reads.Asked,
+  common-length-reads.Learnt,
+  extend-reads.Asked,
+  extend-reads.Learnt,
+  u16-at-reads.Asked,
+  u16-at-reads.Learnt,
+  count-entries-reads.Asked,
+  count-entries-reads.Learnt,
+  read-child-reads.Asked,
+  read-child-reads.Learnt,
+  lengthen-trail-reads.Asked,
+  lengthen-trail-reads.Learnt,
+  count-children-below t,
+  count-children.Post,
+  add-capped-reads.Asked,
+  add-capped-reads.Learnt,
+) (count-node-at t) count-node.Post
+count-node-returns t c = let p : length ((c .before .before .before .before .before .before .args .prefix) .bytes) ≡ 64 = search needs in let r = (c .before .before .before .before .before .before .pre .1) .room in (node-long (c .before .before .before .before .before .before .args .store .now) (c .before .before .before .before .before .before .args .level) (c .before .before .before .before .before .before .args .num) (c .before .before .before .before .before .before .args .prefix) (c .before .before .before .before .before .before .args .trail) (c .before .before .before .before .before .before .pre .1) (c .before .before .before .before .before .before .args .lo .now) (c .before .before .before .before .before .before .args .hi .now) (c .before .before .common-length .result) (c .before .before .common-length .ensures .0) (omega arith) (omega arith), omega arith)
+
+-- src/lib.rt:256:44
+count-node-sub-extend : (t : ℕ) → count-node-lts.Need-sub-extend (
+  common-length-reads.Asked,
+  common-length-reads.Learnt,
+  extend-reads.Asked,
+  extend-reads.Learnt,
+  u16-at-reads.Asked,
+  u16-at-reads.Learnt,
+  count-entries-reads.Asked,
+  count-entries-reads.Learnt,
+  read-child-reads.Asked,
+  read-child-reads.Learnt,
+  lengthen-trail-reads.Asked,
+  lengthen-trail-reads.Learnt,
+  count-children-below t,
+  count-children.Post,
+  add-capped-reads.Asked,
+  add-capped-reads.Learnt,
+) (count-node-at t) count-node.Post
+count-node-sub-extend t c = search needs
+
+-- src/lib.rt:256:44
+count-node-part-extend-start : (t : ℕ) → count-node-lts.Need-part-extend-start (
+  common-length-reads.Asked,
+  common-length-reads.Learnt,
+  extend-reads.Asked,
+  extend-reads.Learnt,
+  u16-at-reads.Asked,
+  u16-at-reads.Learnt,
+  count-entries-reads.Asked,
+  count-entries-reads.Learnt,
+  read-child-reads.Asked,
+  read-child-reads.Learnt,
+  lengthen-trail-reads.Asked,
+  lengthen-trail-reads.Learnt,
+  count-children-below t,
+  count-children.Post,
+  add-capped-reads.Asked,
+  add-capped-reads.Learnt,
+) (count-node-at t) count-node.Post
+count-node-part-extend-start t c = search needs
+
+-- src/lib.rt:256:44
+count-node-part-extend-end : (t : ℕ) → count-node-lts.Need-part-extend-end (
+  common-length-reads.Asked,
+  common-length-reads.Learnt,
+  extend-reads.Asked,
+  extend-reads.Learnt,
+  u16-at-reads.Asked,
+  u16-at-reads.Learnt,
+  count-entries-reads.Asked,
+  count-entries-reads.Learnt,
+  read-child-reads.Asked,
+  read-child-reads.Learnt,
+  lengthen-trail-reads.Asked,
+  lengthen-trail-reads.Learnt,
+  count-children-below t,
+  count-children.Post,
+  add-capped-reads.Asked,
+  add-capped-reads.Learnt,
+) (count-node-at t) count-node.Post
+count-node-part-extend-end t c = search needs
+
+-- src/lib.rt:256:9
+count-node-extend-requires : (t : ℕ) → count-node-lts.Need-extend-requires (
+  common-length-reads.Asked,
+  common-length-reads.Learnt,
+  extend-reads.Asked,
+  extend-reads.Learnt,
+  u16-at-reads.Asked,
+  u16-at-reads.Learnt,
+  count-entries-reads.Asked,
+  count-entries-reads.Learnt,
+  read-child-reads.Asked,
+  read-child-reads.Learnt,
+  lengthen-trail-reads.Asked,
+  lengthen-trail-reads.Learnt,
+  count-children-below t,
+  count-children.Post,
+  add-capped-reads.Asked,
+  add-capped-reads.Learnt,
+) (count-node-at t) count-node.Post
+count-node-extend-requires t c κs = let l : length (take ((c .before .before .before .common-length .result) - 0) (c .before .before .before .before .before .before .before .args .lo .now)) ≡ (c .before .before .before .common-length .result) - 0 = length-take-le ((c .before .before .before .common-length .result) - 0) (c .before .before .before .before .before .before .before .args .lo .now) (omega arith) in let r = (c .before .before .before .before .before .before .before .pre .1) .room in omega arith
+
+-- src/lib.rt:257:14
+count-node-mul-at : (t : ℕ) → count-node-lts.Need-mul-at (
+  common-length-reads.Asked,
+  common-length-reads.Learnt,
+  extend-reads.Asked,
+  extend-reads.Learnt,
+  u16-at-reads.Asked,
+  u16-at-reads.Learnt,
+  count-entries-reads.Asked,
+  count-entries-reads.Learnt,
+  read-child-reads.Asked,
+  read-child-reads.Learnt,
+  lengthen-trail-reads.Asked,
+  lengthen-trail-reads.Learnt,
+  count-children-below t,
+  count-children.Post,
+  add-capped-reads.Asked,
+  add-capped-reads.Learnt,
+) (count-node-at t) count-node.Post
+count-node-mul-at t c = let w = node-inside (c .before .before .before .before .before .before .before .before .args .store .now) (c .before .before .before .before .before .before .before .before .args .num) (c .before .before .before .before .before .before .before .before .args .level) ((c .before .before .before .before .before .before .before .before .pre .1) .reads) in omega arith
+
+-- src/lib.rt:258:9
+count-node-u16-at-requires : (t : ℕ) → count-node-lts.Need-u16-at-requires (
+  common-length-reads.Asked,
+  common-length-reads.Learnt,
+  extend-reads.Asked,
+  extend-reads.Learnt,
+  u16-at-reads.Asked,
+  u16-at-reads.Learnt,
+  count-entries-reads.Asked,
+  count-entries-reads.Learnt,
+  read-child-reads.Asked,
+  read-child-reads.Learnt,
+  lengthen-trail-reads.Asked,
+  lengthen-trail-reads.Learnt,
+  count-children-below t,
+  count-children.Post,
+  add-capped-reads.Asked,
+  add-capped-reads.Learnt,
+) (count-node-at t) count-node.Post
+count-node-u16-at-requires t c κs = let w = node-inside (c .before .before .before .before .before .before .before .before .args .store .now) (c .before .before .before .before .before .before .before .before .args .num) (c .before .before .before .before .before .before .before .before .args .level) ((c .before .before .before .before .before .before .before .before .pre .1) .reads) in omega arith
+
+-- src/lib.rt:259:16
+count-node-add-from : (t : ℕ) → count-node-lts.Need-add-from (
+  common-length-reads.Asked,
+  common-length-reads.Learnt,
+  extend-reads.Asked,
+  extend-reads.Learnt,
+  u16-at-reads.Asked,
+  u16-at-reads.Learnt,
+  count-entries-reads.Asked,
+  count-entries-reads.Learnt,
+  read-child-reads.Asked,
+  read-child-reads.Learnt,
+  lengthen-trail-reads.Asked,
+  lengthen-trail-reads.Learnt,
+  count-children-below t,
+  count-children.Post,
+  add-capped-reads.Asked,
+  add-capped-reads.Learnt,
+) (count-node-at t) count-node.Post
+count-node-add-from t c = let w = node-inside (c .before .before .before .before .before .before .before .before .before .args .store .now) (c .before .before .before .before .before .before .before .before .before .args .num) (c .before .before .before .before .before .before .before .before .before .args .level) ((c .before .before .before .before .before .before .before .before .before .pre .1) .reads) in omega arith
+
+-- src/lib.rt:260:15
+count-node-add-end : (t : ℕ) → count-node-lts.Need-add-end (
+  common-length-reads.Asked,
+  common-length-reads.Learnt,
+  extend-reads.Asked,
+  extend-reads.Learnt,
+  u16-at-reads.Asked,
+  u16-at-reads.Learnt,
+  count-entries-reads.Asked,
+  count-entries-reads.Learnt,
+  read-child-reads.Asked,
+  read-child-reads.Learnt,
+  lengthen-trail-reads.Asked,
+  lengthen-trail-reads.Learnt,
+  count-children-below t,
+  count-children.Post,
+  add-capped-reads.Asked,
+  add-capped-reads.Learnt,
+) (count-node-at t) count-node.Post
+count-node-add-end t c = let w = node-inside (c .before .before .before .before .before .before .before .before .before .args .store .now) (c .before .before .before .before .before .before .before .before .before .args .num) (c .before .before .before .before .before .before .before .before .before .args .level) ((c .before .before .before .before .before .before .before .before .before .pre .1) .reads) in omega arith
+
+-- src/lib.rt:261:9
+count-node-count-entries-requires : (t : ℕ) → count-node-lts.Need-count-entries-requires (
+  common-length-reads.Asked,
+  common-length-reads.Learnt,
+  extend-reads.Asked,
+  extend-reads.Learnt,
+  u16-at-reads.Asked,
+  u16-at-reads.Learnt,
+  count-entries-reads.Asked,
+  count-entries-reads.Learnt,
+  read-child-reads.Asked,
+  read-child-reads.Learnt,
+  lengthen-trail-reads.Asked,
+  lengthen-trail-reads.Learnt,
+  count-children-below t,
+  count-children.Post,
+  add-capped-reads.Asked,
+  add-capped-reads.Learnt,
+) (count-node-at t) count-node.Post
+count-node-count-entries-requires t c κs = let w = node-inside (c .before .before .before .before .before .before .before .before .before .args .store .now) (c .before .before .before .before .before .before .before .before .before .args .num) (c .before .before .before .before .before .before .before .before .before .args .level) ((c .before .before .before .before .before .before .before .before .before .pre .1) .reads) in let l : length (take ((c .before .before .before .before .before .common-length .result) - 0) (c .before .before .before .before .before .before .before .before .before .args .lo .now)) ≡ (c .before .before .before .before .before .common-length .result) - 0 = length-take-le ((c .before .before .before .before .before .common-length .result) - 0) (c .before .before .before .before .before .before .before .before .before .args .lo .now) (omega arith) in let r = (c .before .before .before .before .before .before .before .before .before .pre .1) .room in (omega arith, omega arith, omega arith, trail-wider (c .before .before .before .before .before .before .before .before .before .args .store .now) ((c .before .before .before .before .before .before .before .before .before .args .prefix) .len) ((c .before .extend .result) .len) (c .before .before .before .before .before .before .before .before .before .args .trail) (omega arith) ((c .before .before .before .before .before .before .before .before .before .pre .1) .trail))
+
+-- src/lib.rt:263:9
+count-node-returns-2 : (t : ℕ) → count-node-lts.Need-returns-2 (
+  common-length-reads.Asked,
+  common-length-reads.Learnt,
+  extend-reads.Asked,
+  extend-reads.Learnt,
+  u16-at-reads.Asked,
+  u16-at-reads.Learnt,
+  count-entries-reads.Asked,
+  count-entries-reads.Learnt,
+  read-child-reads.Asked,
+  read-child-reads.Learnt,
+  lengthen-trail-reads.Asked,
+  lengthen-trail-reads.Learnt,
+  count-children-below t,
+  count-children.Post,
+  add-capped-reads.Asked,
+  add-capped-reads.Learnt,
+) (count-node-at t) count-node.Post
+count-node-returns-2 t c = let w = node-inside (c .before .before .before .before .before .before .before .before .before .before .before .args .store .now) (c .before .before .before .before .before .before .before .before .before .before .before .args .num) (c .before .before .before .before .before .before .before .before .before .before .before .args .level) ((c .before .before .before .before .before .before .before .before .before .before .before .pre .1) .reads) in (node-leaf (c .before .before .before .before .before .before .before .before .before .before .before .args .store .now) (c .before .before .before .before .before .before .before .before .before .before .before .args .level) (c .before .before .before .before .before .before .before .before .before .before .before .args .num) (c .before .before .before .before .before .before .before .before .before .before .before .args .prefix) (c .before .before .before .before .before .before .before .before .before .before .before .args .trail) (c .before .before .before .before .before .before .before .before .before .before .before .pre .1) (c .before .before .before .before .before .before .before .before .before .before .before .args .lo .now) (c .before .before .before .before .before .before .before .before .before .before .before .args .hi .now) (c .before .before .before .before .before .before .before .common-length .result) (c .before .before .before .before .before .before .before .common-length .ensures .0) (c .before .before .before .extend .result) (c .before .before .before .extend .ensures .0) (c .before .before .u16-at .result) (c .before .count-entries .result) (c .before .before .u16-at .ensures .0) (c .before .count-entries .ensures .0) (omega arith) (omega arith), omega arith)
+
+-- src/lib.rt:265:46
+count-node-read-child-requires : (t : ℕ) → count-node-lts.Need-read-child-requires (
+  common-length-reads.Asked,
+  common-length-reads.Learnt,
+  extend-reads.Asked,
+  extend-reads.Learnt,
+  u16-at-reads.Asked,
+  u16-at-reads.Learnt,
+  count-entries-reads.Asked,
+  count-entries-reads.Learnt,
+  read-child-reads.Asked,
+  read-child-reads.Learnt,
+  lengthen-trail-reads.Asked,
+  lengthen-trail-reads.Learnt,
+  count-children-below t,
+  count-children.Post,
+  add-capped-reads.Asked,
+  add-capped-reads.Learnt,
+) (count-node-at t) count-node.Post
+count-node-read-child-requires t c κs = let w = node-inside (c .before .before .before .before .before .before .before .before .before .before .before .args .store .now) (c .before .before .before .before .before .before .before .before .before .before .before .args .num) (c .before .before .before .before .before .before .before .before .before .before .before .args .level) ((c .before .before .before .before .before .before .before .before .before .before .before .pre .1) .reads) in omega arith
+
+-- src/lib.rt:265:24
+count-node-enum-known-first : (t : ℕ) → count-node-lts.Need-enum-known-first (
+  common-length-reads.Asked,
+  common-length-reads.Learnt,
+  extend-reads.Asked,
+  extend-reads.Learnt,
+  u16-at-reads.Asked,
+  u16-at-reads.Learnt,
+  count-entries-reads.Asked,
+  count-entries-reads.Learnt,
+  read-child-reads.Asked,
+  read-child-reads.Learnt,
+  lengthen-trail-reads.Asked,
+  lengthen-trail-reads.Learnt,
+  count-children-below t,
+  count-children.Post,
+  add-capped-reads.Asked,
+  add-capped-reads.Learnt,
+) (count-node-at t) count-node.Post
+count-node-enum-known-first t c = search needs
+
+-- src/lib.rt:266:9
+count-node-enum-told : (t : ℕ) → count-node-lts.Need-enum-told (
+  common-length-reads.Asked,
+  common-length-reads.Learnt,
+  extend-reads.Asked,
+  extend-reads.Learnt,
+  u16-at-reads.Asked,
+  u16-at-reads.Learnt,
+  count-entries-reads.Asked,
+  count-entries-reads.Learnt,
+  read-child-reads.Asked,
+  read-child-reads.Learnt,
+  lengthen-trail-reads.Asked,
+  lengthen-trail-reads.Learnt,
+  count-children-below t,
+  count-children.Post,
+  add-capped-reads.Asked,
+  add-capped-reads.Learnt,
+) (count-node-at t) count-node.Post
+count-node-enum-told t c = search needs
+
+-- src/lib.rt:266:9
+count-node-returns-3 : (t : ℕ) → count-node-lts.Need-returns-3 (
+  common-length-reads.Asked,
+  common-length-reads.Learnt,
+  extend-reads.Asked,
+  extend-reads.Learnt,
+  u16-at-reads.Asked,
+  u16-at-reads.Learnt,
+  count-entries-reads.Asked,
+  count-entries-reads.Learnt,
+  read-child-reads.Asked,
+  read-child-reads.Learnt,
+  lengthen-trail-reads.Asked,
+  lengthen-trail-reads.Learnt,
+  count-children-below t,
+  count-children.Post,
+  add-capped-reads.Asked,
+  add-capped-reads.Learnt,
+) (count-node-at t) count-node.Post
+count-node-returns-3 t c = let w = node-inside (c .before .before .before .before .before .before .before .before .before .before .before .before .before .before .args .store .now) (c .before .before .before .before .before .before .before .before .before .before .before .before .before .before .args .num) (c .before .before .before .before .before .before .before .before .before .before .before .before .before .before .args .level) ((c .before .before .before .before .before .before .before .before .before .before .before .before .before .before .pre .1) .reads) in (node-bare (c .before .before .before .before .before .before .before .before .before .before .before .before .before .before .args .store .now) (c .before .before .before .before .before .before .before .before .before .before .before .before .before .before .args .level) (c .before .before .before .before .before .before .before .before .before .before .before .before .before .before .args .num) (c .before .before .before .before .before .before .before .before .before .before .before .before .before .before .args .prefix) (c .before .before .before .before .before .before .before .before .before .before .before .before .before .before .args .trail) (c .before .before .before .before .before .before .before .before .before .before .before .before .before .before .pre .1) (c .before .before .before .before .before .before .before .before .before .before .before .before .before .before .args .lo .now) (c .before .before .before .before .before .before .before .before .before .before .before .before .before .before .args .hi .now) (c .before .before .before .before .before .before .before .before .before .before .common-length .result) (c .before .before .before .before .before .before .before .before .before .before .common-length .ensures .0) (c .before .before .before .before .before .before .extend .result) (c .before .before .before .before .before .before .extend .ensures .0) (c .before .before .before .before .before .u16-at .result) (c .before .before .before .before .count-entries .result) (c .before .before .before .before .before .u16-at .ensures .0) (c .before .before .before .before .count-entries .ensures .0) (omega arith) (omega arith) (pends-end _ _ _ _ (c .before .before .read-child .ensures) (c .enum-told .given .1)), omega arith)
+
+-- src/lib.rt:269:9
+count-node-lengthen-trail-requires : (t : ℕ) → count-node-lts.Need-lengthen-trail-requires (
+  common-length-reads.Asked,
+  common-length-reads.Learnt,
+  extend-reads.Asked,
+  extend-reads.Learnt,
+  u16-at-reads.Asked,
+  u16-at-reads.Learnt,
+  count-entries-reads.Asked,
+  count-entries-reads.Learnt,
+  read-child-reads.Asked,
+  read-child-reads.Learnt,
+  lengthen-trail-reads.Asked,
+  lengthen-trail-reads.Learnt,
+  count-children-below t,
+  count-children.Post,
+  add-capped-reads.Asked,
+  add-capped-reads.Learnt,
+) (count-node-at t) count-node.Post
+count-node-lengthen-trail-requires t c κs = let l : length (take ((c .before .before .before .before .before .before .before .before .before .before .before .common-length .result) - 0) (c .before .before .before .before .before .before .before .before .before .before .before .before .before .before .before .args .lo .now)) ≡ (c .before .before .before .before .before .before .before .before .before .before .before .common-length .result) - 0 = length-take-le ((c .before .before .before .before .before .before .before .before .before .before .before .common-length .result) - 0) (c .before .before .before .before .before .before .before .before .before .before .before .before .before .before .before .args .lo .now) (omega arith) in let d = (c .before .before .before .before .before .before .before .before .before .before .before .before .before .before .before .pre .1) .deep in (omega arith, trail-wider (c .before .before .before .before .before .before .before .before .before .before .before .before .before .before .before .args .store .now) ((c .before .before .before .before .before .before .before .before .before .before .before .before .before .before .before .args .prefix) .len) ((c .before .before .before .before .before .before .before .extend .result) .len) (c .before .before .before .before .before .before .before .before .before .before .before .before .before .before .before .args .trail) (omega arith) ((c .before .before .before .before .before .before .before .before .before .before .before .before .before .before .before .pre .1) .trail), node-above (c .before .before .before .before .before .before .before .before .before .before .before .before .before .before .before .args .store .now) (c .before .before .before .before .before .before .before .before .before .before .before .before .before .before .before .args .level) (c .before .before .before .before .before .before .before .before .before .before .before .before .before .before .before .args .num) ((c .before .before .before .before .before .before .before .extend .result) .len) ((c .before .before .before .before .before .before .before .before .before .before .before .before .before .before .before .pre .1) .reads))
+
+-- src/lib.rt:270:51
+count-node-sub-count-children : (t : ℕ) → count-node-lts.Need-sub-count-children (
+  common-length-reads.Asked,
+  common-length-reads.Learnt,
+  extend-reads.Asked,
+  extend-reads.Learnt,
+  u16-at-reads.Asked,
+  u16-at-reads.Learnt,
+  count-entries-reads.Asked,
+  count-entries-reads.Learnt,
+  read-child-reads.Asked,
+  read-child-reads.Learnt,
+  lengthen-trail-reads.Asked,
+  lengthen-trail-reads.Learnt,
+  count-children-below t,
+  count-children.Post,
+  add-capped-reads.Asked,
+  add-capped-reads.Learnt,
+) (count-node-at t) count-node.Post
+count-node-sub-count-children t c = search needs
+
+-- src/lib.rt:270:68
+count-node-sub-count-children-2 : (t : ℕ) → count-node-lts.Need-sub-count-children-2 (
+  common-length-reads.Asked,
+  common-length-reads.Learnt,
+  extend-reads.Asked,
+  extend-reads.Learnt,
+  u16-at-reads.Asked,
+  u16-at-reads.Learnt,
+  count-entries-reads.Asked,
+  count-entries-reads.Learnt,
+  read-child-reads.Asked,
+  read-child-reads.Learnt,
+  lengthen-trail-reads.Asked,
+  lengthen-trail-reads.Learnt,
+  count-children-below t,
+  count-children.Post,
+  add-capped-reads.Asked,
+  add-capped-reads.Learnt,
+) (count-node-at t) count-node.Post
+count-node-sub-count-children-2 t c = search needs
+
+-- src/lib.rt:270:68
+count-node-part-count-children-start : (t : ℕ) → count-node-lts.Need-part-count-children-start (
+  common-length-reads.Asked,
+  common-length-reads.Learnt,
+  extend-reads.Asked,
+  extend-reads.Learnt,
+  u16-at-reads.Asked,
+  u16-at-reads.Learnt,
+  count-entries-reads.Asked,
+  count-entries-reads.Learnt,
+  read-child-reads.Asked,
+  read-child-reads.Learnt,
+  lengthen-trail-reads.Asked,
+  lengthen-trail-reads.Learnt,
+  count-children-below t,
+  count-children.Post,
+  add-capped-reads.Asked,
+  add-capped-reads.Learnt,
+) (count-node-at t) count-node.Post
+count-node-part-count-children-start t c = search needs
+
+-- src/lib.rt:270:68
+count-node-part-count-children-end : (t : ℕ) → count-node-lts.Need-part-count-children-end (
+  common-length-reads.Asked,
+  common-length-reads.Learnt,
+  extend-reads.Asked,
+  extend-reads.Learnt,
+  u16-at-reads.Asked,
+  u16-at-reads.Learnt,
+  count-entries-reads.Asked,
+  count-entries-reads.Learnt,
+  read-child-reads.Asked,
+  read-child-reads.Learnt,
+  lengthen-trail-reads.Asked,
+  lengthen-trail-reads.Learnt,
+  count-children-below t,
+  count-children.Post,
+  add-capped-reads.Asked,
+  add-capped-reads.Learnt,
+) (count-node-at t) count-node.Post
+count-node-part-count-children-end t c = search needs
+
+-- src/lib.rt:270:9
+count-node-count-children-requires : (t : ℕ) → count-node-lts.Need-count-children-requires (
+  common-length-reads.Asked,
+  common-length-reads.Learnt,
+  extend-reads.Asked,
+  extend-reads.Learnt,
+  u16-at-reads.Asked,
+  u16-at-reads.Learnt,
+  count-entries-reads.Asked,
+  count-entries-reads.Learnt,
+  read-child-reads.Asked,
+  read-child-reads.Learnt,
+  lengthen-trail-reads.Asked,
+  lengthen-trail-reads.Learnt,
+  count-children-below t,
+  count-children.Post,
+  add-capped-reads.Asked,
+  add-capped-reads.Learnt,
+) (count-node-at t) count-node.Post
+count-node-count-children-requires t c κs =
+    let q = c .before .before .before .before .before .before .before .before .before .before .before .before .before .before .before .before .before .pre .0 in let m = c .before .before .before .before .before .before .before .before .before .before .before .before .before .common-length .ensures .1 in let g = c .before .before .before .before .before .before .before .before .before .before .before .if1 .left in let x = c .before .before .before .before .before .before .before .before .before .extend .ensures .1 in let v = c .before .before .before .before .before .before .if2 .left in let w = node-inside (c .before .before .before .before .before .before .before .before .before .before .before .before .before .before .before .before .before .args .store .now) (c .before .before .before .before .before .before .before .before .before .before .before .before .before .before .before .before .before .args .num) (c .before .before .before .before .before .before .before .before .before .before .before .before .before .before .before .before .before .args .level) ((c .before .before .before .before .before .before .before .before .before .before .before .before .before .before .before .before .before .pre .1) .reads) in let l : length (take ((c .before .before .before .before .before .before .before .before .before .before .before .before .before .common-length .result) - 0) (c .before .before .before .before .before .before .before .before .before .before .before .before .before .before .before .before .before .args .lo .now)) ≡ (c .before .before .before .before .before .before .before .before .before .before .before .before .before .common-length .result) - 0 = length-take-le ((c .before .before .before .before .before .before .before .before .before .before .before .before .before .common-length .result) - 0) (c .before .before .before .before .before .before .before .before .before .before .before .before .before .before .before .before .before .args .lo .now) (omega arith) in let r = (c .before .before .before .before .before .before .before .before .before .before .before .before .before .before .before .before .before .pre .1) .room in let n = first-next t (c .before .before) in
+    (omega arith, kids-ready (c .before .before .before .before .before .before .before .before .before .before .before .before .before .before .before .before .before .args .store .now) (c .before .before .before .before .before .before .before .before .before .before .before .before .before .before .before .before .before .args .level) (c .before .before .before .before .before .before .before .before .before .before .before .before .before .before .before .before .before .args .num) (c .before .before .before .before .before .before .before .before .before .before .before .before .before .before .before .before .before .args .prefix) (c .before .before .before .before .before .before .before .before .before .before .before .before .before .before .before .before .before .args .trail) (c .before .before .before .before .before .before .before .before .before .before .before .before .before .before .before .before .before .pre .1) (c .before .before .before .before .before .before .before .before .before .before .before .before .before .before .before .before .before .args .lo .now) (c .before .before .before .before .before .before .before .before .before .before .before .before .before .before .before .before .before .args .hi .now) (c .before .before .before .before .before .before .before .before .before .before .before .before .before .common-length .result) (c .before .before .before .before .before .before .before .before .before .before .before .before .before .common-length .ensures .0) (c .before .before .before .before .before .before .before .before .before .extend .result) (c .before .before .before .before .before .before .before .before .before .extend .ensures .0) (c .before .before .before .before .before .before .before .before .u16-at .result) (c .before .before .before .before .before .before .before .count-entries .result) (c .before .before .before .before .before .before .before .before .u16-at .ensures .0) (c .before .before .before .before .before .before .before .count-entries .ensures .0) (omega arith) (c .before .before .before .first .given .0 .0) (c .before .before .before .first .given .0 .1 .0) (c .before .before .before .first .given .0 .1 .1 .0) (first-next t (c .before .before)) (c .before .lengthen-trail .result) (c .before .lengthen-trail .ensures) (omega arith) (omega arith))
+
+-- src/lib.rt:271:5
+count-node-add-capped-requires : (t : ℕ) → count-node-lts.Need-add-capped-requires (
+  common-length-reads.Asked,
+  common-length-reads.Learnt,
+  extend-reads.Asked,
+  extend-reads.Learnt,
+  u16-at-reads.Asked,
+  u16-at-reads.Learnt,
+  count-entries-reads.Asked,
+  count-entries-reads.Learnt,
+  read-child-reads.Asked,
+  read-child-reads.Learnt,
+  lengthen-trail-reads.Asked,
+  lengthen-trail-reads.Learnt,
+  count-children-below t,
+  count-children.Post,
+  add-capped-reads.Asked,
+  add-capped-reads.Learnt,
+) (count-node-at t) count-node.Post
+count-node-add-capped-requires t c κs = let w = node-inside (c .before .before .before .before .before .before .before .before .before .before .before .before .before .before .before .before .before .before .args .store .now) (c .before .before .before .before .before .before .before .before .before .before .before .before .before .before .before .before .before .before .args .num) (c .before .before .before .before .before .before .before .before .before .before .before .before .before .before .before .before .before .before .args .level) ((c .before .before .before .before .before .before .before .before .before .before .before .before .before .before .before .before .before .before .pre .1) .reads) in (omega arith, c .count-children .ensures .1)
+
+-- src/lib.rt:247:1
+count-node-returns-4 : (t : ℕ) → count-node-lts.Need-returns-4 (
+  common-length-reads.Asked,
+  common-length-reads.Learnt,
+  extend-reads.Asked,
+  extend-reads.Learnt,
+  u16-at-reads.Asked,
+  u16-at-reads.Learnt,
+  count-entries-reads.Asked,
+  count-entries-reads.Learnt,
+  read-child-reads.Asked,
+  read-child-reads.Learnt,
+  lengthen-trail-reads.Asked,
+  lengthen-trail-reads.Learnt,
+  count-children-below t,
+  count-children.Post,
+  add-capped-reads.Asked,
+  add-capped-reads.Learnt,
+) (count-node-at t) count-node.Post
+count-node-returns-4 t c =
+    let q = c .before .before .before .before .before .before .before .before .before .before .before .before .before .before .before .before .before .before .before .pre .0 in let m = c .before .before .before .before .before .before .before .before .before .before .before .before .before .before .before .common-length .ensures .1 in let g = c .before .before .before .before .before .before .before .before .before .before .before .before .before .if1 .left in let x = c .before .before .before .before .before .before .before .before .before .before .before .extend .ensures .1 in let v = c .before .before .before .before .before .before .before .before .if2 .left in let l : length (take ((c .before .before .before .before .before .before .before .before .before .before .before .before .before .before .before .common-length .result) - 0) (c .before .before .before .before .before .before .before .before .before .before .before .before .before .before .before .before .before .before .before .args .lo .now)) ≡ (c .before .before .before .before .before .before .before .before .before .before .before .before .before .before .before .common-length .result) - 0 = length-take-le ((c .before .before .before .before .before .before .before .before .before .before .before .before .before .before .before .common-length .result) - 0) (c .before .before .before .before .before .before .before .before .before .before .before .before .before .before .before .before .before .before .before .args .lo .now) (omega arith) in let r = (c .before .before .before .before .before .before .before .before .before .before .before .before .before .before .before .before .before .before .before .pre .1) .room in
+    let h = here-length t (c .before .before .before .before .before .before .before .before .before .before .before) in
+    (node-inner (c .before .before .before .before .before .before .before .before .before .before .before .before .before .before .before .before .before .before .before .args .store .now) (c .before .before .before .before .before .before .before .before .before .before .before .before .before .before .before .before .before .before .before .args .level) (c .before .before .before .before .before .before .before .before .before .before .before .before .before .before .before .before .before .before .before .args .num) (c .before .before .before .before .before .before .before .before .before .before .before .before .before .before .before .before .before .before .before .args .prefix) (c .before .before .before .before .before .before .before .before .before .before .before .before .before .before .before .before .before .before .before .args .trail) (c .before .before .before .before .before .before .before .before .before .before .before .before .before .before .before .before .before .before .before .pre .1) (c .before .before .before .before .before .before .before .before .before .before .before .before .before .before .before .before .before .before .before .args .lo .now) (c .before .before .before .before .before .before .before .before .before .before .before .before .before .before .before .before .before .before .before .args .hi .now) (c .before .before .before .before .before .before .before .before .before .before .before .before .before .before .before .common-length .result) (c .before .before .before .before .before .before .before .before .before .before .before .before .before .before .before .common-length .ensures .0) (c .before .before .before .before .before .before .before .before .before .before .before .extend .result) (c .before .before .before .before .before .before .before .before .before .before .before .extend .ensures .0) (c .before .before .before .before .before .before .before .before .before .before .u16-at .result) (c .before .before .before .before .before .before .before .before .before .count-entries .result) (c .before .before .before .before .before .before .before .before .before .before .u16-at .ensures .0) (c .before .before .before .before .before .before .before .before .before .count-entries .ensures .0) (omega arith) (c .before .before .before .before .before .first .given .0 .0) (c .before .before .before .before .before .first .given .0 .1 .0) (c .before .before .before .before .before .first .given .0 .1 .1 .0) (first-next t (c .before .before .before .before)) (c .before .before .before .lengthen-trail .result) (c .before .before .before .lengthen-trail .ensures) (c .before .count-children .result) _ (omega arith) (c .before .count-children .ensures .0) (c .add-capped .ensures .0), c .add-capped .ensures .1)
+
+pub +count-children+count-node-spec : {M : Type 1} → statement M
++count-children+count-node-spec = close μ-count-children μ-count-node (λ t. count-children-lts.spec (
+  read-child-reads.Asked,
+  read-child-reads.Learnt,
+  count-node-below t,
+  count-node.Post,
+  add-capped-reads.Asked,
+  add-capped-reads.Learnt,
+)
+    (count-children-at t)
+    count-children.Post
+    count-children-Inv-loop
+    count-children-μ-loop
+    (count-children-loop-holds t)
+    (count-kids-read-child-requires t)
+    (count-children-enum-known-k t)
+    (count-children-enum-told t)
+    (count-children-sub-count-node t)
+    (count-children-part-count-node-start t)
+    (count-children-part-count-node-end t)
+    (count-children-count-node-requires t)
+    (count-children-add-capped-requires t)
+    (count-children-returns t)
+    (count-children-sub-count-node-2 t)
+    (count-children-part-count-node-start-2 t)
+    (count-children-part-count-node-end-2 t)
+    (count-children-sub-count-node-3 t)
+    (count-children-part-count-node-start-3 t)
+    (count-children-part-count-node-end-3 t)
+    (count-children-count-node-requires-2 t)
+    (count-children-add-capped-requires-2 t)
+    (count-children-loop-less t)
+    (count-children-loop-again t))
+    λ t. count-node-lts.spec (
+      common-length-reads.Asked,
+      common-length-reads.Learnt,
+      extend-reads.Asked,
+      extend-reads.Learnt,
+      u16-at-reads.Asked,
+      u16-at-reads.Learnt,
+      count-entries-reads.Asked,
+      count-entries-reads.Learnt,
+      read-child-reads.Asked,
+      read-child-reads.Learnt,
+      lengthen-trail-reads.Asked,
+      lengthen-trail-reads.Learnt,
+      count-children-below t,
+      count-children.Post,
+      add-capped-reads.Asked,
+      add-capped-reads.Learnt,
+    )
+    (count-node-at t)
+    count-node.Post
+    (count-node-common-length-requires t)
+    (count-node-sub-room t)
+    (count-node-returns t)
+    (count-node-sub-extend t)
+    (count-node-part-extend-start t)
+    (count-node-part-extend-end t)
+    (count-node-extend-requires t)
+    (count-node-mul-at t)
+    (count-node-u16-at-requires t)
+    (count-node-add-from t)
+    (count-node-add-end t)
+    (count-node-count-entries-requires t)
+    (count-node-returns-2 t)
+    (count-node-read-child-requires t)
+    (count-node-enum-known-first t)
+    (count-node-enum-told t)
+    (count-node-returns-3 t)
+    (count-node-lengthen-trail-requires t)
+    (count-node-sub-count-children t)
+    (count-node-sub-count-children-2 t)
+    (count-node-part-count-children-start t)
+    (count-node-part-count-children-end t)
+    (count-node-count-children-requires t)
+    (count-node-add-capped-requires t)
+    (count-node-returns-4 t)

@@ -1,0 +1,9 @@
+pub mod Live
+pub mod LiveLaws
+pub mod PathBuffers
+pub mod Walk
+pub mod Steps
+pub mod WalkLaws
+pub mod NodeSteps
+pub mod RootSteps
+pub mod PathSteps

@@ -1,0 +1,57 @@
+-- The number of paths present under a node, told entry by entry: an entry counts when it decides its path, that is when no newer message of
+-- its own node and no message of a node above says anything of that path. Definitions only; LiveLaws shows that this is the length of the table.
+use Prim.Native.Nat.{ℕ, _+_, _<_}
+use mathlib.Core.Path.{_≡_}
+use mathlib.Core.List.{List, [], _∷_, _++_}
+use mathlib.Core.Bool.{Bool, true, false, _&&_}
+use lib.ListN.{length, drop}
+use lib.Dec.{leb}
+use Rattle.image.specs.Bytes.{shared}
+use Rattle.image.specs.Path.{pathLimit}
+use Rattle.image.specs.Entry.{Message, puts, drops, clears}
+use Rattle.image.specs.Table.{Row}
+use Rattle.image.specs.Image.{Tree, unread, leaf, interior, Forest, end, tree}
+use Rattle.image.specs.Meaning.{Said, nothing, says, newest, highOf}
+use Rattle.reading.specs.Relative.{lifts}
+
+-- the messages say nothing
+unfoldable pub holdsNoMessage : Said → Bool
+holdsNoMessage nothing = true
+holdsNoMessage (says v) = false
+
+unfoldable pub one : Bool → ℕ
+one true = 1
+one false = 0
+
+-- a path that is not too long: the test at the root, where no message stands above
+unfoldable pub short : List ℕ → Bool
+short q = leb (length q) pathLimit
+
+-- a test that no path of more than 64 bytes passes
+unfoldable pub Shortens : (List ℕ → Bool) → Type 0
+Shortens ok = (q : List ℕ) → 64 < length q → ok q ≡ false
+
+-- the pairs of a leaf whose full path passes; X is what the node lifts
+unfoldable pub countRows : (List ℕ → Bool) → List ℕ → List Row → ℕ
+countRows ok X [] = 0
+countRows ok X (r ∷ rs) = one (ok (X ++ r .key)) + countRows ok X rs
+
+-- the puts whose full path passes and of which no later message of the node says anything
+unfoldable pub countPuts : (List ℕ → Bool) → List ℕ → List Message → ℕ
+countPuts ok X [] = 0
+countPuts ok X (puts s v ∷ ms) = one (ok (X ++ s) && holdsNoMessage (newest ms s)) + countPuts ok X ms
+countPuts ok X (drops s ∷ ms) = countPuts ok X ms
+countPuts ok X (clears s ∷ ms) = countPuts ok X ms
+
+-- The entries under a node that decide a path that passes. X is what the node lifts, hi its high pivot without that.
+unfoldable mutual
+  pub liveHere : Tree → (List ℕ → Bool) → List ℕ → List ℕ → ℕ
+  liveHere (unread i) ok X hi = 0
+  liveHere (leaf i rs) ok X hi = countRows ok X rs
+  liveHere (interior i f ms) ok X hi =
+      countPuts ok X ms + liveKids f (λ q. ok q && holdsNoMessage (newest ms (drop (length X) q))) X hi
+
+  pub liveKids : Forest → (List ℕ → Bool) → List ℕ → List ℕ → ℕ
+  liveKids end ok X hi = 0
+  liveKids (tree s t f) ok X hi =
+      liveHere t ok (X ++ shared s (highOf [] hi f)) (drop (lifts s (highOf [] hi f)) (highOf [] hi f)) + liveKids f ok X hi

@@ -1,0 +1,123 @@
+-- Step lemmas of the walk's two functions that call each other: what each exit owes, and what each call asks.
+-- Relies on WalkLaws and on the definitions of Walk.
+use Prim.Native.Nat.{ℕ, _+_, _-_, _*_, _<_, _≤_}
+use mathlib.Core.Path.{_≡_, refl, sym, ap, ap₂, _∙_}
+use mathlib.Core.List.{List, [], _∷_, _++_}
+use mathlib.Core.Bool.{Bool, true, _&&_}
+use native.Mathlib.Omega.{arith}
+use lib.ListN.{length, take, drop, length-append}
+use Rattle.image.specs.Bytes.{u16, shared}
+use Rattle.image.specs.Image.{Tree, Kid, nodesOf, forestOf, treeAt}
+use Rattle.reading.specs.Relative.{lifts, usable, usableIn}
+use Rattle.node.specs.Places.{part}
+use Rattle.node.specs.Entries.{listed}
+use Rattle.node.specs.declared.Place.{Place}
+use Rattle.node.specs.declared.Cursor.{Cursor}
+use Rattle.search.specs.Hear.{newestE}
+use Rattle.search.specs.Own.{kid, kidsE}
+use Rattle.lookup.specs.Look.{listing, node-inside, part-rest}
+use Rattle.live.specs.Live.{holdsNoMessage, liveHere, liveKids}
+use Rattle.live.specs.LiveLaws.{too-long}
+use Rattle.live.specs.PathBuffers.{pathIn}
+use Rattle.live.specs.PathSteps.{path-length}
+use Rattle.live.specs.declared.path_buffer.PathBuffer.{PathBuffer}
+use Rattle.live.specs.declared.Trail.{Trail}
+use Rattle.live.specs.Walk.{passing, TrailIn, Above, Deeper, countE, cap, NextChild, Ready, ReadyKids}
+use Rattle.live.specs.Steps.{passes-short, cap-small}
+use Rattle.live.specs.WalkLaws.{leaf-counts, kids-usable, interior-counts, cap-add, first-usable, shared-take}
+
+no-kids : (under : ℕ → Tree) (ok : List ℕ → Bool) (X hi : List ℕ) → liveKids (forestOf under []) ok X hi ≡ 0
+unfolding liveKids forestOf
+no-kids under ok X hi = refl
+
+-- A node: its pivots are lo and hi, the prefix and the trail are those of its parent's children.
+module _ (s : List ℕ) (level num : ℕ) (p : PathBuffer) (t : Trail) (ready : Ready s level num p t) (lo hi : List ℕ) where
+  abbrev Whole : ℕ
+  Whole = liveHere (treeAt level s num) (passing s t) (pathIn p ++ shared lo hi) (drop (lifts lo hi) hi)
+
+  -- what the node lifts is too long for any path
+  pub node-long : (k : ℕ) → k ≡ length (shared lo hi) → p .len ≤ length (p .bytes) → 64 < p .len + k → 0 ≡ cap Whole
+  node-long k e h l =
+      let a : length (pathIn p ++ shared lo hi) ≡ p .len + length (shared lo hi)
+      = length-append (pathIn p) (shared lo hi) ∙ ap (λ n. n + length (shared lo hi)) (path-length p h) in
+      cap-small 0 (omega arith) ∙ ap cap (sym (too-long (treeAt level s num) (passing s t) (pathIn p ++ shared lo hi) (drop (lifts lo hi) hi) (passes-short s t) (omega arith)))
+
+  -- here is the prefix of the node's own entries
+  module _ (k : ℕ) (ek : k ≡ length (shared lo hi)) (here : PathBuffer) (eh : pathIn here ≡ pathIn p ++ take (k - 0) (drop 0 lo)) where
+    here-is : pathIn here ≡ pathIn p ++ shared lo hi
+    here-is =
+        let z : k - 0 ≡ length (shared lo hi) = omega arith in
+        eh ∙ ap (λ l. pathIn p ++ l) (ap (λ n. take n lo) z ∙ shared-take lo hi)
+
+    rest-is : drop k hi ≡ drop (lifts lo hi) hi
+    unfolding lifts
+    rest-is = ap (λ n. drop n hi) ek
+
+    whole-is : liveHere (treeAt level s num) (passing s t) (pathIn here) (drop k hi) ≡ Whole
+    whole-is = ap₂ (λ X h. liveHere (treeAt level s num) (passing s t) X h) here-is rest-is
+
+    module _ (len own : ℕ) (el : len ≡ u16 s (num * 1024)) (eo : own ≡ countE (passing s t) (pathIn here) (listed s (num * 1024 + 8) (num * 1024 + 8 + len))) where
+      own-is : own ≡ countE (passing s t) (pathIn here) (listing s num)
+      own-is = eo ∙ ap (λ n. countE (passing s t) (pathIn here) (listed s (num * 1024 + 8) (num * 1024 + 8 + n))) el
+
+      pub node-leaf : level ≤ 1 → own ≤ 65535 → own ≡ cap Whole
+      node-leaf l h = cap-small own h ∙ ap cap (own-is ∙ leaf-counts s num level (ready .reads) l (passing s t) (pathIn here) (drop k hi) ∙ whole-is)
+
+      kids-are : (ks : List Kid) → kidsE (listed s (num * 1024 + 8) (num * 1024 + 8 + len)) ≡ ks → kidsE (listing s num) ≡ ks
+      kids-are ks e = ap (λ n. kidsE (listed s (num * 1024 + 8) (num * 1024 + 8 + n))) (sym el) ∙ e
+
+      pub node-bare : 2 ≤ level → own ≤ 65535 → kidsE (listed s (num * 1024 + 8) (num * 1024 + 8 + len)) ≡ [] → own ≡ cap Whole
+      node-bare l h e =
+          let more : List ℕ → Bool = λ q. passing s t q && holdsNoMessage (newestE (listing s num) (drop (length (pathIn here)) q)) in
+          let a : countE (passing s t) (pathIn here) (listing s num) + liveKids (forestOf (λ j. treeAt (level - 1) s j) (kidsE (listing s num))) more (pathIn here) (drop k hi)
+          ≡ liveHere (treeAt level s num) (passing s t) (pathIn here) (drop k hi)
+          = interior-counts s num level (ready .reads) l (passing s t) more (pathIn here) (drop k hi) (λ q. refl) in
+          let b : liveKids (forestOf (λ j. treeAt (level - 1) s j) (kidsE (listing s num))) more (pathIn here) (drop k hi) ≡ 0
+          = ap (λ ks. liveKids (forestOf (λ j. treeAt (level - 1) s j) ks) more (pathIn here) (drop k hi)) (kids-are [] e)
+          ∙ no-kids (λ j. treeAt (level - 1) s j) more (pathIn here) (drop k hi) in
+          let c : own ≡ liveHere (treeAt level s num) (passing s t) (pathIn here) (drop k hi) = let d = own-is in omega arith in
+          cap-small own h ∙ ap cap (c ∙ whole-is)
+
+      -- the children, from the first on
+      module _ (two : 2 ≤ level) (first : ℕ) (pivot : Place) (next : Cursor)
+          (nc : NextChild s (num * 1024 + 8) (num * 1024 + 8 + len) first pivot next) where
+        abbrev kids : List Kid
+        kids = kid first (part s pivot) ∷ kidsE (listed s (next .at) (next .end))
+
+        module _ (above : Trail) (deeper : Deeper s num (here .len) t above) where
+          pub kids-ready : next .end ≤ length s → here .len ≤ 64 → ReadyKids s (level - 1) first pivot next here above
+          kids-ready f h =
+              record {
+                reads = ap (λ ks. usableIn (nodesOf (length s)) (forestOf (λ j. treeAt (level - 1) s j) ks)) (sym (kids-are kids (nc .lists)))
+                    ∙ kids-usable s num level (ready .reads) two;
+                ends = f;
+                place = nc .place;
+                room = h;
+                trail = deeper .fits;
+                deep = let a = deeper .depth in let b = ready .deep in omega arith;
+              }
+
+          pub node-inner : (n r : ℕ) → here .len ≤ length (here .bytes)
+              → n ≡ cap (liveKids (forestOf (λ j. treeAt (level - 1) s j) kids) (passing s above) (pathIn here) (take (length hi - k) (drop k hi)))
+              → r ≡ cap (own + n) → r ≡ cap Whole
+          node-inner n r w en er =
+              let f : (q : List ℕ) → passing s above q ≡ passing s t q && holdsNoMessage (newestE (listing s num) (drop (length (pathIn here)) q))
+              = λ q. deeper .test q ∙ ap (λ m. passing s t q && holdsNoMessage (newestE (listing s num) (drop m q))) (sym (path-length here w)) in
+              let K : ℕ = liveKids (forestOf (λ j. treeAt (level - 1) s j) (kidsE (listing s num))) (passing s above) (pathIn here) (drop k hi) in
+              let a : countE (passing s t) (pathIn here) (listing s num) + K ≡ liveHere (treeAt level s num) (passing s t) (pathIn here) (drop k hi)
+              = interior-counts s num level (ready .reads) two (passing s t) (passing s above) (pathIn here) (drop k hi) f in
+              let b : n ≡ cap K
+              = en ∙ ap₂ (λ ks h. cap (liveKids (forestOf (λ j. treeAt (level - 1) s j) ks) (passing s above) (pathIn here) h))
+              (sym (kids-are kids (nc .lists))) (part-rest k hi) in
+              er ∙ ap (λ z. cap (own + z)) b ∙ cap-add own K ∙ ap cap (ap (λ z. z + K) own-is ∙ a ∙ whole-is)
+
+-- a node's own place in the store, and its trail as its own entries and its children see it
+pub node-above : (s : List ℕ) (level num n : ℕ) → usable (nodesOf (length s)) (treeAt level s num) ≡ true → Above s n num n
+node-above s level num n u = let w = node-inside s num level u in record { inside = w .0; fits = w .1; lifted = omega arith }
+
+-- the child in hand, of the children from it on
+pub child-ready : (s : List ℕ) (level num : ℕ) (low : List ℕ) (ks : List Kid) (p : PathBuffer) (t : Trail)
+    → usableIn (nodesOf (length s)) (forestOf (λ j. treeAt level s j) (kid num low ∷ ks)) ≡ true → p .len ≤ 64 → TrailIn s (p .len) t → t .depth + level ≤ 8
+    → Ready s level num p t
+child-ready s level num low ks p t u r f d =
+    record { reads = first-usable (nodesOf (length s)) (λ j. treeAt level s j) (kid num low) ks u; room = r; trail = f; deep = d }

@@ -1,0 +1,8 @@
+-- The bytes that a path buffer holds.
+use Prim.Native.Nat.{ℕ}
+use mathlib.Core.List.{List}
+use lib.ListN.{take}
+use Rattle.live.specs.declared.path_buffer.PathBuffer.{PathBuffer}
+
+unfoldable pub pathIn : PathBuffer → List ℕ
+pathIn p = take (p .len) (p .bytes)

@@ -1,0 +1,349 @@
+// The number of paths present in an image that may have waiting messages, counted in one walk over its nodes: each entry that decides
+// its path counts once. Relies on the readers of nodes (node, tree) and on `usable` (rel); specs/Live says what is counted.
+pub mod path_buffer;
+
+use node::Cursor;
+use node::Entry;
+use node::Message;
+use node::Place;
+use node::Step;
+use path_buffer::PathBuffer;
+use search::Heard;
+use search::Kid;
+ghost use mathlib.Core.Path.{_≡_};
+ghost use mathlib.Core.List.{List, _++_, _∷_, []};
+ghost use mathlib.Core.Bool.{true};
+ghost use Prim.Native.Nat.{ℕ, _+_, _-_, _*_, _<_, _≤_};
+ghost use lib.ListN.{length, drop};
+ghost use Rattle.image.specs.Bytes.{shared, u16};
+ghost use Rattle.image.specs.Entry.{message};
+ghost use Rattle.image.specs.Image.{treeAt, nodesOf, forestOf};
+ghost use Rattle.image.specs.Sound.{tableOf};
+ghost use Rattle.reading.specs.Relative.{usable, usableIn, lifts};
+ghost use Rattle.node.specs.Places.{Within, EntryWithin, MessageWithin, part, entryIn, messageIn};
+ghost use Rattle.node.specs.Entries.{listed};
+ghost use Rattle.search.specs.Hear.{newestE};
+ghost use Rattle.search.specs.Own.{kid, kidsE};
+ghost use Rattle.lookup.specs.Look.{listing};
+ghost use Rattle.live.specs.Live.{holdsNoMessage, one, liveHere, liveKids};
+ghost use Rattle.live.specs.PathBuffers.{pathIn};
+ghost use Rattle.live.specs.Walk.{passing, TrailIn, Above, decides, countE, isMessage, hasMessage, cap, Pends, Deeper, pushed, Ready, ReadyKids, Countable};
+
+// The nodes above that hold messages, from the root down: each with how many bytes it lifts.
+pub struct Trail {
+    pub nodes: [usize; 8],
+    pub lifts: [usize; 8],
+    pub depth: usize,
+}
+
+// The next child of an interior node, and the cursor after it.
+pub enum Pending {
+    Child(usize, Place, Cursor),
+    End,
+}
+
+// Whether the entries from a place up to another say nothing of a rest.
+pub fn is_silent(store: &[u8], from: usize, end: usize, rest: &[u8]) -> bool
+    requires { ⌜ end ≤ length (now store) ⌝ }
+    ensures { λ r. ⌜ r ≡ holdsNoMessage (newestE (listed (now (store .entry)) from end) (now (rest .entry))) ⌝ }
+{
+    let h = search::newest(store, from, end, rest);
+    match h {
+        Heard::Silent => true,
+        Heard::Gone => false,
+        Heard::Value(_) => false,
+    }
+}
+
+// Whether the messages of a node say nothing of a rest.
+pub fn is_node_silent(store: &[u8], num: usize, rest: &[u8]) -> bool
+    requires { ⌜ (num * 1024 + 1024 ≤ length (now store)) × (u16 (now store) (num * 1024) ≤ 1016) ⌝ }
+    ensures { λ r. ⌜ r ≡ holdsNoMessage (newestE (listing (now (store .entry)) num) (now (rest .entry))) ⌝ }
+{
+    let at = num * 1024;
+    let len = octets::u16_at(store, at);
+    let from = at + 8;
+    is_silent(store, from, from + len, rest)
+}
+
+// Whether no node of the trail has a message on a path.
+pub fn is_visible(store: &[u8], trail: Trail, path: &[u8]) -> bool
+    requires { ⌜ (length (now path) ≤ 64) × TrailIn (now store) (length (now path)) trail ⌝ }
+    ensures { λ r. ⌜ r ≡ passing (now (store .entry)) trail (now (path .entry)) ⌝ }
+{
+    let nodes = trail.nodes;
+    let lifts = trail.lifts;
+    let mut d = trail.depth;
+    while 0 < d {
+        d -= 1;
+        let num = nodes[d];
+        let k = lifts[d];
+        if !is_node_silent(store, num, &path[k..]) {
+            return false;
+        }
+    }
+    true
+}
+
+// Whether the path that is the prefix and a key is short enough, and no node of the trail has a message on it.
+pub fn is_live(store: &[u8], prefix: PathBuffer, trail: Trail, key: &[u8]) -> bool
+    requires { ⌜ (prefix .len ≤ 64) × TrailIn (now store) (prefix .len) trail ⌝ }
+    ensures { λ r. ⌜ r ≡ passing (now (store .entry)) trail (pathIn prefix ++ now (key .entry)) ⌝ }
+{
+    let room = 64 - prefix.len;
+    if room < key.len() {
+        return false;
+    }
+    if trail.depth == 0 {
+        return true;
+    }
+    let full = path_buffer::extend(prefix, key);
+    let n = full.len;
+    let b = full.bytes;
+    is_visible(store, trail, &b[0..n])
+}
+
+// Whether a message is a put that no later entry of its node and no node of the trail says anything of. The cursor stands after it.
+pub fn message_decides(
+    store: &[u8],
+    prefix: PathBuffer,
+    trail: Trail,
+    m: Message,
+    next: Cursor,
+) -> bool
+    requires { ⌜ (prefix .len ≤ 64) × TrailIn (now store) (prefix .len) trail × MessageWithin 0 (length (now store)) m × (next .end ≤ length (now store)) ⌝ }
+    ensures { λ r. ⌜ r ≡ decides (passing (now (store .entry)) trail) (pathIn prefix) (message (messageIn (now (store .entry)) m)) (listed (now (store .entry)) (next .at) (next .end)) ⌝ }
+{
+    match m {
+        Message::Put(p, _) => {
+            let a = p.start;
+            let b = p.stop;
+            let from = next.at;
+            let end = next.end;
+            if !is_silent(store, from, end, &store[a..b]) {
+                return false;
+            }
+            is_live(store, prefix, trail, &store[a..b])
+        }
+        Message::Drop(_) => false,
+        Message::Clear(_) => false,
+    }
+}
+
+// Whether an entry decides its path.
+pub fn entry_decides(store: &[u8], prefix: PathBuffer, trail: Trail, e: Entry, next: Cursor) -> bool
+    requires { ⌜ (prefix .len ≤ 64) × TrailIn (now store) (prefix .len) trail × EntryWithin 0 (length (now store)) e × (next .end ≤ length (now store)) ⌝ }
+    ensures { λ r. ⌜ r ≡ decides (passing (now (store .entry)) trail) (pathIn prefix) (entryIn (now (store .entry)) e) (listed (now (store .entry)) (next .at) (next .end)) ⌝ }
+{
+    match e {
+        Entry::Pair(p, _) => {
+            let a = p.start;
+            let b = p.stop;
+            is_live(store, prefix, trail, &store[a..b])
+        }
+        Entry::Child(_, _) => false,
+        Entry::Message(m) => message_decides(store, prefix, trail, m, next),
+    }
+}
+
+fn as_number(b: bool) -> usize
+    ensures { λ r. ⌜ (r ≡ one b) × (r ≤ 1) ⌝ }
+{
+    if b {
+        return 1;
+    }
+    0
+}
+
+// How many entries of a node decide their paths.
+pub fn count_entries(
+    store: &[u8],
+    from: usize,
+    end: usize,
+    prefix: PathBuffer,
+    trail: Trail,
+) -> usize
+    requires { ⌜ (from ≤ end) × (end ≤ length (now store)) × (prefix .len ≤ 64) × TrailIn (now store) (prefix .len) trail ⌝ }
+    ensures { λ r. ⌜ (r ≡ countE (passing (now (store .entry)) trail) (pathIn prefix) (listed (now (store .entry)) from end)) × (r + from ≤ end) ⌝ }
+{
+    let mut c = Cursor { at: from, end };
+    let mut n: usize = 0;
+    while c.at < end {
+        let Step::Read(e, next) = c.step(store) else {
+            return n;
+        };
+        n = n + as_number(entry_decides(store, prefix, trail, e, next));
+        c = next;
+    }
+    n
+}
+
+fn is_message(e: Entry) -> bool
+    ensures { λ r. ⌜ ((s : List ℕ) → r ≡ isMessage (entryIn s e)) ⌝ }
+{
+    match e {
+        Entry::Pair(_, _) => false,
+        Entry::Child(_, _) => false,
+        Entry::Message(_) => true,
+    }
+}
+
+pub fn has_messages(store: &[u8], from: usize, end: usize) -> bool
+    requires { ⌜ end ≤ length (now store) ⌝ }
+    ensures { λ r. ⌜ r ≡ hasMessage (listed (now (store .entry)) from end) ⌝ }
+{
+    let mut c = Cursor { at: from, end };
+    while c.at < end {
+        let Step::Read(e, next) = c.step(store) else {
+            return false;
+        };
+        if is_message(e) {
+            return true;
+        }
+        c = next;
+    }
+    false
+}
+
+fn push(trail: Trail, num: usize, lift: usize) -> Trail
+    requires { ⌜ trail .depth < 8 ⌝ }
+    ensures { λ r. ⌜ r ≡ pushed trail num lift ⌝ }
+{
+    let d = trail.depth;
+    let mut t = trail;
+    t.nodes[d] = num;
+    t.lifts[d] = lift;
+    t.depth = d + 1;
+    t
+}
+
+// The trail for the children of a node: a node without messages is not added.
+pub fn lengthen_trail(store: &[u8], trail: Trail, num: usize, lift: usize) -> Trail
+    requires { ⌜ (trail .depth < 8) × TrailIn (now store) lift trail × Above (now store) lift num lift ⌝ }
+    ensures { λ r. ⌜ Deeper (now (store .entry)) num lift trail r ⌝ }
+{
+    let at = num * 1024;
+    let len = octets::u16_at(store, at);
+    let from = at + 8;
+    if !has_messages(store, from, from + len) {
+        return trail;
+    }
+    push(trail, num, lift)
+}
+
+// A sum, where more than 65,535 is reported as 65,535.
+fn add_capped(a: usize, b: usize) -> usize
+    requires { ⌜ (a ≤ 65535) × (b ≤ 65535) ⌝ }
+    ensures { λ r. ⌜ (r ≡ cap (a + b)) × (r ≤ 65535) ⌝ }
+{
+    let n = a + b;
+    if 65535 < n {
+        return 65535;
+    }
+    n
+}
+
+pub fn read_child(store: &[u8], c: Cursor) -> Pending
+    requires { ⌜ c .end ≤ length (now store) ⌝ }
+    ensures { λ r. ⌜ Pends (now (store .entry)) (c .at) (c .end) r ⌝ }
+{
+    let Step::Read(e, next) = c.step(store) else {
+        return Pending::End;
+    };
+    let Kid::Of(k, p) = search::kid_of(e) else {
+        return Pending::End;
+    };
+    Pending::Child(k, p, next)
+}
+
+// How many entries under a node decide a path that passes the trail. The pivots lack what the parent lifts, which is the prefix.
+pub fn count_node(
+    store: &[u8],
+    num: usize,
+    level: usize,
+    prefix: PathBuffer,
+    lo: &[u8],
+    hi: &[u8],
+    trail: Trail,
+) -> usize
+    requires { ⌜ Ready (now store) level num prefix trail ⌝ }
+    ensures { λ r. ⌜ (r ≡ cap (liveHere (treeAt level (now (store .entry)) num) (passing (now (store .entry)) trail) (pathIn prefix ++ shared (now (lo .entry)) (now (hi .entry))) (drop (lifts (now (lo .entry)) (now (hi .entry))) (now (hi .entry))))) × (r ≤ 65535) ⌝ }
+{
+    let k = octets::common_length(lo, hi);
+    let room = 64 - prefix.len;
+    if room < k {
+        return 0;
+    }
+    let here = path_buffer::extend(prefix, &lo[0..k]);
+    let at = num * 1024;
+    let len = octets::u16_at(store, at);
+    let from = at + 8;
+    let end = from + len;
+    let own = count_entries(store, from, end, here, trail);
+    if level <= 1 {
+        return own;
+    }
+    let Pending::Child(first, pivot, next) = read_child(store, Cursor { at: from, end }) else {
+        return own;
+    };
+    let lift = here.len;
+    let above = lengthen_trail(store, trail, num, lift);
+    let n = count_children(store, first, pivot, next, level - 1, here, &hi[k..], above);
+    add_capped(own, n)
+}
+
+// The same for a child and those that follow from the cursor on; a child's high pivot is the next one's low pivot, or else hi.
+pub fn count_children(
+    store: &[u8],
+    first: usize,
+    pivot: Place,
+    start: Cursor,
+    level: usize,
+    prefix: PathBuffer,
+    hi: &[u8],
+    trail: Trail,
+) -> usize
+    requires { ⌜ ReadyKids (now store) level first pivot start prefix trail ⌝ }
+    ensures { λ r. ⌜ (r ≡ cap (liveKids (forestOf (λ j. treeAt level (now (store .entry)) j) (kid first (part (now (store .entry)) pivot) ∷ kidsE (listed (now (store .entry)) (start .at) (start .end)))) (passing (now (store .entry)) trail) (pathIn prefix) (now (hi .entry)))) × (r ≤ 65535) ⌝ }
+{
+    let mut c = start;
+    let mut num = first;
+    let mut low = pivot;
+    let mut total: usize = 0;
+    loop {
+        let a = low.start;
+        let b = low.stop;
+        let Pending::Child(k, p, next) = read_child(store, c) else {
+            let last = count_node(store, num, level, prefix, &store[a..b], hi, trail);
+            return add_capped(total, last);
+        };
+        let x = p.start;
+        let y = p.stop;
+        let n = count_node(store, num, level, prefix, &store[a..b], &store[x..y], trail);
+        total = add_capped(total, n);
+        num = k;
+        low = p;
+        c = next;
+    }
+}
+
+// The number of paths present in an image that is sound but for its live count; more than 65,535 is reported as 65,535.
+pub fn live_count(store: &[u8]) -> usize
+    requires { ⌜ Countable (now store) ⌝ }
+    ensures { λ r. ⌜ r ≡ cap (length (tableOf (now (store .entry)))) ⌝ }
+{
+    let root = octets::u16_at(store, 6);
+    let levels = octets::u16_at(store, 8);
+    let lo = [0u8; 1];
+    let hi = [255u8; 1];
+    let bytes = [0u8; 64];
+    let prefix = PathBuffer { bytes, len: 0 };
+    let nodes = [0usize; 8];
+    let lifts = [0usize; 8];
+    let trail = Trail {
+        nodes,
+        lifts,
+        depth: 0,
+    };
+    count_node(store, root, levels, prefix, &lo[0..0], &hi, trail)
+}

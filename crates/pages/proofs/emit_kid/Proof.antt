@@ -1,0 +1,75 @@
+use Prim.Native.Nat.{ℕ, _+_, _*_, _-_, _/_, _%_, _≤_, _<_}
+use mathlib.Core.Path.{_≡_, refl, sym, ap, ap₂, _∙_}
+use Rattle.image.specs.Entry.{child}
+use Rattle.laws.specs.Encode.{bytesOf}
+use lib.ListN.{length, getD}
+use native.Mathlib.Omega.{arith}
+use borrow.Author.Needs.{needs}
+use Rattle.octets.specs.Put.{put, put-nil}
+use Rattle.pages.specs.Entries.{kidBytes, bytes-none, bytes-some, child-size, Span, span}
+use Rattle.pages.proofs.emit_kid.Statement.{statement}
+use Rattle.pages.proofs.emit_kid.Tie as tie
+use Rattle.pages.proofs.emit_kid.Reads as reads
+use Rattle.pages.proofs.emit_kid.Lts as lts
+use Rattle.rows.proofs.mark_at.Reads as mark-at-reads
+use Rattle.pages.proofs.emit_child.Reads as emit-child-reads
+use Rattle.pages.proofs.kid_end.Reads as kid-end-reads
+use Rattle.pages.proofs.kid_start.Reads as kid-start-reads
+
+mark-at-requires : tie.Need-mark-at-requires
+mark-at-requires c κs = search needs
+
+returns : tie.Need-returns
+returns c =
+    let d = bytes-none (c .before .before .before .before .args .k) (c .before .before .before .before .args .area .now) (c .before .before .before .before .args .t) (omega arith) in
+    (sym (put-nil (c .before .before .before .before .args .page .now) (c .before .before .before .before .args .at)) ∙ ap (put (c .before .before .before .before .args .page .now) (c .before .before .before .before .args .at)) (sym d), (let q = ap length d in omega arith))
+
+kid-start-requires : tie.Need-kid-start-requires
+kid-start-requires c κs = search needs
+
+kid-end-requires : tie.Need-kid-end-requires
+kid-end-requires c κs = search needs
+
+sub-emit-child : tie.Need-sub-emit-child
+sub-emit-child c = span (c .before .before .before .before .before .before .before .args .m) (c .before .before .before .before .before .before .before .args .area .now) (c .before .before .before .before .before .before .before .pre .0) (c .before .before .before .before .before .before .before .args .k) (c .before .before .before .before .before .before .before .args .t) (omega arith) _ _ (c .before .before .kid-start .ensures) (c .before .kid-end .ensures) .ordered
+
+part-emit-child-start : tie.Need-part-emit-child-start
+part-emit-child-start c = span (c .before .before .before .before .before .before .before .args .m) (c .before .before .before .before .before .before .before .args .area .now) (c .before .before .before .before .before .before .before .pre .0) (c .before .before .before .before .before .before .before .args .k) (c .before .before .before .before .before .before .before .args .t) (omega arith) _ _ (c .before .before .kid-start .ensures) (c .before .kid-end .ensures) .ordered
+
+part-emit-child-end : tie.Need-part-emit-child-end
+part-emit-child-end c = span (c .before .before .before .before .before .before .before .args .m) (c .before .before .before .before .before .before .before .args .area .now) (c .before .before .before .before .before .before .before .pre .0) (c .before .before .before .before .before .before .before .args .k) (c .before .before .before .before .before .before .before .args .t) (omega arith) _ _ (c .before .before .kid-start .ensures) (c .before .kid-end .ensures) .inside
+
+emit-child-requires : tie.Need-emit-child-requires
+emit-child-requires c κs =
+    let q = ap length (span (c .before .before .before .before .before .before .before .before .args .m) (c .before .before .before .before .before .before .before .before .args .area .now) (c .before .before .before .before .before .before .before .before .pre .0) (c .before .before .before .before .before .before .before .before .args .k) (c .before .before .before .before .before .before .before .before .args .t) (omega arith) _ _ (c .before .before .before .kid-start .ensures) (c .before .before .kid-end .ensures) .bytes) in
+    let d = ap length (bytes-some (c .before .before .before .before .before .before .before .before .args .k) (c .before .before .before .before .before .before .before .before .args .area .now) (c .before .before .before .before .before .before .before .before .args .t) (λ z. omega arith)) ∙ child-size _ _ in
+    (omega arith, omega arith, omega arith)
+
+same-length : tie.Need-same-length
+same-length c = search needs
+
+returns-2 : tie.Need-returns-2
+returns-2 c =
+    let sp = span (c .before .before .before .before .before .before .before .before .before .before .before .args .m) (c .before .before .before .before .before .before .before .before .before .before .before .args .area .now) (c .before .before .before .before .before .before .before .before .before .before .before .pre .0) (c .before .before .before .before .before .before .before .before .before .before .before .args .k) (c .before .before .before .before .before .before .before .before .before .before .before .args .t) (omega arith) _ _ (c .before .before .before .before .before .before .kid-start .ensures) (c .before .before .before .before .before .kid-end .ensures) in
+    let some-bytes = bytes-some (c .before .before .before .before .before .before .before .before .before .before .before .args .k) (c .before .before .before .before .before .before .before .before .before .before .before .args .area .now) (c .before .before .before .before .before .before .before .before .before .before .before .args .t) (λ z. omega arith) in
+    let q = ap length (sp .bytes) in
+    let d = ap length some-bytes ∙ child-size _ _ in (
+      c .before .before .emit-child .ensures .0
+          ∙ ap (put (c .before .before .before .before .before .before .before .before .before .before .before .args .page .now) (c .before .before .before .before .before .before .before .before .before .before .before .args .at)) (ap₂ (λ n s. bytesOf (child n s)) (c .before .before .before .before .before .before .before .before .mark-at .ensures .0) (sp .bytes) ∙ sym some-bytes),
+      omega arith,
+    )
+
+pub emit-kid-spec : {M : Type 1} → statement M
+emit-kid-spec =
+    tie.close
+    (tie.spec
+    mark-at-requires
+    returns
+    kid-start-requires
+    kid-end-requires
+    sub-emit-child
+    part-emit-child-start
+    part-emit-child-end
+    emit-child-requires
+    same-length
+    returns-2)

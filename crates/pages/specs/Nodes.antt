@@ -1,0 +1,124 @@
+-- The lifted prefix, and a whole interior page.
+use Prim.Native.Nat.{ℕ, zero, suc, _+_, _*_, _-_, _/_, _%_, _≤_, _<_}
+use mathlib.Core.Path.{_≡_, refl, sym, ap, ap₂, subst, _∙_}
+use mathlib.Core.List.{List, [], _∷_, _++_, append-assoc, append-nil}
+use mathlib.Core.Bool.{Bool, true, false, cond}
+use native.Mathlib.Omega.{arith}
+use lib.ListN.{length, take, drop, getD, replicate, length-append, length-drop, length-replicate, drop-of-length-le}
+use lib.Seq.{drop-cons}
+use lib.Dec.{eqb}
+use borrow.Author.Tests.{eq-eqb, ne-eqb}
+use Rattle.image.specs.Bytes.{shared}
+use Rattle.image.specs.Sound.{highest}
+use Rattle.image.specs.Bytes.{u16Bytes}
+use Rattle.laws.specs.Encode.{bytesOfAll}
+use Rattle.laws.specs.WriteNode.{writeNode}
+use Rattle.packed.specs.Packed.{first}
+use Rattle.packed.specs.Pages.{page}
+use Rattle.packed.specs.Marks.{pivotOf, childEntries}
+use Rattle.packed.specs.Tidy.{zerosOf, drop-zeros, take-zeros}
+use Rattle.rows.specs.Area.{RowsFit}
+use Rattle.rows.specs.Kids.{markAt, lowOfRow, kidsOf, kids-take, highOfRow, nodePage}
+use Rattle.octets.specs.Put.{put, put-size}
+use Rattle.pages.specs.Entries.{kidBytes}
+
+-- a loop from the front
+unfoldable pub sharedFrom : List ℕ → List ℕ → ℕ → ℕ
+sharedFrom a b i = i + length (shared (drop i a) (drop i b))
+
+pub shared-whole : (a b : List ℕ) → sharedFrom a b 0 ≡ length (shared a b)
+unfolding sharedFrom
+shared-whole a b = omega arith
+
+module _ (a b : List ℕ) (i : ℕ) where
+  pub shared-on : i < length a → i < length b → getD a i 0 ≡ getD b i 0 → sharedFrom a b i ≡ sharedFrom a b (i + 1)
+  unfolding sharedFrom shared
+  shared-on h k e =
+      let z : suc i ≡ i + 1 = omega arith in
+      let q : length (shared (drop i a) (drop i b)) ≡ suc (length (shared (drop (suc i) a) (drop (suc i) b))) =
+      rw (drop-cons a i 0 h, drop-cons b i 0 k, eq-eqb (getD a i 0) (getD b i 0) e) in
+      let r = ap (λ x. length (shared (drop x a) (drop x b))) z in
+      omega arith
+
+  pub shared-stop : i < length a → i < length b → (getD a i 0 ≡ getD b i 0 → ⊥) → sharedFrom a b i ≡ i
+  unfolding sharedFrom shared
+  shared-stop h k n = rw (drop-cons a i 0 h, drop-cons b i 0 k, ne-eqb (getD a i 0) (getD b i 0) n) (omega arith)
+
+  pub shared-short : length a ≤ i → sharedFrom a b i ≡ i
+  unfolding sharedFrom shared
+  shared-short h = rw (drop-of-length-le a {i = i} h) (omega arith)
+
+  shared-nil : (l : List ℕ) → shared l [] ≡ []
+  unfolding shared
+  shared-nil [] = refl
+  shared-nil (x ∷ l) = refl
+
+  pub shared-short-2 : length b ≤ i → sharedFrom a b i ≡ i
+  unfolding sharedFrom
+  shared-short-2 h = rw (drop-of-length-le b {i = i} h, shared-nil (drop i a)) (omega arith)
+
+-- the high pivot of what ends before row j
+pub high-last : (m : ℕ) (area : List ℕ) (j : ℕ) → j ≡ m → highOfRow m area j ≡ highest
+unfolding highOfRow kidsOf first
+high-last m area j e = let z : m - j ≡ 0 = omega arith in rw z refl
+
+pub high-row : (m : ℕ) (area : List ℕ) (j : ℕ) → j < m → 1 ≤ markAt area j → highOfRow m area j ≡ lowOfRow area j
+unfolding highOfRow first
+high-row m area j h o =
+    let z : m - j ≡ suc (m - suc j) = omega arith in
+    ap (λ k. first pivotOf highest (kidsOf k area j)) z ∙ ap (first pivotOf highest) (kids-take (m - suc j) area j o)
+
+-- the page
+zeros-put : (es : List ℕ) → length es ≤ 1016 → put (zerosOf 1024) 8 es ≡ zerosOf 8 ++ (es ++ zerosOf (1016 - length es))
+unfolding put
+zeros-put es h =
+    let z : 1024 - (8 + length es) ≡ 1016 - length es = omega arith in
+    ap₂ (λ x y. x ++ (es ++ y)) (take-zeros 8 1024 (omega arith)) (drop-zeros (8 + length es) 1024 ∙ ap zerosOf z)
+
+zeros-eight : (k : ℕ) (es : List ℕ) → zerosOf 8 ++ (es ++ zerosOf k) ≡ 0 ∷ 0 ∷ 0 ∷ 0 ∷ 0 ∷ 0 ∷ 0 ∷ 0 ∷ (es ++ replicate k 0)
+unfolding zerosOf
+zeros-eight k es = refl
+
+pub page-is : (es : List ℕ) (kind level : ℕ) → length es ≤ 1016
+    → put (put (put (put (zerosOf 1024) 8 es) 0 (u16Bytes (length es))) 2 (u16Bytes kind)) 4 (u16Bytes level) ≡ page kind level es
+page-is es kind level h =
+    ap (λ x. put (put (put x 0 (u16Bytes (length es))) 2 (u16Bytes kind)) 4 (u16Bytes level)) first-put ∙ heads (es ++ replicate (1016 - length es) 0) ∙ (unfold page in refl)
+  where
+    first-put : put (zerosOf 1024) 8 es ≡ 0 ∷ 0 ∷ 0 ∷ 0 ∷ 0 ∷ 0 ∷ 0 ∷ 0 ∷ (es ++ replicate (1016 - length es) 0)
+    first-put = zeros-put es h ∙ zeros-eight (1016 - length es) es
+
+    heads : (r : List ℕ) → put (put (put (0 ∷ 0 ∷ 0 ∷ 0 ∷ 0 ∷ 0 ∷ 0 ∷ 0 ∷ r) 0 (u16Bytes (length es))) 2 (u16Bytes kind)) 4 (u16Bytes level)
+        ≡ u16Bytes (length es) ++ (u16Bytes kind ++ (u16Bytes level ++ (0 ∷ 0 ∷ r)))
+    heads r = unfold put in refl
+
+pub put-node : (store : List ℕ) (num : ℕ) (bytes : List ℕ) → length bytes ≡ 1024 → put store (num * 1024) bytes ≡ writeNode store num bytes
+unfolding put writeNode
+put-node store num bytes e =
+    let a : num * 1024 ≡ 1024 * num = omega arith in
+    let b : num * 1024 + length bytes ≡ 1024 * num + 1024 = omega arith in
+    ap₂ (λ x y. take x store ++ (bytes ++ drop y store)) a b
+
+-- the bytes of the entries of the node that starts at row i and ends before row j
+unfoldable pub nodeBytesOf : ℕ → List ℕ → ℕ → ℕ → ℕ
+nodeBytesOf m area i j = length (kidBytes (length (shared (lowOfRow area i) (highOfRow m area j))) (j - i) area i)
+
+pub bytes-of : (m : ℕ) (area : List ℕ) (i j k : ℕ) → k ≡ length (shared (lowOfRow area i) (highOfRow m area j)) → nodeBytesOf m area i j ≡ length (kidBytes k (j - i) area i)
+unfolding nodeBytesOf
+bytes-of m area i j k e = ap (λ x. length (kidBytes x (j - i) area i)) (sym e)
+
+-- all the puts of one page
+pub node-page-is : (level m : ℕ) (area : List ℕ) (i j k : ℕ) → k ≡ length (shared (lowOfRow area i) (highOfRow m area j)) → nodeBytesOf m area i j ≤ 1016
+    → (p₁ p₂ p₃ p₄ : List ℕ) (e : ℕ) → p₁ ≡ put (zerosOf 1024) 8 (kidBytes k (j - i) area i) → e ≡ 8 + length (kidBytes k (j - i) area i)
+    → p₂ ≡ put p₁ 0 (u16Bytes (e - 8)) → p₃ ≡ put p₂ 2 (u16Bytes 2) → p₄ ≡ put p₃ 4 (u16Bytes level) → p₄ ≡ nodePage level m area i j
+node-page-is level m area i j k kk h p₁ p₂ p₃ p₄ e a b c d f =
+    let z : e - 8 ≡ length (kidBytes k (j - i) area i) = omega arith in
+    let q = bytes-of m area i j k kk in
+    f ∙ ap (λ x. put x 4 (u16Bytes level)) (d ∙ ap (λ x. put x 2 (u16Bytes 2)) (c ∙ ap₂ (λ x y. put x 0 (u16Bytes y)) a z))
+    ∙ page-is (kidBytes k (j - i) area i) 2 level (omega arith)
+    ∙ shown
+  where
+    shown : page 2 level (kidBytes k (j - i) area i) ≡ nodePage level m area i j
+    shown = unfold nodePage kidBytes in ap (λ x. page 2 level (bytesOfAll (childEntries x (kidsOf (j - i) area i)))) kk
+
+pub node-written : (store page′ : List ℕ) (num : ℕ) (store′ : List ℕ) → length page′ ≡ 1024 → store′ ≡ put store (num * 1024) page′ → store′ ≡ writeNode store num page′
+node-written store page′ num store′ e q = q ∙ put-node store num page′ e

@@ -1,0 +1,1078 @@
+-- `seek::seek_child`, `seek::seek_children`, `seek::seek_last`, `seek::seek_node` meet the contract: one cycle of four functions. The level falls from a node to its
+-- children; within a level, children come before last before child before node (specs/NodeSteps, specs/WalkLaws).
+use Rattle.seek.specs.NodeSteps.{skips-child, long-child, enters-ready, enters-child, last-child, last-ready, run-ends, inner-ready, later-ready, run-step, node-leaf, node-childless, node-ready, node-children}
+use Rattle.seek.specs.Walk.{walkIn, runPaths, KidsReady}
+use Rattle.seek.specs.Buffer.{bufferIs}
+use Rattle.lookup.specs.Look.{node-inside}
+use Rattle.search.specs.Own.{kid, kidsE, kid-place, kids-none, kids-other}
+use Rattle.node.specs.Entries.{listed, listed-end}
+use Rattle.node.specs.Places.{part, Within, step-bad-is, step-read-is, entry-wider}
+use Rattle.node.specs.declared.Entry.{Entry}
+use Rattle.reading.specs.SeekHere.{under}
+use lib.ListN.{length}
+use mathlib.Core.List.{_∷_}
+use mathlib.Core.Path.{_≡_, refl, sym, _∙_}
+use Prim.Native.Nat.{_+_, _-_, _*_, _≤_}
+use native.Mathlib.Omega.{arith}
+use borrow.Author.Needs.{needs}
+use Prim.Native.Nat.{ℕ, _<_}
+use borrow.Fn.Kinds.{In}
+use borrow.Fn.PlainCycle.{Measures, is, falls, and}
+use Rattle.seek.proofs.seek_child.Reads as seek-child
+use Rattle.seek.proofs.seek_child.Kinds as seek-child-kinds
+use Rattle.seek.proofs.+seek_child+seek_children+seek_last+seek_node.Lts-seek_child as seek-child-lts
+use Rattle.seek.proofs.seek_children.Reads as seek-children
+use Rattle.seek.proofs.seek_children.Kinds as seek-children-kinds
+use Rattle.seek.proofs.+seek_child+seek_children+seek_last+seek_node.Lts-seek_children as seek-children-lts
+use Rattle.seek.proofs.seek_last.Reads as seek-last
+use Rattle.seek.proofs.seek_last.Kinds as seek-last-kinds
+use Rattle.seek.proofs.+seek_child+seek_children+seek_last+seek_node.Lts-seek_last as seek-last-lts
+use Rattle.seek.proofs.seek_node.Reads as seek-node
+use Rattle.seek.proofs.seek_node.Kinds as seek-node-kinds
+use Rattle.seek.proofs.+seek_child+seek_children+seek_last+seek_node.Lts-seek_node as seek-node-lts
+use Rattle.node.proofs.Cursor.step.Reads as step-reads
+use Rattle.octets.proofs.common_length.Reads as common-length-reads
+use Rattle.octets.proofs.u16_at.Reads as u16-at-reads
+use Rattle.seek.proofs.is_far.Reads as is-far-reads
+use Rattle.seek.proofs.join.Reads as join-reads
+use Rattle.seek.proofs.seek_entries.Reads as seek-entries-reads
+use Rattle.search.proofs.kid_of.Reads as kid-of-reads
+use Rattle.seek.proofs.+seek_child+seek_children+seek_last+seek_node.{statement}
+use Rattle.seek.proofs.+seek_child+seek_children+seek_last+seek_node.Tie.{close}
+
+abbrev μ-seek-child : Measures 6 seek-child-kinds.ps ℕ
+μ-seek-child κs a = a .1 .1 .0 * 4 + 1
+
+abbrev μ-seek-children : Measures 5 seek-children-kinds.ps ℕ
+μ-seek-children κs a = a .1 .1 .1 .1 .0 * 4 + 3
+
+abbrev μ-seek-last : Measures 5 seek-last-kinds.ps ℕ
+μ-seek-last κs a = a .1 .1 .1 .1 .0 * 4 + 2
+
+abbrev μ-seek-node : Measures 5 seek-node-kinds.ps ℕ
+μ-seek-node κs a = a .1 .1 .0 * 4
+
+abbrev seek-child-at : ℕ → In 6 seek-child-kinds.ps
+seek-child-at t =
+    and 6 seek-child-kinds.ps (is 6 seek-child-kinds.ps μ-seek-child t) seek-child.Pre
+
+abbrev seek-child-below : ℕ → In 6 seek-child-kinds.ps
+seek-child-below t =
+    and 6 seek-child-kinds.ps (falls 6 seek-child-kinds.ps _<_ μ-seek-child t) seek-child.Pre
+
+abbrev seek-children-at : ℕ → In 5 seek-children-kinds.ps
+seek-children-at t =
+    and 5 seek-children-kinds.ps (is 5 seek-children-kinds.ps μ-seek-children t) seek-children.Pre
+
+abbrev seek-children-below : ℕ → In 5 seek-children-kinds.ps
+seek-children-below t =
+    and
+    5
+    seek-children-kinds.ps
+    (falls 5 seek-children-kinds.ps _<_ μ-seek-children t)
+    seek-children.Pre
+
+abbrev seek-last-at : ℕ → In 5 seek-last-kinds.ps
+seek-last-at t = and 5 seek-last-kinds.ps (is 5 seek-last-kinds.ps μ-seek-last t) seek-last.Pre
+
+abbrev seek-last-below : ℕ → In 5 seek-last-kinds.ps
+seek-last-below t =
+    and 5 seek-last-kinds.ps (falls 5 seek-last-kinds.ps _<_ μ-seek-last t) seek-last.Pre
+
+abbrev seek-node-at : ℕ → In 5 seek-node-kinds.ps
+seek-node-at t = and 5 seek-node-kinds.ps (is 5 seek-node-kinds.ps μ-seek-node t) seek-node.Pre
+
+abbrev seek-node-below : ℕ → In 5 seek-node-kinds.ps
+seek-node-below t =
+    and 5 seek-node-kinds.ps (falls 5 seek-node-kinds.ps _<_ μ-seek-node t) seek-node.Pre
+
+-- src/lib.rt:221:8
+seek-child-is-far-requires : (t : ℕ) → seek-child-lts.Need-is-far-requires (
+  is-far-reads.Asked,
+  is-far-reads.Learnt,
+  common-length-reads.Asked,
+  common-length-reads.Learnt,
+  join-reads.Asked,
+  join-reads.Learnt,
+  seek-node-below t,
+  seek-node.Post,
+) (seek-child-at t) seek-child.Post
+seek-child-is-far-requires t c κs = search needs
+
+-- src/lib.rt:222:9
+seek-child-returns : (t : ℕ) → seek-child-lts.Need-returns (
+  is-far-reads.Asked,
+  is-far-reads.Learnt,
+  common-length-reads.Asked,
+  common-length-reads.Learnt,
+  join-reads.Asked,
+  join-reads.Learnt,
+  seek-node-below t,
+  seek-node.Post,
+) (seek-child-at t) seek-child.Post
+seek-child-returns t c = skips-child (c .before .before .before .before .before .before .before .before .args .store .now) (c .before .before .before .before .before .before .before .before .args .pre .now) (c .before .before .before .before .before .before .before .before .args .low .now) (c .before .before .before .before .before .before .before .before .args .high .now) (c .before .before .before .before .before .before .before .before .args .level) (c .before .before .before .before .before .before .before .before .args .num) (c .before .before .before .before .before .before .before .before .pre .1) (c .before .before .before .before .before .before .before .before .args .below .now) (c .before .before .before .before .before .before .before .before .args .after .now) (bufferIs (c .before .before .before .before .before .before .before .before .args .best)) (c .before .is-far .result) (c .before .is-far .ensures) (c .if1 .taken)
+
+-- src/lib.rt:224:9
+seek-child-common-length-requires : (t : ℕ) → seek-child-lts.Need-common-length-requires (
+  is-far-reads.Asked,
+  is-far-reads.Learnt,
+  common-length-reads.Asked,
+  common-length-reads.Learnt,
+  join-reads.Asked,
+  join-reads.Learnt,
+  seek-node-below t,
+  seek-node.Post,
+) (seek-child-at t) seek-child.Post
+seek-child-common-length-requires t c κs = search needs
+
+-- src/lib.rt:225:28
+seek-child-sub-join : (t : ℕ) → seek-child-lts.Need-sub-join (
+  is-far-reads.Asked,
+  is-far-reads.Learnt,
+  common-length-reads.Asked,
+  common-length-reads.Learnt,
+  join-reads.Asked,
+  join-reads.Learnt,
+  seek-node-below t,
+  seek-node.Post,
+) (seek-child-at t) seek-child.Post
+seek-child-sub-join t c = search needs
+
+-- src/lib.rt:225:28
+seek-child-part-join-start : (t : ℕ) → seek-child-lts.Need-part-join-start (
+  is-far-reads.Asked,
+  is-far-reads.Learnt,
+  common-length-reads.Asked,
+  common-length-reads.Learnt,
+  join-reads.Asked,
+  join-reads.Learnt,
+  seek-node-below t,
+  seek-node.Post,
+) (seek-child-at t) seek-child.Post
+seek-child-part-join-start t c = search needs
+
+-- src/lib.rt:225:28
+seek-child-part-join-end : (t : ℕ) → seek-child-lts.Need-part-join-end (
+  is-far-reads.Asked,
+  is-far-reads.Learnt,
+  common-length-reads.Asked,
+  common-length-reads.Learnt,
+  join-reads.Asked,
+  join-reads.Learnt,
+  seek-node-below t,
+  seek-node.Post,
+) (seek-child-at t) seek-child.Post
+seek-child-part-join-end t c = search needs
+
+-- src/lib.rt:225:9
+seek-child-join-requires : (t : ℕ) → seek-child-lts.Need-join-requires (
+  is-far-reads.Asked,
+  is-far-reads.Learnt,
+  common-length-reads.Asked,
+  common-length-reads.Learnt,
+  join-reads.Asked,
+  join-reads.Learnt,
+  seek-node-below t,
+  seek-node.Post,
+) (seek-child-at t) seek-child.Post
+seek-child-join-requires t c κs = search needs
+
+-- src/lib.rt:228:9
+seek-child-returns-2 : (t : ℕ) → seek-child-lts.Need-returns-2 (
+  is-far-reads.Asked,
+  is-far-reads.Learnt,
+  common-length-reads.Asked,
+  common-length-reads.Learnt,
+  join-reads.Asked,
+  join-reads.Learnt,
+  seek-node-below t,
+  seek-node.Post,
+) (seek-child-at t) seek-child.Post
+seek-child-returns-2 t c = long-child (c .before .before .before .before .before .before .before .before .before .before .before .before .args .store .now) (c .before .before .before .before .before .before .before .before .before .before .before .before .args .pre .now) (c .before .before .before .before .before .before .before .before .before .before .before .before .args .low .now) (c .before .before .before .before .before .before .before .before .before .before .before .before .args .high .now) (c .before .before .before .before .before .before .before .before .before .before .before .before .args .level) (c .before .before .before .before .before .before .before .before .before .before .before .before .args .num) (c .before .before .before .before .before .before .before .before .before .before .before .before .pre .1) (c .before .before .before .before .before .before .before .before .before .before .before .before .args .below .now) (c .before .before .before .before .before .before .before .before .before .before .before .before .args .after .now) (bufferIs (c .before .before .before .before .before .before .before .before .before .before .before .before .args .best)) (c .before .before .before .common-length .result) (c .before .before .before .common-length .ensures .0) (c .before .join .result) (c .before .join .ensures) (omega arith)
+
+-- src/lib.rt:231:34
+seek-child-sub-seek-node : (t : ℕ) → seek-child-lts.Need-sub-seek-node (
+  is-far-reads.Asked,
+  is-far-reads.Learnt,
+  common-length-reads.Asked,
+  common-length-reads.Learnt,
+  join-reads.Asked,
+  join-reads.Learnt,
+  seek-node-below t,
+  seek-node.Post,
+) (seek-child-at t) seek-child.Post
+seek-child-sub-seek-node t c = search needs
+
+-- src/lib.rt:231:34
+seek-child-part-seek-node-start : (t : ℕ) → seek-child-lts.Need-part-seek-node-start (
+  is-far-reads.Asked,
+  is-far-reads.Learnt,
+  common-length-reads.Asked,
+  common-length-reads.Learnt,
+  join-reads.Asked,
+  join-reads.Learnt,
+  seek-node-below t,
+  seek-node.Post,
+) (seek-child-at t) seek-child.Post
+seek-child-part-seek-node-start t c = search needs
+
+-- src/lib.rt:231:34
+seek-child-part-seek-node-end : (t : ℕ) → seek-child-lts.Need-part-seek-node-end (
+  is-far-reads.Asked,
+  is-far-reads.Learnt,
+  common-length-reads.Asked,
+  common-length-reads.Learnt,
+  join-reads.Asked,
+  join-reads.Learnt,
+  seek-node-below t,
+  seek-node.Post,
+) (seek-child-at t) seek-child.Post
+seek-child-part-seek-node-end t c = let h : length (c .before .before .before .join .result .bytes) ≡ 64 = search needs in omega arith
+
+-- src/lib.rt:231:44
+seek-child-sub-seek-node-2 : (t : ℕ) → seek-child-lts.Need-sub-seek-node-2 (
+  is-far-reads.Asked,
+  is-far-reads.Learnt,
+  common-length-reads.Asked,
+  common-length-reads.Learnt,
+  join-reads.Asked,
+  join-reads.Learnt,
+  seek-node-below t,
+  seek-node.Post,
+) (seek-child-at t) seek-child.Post
+seek-child-sub-seek-node-2 t c = search needs
+
+-- src/lib.rt:231:44
+seek-child-part-seek-node-start-2 : (t : ℕ) → seek-child-lts.Need-part-seek-node-start-2 (
+  is-far-reads.Asked,
+  is-far-reads.Learnt,
+  common-length-reads.Asked,
+  common-length-reads.Learnt,
+  join-reads.Asked,
+  join-reads.Learnt,
+  seek-node-below t,
+  seek-node.Post,
+) (seek-child-at t) seek-child.Post
+seek-child-part-seek-node-start-2 t c = search needs
+
+-- src/lib.rt:231:44
+seek-child-part-seek-node-end-2 : (t : ℕ) → seek-child-lts.Need-part-seek-node-end-2 (
+  is-far-reads.Asked,
+  is-far-reads.Learnt,
+  common-length-reads.Asked,
+  common-length-reads.Learnt,
+  join-reads.Asked,
+  join-reads.Learnt,
+  seek-node-below t,
+  seek-node.Post,
+) (seek-child-at t) seek-child.Post
+seek-child-part-seek-node-end-2 t c = search needs
+
+-- src/lib.rt:231:5
+seek-child-seek-node-requires : (t : ℕ) → seek-child-lts.Need-seek-node-requires (
+  is-far-reads.Asked,
+  is-far-reads.Learnt,
+  common-length-reads.Asked,
+  common-length-reads.Learnt,
+  join-reads.Asked,
+  join-reads.Learnt,
+  seek-node-below t,
+  seek-node.Post,
+) (seek-child-at t) seek-child.Post
+seek-child-seek-node-requires t c κs = (omega arith, enters-ready (c .before .before .before .before .before .before .before .before .before .before .before .before .before .before .before .before .args .store .now) (c .before .before .before .before .before .before .before .before .before .before .before .before .before .before .before .before .args .pre .now) (c .before .before .before .before .before .before .before .before .before .before .before .before .before .before .before .before .args .low .now) (c .before .before .before .before .before .before .before .before .before .before .before .before .before .before .before .before .args .high .now) (c .before .before .before .before .before .before .before .before .before .before .before .before .before .before .before .before .args .level) (c .before .before .before .before .before .before .before .before .before .before .before .before .before .before .before .before .args .num) (c .before .before .before .before .before .before .before .before .before .before .before .before .before .before .before .before .pre .1) (c .before .before .before .before .before .before .before .before .before .before .before .before .before .before .before .before .args .below .now) (c .before .before .before .before .before .before .before .before .before .before .before .before .before .before .before .before .args .after .now) (bufferIs (c .before .before .before .before .before .before .before .before .before .before .before .before .before .before .before .before .args .best)) (c .before .before .before .before .before .before .before .common-length .result) (c .before .before .before .before .before .before .before .common-length .ensures .0) (c .before .before .before .before .before .join .result) (c .before .before .before .before .before .join .ensures) (omega arith))
+
+-- src/lib.rt:217:1
+seek-child-returns-3 : (t : ℕ) → seek-child-lts.Need-returns-3 (
+  is-far-reads.Asked,
+  is-far-reads.Learnt,
+  common-length-reads.Asked,
+  common-length-reads.Learnt,
+  join-reads.Asked,
+  join-reads.Learnt,
+  seek-node-below t,
+  seek-node.Post,
+) (seek-child-at t) seek-child.Post
+seek-child-returns-3 t c = enters-child (c .before .before .before .before .before .before .before .before .before .before .before .before .before .before .before .before .before .args .store .now) (c .before .before .before .before .before .before .before .before .before .before .before .before .before .before .before .before .before .args .pre .now) (c .before .before .before .before .before .before .before .before .before .before .before .before .before .before .before .before .before .args .low .now) (c .before .before .before .before .before .before .before .before .before .before .before .before .before .before .before .before .before .args .high .now) (c .before .before .before .before .before .before .before .before .before .before .before .before .before .before .before .before .before .args .level) (c .before .before .before .before .before .before .before .before .before .before .before .before .before .before .before .before .before .args .num) (c .before .before .before .before .before .before .before .before .before .before .before .before .before .before .before .before .before .pre .1) (c .before .before .before .before .before .before .before .before .before .before .before .before .before .before .before .before .before .args .below .now) (c .before .before .before .before .before .before .before .before .before .before .before .before .before .before .before .before .before .args .after .now) (bufferIs (c .before .before .before .before .before .before .before .before .before .before .before .before .before .before .before .before .before .args .best)) (c .before .before .before .before .before .before .before .before .common-length .result) (c .before .before .before .before .before .before .before .before .common-length .ensures .0) (c .before .before .before .before .before .before .join .result) (c .before .before .before .before .before .before .join .ensures) (omega arith) _ (c .seek-node .ensures)
+
+abbrev seek-children-Inv-loop : seek-children-lts.InvT-loop
+seek-children-Inv-loop store first level hi pre below after end c₀ num₀ low₀ best₀ c num low best =
+    (end ≡ c₀ .end) × (c .end ≡ end) × Within 0 (length store) low
+    × KidsReady store level pre hi (kid num (part store low) ∷ kidsE (listed store (c .at) (c .end)))
+    × (walkIn store below after (bufferIs best) (under pre (runPaths level store hi (kid num (part store low) ∷ kidsE (listed store (c .at) (c .end))) (listed store (c .at) (c .end))))
+    ≡ walkIn store below after (bufferIs best₀) (under pre (runPaths level store hi (kid first (part store low₀) ∷ kidsE (listed store (c₀ .at) (c₀ .end))) (listed store (c₀ .at) (c₀ .end)))))
+
+abbrev seek-children-μ-loop : seek-children-lts.MeasureT-loop
+seek-children-μ-loop store first level hi pre below after end c₀ num₀ low₀ best₀ c num low best = end - c .at
+
+-- src/lib.rt:257:5
+seek-children-loop-holds : (t : ℕ) → seek-children-lts.Need-loop-holds (
+  step-reads.Asked,
+  step-reads.Learnt,
+  seek-last-below t,
+  seek-last.Post,
+  kid-of-reads.Asked,
+  kid-of-reads.Learnt,
+  seek-child-below t,
+  seek-child.Post,
+) (seek-children-at t) seek-children.Post seek-children-Inv-loop seek-children-μ-loop
+seek-children-loop-holds t c = (refl, refl, c .before .before .before .before .before .pre .1 .1, c .before .before .before .before .before .pre .1 .2, refl)
+
+-- src/lib.rt:258:35
+seek-children-step-requires : (t : ℕ) → seek-children-lts.Need-step-requires (
+  step-reads.Asked,
+  step-reads.Learnt,
+  seek-last-below t,
+  seek-last.Post,
+  kid-of-reads.Asked,
+  kid-of-reads.Learnt,
+  seek-child-below t,
+  seek-child.Post,
+) (seek-children-at t) seek-children.Post seek-children-Inv-loop seek-children-μ-loop
+seek-children-step-requires t c κs = omega arith
+
+-- src/lib.rt:258:24
+seek-children-enum-known-e : (t : ℕ) → seek-children-lts.Need-enum-known-e (
+  step-reads.Asked,
+  step-reads.Learnt,
+  seek-last-below t,
+  seek-last.Post,
+  kid-of-reads.Asked,
+  kid-of-reads.Learnt,
+  seek-child-below t,
+  seek-child.Post,
+) (seek-children-at t) seek-children.Post seek-children-Inv-loop seek-children-μ-loop
+seek-children-enum-known-e t c = search needs
+
+-- src/lib.rt:259:13
+seek-children-enum-told : (t : ℕ) → seek-children-lts.Need-enum-told (
+  step-reads.Asked,
+  step-reads.Learnt,
+  seek-last-below t,
+  seek-last.Post,
+  kid-of-reads.Asked,
+  kid-of-reads.Learnt,
+  seek-child-below t,
+  seek-child.Post,
+) (seek-children-at t) seek-children.Post seek-children-Inv-loop seek-children-μ-loop
+seek-children-enum-told t c = search needs
+
+-- src/lib.rt:259:13
+seek-children-seek-last-requires : (t : ℕ) → seek-children-lts.Need-seek-last-requires (
+  step-reads.Asked,
+  step-reads.Learnt,
+  seek-last-below t,
+  seek-last.Post,
+  kid-of-reads.Asked,
+  kid-of-reads.Learnt,
+  seek-child-below t,
+  seek-child.Post,
+) (seek-children-at t) seek-children.Post seek-children-Inv-loop seek-children-μ-loop
+seek-children-seek-last-requires t c κs = (omega arith, (omega arith, c .before .before .before .before .before .loop .inv .2, last-ready (c .before .before .before .before .before .before .before .before .before .before .before .args .store .now) (c .before .before .before .before .before .before .before .before .before .before .before .args .below .now) (c .before .before .before .before .before .before .before .before .before .before .before .args .after .now) (c .before .before .before .before .before .before .before .before .before .before .before .args .pre .now) (c .before .before .before .before .before .before .before .before .before .before .before .args .hi .now) (c .before .before .before .before .before .before .before .before .before .before .before .args .level) (c .before .before .before .before .before .loop .num) (c .before .before .before .before .before .loop .low) (bufferIs (c .before .before .before .before .before .loop .best)) (listed (c .before .before .before .before .before .before .before .before .before .before .before .args .store .now) (c .before .before .before .before .before .loop .c .at) (c .before .before .before .before .before .loop .c .end)) (c .before .before .before .before .before .loop .inv .3) (kids-none _ (step-bad-is _ _ _ _ (c .before .before .step .ensures) (c .enum-told .given .1) .1))))
+
+-- src/lib.rt:259:13
+seek-children-returns : (t : ℕ) → seek-children-lts.Need-returns (
+  step-reads.Asked,
+  step-reads.Learnt,
+  seek-last-below t,
+  seek-last.Post,
+  kid-of-reads.Asked,
+  kid-of-reads.Learnt,
+  seek-child-below t,
+  seek-child.Post,
+) (seek-children-at t) seek-children.Post seek-children-Inv-loop seek-children-μ-loop
+seek-children-returns t c = run-ends (c .before .before .before .before .before .before .before .before .before .before .before .before .args .store .now) (c .before .before .before .before .before .before .before .before .before .before .before .before .args .below .now) (c .before .before .before .before .before .before .before .before .before .before .before .before .args .after .now) (c .before .before .before .before .before .before .before .before .before .before .before .before .args .pre .now) (c .before .before .before .before .before .before .before .before .before .before .before .before .args .hi .now) (c .before .before .before .before .before .before .before .before .before .before .before .before .args .level) (c .before .before .before .before .before .before .loop .num) (c .before .before .before .before .before .before .loop .low) (bufferIs (c .before .before .before .before .before .before .loop .best)) (listed (c .before .before .before .before .before .before .before .before .before .before .before .before .args .store .now) (c .before .before .before .before .before .before .loop .c .at) (c .before .before .before .before .before .before .loop .c .end)) (c .before .before .before .before .before .before .loop .inv .3) _ (c .before .before .before .before .before .before .loop .inv .4) (kids-none _ (step-bad-is _ _ _ _ (c .before .before .before .step .ensures) (c .before .enum-told .given .1) .1)) _ (c .seek-last .ensures)
+
+-- src/lib.rt:261:29
+seek-children-kid-of-requires : (t : ℕ) → seek-children-lts.Need-kid-of-requires (
+  step-reads.Asked,
+  step-reads.Learnt,
+  seek-last-below t,
+  seek-last.Post,
+  kid-of-reads.Asked,
+  kid-of-reads.Learnt,
+  seek-child-below t,
+  seek-child.Post,
+) (seek-children-at t) seek-children.Post seek-children-Inv-loop seek-children-μ-loop
+seek-children-kid-of-requires t c κs = search needs
+
+-- src/lib.rt:261:21
+seek-children-enum-known-k : (t : ℕ) → seek-children-lts.Need-enum-known-k (
+  step-reads.Asked,
+  step-reads.Learnt,
+  seek-last-below t,
+  seek-last.Post,
+  kid-of-reads.Asked,
+  kid-of-reads.Learnt,
+  seek-child-below t,
+  seek-child.Post,
+) (seek-children-at t) seek-children.Post seek-children-Inv-loop seek-children-μ-loop
+seek-children-enum-known-k t c = search needs
+
+-- src/lib.rt:262:13
+seek-children-enum-told-2 : (t : ℕ) → seek-children-lts.Need-enum-told-2 (
+  step-reads.Asked,
+  step-reads.Learnt,
+  seek-last-below t,
+  seek-last.Post,
+  kid-of-reads.Asked,
+  kid-of-reads.Learnt,
+  seek-child-below t,
+  seek-child.Post,
+) (seek-children-at t) seek-children.Post seek-children-Inv-loop seek-children-μ-loop
+seek-children-enum-told-2 t c = search needs
+
+-- src/lib.rt:262:13
+seek-children-seek-last-requires-2 : (t : ℕ) → seek-children-lts.Need-seek-last-requires-2 (
+  step-reads.Asked,
+  step-reads.Learnt,
+  seek-last-below t,
+  seek-last.Post,
+  kid-of-reads.Asked,
+  kid-of-reads.Learnt,
+  seek-child-below t,
+  seek-child.Post,
+) (seek-children-at t) seek-children.Post seek-children-Inv-loop seek-children-μ-loop
+seek-children-seek-last-requires-2 t c κs =
+    let n = step-read-is (c .before .before .before .before .before .before .before .before .before .before .before .before .before .before .before .args .store .now) (c .before .before .before .before .before .before .before .before .before .loop .c .at) (c .before .before .before .before .before .before .before .before .before .loop .c .end) _ (c .before .before .before .before .e .given .0 .0) (c .before .before .before .before .e .given .0 .1 .0) (c .before .before .before .before .before .before .step .ensures) (c .before .before .before .before .e .given .1) in
+    (omega arith, (omega arith, c .before .before .before .before .before .before .before .before .before .loop .inv .2, last-ready (c .before .before .before .before .before .before .before .before .before .before .before .before .before .before .before .args .store .now) (c .before .before .before .before .before .before .before .before .before .before .before .before .before .before .before .args .below .now) (c .before .before .before .before .before .before .before .before .before .before .before .before .before .before .before .args .after .now) (c .before .before .before .before .before .before .before .before .before .before .before .before .before .before .before .args .pre .now) (c .before .before .before .before .before .before .before .before .before .before .before .before .before .before .before .args .hi .now) (c .before .before .before .before .before .before .before .before .before .before .before .before .before .before .before .args .level) (c .before .before .before .before .before .before .before .before .before .loop .num) (c .before .before .before .before .before .before .before .before .before .loop .low) (bufferIs (c .before .before .before .before .before .before .before .before .before .loop .best)) (listed (c .before .before .before .before .before .before .before .before .before .before .before .before .before .before .before .args .store .now) (c .before .before .before .before .before .before .before .before .before .loop .c .at) (c .before .before .before .before .before .before .before .before .before .loop .c .end)) (c .before .before .before .before .before .before .before .before .before .loop .inv .3) (kids-other (c .before .before .before .before .e .given .0 .0) (c .before .before .before .before .before .before .before .before .before .before .before .before .before .before .before .args .store .now) _ _ (n .lists) (sym (c .before .before .kid-of .ensures) ∙ c .enum-told2 .given .1))))
+
+-- src/lib.rt:262:13
+seek-children-returns-2 : (t : ℕ) → seek-children-lts.Need-returns-2 (
+  step-reads.Asked,
+  step-reads.Learnt,
+  seek-last-below t,
+  seek-last.Post,
+  kid-of-reads.Asked,
+  kid-of-reads.Learnt,
+  seek-child-below t,
+  seek-child.Post,
+) (seek-children-at t) seek-children.Post seek-children-Inv-loop seek-children-μ-loop
+seek-children-returns-2 t c =
+    let n = step-read-is (c .before .before .before .before .before .before .before .before .before .before .before .before .before .before .before .before .args .store .now) (c .before .before .before .before .before .before .before .before .before .before .loop .c .at) (c .before .before .before .before .before .before .before .before .before .before .loop .c .end) _ (c .before .before .before .before .before .e .given .0 .0) (c .before .before .before .before .before .e .given .0 .1 .0) (c .before .before .before .before .before .before .before .step .ensures) (c .before .before .before .before .before .e .given .1) in
+    run-ends (c .before .before .before .before .before .before .before .before .before .before .before .before .before .before .before .before .args .store .now) (c .before .before .before .before .before .before .before .before .before .before .before .before .before .before .before .before .args .below .now) (c .before .before .before .before .before .before .before .before .before .before .before .before .before .before .before .before .args .after .now) (c .before .before .before .before .before .before .before .before .before .before .before .before .before .before .before .before .args .pre .now) (c .before .before .before .before .before .before .before .before .before .before .before .before .before .before .before .before .args .hi .now) (c .before .before .before .before .before .before .before .before .before .before .before .before .before .before .before .before .args .level) (c .before .before .before .before .before .before .before .before .before .before .loop .num) (c .before .before .before .before .before .before .before .before .before .before .loop .low) (bufferIs (c .before .before .before .before .before .before .before .before .before .before .loop .best)) (listed (c .before .before .before .before .before .before .before .before .before .before .before .before .before .before .before .before .args .store .now) (c .before .before .before .before .before .before .before .before .before .before .loop .c .at) (c .before .before .before .before .before .before .before .before .before .before .loop .c .end)) (c .before .before .before .before .before .before .before .before .before .before .loop .inv .3) _ (c .before .before .before .before .before .before .before .before .before .before .loop .inv .4) (kids-other (c .before .before .before .before .before .e .given .0 .0) (c .before .before .before .before .before .before .before .before .before .before .before .before .before .before .before .before .args .store .now) _ _ (n .lists) (sym (c .before .before .before .kid-of .ensures) ∙ c .before .enum-told2 .given .1)) _ (c .seek-last2 .ensures)
+
+-- src/lib.rt:268:46
+seek-children-sub-seek-child : (t : ℕ) → seek-children-lts.Need-sub-seek-child (
+  step-reads.Asked,
+  step-reads.Learnt,
+  seek-last-below t,
+  seek-last.Post,
+  kid-of-reads.Asked,
+  kid-of-reads.Learnt,
+  seek-child-below t,
+  seek-child.Post,
+) (seek-children-at t) seek-children.Post seek-children-Inv-loop seek-children-μ-loop
+seek-children-sub-seek-child t c = let w = c .before .before .before .before .before .before .before .before .before .before .loop .inv .2 in omega arith
+
+-- src/lib.rt:268:46
+seek-children-part-seek-child-start : (t : ℕ) → seek-children-lts.Need-part-seek-child-start (
+  step-reads.Asked,
+  step-reads.Learnt,
+  seek-last-below t,
+  seek-last.Post,
+  kid-of-reads.Asked,
+  kid-of-reads.Learnt,
+  seek-child-below t,
+  seek-child.Post,
+) (seek-children-at t) seek-children.Post seek-children-Inv-loop seek-children-μ-loop
+seek-children-part-seek-child-start t c = let w = c .before .before .before .before .before .before .before .before .before .before .loop .inv .2 in omega arith
+
+-- src/lib.rt:268:46
+seek-children-part-seek-child-end : (t : ℕ) → seek-children-lts.Need-part-seek-child-end (
+  step-reads.Asked,
+  step-reads.Learnt,
+  seek-last-below t,
+  seek-last.Post,
+  kid-of-reads.Asked,
+  kid-of-reads.Learnt,
+  seek-child-below t,
+  seek-child.Post,
+) (seek-children-at t) seek-children.Post seek-children-Inv-loop seek-children-μ-loop
+seek-children-part-seek-child-end t c = let w = c .before .before .before .before .before .before .before .before .before .before .loop .inv .2 in omega arith
+
+-- src/lib.rt:268:60
+seek-children-sub-seek-child-2 : (t : ℕ) → seek-children-lts.Need-sub-seek-child-2 (
+  step-reads.Asked,
+  step-reads.Learnt,
+  seek-last-below t,
+  seek-last.Post,
+  kid-of-reads.Asked,
+  kid-of-reads.Learnt,
+  seek-child-below t,
+  seek-child.Post,
+) (seek-children-at t) seek-children.Post seek-children-Inv-loop seek-children-μ-loop
+seek-children-sub-seek-child-2 t c =
+    let n = step-read-is (c .before .before .before .before .before .before .before .before .before .before .before .before .before .before .before .before .before .args .store .now) (c .before .before .before .before .before .before .before .before .before .before .before .loop .c .at) (c .before .before .before .before .before .before .before .before .before .before .before .loop .c .end) _ (c .before .before .before .before .before .before .e .given .0 .0) (c .before .before .before .before .before .before .e .given .0 .1 .0) (c .before .before .before .before .before .before .before .before .step .ensures) (c .before .before .before .before .before .before .e .given .1) in
+    let w = kid-place (c .before .before .before .before .before .before .before .before .before .before .before .loop .c .at) (c .before .before .before .before .before .before .before .before .before .before .before .loop .c .end) (c .before .before .before .before .before .before .e .given .0 .0) (c .before .before .k .given .0 .0) (c .before .before .k .given .0 .1 .0) (sym (c .before .before .before .before .kid-of .ensures) ∙ c .before .before .k .given .1) (n .reachable) in
+    omega arith
+
+-- src/lib.rt:268:60
+seek-children-part-seek-child-start-2 : (t : ℕ) → seek-children-lts.Need-part-seek-child-start-2 (
+  step-reads.Asked,
+  step-reads.Learnt,
+  seek-last-below t,
+  seek-last.Post,
+  kid-of-reads.Asked,
+  kid-of-reads.Learnt,
+  seek-child-below t,
+  seek-child.Post,
+) (seek-children-at t) seek-children.Post seek-children-Inv-loop seek-children-μ-loop
+seek-children-part-seek-child-start-2 t c =
+    let n = step-read-is (c .before .before .before .before .before .before .before .before .before .before .before .before .before .before .before .before .before .args .store .now) (c .before .before .before .before .before .before .before .before .before .before .before .loop .c .at) (c .before .before .before .before .before .before .before .before .before .before .before .loop .c .end) _ (c .before .before .before .before .before .before .e .given .0 .0) (c .before .before .before .before .before .before .e .given .0 .1 .0) (c .before .before .before .before .before .before .before .before .step .ensures) (c .before .before .before .before .before .before .e .given .1) in
+    let w = kid-place (c .before .before .before .before .before .before .before .before .before .before .before .loop .c .at) (c .before .before .before .before .before .before .before .before .before .before .before .loop .c .end) (c .before .before .before .before .before .before .e .given .0 .0) (c .before .before .k .given .0 .0) (c .before .before .k .given .0 .1 .0) (sym (c .before .before .before .before .kid-of .ensures) ∙ c .before .before .k .given .1) (n .reachable) in
+    omega arith
+
+-- src/lib.rt:268:60
+seek-children-part-seek-child-end-2 : (t : ℕ) → seek-children-lts.Need-part-seek-child-end-2 (
+  step-reads.Asked,
+  step-reads.Learnt,
+  seek-last-below t,
+  seek-last.Post,
+  kid-of-reads.Asked,
+  kid-of-reads.Learnt,
+  seek-child-below t,
+  seek-child.Post,
+) (seek-children-at t) seek-children.Post seek-children-Inv-loop seek-children-μ-loop
+seek-children-part-seek-child-end-2 t c =
+    let n = step-read-is (c .before .before .before .before .before .before .before .before .before .before .before .before .before .before .before .before .before .args .store .now) (c .before .before .before .before .before .before .before .before .before .before .before .loop .c .at) (c .before .before .before .before .before .before .before .before .before .before .before .loop .c .end) _ (c .before .before .before .before .before .before .e .given .0 .0) (c .before .before .before .before .before .before .e .given .0 .1 .0) (c .before .before .before .before .before .before .before .before .step .ensures) (c .before .before .before .before .before .before .e .given .1) in
+    let w = kid-place (c .before .before .before .before .before .before .before .before .before .before .before .loop .c .at) (c .before .before .before .before .before .before .before .before .before .before .before .loop .c .end) (c .before .before .before .before .before .before .e .given .0 .0) (c .before .before .k .given .0 .0) (c .before .before .k .given .0 .1 .0) (sym (c .before .before .before .before .kid-of .ensures) ∙ c .before .before .k .given .1) (n .reachable) in
+    omega arith
+
+-- src/lib.rt:268:9
+seek-children-seek-child-requires : (t : ℕ) → seek-children-lts.Need-seek-child-requires (
+  step-reads.Asked,
+  step-reads.Learnt,
+  seek-last-below t,
+  seek-last.Post,
+  kid-of-reads.Asked,
+  kid-of-reads.Learnt,
+  seek-child-below t,
+  seek-child.Post,
+) (seek-children-at t) seek-children.Post seek-children-Inv-loop seek-children-μ-loop
+seek-children-seek-child-requires t c κs =
+    let n = step-read-is (c .before .before .before .before .before .before .before .before .before .before .before .before .before .before .before .before .before .before .args .store .now) (c .before .before .before .before .before .before .before .before .before .before .before .before .loop .c .at) (c .before .before .before .before .before .before .before .before .before .before .before .before .loop .c .end) _ (c .before .before .before .before .before .before .before .e .given .0 .0) (c .before .before .before .before .before .before .before .e .given .0 .1 .0) (c .before .before .before .before .before .before .before .before .before .step .ensures) (c .before .before .before .before .before .before .before .e .given .1) in
+    (omega arith, inner-ready (c .before .before .before .before .before .before .before .before .before .before .before .before .before .before .before .before .before .before .args .store .now) (c .before .before .before .before .before .before .before .before .before .before .before .before .before .before .before .before .before .before .args .below .now) (c .before .before .before .before .before .before .before .before .before .before .before .before .before .before .before .before .before .before .args .after .now) (c .before .before .before .before .before .before .before .before .before .before .before .before .before .before .before .before .before .before .args .pre .now) (c .before .before .before .before .before .before .before .before .before .before .before .before .before .before .before .before .before .before .args .hi .now) (c .before .before .before .before .before .before .before .before .before .before .before .before .before .before .before .before .before .before .args .level) (c .before .before .before .before .before .before .before .before .before .before .before .before .loop .num) (c .before .before .before .before .before .before .before .before .before .before .before .before .loop .low) (bufferIs (c .before .before .before .before .before .before .before .before .before .before .before .before .loop .best)) (listed (c .before .before .before .before .before .before .before .before .before .before .before .before .before .before .before .before .before .before .args .store .now) (c .before .before .before .before .before .before .before .before .before .before .before .before .loop .c .at) (c .before .before .before .before .before .before .before .before .before .before .before .before .loop .c .end)) (c .before .before .before .before .before .before .before .before .before .before .before .before .loop .inv .3) (c .before .before .before .before .before .before .before .e .given .0 .0) (c .before .before .before .k .given .0 .0) (c .before .before .before .k .given .0 .1 .0) (listed (c .before .before .before .before .before .before .before .before .before .before .before .before .before .before .before .before .before .before .args .store .now) (c .before .before .before .before .before .before .before .e .given .0 .1 .0 .at) (c .before .before .before .before .before .before .before .e .given .0 .1 .0 .end)) (n .lists) (sym (c .before .before .before .before .before .kid-of .ensures) ∙ c .before .before .before .k .given .1))
+
+-- src/lib.rt:257:5
+seek-children-loop-less : (t : ℕ) → seek-children-lts.Need-loop-less (
+  step-reads.Asked,
+  step-reads.Learnt,
+  seek-last-below t,
+  seek-last.Post,
+  kid-of-reads.Asked,
+  kid-of-reads.Learnt,
+  seek-child-below t,
+  seek-child.Post,
+) (seek-children-at t) seek-children.Post seek-children-Inv-loop seek-children-μ-loop
+seek-children-loop-less t c =
+    let n = step-read-is (c .before .before .before .before .before .before .before .before .before .before .before .before .before .before .before .before .before .before .before .args .store .now) (c .before .before .before .before .before .before .before .before .before .before .before .before .before .loop .c .at) (c .before .before .before .before .before .before .before .before .before .before .before .before .before .loop .c .end) _ (c .before .before .before .before .before .before .before .before .e .given .0 .0) (c .before .before .before .before .before .before .before .before .e .given .0 .1 .0) (c .before .before .before .before .before .before .before .before .before .before .step .ensures) (c .before .before .before .before .before .before .before .before .e .given .1) in
+    omega arith
+
+-- src/lib.rt:257:5
+seek-children-loop-again : (t : ℕ) → seek-children-lts.Need-loop-again (
+  step-reads.Asked,
+  step-reads.Learnt,
+  seek-last-below t,
+  seek-last.Post,
+  kid-of-reads.Asked,
+  kid-of-reads.Learnt,
+  seek-child-below t,
+  seek-child.Post,
+) (seek-children-at t) seek-children.Post seek-children-Inv-loop seek-children-μ-loop
+seek-children-loop-again t c =
+    let n = step-read-is (c .before .before .before .before .before .before .before .before .before .before .before .before .before .before .before .before .before .before .before .args .store .now) (c .before .before .before .before .before .before .before .before .before .before .before .before .before .loop .c .at) (c .before .before .before .before .before .before .before .before .before .before .before .before .before .loop .c .end) _ (c .before .before .before .before .before .before .before .before .e .given .0 .0) (c .before .before .before .before .before .before .before .before .e .given .0 .1 .0) (c .before .before .before .before .before .before .before .before .before .before .step .ensures) (c .before .before .before .before .before .before .before .before .e .given .1) in
+    let w = kid-place (c .before .before .before .before .before .before .before .before .before .before .before .before .before .loop .c .at) (c .before .before .before .before .before .before .before .before .before .before .before .before .before .loop .c .end) (c .before .before .before .before .before .before .before .before .e .given .0 .0) (c .before .before .before .before .k .given .0 .0) (c .before .before .before .before .k .given .0 .1 .0) (sym (c .before .before .before .before .before .before .kid-of .ensures) ∙ c .before .before .before .before .k .given .1) (n .reachable) in
+    let b : c .before .before .before .before .before .before .before .before .before .before .before .before .before .loop .c .end ≤ length (c .before .before .before .before .before .before .before .before .before .before .before .before .before .before .before .before .before .before .before .args .store .now) = omega (arith, c .before .before .before .before .before .before .before .before .before .before .before .before .before .before .before .before .before .before .before .pre .1 .0, c .before .before .before .before .before .before .before .before .before .before .before .before .before .loop .inv .0, c .before .before .before .before .before .before .before .before .before .before .before .before .before .loop .inv .1) in (
+      c .before .before .before .before .before .before .before .before .before .before .before .before .before .loop .inv .0,
+      n .ends ∙ c .before .before .before .before .before .before .before .before .before .before .before .before .before .loop .inv .1,
+      entry-wider (c .before .before .before .before .before .before .before .before .before .before .before .before .before .loop .c .at) (c .before .before .before .before .before .before .before .before .before .before .before .before .before .loop .c .end) 0 (length (c .before .before .before .before .before .before .before .before .before .before .before .before .before .before .before .before .before .before .before .args .store .now)) (Entry.Child (c .before .before .before .before .k .given .0 .0) (c .before .before .before .before .k .given .0 .1 .0)) (omega arith) b w,
+      later-ready (c .before .before .before .before .before .before .before .before .before .before .before .before .before .before .before .before .before .before .before .args .store .now) (c .before .before .before .before .before .before .before .before .before .before .before .before .before .before .before .before .before .before .before .args .below .now) (c .before .before .before .before .before .before .before .before .before .before .before .before .before .before .before .before .before .before .before .args .after .now) (c .before .before .before .before .before .before .before .before .before .before .before .before .before .before .before .before .before .before .before .args .pre .now) (c .before .before .before .before .before .before .before .before .before .before .before .before .before .before .before .before .before .before .before .args .hi .now) (c .before .before .before .before .before .before .before .before .before .before .before .before .before .before .before .before .before .before .before .args .level) (c .before .before .before .before .before .before .before .before .before .before .before .before .before .loop .num) (c .before .before .before .before .before .before .before .before .before .before .before .before .before .loop .low) (bufferIs (c .before .before .before .before .before .before .before .before .before .before .before .before .before .loop .best)) (listed (c .before .before .before .before .before .before .before .before .before .before .before .before .before .before .before .before .before .before .before .args .store .now) (c .before .before .before .before .before .before .before .before .before .before .before .before .before .loop .c .at) (c .before .before .before .before .before .before .before .before .before .before .before .before .before .loop .c .end)) (c .before .before .before .before .before .before .before .before .before .before .before .before .before .loop .inv .3) (c .before .before .before .before .before .before .before .before .e .given .0 .0) (c .before .before .before .before .k .given .0 .0) (c .before .before .before .before .k .given .0 .1 .0) (listed (c .before .before .before .before .before .before .before .before .before .before .before .before .before .before .before .before .before .before .before .args .store .now) (c .before .before .before .before .before .before .before .before .e .given .0 .1 .0 .at) (c .before .before .before .before .before .before .before .before .e .given .0 .1 .0 .end)) (n .lists) (sym (c .before .before .before .before .before .before .kid-of .ensures) ∙ c .before .before .before .before .k .given .1),
+      run-step (c .before .before .before .before .before .before .before .before .before .before .before .before .before .before .before .before .before .before .before .args .store .now) (c .before .before .before .before .before .before .before .before .before .before .before .before .before .before .before .before .before .before .before .args .below .now) (c .before .before .before .before .before .before .before .before .before .before .before .before .before .before .before .before .before .before .before .args .after .now) (c .before .before .before .before .before .before .before .before .before .before .before .before .before .before .before .before .before .before .before .args .pre .now) (c .before .before .before .before .before .before .before .before .before .before .before .before .before .before .before .before .before .before .before .args .hi .now) (c .before .before .before .before .before .before .before .before .before .before .before .before .before .before .before .before .before .before .before .args .level) (c .before .before .before .before .before .before .before .before .before .before .before .before .before .loop .num) (c .before .before .before .before .before .before .before .before .before .before .before .before .before .loop .low) (bufferIs (c .before .before .before .before .before .before .before .before .before .before .before .before .before .loop .best)) (listed (c .before .before .before .before .before .before .before .before .before .before .before .before .before .before .before .before .before .before .before .args .store .now) (c .before .before .before .before .before .before .before .before .before .before .before .before .before .loop .c .at) (c .before .before .before .before .before .before .before .before .before .before .before .before .before .loop .c .end)) (c .before .before .before .before .before .before .before .before .before .before .before .before .before .loop .inv .3) (c .before .before .before .before .before .before .before .before .e .given .0 .0) (c .before .before .before .before .k .given .0 .0) (c .before .before .before .before .k .given .0 .1 .0) (listed (c .before .before .before .before .before .before .before .before .before .before .before .before .before .before .before .before .before .before .before .args .store .now) (c .before .before .before .before .before .before .before .before .e .given .0 .1 .0 .at) (c .before .before .before .before .before .before .before .before .e .given .0 .1 .0 .end)) (n .lists) (sym (c .before .before .before .before .before .before .kid-of .ensures) ∙ c .before .before .before .before .k .given .1) _ (c .before .before .before .before .before .before .before .before .before .before .before .before .before .loop .inv .4) _ (c .seek-child .ensures),
+    )
+
+-- src/lib.rt:273:5
+seek-children-seek-last-requires-3 : (t : ℕ) → seek-children-lts.Need-seek-last-requires-3 (
+  step-reads.Asked,
+  step-reads.Learnt,
+  seek-last-below t,
+  seek-last.Post,
+  kid-of-reads.Asked,
+  kid-of-reads.Learnt,
+  seek-child-below t,
+  seek-child.Post,
+) (seek-children-at t) seek-children.Post seek-children-Inv-loop seek-children-μ-loop
+seek-children-seek-last-requires-3 t c κs = (omega arith, (omega arith, c .before .before .loop .inv .2, last-ready (c .before .before .before .before .before .before .before .before .args .store .now) (c .before .before .before .before .before .before .before .before .args .below .now) (c .before .before .before .before .before .before .before .before .args .after .now) (c .before .before .before .before .before .before .before .before .args .pre .now) (c .before .before .before .before .before .before .before .before .args .hi .now) (c .before .before .before .before .before .before .before .before .args .level) (c .before .before .loop .num) (c .before .before .loop .low) (bufferIs (c .before .before .loop .best)) (listed (c .before .before .before .before .before .before .before .before .args .store .now) (c .before .before .loop .c .at) (c .before .before .loop .c .end)) (c .before .before .loop .inv .3) (kids-none _ (listed-end _ _ _ (omega arith)))))
+
+-- src/lib.rt:248:1
+seek-children-returns-3 : (t : ℕ) → seek-children-lts.Need-returns-3 (
+  step-reads.Asked,
+  step-reads.Learnt,
+  seek-last-below t,
+  seek-last.Post,
+  kid-of-reads.Asked,
+  kid-of-reads.Learnt,
+  seek-child-below t,
+  seek-child.Post,
+) (seek-children-at t) seek-children.Post seek-children-Inv-loop seek-children-μ-loop
+seek-children-returns-3 t c = run-ends (c .before .before .before .before .before .before .before .before .before .args .store .now) (c .before .before .before .before .before .before .before .before .before .args .below .now) (c .before .before .before .before .before .before .before .before .before .args .after .now) (c .before .before .before .before .before .before .before .before .before .args .pre .now) (c .before .before .before .before .before .before .before .before .before .args .hi .now) (c .before .before .before .before .before .before .before .before .before .args .level) (c .before .before .before .loop .num) (c .before .before .before .loop .low) (bufferIs (c .before .before .before .loop .best)) (listed (c .before .before .before .before .before .before .before .before .before .args .store .now) (c .before .before .before .loop .c .at) (c .before .before .before .loop .c .end)) (c .before .before .before .loop .inv .3) _ (c .before .before .before .loop .inv .4) (kids-none _ (listed-end _ _ _ (omega arith))) _ (c .seek-last3 .ensures)
+
+-- src/lib.rt:241:47
+seek-last-sub-seek-child : (t : ℕ) → seek-last-lts.Need-sub-seek-child (
+  seek-child-below t,
+  seek-child.Post,
+  seek-entries-reads.Asked,
+  seek-entries-reads.Learnt,
+) (seek-last-at t) seek-last.Post
+seek-last-sub-seek-child t c = let w = c .before .before .before .before .before .pre .1 .1 in omega arith
+
+-- src/lib.rt:241:47
+seek-last-part-seek-child-start : (t : ℕ) → seek-last-lts.Need-part-seek-child-start (
+  seek-child-below t,
+  seek-child.Post,
+  seek-entries-reads.Asked,
+  seek-entries-reads.Learnt,
+) (seek-last-at t) seek-last.Post
+seek-last-part-seek-child-start t c = let w = c .before .before .before .before .before .pre .1 .1 in omega arith
+
+-- src/lib.rt:241:47
+seek-last-part-seek-child-end : (t : ℕ) → seek-last-lts.Need-part-seek-child-end (
+  seek-child-below t,
+  seek-child.Post,
+  seek-entries-reads.Asked,
+  seek-entries-reads.Learnt,
+) (seek-last-at t) seek-last.Post
+seek-last-part-seek-child-end t c = let w = c .before .before .before .before .before .pre .1 .1 in omega arith
+
+-- src/lib.rt:241:9
+seek-last-seek-child-requires : (t : ℕ) → seek-last-lts.Need-seek-child-requires (
+  seek-child-below t,
+  seek-child.Post,
+  seek-entries-reads.Asked,
+  seek-entries-reads.Learnt,
+) (seek-last-at t) seek-last.Post
+seek-last-seek-child-requires t c κs = (omega arith, c .before .before .before .before .before .before .pre .1 .2)
+
+-- src/lib.rt:244:5
+seek-last-seek-entries-requires : (t : ℕ) → seek-last-lts.Need-seek-entries-requires (
+  seek-child-below t,
+  seek-child.Post,
+  seek-entries-reads.Asked,
+  seek-entries-reads.Learnt,
+) (seek-last-at t) seek-last.Post
+seek-last-seek-entries-requires t c κs = (c .before .before .before .before .before .before .before .pre .1 .2 .whole, c .before .before .before .before .before .before .before .pre .1 .0)
+
+-- src/lib.rt:235:1
+seek-last-returns : (t : ℕ) → seek-last-lts.Need-returns (
+  seek-child-below t,
+  seek-child.Post,
+  seek-entries-reads.Asked,
+  seek-entries-reads.Learnt,
+) (seek-last-at t) seek-last.Post
+seek-last-returns t c = last-child _ _ _ _ _ _ _ _ (c .before .before .before .before .before .before .before .before .args .low) _ _ _ (c .before .seek-child .ensures) (c .seek-entries .ensures)
+
+-- src/lib.rt:281:14
+seek-node-mul-at : (t : ℕ) → seek-node-lts.Need-mul-at (
+  u16-at-reads.Asked,
+  u16-at-reads.Learnt,
+  seek-entries-reads.Asked,
+  seek-entries-reads.Learnt,
+  step-reads.Asked,
+  step-reads.Learnt,
+  kid-of-reads.Asked,
+  kid-of-reads.Learnt,
+  seek-children-below t,
+  seek-children.Post,
+) (seek-node-at t) seek-node.Post
+seek-node-mul-at t c = let w = node-inside (c .before .before .before .before .before .args .store .now) (c .before .before .before .before .before .args .num) (c .before .before .before .before .before .args .level) (c .before .before .before .before .before .pre .1 .usable) in omega arith
+
+-- src/lib.rt:282:9
+seek-node-u16-at-requires : (t : ℕ) → seek-node-lts.Need-u16-at-requires (
+  u16-at-reads.Asked,
+  u16-at-reads.Learnt,
+  seek-entries-reads.Asked,
+  seek-entries-reads.Learnt,
+  step-reads.Asked,
+  step-reads.Learnt,
+  kid-of-reads.Asked,
+  kid-of-reads.Learnt,
+  seek-children-below t,
+  seek-children.Post,
+) (seek-node-at t) seek-node.Post
+seek-node-u16-at-requires t c κs = let w = node-inside (c .before .before .before .before .before .args .store .now) (c .before .before .before .before .before .args .num) (c .before .before .before .before .before .args .level) (c .before .before .before .before .before .pre .1 .usable) in omega arith
+
+-- src/lib.rt:283:16
+seek-node-add-from : (t : ℕ) → seek-node-lts.Need-add-from (
+  u16-at-reads.Asked,
+  u16-at-reads.Learnt,
+  seek-entries-reads.Asked,
+  seek-entries-reads.Learnt,
+  step-reads.Asked,
+  step-reads.Learnt,
+  kid-of-reads.Asked,
+  kid-of-reads.Learnt,
+  seek-children-below t,
+  seek-children.Post,
+) (seek-node-at t) seek-node.Post
+seek-node-add-from t c = let w = node-inside (c .before .before .before .before .before .before .args .store .now) (c .before .before .before .before .before .before .args .num) (c .before .before .before .before .before .before .args .level) (c .before .before .before .before .before .before .pre .1 .usable) in omega arith
+
+-- src/lib.rt:284:15
+seek-node-add-end : (t : ℕ) → seek-node-lts.Need-add-end (
+  u16-at-reads.Asked,
+  u16-at-reads.Learnt,
+  seek-entries-reads.Asked,
+  seek-entries-reads.Learnt,
+  step-reads.Asked,
+  step-reads.Learnt,
+  kid-of-reads.Asked,
+  kid-of-reads.Learnt,
+  seek-children-below t,
+  seek-children.Post,
+) (seek-node-at t) seek-node.Post
+seek-node-add-end t c = let w = node-inside (c .before .before .before .before .before .before .args .store .now) (c .before .before .before .before .before .before .args .num) (c .before .before .before .before .before .before .args .level) (c .before .before .before .before .before .before .pre .1 .usable) in omega arith
+
+-- src/lib.rt:286:9
+seek-node-seek-entries-requires : (t : ℕ) → seek-node-lts.Need-seek-entries-requires (
+  u16-at-reads.Asked,
+  u16-at-reads.Learnt,
+  seek-entries-reads.Asked,
+  seek-entries-reads.Learnt,
+  step-reads.Asked,
+  step-reads.Learnt,
+  kid-of-reads.Asked,
+  kid-of-reads.Learnt,
+  seek-children-below t,
+  seek-children.Post,
+) (seek-node-at t) seek-node.Post
+seek-node-seek-entries-requires t c κs = let w = node-inside (c .before .before .before .before .before .before .before .args .store .now) (c .before .before .before .before .before .before .before .args .num) (c .before .before .before .before .before .before .before .args .level) (c .before .before .before .before .before .before .before .pre .1 .usable) in (c .before .before .before .before .before .before .before .pre .1 .whole, omega arith)
+
+-- src/lib.rt:286:9
+seek-node-returns : (t : ℕ) → seek-node-lts.Need-returns (
+  u16-at-reads.Asked,
+  u16-at-reads.Learnt,
+  seek-entries-reads.Asked,
+  seek-entries-reads.Learnt,
+  step-reads.Asked,
+  step-reads.Learnt,
+  kid-of-reads.Asked,
+  kid-of-reads.Learnt,
+  seek-children-below t,
+  seek-children.Post,
+) (seek-node-at t) seek-node.Post
+seek-node-returns t c = node-leaf (c .before .before .before .before .before .before .before .before .args .store .now) (c .before .before .before .before .before .before .before .before .args .pre .now) (c .before .before .before .before .before .before .before .before .args .hi .now) (c .before .before .before .before .before .before .before .before .args .level) (c .before .before .before .before .before .before .before .before .args .num) (c .before .before .before .before .before .before .before .before .pre .1) (c .before .before .before .before .before .before .before .before .args .below .now) (c .before .before .before .before .before .before .before .before .args .after .now) (bufferIs (c .before .before .before .before .before .before .before .before .args .best)) (c .before .before .u16-at .result) (c .before .before .u16-at .ensures .0) (omega arith) _ (c .seek-entries .ensures)
+
+-- src/lib.rt:289:31
+seek-node-step-requires : (t : ℕ) → seek-node-lts.Need-step-requires (
+  u16-at-reads.Asked,
+  u16-at-reads.Learnt,
+  seek-entries-reads.Asked,
+  seek-entries-reads.Learnt,
+  step-reads.Asked,
+  step-reads.Learnt,
+  kid-of-reads.Asked,
+  kid-of-reads.Learnt,
+  seek-children-below t,
+  seek-children.Post,
+) (seek-node-at t) seek-node.Post
+seek-node-step-requires t c κs = let w = node-inside (c .before .before .before .before .before .before .before .args .store .now) (c .before .before .before .before .before .before .before .args .num) (c .before .before .before .before .before .before .before .args .level) (c .before .before .before .before .before .before .before .pre .1 .usable) in omega arith
+
+-- src/lib.rt:289:20
+seek-node-enum-known-e : (t : ℕ) → seek-node-lts.Need-enum-known-e (
+  u16-at-reads.Asked,
+  u16-at-reads.Learnt,
+  seek-entries-reads.Asked,
+  seek-entries-reads.Learnt,
+  step-reads.Asked,
+  step-reads.Learnt,
+  kid-of-reads.Asked,
+  kid-of-reads.Learnt,
+  seek-children-below t,
+  seek-children.Post,
+) (seek-node-at t) seek-node.Post
+seek-node-enum-known-e t c = search needs
+
+-- src/lib.rt:290:9
+seek-node-enum-told : (t : ℕ) → seek-node-lts.Need-enum-told (
+  u16-at-reads.Asked,
+  u16-at-reads.Learnt,
+  seek-entries-reads.Asked,
+  seek-entries-reads.Learnt,
+  step-reads.Asked,
+  step-reads.Learnt,
+  kid-of-reads.Asked,
+  kid-of-reads.Learnt,
+  seek-children-below t,
+  seek-children.Post,
+) (seek-node-at t) seek-node.Post
+seek-node-enum-told t c = search needs
+
+-- src/lib.rt:290:9
+seek-node-seek-entries-requires-2 : (t : ℕ) → seek-node-lts.Need-seek-entries-requires-2 (
+  u16-at-reads.Asked,
+  u16-at-reads.Learnt,
+  seek-entries-reads.Asked,
+  seek-entries-reads.Learnt,
+  step-reads.Asked,
+  step-reads.Learnt,
+  kid-of-reads.Asked,
+  kid-of-reads.Learnt,
+  seek-children-below t,
+  seek-children.Post,
+) (seek-node-at t) seek-node.Post
+seek-node-seek-entries-requires-2 t c κs = let w = node-inside (c .before .before .before .before .before .before .before .before .before .before .args .store .now) (c .before .before .before .before .before .before .before .before .before .before .args .num) (c .before .before .before .before .before .before .before .before .before .before .args .level) (c .before .before .before .before .before .before .before .before .before .before .pre .1 .usable) in (c .before .before .before .before .before .before .before .before .before .before .pre .1 .whole, omega arith)
+
+-- src/lib.rt:290:9
+seek-node-returns-2 : (t : ℕ) → seek-node-lts.Need-returns-2 (
+  u16-at-reads.Asked,
+  u16-at-reads.Learnt,
+  seek-entries-reads.Asked,
+  seek-entries-reads.Learnt,
+  step-reads.Asked,
+  step-reads.Learnt,
+  kid-of-reads.Asked,
+  kid-of-reads.Learnt,
+  seek-children-below t,
+  seek-children.Post,
+) (seek-node-at t) seek-node.Post
+seek-node-returns-2 t c = node-childless (c .before .before .before .before .before .before .before .before .before .before .before .args .store .now) (c .before .before .before .before .before .before .before .before .before .before .before .args .pre .now) (c .before .before .before .before .before .before .before .before .before .before .before .args .hi .now) (c .before .before .before .before .before .before .before .before .before .before .before .args .level) (c .before .before .before .before .before .before .before .before .before .before .before .args .num) (c .before .before .before .before .before .before .before .before .before .before .before .pre .1) (c .before .before .before .before .before .before .before .before .before .before .before .args .below .now) (c .before .before .before .before .before .before .before .before .before .before .before .args .after .now) (bufferIs (c .before .before .before .before .before .before .before .before .before .before .before .args .best)) (c .before .before .before .before .before .u16-at .result) (c .before .before .before .before .before .u16-at .ensures .0) (omega arith) (kids-none _ (step-bad-is _ _ _ _ (c .before .before .before .step .ensures) (c .before .enum-told .given .1) .1)) _ (c .seek-entries2 .ensures)
+
+-- src/lib.rt:292:25
+seek-node-kid-of-requires : (t : ℕ) → seek-node-lts.Need-kid-of-requires (
+  u16-at-reads.Asked,
+  u16-at-reads.Learnt,
+  seek-entries-reads.Asked,
+  seek-entries-reads.Learnt,
+  step-reads.Asked,
+  step-reads.Learnt,
+  kid-of-reads.Asked,
+  kid-of-reads.Learnt,
+  seek-children-below t,
+  seek-children.Post,
+) (seek-node-at t) seek-node.Post
+seek-node-kid-of-requires t c κs = search needs
+
+-- src/lib.rt:292:17
+seek-node-enum-known-k : (t : ℕ) → seek-node-lts.Need-enum-known-k (
+  u16-at-reads.Asked,
+  u16-at-reads.Learnt,
+  seek-entries-reads.Asked,
+  seek-entries-reads.Learnt,
+  step-reads.Asked,
+  step-reads.Learnt,
+  kid-of-reads.Asked,
+  kid-of-reads.Learnt,
+  seek-children-below t,
+  seek-children.Post,
+) (seek-node-at t) seek-node.Post
+seek-node-enum-known-k t c = search needs
+
+-- src/lib.rt:293:9
+seek-node-enum-told-2 : (t : ℕ) → seek-node-lts.Need-enum-told-2 (
+  u16-at-reads.Asked,
+  u16-at-reads.Learnt,
+  seek-entries-reads.Asked,
+  seek-entries-reads.Learnt,
+  step-reads.Asked,
+  step-reads.Learnt,
+  kid-of-reads.Asked,
+  kid-of-reads.Learnt,
+  seek-children-below t,
+  seek-children.Post,
+) (seek-node-at t) seek-node.Post
+seek-node-enum-told-2 t c = search needs
+
+-- src/lib.rt:293:9
+seek-node-seek-entries-requires-3 : (t : ℕ) → seek-node-lts.Need-seek-entries-requires-3 (
+  u16-at-reads.Asked,
+  u16-at-reads.Learnt,
+  seek-entries-reads.Asked,
+  seek-entries-reads.Learnt,
+  step-reads.Asked,
+  step-reads.Learnt,
+  kid-of-reads.Asked,
+  kid-of-reads.Learnt,
+  seek-children-below t,
+  seek-children.Post,
+) (seek-node-at t) seek-node.Post
+seek-node-seek-entries-requires-3 t c κs = let w = node-inside (c .before .before .before .before .before .before .before .before .before .before .before .before .before .before .args .store .now) (c .before .before .before .before .before .before .before .before .before .before .before .before .before .before .args .num) (c .before .before .before .before .before .before .before .before .before .before .before .before .before .before .args .level) (c .before .before .before .before .before .before .before .before .before .before .before .before .before .before .pre .1 .usable) in (c .before .before .before .before .before .before .before .before .before .before .before .before .before .before .pre .1 .whole, omega arith)
+
+-- src/lib.rt:293:9
+seek-node-returns-3 : (t : ℕ) → seek-node-lts.Need-returns-3 (
+  u16-at-reads.Asked,
+  u16-at-reads.Learnt,
+  seek-entries-reads.Asked,
+  seek-entries-reads.Learnt,
+  step-reads.Asked,
+  step-reads.Learnt,
+  kid-of-reads.Asked,
+  kid-of-reads.Learnt,
+  seek-children-below t,
+  seek-children.Post,
+) (seek-node-at t) seek-node.Post
+seek-node-returns-3 t c =
+    let n = step-read-is _ _ _ _ (c .before .before .before .before .before .e .given .0 .0) (c .before .before .before .before .before .e .given .0 .1 .0) (c .before .before .before .before .before .before .before .step .ensures) (c .before .before .before .before .before .e .given .1) in
+    node-childless (c .before .before .before .before .before .before .before .before .before .before .before .before .before .before .before .args .store .now) (c .before .before .before .before .before .before .before .before .before .before .before .before .before .before .before .args .pre .now) (c .before .before .before .before .before .before .before .before .before .before .before .before .before .before .before .args .hi .now) (c .before .before .before .before .before .before .before .before .before .before .before .before .before .before .before .args .level) (c .before .before .before .before .before .before .before .before .before .before .before .before .before .before .before .args .num) (c .before .before .before .before .before .before .before .before .before .before .before .before .before .before .before .pre .1) (c .before .before .before .before .before .before .before .before .before .before .before .before .before .before .before .args .below .now) (c .before .before .before .before .before .before .before .before .before .before .before .before .before .before .before .args .after .now) (bufferIs (c .before .before .before .before .before .before .before .before .before .before .before .before .before .before .before .args .best)) (c .before .before .before .before .before .before .before .before .before .u16-at .result) (c .before .before .before .before .before .before .before .before .before .u16-at .ensures .0) (omega arith) (kids-other (c .before .before .before .before .before .e .given .0 .0) (c .before .before .before .before .before .before .before .before .before .before .before .before .before .before .before .args .store .now) _ _ (n .lists) (sym (c .before .before .before .kid-of .ensures) ∙ c .before .enum-told2 .given .1)) _ (c .seek-entries3 .ensures)
+
+-- src/lib.rt:295:38
+seek-node-sub-seek-children : (t : ℕ) → seek-node-lts.Need-sub-seek-children (
+  u16-at-reads.Asked,
+  u16-at-reads.Learnt,
+  seek-entries-reads.Asked,
+  seek-entries-reads.Learnt,
+  step-reads.Asked,
+  step-reads.Learnt,
+  kid-of-reads.Asked,
+  kid-of-reads.Learnt,
+  seek-children-below t,
+  seek-children.Post,
+) (seek-node-at t) seek-node.Post
+seek-node-sub-seek-children t c = omega arith
+
+-- src/lib.rt:295:5
+seek-node-seek-children-requires : (t : ℕ) → seek-node-lts.Need-seek-children-requires (
+  u16-at-reads.Asked,
+  u16-at-reads.Learnt,
+  seek-entries-reads.Asked,
+  seek-entries-reads.Learnt,
+  step-reads.Asked,
+  step-reads.Learnt,
+  kid-of-reads.Asked,
+  kid-of-reads.Learnt,
+  seek-children-below t,
+  seek-children.Post,
+) (seek-node-at t) seek-node.Post
+seek-node-seek-children-requires t c κs =
+    let w = node-inside (c .before .before .before .before .before .before .before .before .before .before .before .before .before .before .before .args .store .now) (c .before .before .before .before .before .before .before .before .before .before .before .before .before .before .before .args .num) (c .before .before .before .before .before .before .before .before .before .before .before .before .before .before .before .args .level) (c .before .before .before .before .before .before .before .before .before .before .before .before .before .before .before .pre .1 .usable) in
+    let n = step-read-is _ _ _ _ (c .before .before .before .before .before .e .given .0 .0) (c .before .before .before .before .before .e .given .0 .1 .0) (c .before .before .before .before .before .before .before .step .ensures) (c .before .before .before .before .before .e .given .1) in
+    let p = kid-place _ _ (c .before .before .before .before .before .e .given .0 .0) (c .before .k .given .0 .0) (c .before .k .given .0 .1 .0) (sym (c .before .before .before .kid-of .ensures) ∙ c .before .k .given .1) (n .reachable) in
+    (omega arith, (omega arith, record { low = omega arith; rises = omega arith; high = omega arith }, node-ready (c .before .before .before .before .before .before .before .before .before .before .before .before .before .before .before .args .store .now) (c .before .before .before .before .before .before .before .before .before .before .before .before .before .before .before .args .pre .now) (c .before .before .before .before .before .before .before .before .before .before .before .before .before .before .before .args .hi .now) (c .before .before .before .before .before .before .before .before .before .before .before .before .before .before .before .args .level) (c .before .before .before .before .before .before .before .before .before .before .before .before .before .before .before .args .num) (c .before .before .before .before .before .before .before .before .before .before .before .before .before .before .before .pre .1) (c .before .before .before .before .before .before .before .before .before .before .before .before .before .before .before .args .below .now) (c .before .before .before .before .before .before .before .before .before .before .before .before .before .before .before .args .after .now) (bufferIs (c .before .before .before .before .before .before .before .before .before .before .before .before .before .before .before .args .best)) (c .before .before .before .before .before .before .before .before .before .u16-at .result) (c .before .before .before .before .before .before .before .before .before .u16-at .ensures .0) (omega arith) (c .before .before .before .before .before .e .given .0 .0) (c .before .k .given .0 .0) (c .before .k .given .0 .1 .0) (listed (c .before .before .before .before .before .before .before .before .before .before .before .before .before .before .before .args .store .now) (c .before .before .before .before .before .e .given .0 .1 .0 .at) (c .before .before .before .before .before .e .given .0 .1 .0 .end)) (n .lists) (sym (c .before .before .before .kid-of .ensures) ∙ c .before .k .given .1)))
+
+-- src/lib.rt:277:1
+seek-node-returns-4 : (t : ℕ) → seek-node-lts.Need-returns-4 (
+  u16-at-reads.Asked,
+  u16-at-reads.Learnt,
+  seek-entries-reads.Asked,
+  seek-entries-reads.Learnt,
+  step-reads.Asked,
+  step-reads.Learnt,
+  kid-of-reads.Asked,
+  kid-of-reads.Learnt,
+  seek-children-below t,
+  seek-children.Post,
+) (seek-node-at t) seek-node.Post
+seek-node-returns-4 t c =
+    let n = step-read-is _ _ _ _ (c .before .before .before .before .before .before .e .given .0 .0) (c .before .before .before .before .before .before .e .given .0 .1 .0) (c .before .before .before .before .before .before .before .before .step .ensures) (c .before .before .before .before .before .before .e .given .1) in
+    node-children (c .before .before .before .before .before .before .before .before .before .before .before .before .before .before .before .before .args .store .now) (c .before .before .before .before .before .before .before .before .before .before .before .before .before .before .before .before .args .pre .now) (c .before .before .before .before .before .before .before .before .before .before .before .before .before .before .before .before .args .hi .now) (c .before .before .before .before .before .before .before .before .before .before .before .before .before .before .before .before .args .level) (c .before .before .before .before .before .before .before .before .before .before .before .before .before .before .before .before .args .num) (c .before .before .before .before .before .before .before .before .before .before .before .before .before .before .before .before .pre .1) (c .before .before .before .before .before .before .before .before .before .before .before .before .before .before .before .before .args .below .now) (c .before .before .before .before .before .before .before .before .before .before .before .before .before .before .before .before .args .after .now) (bufferIs (c .before .before .before .before .before .before .before .before .before .before .before .before .before .before .before .before .args .best)) (c .before .before .before .before .before .before .before .before .before .before .u16-at .result) (c .before .before .before .before .before .before .before .before .before .before .u16-at .ensures .0) (omega arith) (c .before .before .before .before .before .before .e .given .0 .0) (c .before .before .k .given .0 .0) (c .before .before .k .given .0 .1 .0) (listed (c .before .before .before .before .before .before .before .before .before .before .before .before .before .before .before .before .args .store .now) (c .before .before .before .before .before .before .e .given .0 .1 .0 .at) (c .before .before .before .before .before .before .e .given .0 .1 .0 .end)) (n .lists) (sym (c .before .before .before .before .kid-of .ensures) ∙ c .before .before .k .given .1) _ (c .seek-children .ensures)
+
+pub +seek-child+seek-children+seek-last+seek-node-spec : {M : Type 1} → statement M
++seek-child+seek-children+seek-last+seek-node-spec =
+    close μ-seek-child μ-seek-children μ-seek-last μ-seek-node (λ t. seek-child-lts.spec (
+      is-far-reads.Asked,
+      is-far-reads.Learnt,
+      common-length-reads.Asked,
+      common-length-reads.Learnt,
+      join-reads.Asked,
+      join-reads.Learnt,
+      seek-node-below t,
+      seek-node.Post,
+    )
+    (seek-child-at t)
+    seek-child.Post
+    (seek-child-is-far-requires t)
+    (seek-child-returns t)
+    (seek-child-common-length-requires t)
+    (seek-child-sub-join t)
+    (seek-child-part-join-start t)
+    (seek-child-part-join-end t)
+    (seek-child-join-requires t)
+    (seek-child-returns-2 t)
+    (seek-child-sub-seek-node t)
+    (seek-child-part-seek-node-start t)
+    (seek-child-part-seek-node-end t)
+    (seek-child-sub-seek-node-2 t)
+    (seek-child-part-seek-node-start-2 t)
+    (seek-child-part-seek-node-end-2 t)
+    (seek-child-seek-node-requires t)
+    (seek-child-returns-3 t))
+    (λ t. seek-children-lts.spec (
+      step-reads.Asked,
+      step-reads.Learnt,
+      seek-last-below t,
+      seek-last.Post,
+      kid-of-reads.Asked,
+      kid-of-reads.Learnt,
+      seek-child-below t,
+      seek-child.Post,
+    )
+    (seek-children-at t)
+    seek-children.Post
+    seek-children-Inv-loop
+    seek-children-μ-loop
+    (seek-children-loop-holds t)
+    (seek-children-step-requires t)
+    (seek-children-enum-known-e t)
+    (seek-children-enum-told t)
+    (seek-children-seek-last-requires t)
+    (seek-children-returns t)
+    (seek-children-kid-of-requires t)
+    (seek-children-enum-known-k t)
+    (seek-children-enum-told-2 t)
+    (seek-children-seek-last-requires-2 t)
+    (seek-children-returns-2 t)
+    (seek-children-sub-seek-child t)
+    (seek-children-part-seek-child-start t)
+    (seek-children-part-seek-child-end t)
+    (seek-children-sub-seek-child-2 t)
+    (seek-children-part-seek-child-start-2 t)
+    (seek-children-part-seek-child-end-2 t)
+    (seek-children-seek-child-requires t)
+    (seek-children-loop-less t)
+    (seek-children-loop-again t)
+    (seek-children-seek-last-requires-3 t)
+    (seek-children-returns-3 t))
+    (λ t. seek-last-lts.spec (
+      seek-child-below t,
+      seek-child.Post,
+      seek-entries-reads.Asked,
+      seek-entries-reads.Learnt,
+    )
+    (seek-last-at t)
+    seek-last.Post
+    (seek-last-sub-seek-child t)
+    (seek-last-part-seek-child-start t)
+    (seek-last-part-seek-child-end t)
+    (seek-last-seek-child-requires t)
+    (seek-last-seek-entries-requires t)
+    (seek-last-returns t))
+    λ t. seek-node-lts.spec (
+      u16-at-reads.Asked,
+      u16-at-reads.Learnt,
+      seek-entries-reads.Asked,
+      seek-entries-reads.Learnt,
+      step-reads.Asked,
+      step-reads.Learnt,
+      kid-of-reads.Asked,
+      kid-of-reads.Learnt,
+      seek-children-below t,
+      seek-children.Post,
+    )
+    (seek-node-at t)
+    seek-node.Post
+    (seek-node-mul-at t)
+    (seek-node-u16-at-requires t)
+    (seek-node-add-from t)
+    (seek-node-add-end t)
+    (seek-node-seek-entries-requires t)
+    (seek-node-returns t)
+    (seek-node-step-requires t)
+    (seek-node-enum-known-e t)
+    (seek-node-enum-told t)
+    (seek-node-seek-entries-requires-2 t)
+    (seek-node-returns-2 t)
+    (seek-node-kid-of-requires t)
+    (seek-node-enum-known-k t)
+    (seek-node-enum-told-2 t)
+    (seek-node-seek-entries-requires-3 t)
+    (seek-node-returns-3 t)
+    (seek-node-sub-seek-children t)
+    (seek-node-seek-children-requires t)
+    (seek-node-returns-4 t)

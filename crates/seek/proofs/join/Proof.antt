@@ -1,0 +1,24 @@
+-- `seek::join` meets the contract: an empty buffer extended twice (specs/BufferSteps).
+use Rattle.seek.specs.BufferSteps.{join-is}
+use mathlib.Core.Path.{refl}
+use borrow.Author.Needs.{needs}
+use Rattle.seek.proofs.join.Statement.{statement}
+use Rattle.seek.proofs.join.Tie as tie
+use Rattle.seek.proofs.join.Reads as reads
+use Rattle.seek.proofs.join.Lts as lts
+use Rattle.seek.proofs.extend.Reads as extend-reads
+
+-- src/lib.rt:58:9
+extend-requires : tie.Need-extend-requires
+extend-requires c κs = search needs
+
+-- src/lib.rt:59:5
+extend-requires-2 : tie.Need-extend-requires-2
+extend-requires-2 c κs = search needs
+
+-- src/lib.rt:54:1
+returns : tie.Need-returns
+returns c = join-is _ (c .before .extend .result) _ _ _ refl (c .before .extend .ensures) (c .extend2 .ensures)
+
+pub join-spec : {M : Type 1} → statement M
+join-spec = tie.close (tie.spec extend-requires extend-requires-2 returns)

@@ -1,0 +1,11 @@
+pub mod Buffer
+pub mod BufferSteps
+pub mod Joined
+pub mod Tests
+pub mod Walk
+pub mod Suffixes
+pub mod Present
+pub mod WalkLaws
+pub mod Steps
+pub mod NodeSteps
+pub mod Callers

@@ -1,0 +1,146 @@
+-- The steps of the functions that try a path, an entry, and a list of entries: one law for each return.
+-- Relies on: Walk, WalkLaws, BufferSteps, and that present paths are short (Present).
+use Prim.Native.Nat.{ℕ, _+_, _-_, _<_, _≤_}
+use mathlib.Core.Path.{_≡_, refl, sym, ap, subst, _∙_}
+use mathlib.Core.List.{List, [], _∷_, _++_}
+use mathlib.Core.Bool.{Bool, true, false, not}
+use mathlib.Core.Option.{Option, none, some}
+use native.Mathlib.Omega.{arith}
+use lib.ListN.{take, drop}
+use borrow.Author.Tests.{not-true, not-false}
+use Rattle.image.specs.Entry as defined
+use Rattle.image.specs.Table.{isSome}
+use Rattle.image.specs.Sound.{sound, valueIn}
+use Rattle.octets.specs.Order.{and-false}
+use Rattle.reading.specs.Seek.{wanted, try}
+use Rattle.reading.specs.SeekHere.{under}
+use Rattle.node.specs.Places.{part, entryIn, Within, EntryWithin}
+use Rattle.node.specs.declared.Place.{Place}
+use Rattle.node.specs.declared.Message.{Message}
+use Rattle.node.specs.declared.Entry.{Entry}
+use Rattle.search.specs.declared.Found.{Found}
+use Rattle.search.specs.Pairs.{foundIn, Finds}
+use Rattle.seek.specs.declared.PathBuffer.{PathBuffer}
+use Rattle.seek.specs.declared.Suffix.{Suffix}
+use Rattle.seek.specs.Buffer.{bufferIs, fitted}
+use Rattle.seek.specs.BufferSteps.{held, fitted-held, fitted-not}
+use Rattle.seek.specs.Walk.{isPresent, tryIn, walkIn, pathOf, pathsOf}
+use Rattle.seek.specs.Suffixes.{putIs, suffixIs}
+use Rattle.seek.specs.Present.{too-long}
+use Rattle.seek.specs.WalkLaws.{walk-nothing, walk-one, walk-more}
+
+-- a part from the start on, as it is made
+pub front-is : (n : ℕ) (l : List ℕ) → take (n - 0) (drop 0 l) ≡ take n l
+front-is n l = let e : n - 0 ≡ n = omega arith in rw e
+
+-- 1. One path.
+module _ (s P Q k : List ℕ) (best : Option (List ℕ)) where
+  not-there : isPresent s k ≡ false → best ≡ tryIn s P Q best k
+  unfolding tryIn try
+  not-there h = rw (h, and-false (wanted P Q best k))
+
+  module _ (w : Bool) (ew : w ≡ wanted P Q best k) where
+    pub try-unwanted : not w ≡ true → best ≡ tryIn s P Q best k
+    unfolding tryIn try
+    try-unwanted h = rw (sym ew ∙ not-true w h)
+
+    module _ (e : sound s ≡ true) (yes : not w ≡ false) (full : PathBuffer) (j : bufferIs full ≡ fitted k) where
+      pub try-long : 64 < full .len → best ≡ tryIn s P Q best k
+      try-long h = not-there (too-long s k e (fitted-not full k j h))
+
+      module _ (fit : full .len ≤ 64) (f : Found) (v : Finds s (valueIn s (take (full .len - 0) (drop 0 (full .bytes)))) f) where
+        value-there : foundIn s f ≡ valueIn s k
+        value-there = v .meant ∙ ap (λ x. valueIn s x) (front-is (full .len) (full .bytes) ∙ fitted-held full k j fit)
+
+        pub try-absent : f ≡ Found.Nothing → best ≡ tryIn s P Q best k
+        unfolding isPresent
+        try-absent h = not-there (ap (λ o. isSome o) (sym value-there ∙ nothing h) ∙ is-none)
+          where
+            nothing : f ≡ Found.Nothing → foundIn s f ≡ none
+            nothing h = unfold foundIn in rw h
+
+            is-none : isSome none ≡ false
+            is-none = unfold isSome in refl
+
+        pub try-found : (p : Place) → f ≡ Found.Value p → bufferIs full ≡ tryIn s P Q best k
+        unfolding tryIn try isPresent
+        try-found p h =
+            held full fit ∙ ap (λ x. some x) (fitted-held full k j fit)
+            ∙ rw (sym ew ∙ not-false w yes, sym value-there ∙ value h, is-some (part s p))
+          where
+            value : f ≡ Found.Value p → foundIn s f ≡ some (part s p)
+            value h = unfold foundIn in rw h
+
+            is-some : (x : List ℕ) → isSome (some x) ≡ true
+            is-some x = unfold isSome in refl
+
+-- 2. The suffix of an entry.
+pub put-at : (m : Message) (p v : Place) → m ≡ Message.Put p v → Suffix.At p ≡ putIs m
+unfolding putIs
+put-at m p v h = rw h
+
+pub drop-other : (m : Message) (p : Place) → m ≡ Message.Drop p → Suffix.Other ≡ putIs m
+unfolding putIs
+drop-other m p h = rw h
+
+pub clear-other : (m : Message) (p : Place) → m ≡ Message.Clear p → Suffix.Other ≡ putIs m
+unfolding putIs
+clear-other m p h = rw h
+
+pub pair-at : (e : Entry) (p v : Place) → e ≡ Entry.Pair p v → Suffix.At p ≡ suffixIs e
+unfolding suffixIs
+pair-at e p v h = rw h
+
+pub child-other : (e : Entry) (i : ℕ) (p : Place) → e ≡ Entry.Child i p → Suffix.Other ≡ suffixIs e
+unfolding suffixIs
+child-other e i p h = rw h
+
+pub message-put : (e : Entry) (m : Message) (r : Suffix) → e ≡ Entry.Message m → r ≡ putIs m → r ≡ suffixIs e
+unfolding suffixIs
+message-put e m r h f = f ∙ rw h
+
+at-path : (s : List ℕ) (e : Entry) (p : Place) → suffixIs e ≡ Suffix.At p → pathOf (entryIn s e) ≡ part s p ∷ []
+unfolding suffixIs putIs pathOf
+at-path s (Entry.Pair q v) p h = let z : q ≡ p = cc in rw z
+at-path s (Entry.Child i q) p h = let z : _≡_ {A = ℕ} 0 1 = cc in absurd (omega arith)
+at-path s (Entry.Message (Message.Put q v)) p h = let z : q ≡ p = cc in rw z
+at-path s (Entry.Message (Message.Drop q)) p h = let z : _≡_ {A = ℕ} 0 1 = cc in absurd (omega arith)
+at-path s (Entry.Message (Message.Clear q)) p h = let z : _≡_ {A = ℕ} 0 1 = cc in absurd (omega arith)
+
+other-path : (s : List ℕ) (e : Entry) → suffixIs e ≡ Suffix.Other → pathOf (entryIn s e) ≡ []
+unfolding suffixIs putIs pathOf
+other-path s (Entry.Pair q v) h = let z : _≡_ {A = ℕ} 0 1 = cc in absurd (omega arith)
+other-path s (Entry.Child i q) h = refl
+other-path s (Entry.Message (Message.Put q v)) h = let z : _≡_ {A = ℕ} 0 1 = cc in absurd (omega arith)
+other-path s (Entry.Message (Message.Drop q)) h = refl
+other-path s (Entry.Message (Message.Clear q)) h = refl
+
+pub suffix-place : (a b : ℕ) (e : Entry) (p : Place) → suffixIs e ≡ Suffix.At p → EntryWithin a b e → Within a b p
+unfolding suffixIs putIs
+suffix-place a b (Entry.Pair q v) p h w = let z : q ≡ p = cc in subst (Within a b) z (w .0)
+suffix-place a b (Entry.Child i q) p h w = let z : _≡_ {A = ℕ} 0 1 = cc in absurd (omega arith)
+suffix-place a b (Entry.Message (Message.Put q v)) p h w = let z : q ≡ p = cc in subst (Within a b) z (w .0)
+suffix-place a b (Entry.Message (Message.Drop q)) p h w = let z : _≡_ {A = ℕ} 0 1 = cc in absurd (omega arith)
+suffix-place a b (Entry.Message (Message.Clear q)) p h w = let z : _≡_ {A = ℕ} 0 1 = cc in absurd (omega arith)
+
+-- 3. One entry, and the loop over entries: the walk over what is left of them is R.
+module _ (s P Q X : List ℕ) (best : Option (List ℕ)) where
+  pub entry-tried : (e : Entry) (p : Place) (r : Option (List ℕ)) → suffixIs e ≡ Suffix.At p → r ≡ tryIn s P Q best (X ++ part s p)
+      → r ≡ walkIn s P Q best (under X (pathOf (entryIn s e)))
+  entry-tried e p r h f = f ∙ walk-one s P Q best X (part s p) ∙ ap (λ ks. walkIn s P Q best (under X ks)) (sym (at-path s e p h))
+
+  pub entry-other : (e : Entry) → suffixIs e ≡ Suffix.Other → best ≡ walkIn s P Q best (under X (pathOf (entryIn s e)))
+  entry-other e h = walk-nothing s P Q best X ∙ ap (λ ks. walkIn s P Q best (under X ks)) (sym (other-path s e h))
+
+  module _ (es : List defined.Entry) (R : Option (List ℕ)) (inv : walkIn s P Q best (under X (pathsOf es)) ≡ R) where
+    pub entries-step : (e : Entry) (ts : List defined.Entry) (r : Option (List ℕ)) → es ≡ entryIn s e ∷ ts → r ≡ walkIn s P Q best (under X (pathOf (entryIn s e)))
+        → walkIn s P Q r (under X (pathsOf ts)) ≡ R
+    unfolding pathsOf
+    entries-step e ts r q f =
+        ap (λ b. walkIn s P Q b (under X (pathsOf ts))) f
+        ∙ sym (walk-more s P Q best X (pathOf (entryIn s e)) (pathsOf ts))
+        ∙ ap (λ l. walkIn s P Q best (under X (pathsOf l))) (sym q) ∙ inv
+
+    pub entries-end : es ≡ [] → best ≡ R
+    unfolding pathsOf
+    entries-end q = walk-nothing s P Q best X ∙ ap (λ l. walkIn s P Q best (under X (pathsOf l))) (sym q) ∙ inv

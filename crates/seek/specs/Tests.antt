@@ -1,0 +1,101 @@
+-- The tests on a path or a range, one law for each return.
+-- Relies on: rel's better, wanted and farFrom.
+use Prim.Native.Nat.{ℕ, _-_, _<_, _≤_}
+use mathlib.Core.Path.{_≡_, refl, sym, ap, _∙_}
+use mathlib.Core.List.{List}
+use mathlib.Core.Bool.{Bool, true, false, _&&_, _||_, not}
+use mathlib.Core.Option.{Option, some}
+use native.Mathlib.Omega.{arith}
+use lib.ListN.{take, drop}
+use borrow.Author.Tests.{not-true, not-false}
+use Rattle.image.specs.Bytes.{before, begins}
+use Rattle.reading.specs.Seek.{better, wanted, farFrom}
+use Rattle.seek.specs.declared.PathBuffer.{PathBuffer}
+use Rattle.seek.specs.Buffer.{bufferIs}
+use Rattle.seek.specs.BufferSteps.{held, empty-handed}
+
+pub better-none : (p : PathBuffer) (k : List ℕ) → 64 < p .len → true ≡ better (bufferIs p) k
+unfolding better
+better-none p k h = rw (empty-handed p h)
+
+pub better-some : (p : PathBuffer) (k : List ℕ) (r : Bool) → p .len ≤ 64 → r ≡ before k (take (p .len - 0) (drop 0 (p .bytes))) → r ≡ better (bufferIs p) k
+unfolding better
+better-some p k r h e =
+    let z : p .len - 0 ≡ p .len = omega arith in
+    rw (held p h) (rw z at e)
+
+-- three tests, and four, of which some are known
+three-false : (x y z : Bool) → x ≡ false → false ≡ x && y && z
+three-false x y z e = rw e
+
+three-second : (x y z : Bool) → y ≡ false → false ≡ x && y && z
+three-second true y z e = rw e
+three-second false y z e = refl
+
+three-last : (x y z : Bool) → x ≡ true → y ≡ true → z ≡ x && y && z
+three-last x y z e f = rw (e, f)
+
+module _ (P Q k : List ℕ) (best : Option (List ℕ)) (q : Bool) (eq : q ≡ before Q k) where
+  pub wanted-early : not q ≡ true → false ≡ wanted P Q best k
+  unfolding wanted
+  wanted-early h = three-second (begins P k) (before Q k) (better best k) (sym eq ∙ not-true q h)
+
+  module _ (late : not q ≡ false) (p : Bool) (ep : p ≡ begins P k) where
+    pub wanted-apart : not p ≡ true → false ≡ wanted P Q best k
+    unfolding wanted
+    wanted-apart h = three-false (begins P k) (before Q k) (better best k) (sym ep ∙ not-true p h)
+
+    pub wanted-last : not p ≡ false → (r : Bool) → r ≡ better best k → r ≡ wanted P Q best k
+    unfolding wanted
+    wanted-last h r e = e ∙ three-last (begins P k) (before Q k) (better best k) (sym ep ∙ not-false p h) (sym eq ∙ not-false q late)
+
+four-1 : (x y z w : Bool) → x ≡ true → true ≡ x || y || z || w
+four-1 x y z w e = rw e
+
+four-2 : (x y z w : Bool) → y ≡ true → true ≡ x || y || z || w
+four-2 true y z w e = refl
+four-2 false y z w e = rw e
+
+four-4 : (x y z w : Bool) → w ≡ true → true ≡ x || y || z || w
+four-4 true y z w e = refl
+four-4 false true z w e = refl
+four-4 false false true w e = refl
+four-4 false false false w e = sym e
+
+four-3 : (x y z w : Bool) → x ≡ false → y ≡ false → w ≡ false → z ≡ x || y || z || w
+four-3 x y true w a b c = rw (a, b)
+four-3 x y false w a b c = rw (a, b) (sym c)
+
+and-first : (x y : Bool) → x ≡ false → false ≡ x && y
+and-first x y e = rw e
+
+module _ (P Q lo hi : List ℕ) (best : Option (List ℕ)) (q : Bool) (eq : q ≡ before Q hi) where
+  pub far-early : not q ≡ true → true ≡ farFrom P Q lo hi best
+  unfolding farFrom
+  far-early h = four-2 (not (before P hi)) (not (before Q hi)) (before P lo && not (begins P lo)) (not (better best lo)) (ap (λ b. not b) (sym eq) ∙ h)
+
+  module _ (late : not q ≡ false) (b : Bool) (eb : b ≡ better best lo) where
+    pub far-late : not b ≡ true → true ≡ farFrom P Q lo hi best
+    unfolding farFrom
+    far-late h = four-4 (not (before P hi)) (not (before Q hi)) (before P lo && not (begins P lo)) (not (better best lo)) (ap (λ b. not b) (sym eb) ∙ h)
+
+    module _ (good : not b ≡ false) (p : Bool) (ep : p ≡ before P hi) where
+      pub far-under : not p ≡ true → true ≡ farFrom P Q lo hi best
+      unfolding farFrom
+      far-under h = four-1 (not (before P hi)) (not (before Q hi)) (before P lo && not (begins P lo)) (not (better best lo)) (ap (λ b. not b) (sym ep) ∙ h)
+
+      module _ (over : not p ≡ false) (l : Bool) (el : l ≡ before P lo) where
+        third : before P lo && not (begins P lo) ≡ farFrom P Q lo hi best
+        unfolding farFrom
+        third =
+            four-3 (not (before P hi)) (not (before Q hi)) (before P lo && not (begins P lo)) (not (better best lo))
+            (ap (λ b. not b) (sym ep) ∙ over) (ap (λ b. not b) (sym eq) ∙ late) (ap (λ b. not b) (sym eb) ∙ good)
+
+        pub far-inside : not l ≡ true → false ≡ farFrom P Q lo hi best
+        far-inside h = and-first (before P lo) (not (begins P lo)) (sym el ∙ not-true l h) ∙ third
+
+        pub far-past : not l ≡ false → (t : Bool) → t ≡ begins P lo → not t ≡ farFrom P Q lo hi best
+        far-past h t et = ap (λ b. not b) et ∙ past (before P lo) (not (begins P lo)) (sym el ∙ not-false l h) ∙ third
+          where
+            past : (x y : Bool) → x ≡ true → y ≡ x && y
+            past x y e = rw e

@@ -1,0 +1,65 @@
+-- The walk of next as its functions see it: the paths that entries name, the paths under a child and under a run of children, and what
+-- each function may rely on. Relies on: rel's walk over keys (Seek, SeekHere).
+use Prim.Native.Nat.{ℕ}
+use mathlib.Core.Path.{_≡_}
+use mathlib.Core.List.{List, [], _∷_, _++_}
+use mathlib.Core.Bool.{Bool, true}
+use mathlib.Core.Option.{Option}
+use lib.ListN.{length, drop}
+use Rattle.image.specs.Bytes.{shared}
+use Rattle.image.specs.Entry.{puts, drops, clears, Entry, pair, child, message}
+use Rattle.image.specs.Table.{isSome}
+use Rattle.image.specs.Image.{Kid, nodesOf, forestOf, treeAt}
+use Rattle.image.specs.Sound.{sound, soundTree, valueIn}
+use Rattle.reading.specs.Relative.{lifts, kidHigh, usable}
+use Rattle.reading.specs.Seek.{try, walk}
+use Rattle.reading.specs.SeekHere.{under, keysHere, keysKids}
+
+-- a path is present in the image
+unfoldable pub isPresent : List ℕ → List ℕ → Bool
+isPresent s k = isSome (valueIn s k)
+
+-- one path tried, and the walk over a list of paths, both from the best so far: below P, after Q
+unfoldable pub tryIn : List ℕ → List ℕ → List ℕ → Option (List ℕ) → List ℕ → Option (List ℕ)
+tryIn s P Q best k = try (isPresent s) P Q best k
+
+unfoldable pub walkIn : List ℕ → List ℕ → List ℕ → Option (List ℕ) → List (List ℕ) → Option (List ℕ)
+walkIn s P Q best ks = walk (isPresent s) P Q best ks
+
+-- the path that an entry may hold a value for: of a pair and of a put
+unfoldable pub pathOf : Entry → List (List ℕ)
+pathOf (pair k v) = k ∷ []
+pathOf (child i k) = []
+pathOf (message (puts k v)) = k ∷ []
+pathOf (message (drops k)) = []
+pathOf (message (clears k)) = []
+
+unfoldable pub pathsOf : List Entry → List (List ℕ)
+pathsOf [] = []
+pathsOf (e ∷ es) = pathOf e ++ pathsOf es
+
+-- the paths under the child num with these pivots, and under these children and in the entries es
+unfoldable pub childPaths : ℕ → List ℕ → ℕ → List ℕ → List ℕ → List (List ℕ)
+childPaths level s num low high = under (shared low high) (keysHere (treeAt level s num) (drop (lifts low high) high))
+
+unfoldable pub runPaths : ℕ → List ℕ → List ℕ → List Kid → List Entry → List (List ℕ)
+runPaths level s hi ks es = keysKids (forestOf (λ j. treeAt level s j) ks) hi ++ pathsOf es
+
+-- A child under the prefix X with the pivots low and high, without X.
+pub record ChildReady (s X low high : List ℕ) (level num : ℕ) : Type 0 where
+  pub whole : sound s ≡ true
+  pub usable : usable (nodesOf (length s)) (treeAt level s num) ≡ true
+  pub tree : soundTree (treeAt level s num) (X ++ low) (X ++ high) ≡ true
+
+-- A node that lifts X, with the high pivot hi without X. Its low pivot is not needed to read it, only to know that it is sound.
+pub record NodeReady (s X hi : List ℕ) (level num : ℕ) : Type 0 where
+  pub whole : sound s ≡ true
+  pub usable : usable (nodesOf (length s)) (treeAt level s num) ≡ true
+  pub lo : List ℕ
+  pub apart : shared lo hi ≡ []
+  pub tree : soundTree (treeAt level s num) (X ++ lo) (X ++ hi) ≡ true
+
+-- each of these children, the last of which ends at hi
+unfoldable pub KidsReady : List ℕ → ℕ → List ℕ → List ℕ → List Kid → Type 0
+KidsReady s level X hi [] = Unit
+KidsReady s level X hi (k ∷ ks) = ChildReady s X (k .pivot) (kidHigh hi ks) level (k .number) × KidsReady s level X hi ks

@@ -1,0 +1,394 @@
+// Next as one walk over the tree: the best path so far is carried along, and a child that can hold no better one is not entered.
+// Relies on: a sound store (the caller has checked it), the cursor over a node's entries, and the lookup from the root.
+use node::Cursor;
+use node::Entry;
+use node::Message;
+use node::Place;
+use node::Step;
+use search::Found;
+use search::Kid;
+ghost use mathlib.Core.Path.{_≡_};
+ghost use mathlib.Core.Bool.{true};
+ghost use mathlib.Core.List.{[], _∷_, _++_};
+ghost use Prim.Native.Nat.{_≤_};
+ghost use lib.ListN.{length};
+ghost use Rattle.image.specs.Bytes.{before, begins};
+ghost use Rattle.image.specs.Table.{leastAfter};
+ghost use Rattle.image.specs.Sound.{sound, tableOf};
+ghost use Rattle.reading.specs.Seek.{better, wanted, farFrom};
+ghost use Rattle.reading.specs.SeekHere.{under, keysHere};
+ghost use Rattle.image.specs.Image.{treeAt};
+ghost use Rattle.node.specs.Places.{EntryWithin, Within, part, entryIn};
+ghost use Rattle.node.specs.Entries.{listed};
+ghost use Rattle.search.specs.Own.{kid, kidsE};
+ghost use Rattle.seek.specs.Buffer.{bufferIs, fitted, appended};
+ghost use Rattle.seek.specs.Walk.{tryIn, walkIn, pathOf, pathsOf, childPaths, runPaths, ChildReady, NodeReady, KidsReady};
+ghost use Rattle.seek.specs.Suffixes.{suffixIs, putIs};
+
+// A path by value: the first len bytes, or none where len is over 64.
+pub struct PathBuffer {
+    pub bytes: [u8; 64],
+    pub len: usize,
+}
+
+// The path with the bytes of s after it; none where they do not fit.
+pub fn extend(p: PathBuffer, s: &[u8]) -> PathBuffer
+    ensures { λ r. ⌜ bufferIs r ≡ appended (bufferIs p) (now (s .entry)) ⌝ }
+{
+    let mut q = p;
+    let mut i = 0;
+    while i < s.len() {
+        let at = q.len;
+        if 64 <= at {
+            q.len = 65;
+            return q;
+        }
+        q.bytes[at] = s[i];
+        q.len = at + 1;
+        i += 1;
+    }
+    q
+}
+
+// The path pre ++ s; none where it is too long for any path.
+pub fn join(pre: &[u8], s: &[u8]) -> PathBuffer
+    ensures { λ r. ⌜ bufferIs r ≡ fitted (now (pre .entry) ++ now (s .entry)) ⌝ }
+{
+    let empty = PathBuffer {
+        bytes: [0u8; 64],
+        len: 0,
+    };
+    let front = extend(empty, pre);
+    extend(front, s)
+}
+
+// Whether pre ++ s comes before t, without joining them.
+pub fn joined_precedes(pre: &[u8], s: &[u8], t: &[u8]) -> bool
+    ensures { λ r. ⌜ r ≡ before (now (pre .entry) ++ now (s .entry)) (now (t .entry)) ⌝ }
+{
+    if octets::begins_with(pre, t) {
+        let n = pre.len();
+        return octets::precedes(s, &t[n..]);
+    }
+    octets::precedes(pre, t)
+}
+
+// Whether t comes before pre ++ s.
+pub fn precedes_joined(t: &[u8], pre: &[u8], s: &[u8]) -> bool
+    ensures { λ r. ⌜ r ≡ before (now (t .entry)) (now (pre .entry) ++ now (s .entry)) ⌝ }
+{
+    if octets::begins_with(pre, t) {
+        let n = pre.len();
+        return octets::precedes(&t[n..], s);
+    }
+    octets::precedes(t, pre)
+}
+
+// Whether t is a beginning of pre ++ s.
+pub fn starts_joined(t: &[u8], pre: &[u8], s: &[u8]) -> bool
+    ensures { λ r. ⌜ r ≡ begins (now (t .entry)) (now (pre .entry) ++ now (s .entry)) ⌝ }
+{
+    if octets::begins_with(pre, t) {
+        let n = pre.len();
+        return octets::begins_with(&t[n..], s);
+    }
+    octets::begins_with(t, pre)
+}
+
+// Whether pre ++ s comes before the best path so far.
+pub fn is_better(best: PathBuffer, pre: &[u8], s: &[u8]) -> bool
+    ensures { λ r. ⌜ r ≡ better (bufferIs best) (now (pre .entry) ++ now (s .entry)) ⌝ }
+{
+    let n = best.len;
+    if 64 < n {
+        return true;
+    }
+    let b = best.bytes;
+    joined_precedes(pre, s, &b[0..n])
+}
+
+// Whether pre ++ s is below `below`, after `after` and before the best path so far.
+pub fn is_wanted(pre: &[u8], s: &[u8], below: &[u8], after: &[u8], best: PathBuffer) -> bool
+    ensures { λ r. ⌜ r ≡ wanted (now (below .entry)) (now (after .entry)) (bufferIs best) (now (pre .entry) ++ now (s .entry)) ⌝ }
+{
+    if !precedes_joined(after, pre, s) {
+        return false;
+    }
+    if !starts_joined(below, pre, s) {
+        return false;
+    }
+    is_better(best, pre, s)
+}
+
+// Whether no path from pre ++ low up to pre ++ high can be wanted.
+pub fn is_far(
+    pre: &[u8],
+    low: &[u8],
+    high: &[u8],
+    below: &[u8],
+    after: &[u8],
+    best: PathBuffer,
+) -> bool
+    ensures { λ r. ⌜ r ≡ farFrom (now (below .entry)) (now (after .entry)) (now (pre .entry) ++ now (low .entry)) (now (pre .entry) ++ now (high .entry)) (bufferIs best) ⌝ }
+{
+    if !precedes_joined(after, pre, high) {
+        return true;
+    }
+    if !is_better(best, pre, low) {
+        return true;
+    }
+    if !precedes_joined(below, pre, high) {
+        return true;
+    }
+    if !precedes_joined(below, pre, low) {
+        return false;
+    }
+    !starts_joined(below, pre, low)
+}
+
+// The path pre ++ s in place of the best so far, if it is wanted and present. The lookup comes last: it is the dear test.
+pub fn try_path(
+    store: &[u8],
+    pre: &[u8],
+    s: &[u8],
+    below: &[u8],
+    after: &[u8],
+    best: PathBuffer,
+) -> PathBuffer
+    requires { ⌜ sound (now store) ≡ true ⌝ }
+    ensures { λ r. ⌜ bufferIs r ≡ tryIn (now (store .entry)) (now (below .entry)) (now (after .entry)) (bufferIs best) (now (pre .entry) ++ now (s .entry)) ⌝ }
+{
+    if !is_wanted(pre, s, below, after, best) {
+        return best;
+    }
+    let full = join(pre, s);
+    let n = full.len;
+    if 64 < n {
+        return best;
+    }
+    let b = full.bytes;
+    let Found::Value(_) = lookup::value_of(store, &b[0..n]) else {
+        return best;
+    };
+    full
+}
+
+// The suffix of an entry that may hold a value: of a pair or of a put.
+pub enum Suffix {
+    At(Place),
+    Other,
+}
+
+pub fn put_of(m: Message) -> Suffix
+    ensures { λ r. ⌜ r ≡ putIs m ⌝ }
+{
+    match m {
+        Message::Put(p, _) => Suffix::At(p),
+        Message::Drop(_) => Suffix::Other,
+        Message::Clear(_) => Suffix::Other,
+    }
+}
+
+pub fn suffix_of(e: Entry) -> Suffix
+    ensures { λ r. ⌜ r ≡ suffixIs e ⌝ }
+{
+    match e {
+        Entry::Pair(p, _) => Suffix::At(p),
+        Entry::Child(_, _) => Suffix::Other,
+        Entry::Message(m) => put_of(m),
+    }
+}
+
+// One entry's path tried.
+pub fn try_entry(
+    store: &[u8],
+    e: Entry,
+    pre: &[u8],
+    below: &[u8],
+    after: &[u8],
+    best: PathBuffer,
+) -> PathBuffer
+    requires { ⌜ (sound (now store) ≡ true) × EntryWithin 0 (length (now store)) e ⌝ }
+    ensures { λ r. ⌜ bufferIs r ≡ walkIn (now (store .entry)) (now (below .entry)) (now (after .entry)) (bufferIs best) (under (now (pre .entry)) (pathOf (entryIn (now (store .entry)) e))) ⌝ }
+{
+    let Suffix::At(p) = suffix_of(e) else {
+        return best;
+    };
+    let a = p.start;
+    let b = p.stop;
+    try_path(store, pre, &store[a..b], below, after, best)
+}
+
+// The pairs and puts among the entries from a place up to another, each tried.
+pub fn seek_entries(
+    store: &[u8],
+    from: usize,
+    end: usize,
+    pre: &[u8],
+    below: &[u8],
+    after: &[u8],
+    start: PathBuffer,
+) -> PathBuffer
+    requires { ⌜ (sound (now store) ≡ true) × (end ≤ length (now store)) ⌝ }
+    ensures { λ r. ⌜ bufferIs r ≡ walkIn (now (store .entry)) (now (below .entry)) (now (after .entry)) (bufferIs start) (under (now (pre .entry)) (pathsOf (listed (now (store .entry)) from end))) ⌝ }
+{
+    let mut c = Cursor { at: from, end };
+    let mut best = start;
+    while c.at < end {
+        let Step::Read(e, next) = c.step(store) else {
+            return best;
+        };
+        best = try_entry(store, e, pre, below, after, best);
+        c = next;
+    }
+    best
+}
+
+// The child num, whose pivots are pre ++ low and pre ++ high. It is entered only if it can hold a wanted path: a lifted prefix that is
+// too long for any path leaves it none.
+pub fn seek_child(
+    store: &[u8],
+    num: usize,
+    level: usize,
+    low: &[u8],
+    high: &[u8],
+    pre: &[u8],
+    below: &[u8],
+    after: &[u8],
+    best: PathBuffer,
+) -> PathBuffer
+    requires { ⌜ ChildReady (now store) (now pre) (now low) (now high) level num ⌝ }
+    ensures { λ r. ⌜ bufferIs r ≡ walkIn (now (store .entry)) (now (below .entry)) (now (after .entry)) (bufferIs best) (under (now (pre .entry)) (childPaths level (now (store .entry)) num (now (low .entry)) (now (high .entry)))) ⌝ }
+{
+    if is_far(pre, low, high, below, after, best) {
+        return best;
+    }
+    let k = octets::common_length(low, high);
+    let lifted = join(pre, &low[0..k]);
+    let n = lifted.len;
+    if 64 < n {
+        return best;
+    }
+    let b = lifted.bytes;
+    seek_node(store, num, level, &b[0..n], &high[k..], below, after, best)
+}
+
+// The last child of a node, and the messages that follow it.
+pub fn seek_last(
+    store: &[u8],
+    num: usize,
+    low: Place,
+    c: Cursor,
+    level: usize,
+    hi: &[u8],
+    pre: &[u8],
+    below: &[u8],
+    after: &[u8],
+    best: PathBuffer,
+) -> PathBuffer
+    requires { ⌜ (c .end ≤ length (now store)) × Within 0 (length (now store)) low × ChildReady (now store) (now pre) (part (now store) low) (now hi) level num ⌝ }
+    ensures { λ r. ⌜ bufferIs r ≡ walkIn (now (store .entry)) (now (below .entry)) (now (after .entry)) (bufferIs best) (under (now (pre .entry)) (runPaths level (now (store .entry)) (now (hi .entry)) (kid num (part (now (store .entry)) low) ∷ []) (listed (now (store .entry)) (c .at) (c .end)))) ⌝ }
+{
+    let a = low.start;
+    let b = low.stop;
+    let found = seek_child(store, num, level, &store[a..b], hi, pre, below, after, best);
+    let at = c.at;
+    let end = c.end;
+    seek_entries(store, at, end, pre, below, after, found)
+}
+
+// A child, those that follow from the cursor on, and the messages after them.
+pub fn seek_children(
+    store: &[u8],
+    first: usize,
+    pivot: Place,
+    start: Cursor,
+    level: usize,
+    hi: &[u8],
+    pre: &[u8],
+    below: &[u8],
+    after: &[u8],
+    held: PathBuffer,
+) -> PathBuffer
+    requires { ⌜ (start .end ≤ length (now store)) × Within 0 (length (now store)) pivot × KidsReady (now store) level (now pre) (now hi) (kid first (part (now store) pivot) ∷ kidsE (listed (now store) (start .at) (start .end))) ⌝ }
+    ensures { λ r. ⌜ bufferIs r ≡ walkIn (now (store .entry)) (now (below .entry)) (now (after .entry)) (bufferIs held) (under (now (pre .entry)) (runPaths level (now (store .entry)) (now (hi .entry)) (kid first (part (now (store .entry)) pivot) ∷ kidsE (listed (now (store .entry)) (start .at) (start .end))) (listed (now (store .entry)) (start .at) (start .end)))) ⌝ }
+{
+    let end = start.end;
+    let mut c = start;
+    let mut num = first;
+    let mut low = pivot;
+    let mut best = held;
+    while c.at < end {
+        let Step::Read(e, next) = c.step(store) else {
+            return seek_last(store, num, low, c, level, hi, pre, below, after, best);
+        };
+        let Kid::Of(k, p) = search::kid_of(e) else {
+            return seek_last(store, num, low, c, level, hi, pre, below, after, best);
+        };
+        let a = low.start;
+        let b = low.stop;
+        let x = p.start;
+        let y = p.stop;
+        best = seek_child(
+            store,
+            num,
+            level,
+            &store[a..b],
+            &store[x..y],
+            pre,
+            below,
+            after,
+            best,
+        );
+        num = k;
+        low = p;
+        c = next;
+    }
+    seek_last(store, num, low, c, level, hi, pre, below, after, best)
+}
+
+// The node num of this level, which lifts pre; hi is its high pivot without pre.
+pub fn seek_node(
+    store: &[u8],
+    num: usize,
+    level: usize,
+    pre: &[u8],
+    hi: &[u8],
+    below: &[u8],
+    after: &[u8],
+    best: PathBuffer,
+) -> PathBuffer
+    requires { ⌜ NodeReady (now store) (now pre) (now hi) level num ⌝ }
+    ensures { λ r. ⌜ bufferIs r ≡ walkIn (now (store .entry)) (now (below .entry)) (now (after .entry)) (bufferIs best) (under (now (pre .entry)) (keysHere (treeAt level (now (store .entry)) num) (now (hi .entry)))) ⌝ }
+{
+    let at = num * 1024;
+    let len = octets::u16_at(store, at);
+    let from = at + 8;
+    let end = from + len;
+    if level <= 1 {
+        return seek_entries(store, from, end, pre, below, after, best);
+    }
+    let c = Cursor { at: from, end };
+    let Step::Read(e, next) = c.step(store) else {
+        return seek_entries(store, from, end, pre, below, after, best);
+    };
+    let Kid::Of(k, p) = search::kid_of(e) else {
+        return seek_entries(store, from, end, pre, below, after, best);
+    };
+    seek_children(store, k, p, next, level - 1, hi, pre, below, after, best)
+}
+
+// The least path of a sound store that is below `below` and after `after`; both may be empty.
+pub fn next_path(store: &[u8], below: &[u8], after: &[u8]) -> PathBuffer
+    requires { ⌜ sound (now store) ≡ true ⌝ }
+    ensures { λ r. ⌜ bufferIs r ≡ leastAfter (now (below .entry)) (now (after .entry)) (tableOf (now (store .entry))) ⌝ }
+{
+    let root = octets::u16_at(store, 6);
+    let levels = octets::u16_at(store, 8);
+    let hi = [255u8; 1];
+    let none = PathBuffer {
+        bytes: [0u8; 64],
+        len: 65,
+    };
+    seek_node(store, root, levels, &below[0..0], &hi, below, after, none)
+}

@@ -1,0 +1,40 @@
+use native.Mathlib.Omega.{arith}
+use Prim.Native.Nat.{ℕ, suc, _+_, _-_, _≤_, _<_}
+use mathlib.Core.Path.{_≡_, refl, sym, ap, _∙_}
+use mathlib.Core.List.{List, [], _∷_, _++_}
+use lib.ListN.{length, getD, take, drop}
+use borrow.Author.Needs.{needs}
+use Rattle.soundness.specs.Judged.{verdict-yes, verdict-no, whole-long}
+use Rattle.soundness.proofs.is_sound.Statement.{statement}
+use Rattle.soundness.proofs.is_sound.Tie as tie
+use Rattle.soundness.proofs.is_sound.Reads as reads
+use Rattle.soundness.proofs.is_sound.Lts as lts
+use Rattle.soundness.proofs.judge.Reads as judge-reads
+
+-- src/lib.rt:41:26
+slice-aggregate-judge : tie.Need-slice-aggregate-judge
+slice-aggregate-judge c = search needs
+
+-- src/lib.rt:41:9
+judge-requires : tie.Need-judge-requires
+judge-requires c κs = let w = whole-long _ (c .before .before .pre) in (c .before .before .pre, w .1)
+
+enum-told : tie.Need-enum-told
+enum-told c = search needs
+
+-- src/lib.rt:43:9
+enum-told-2 : tie.Need-enum-told-2
+enum-told-2 c = search needs
+
+-- src/lib.rt:43:9
+returns : tie.Need-returns
+returns c = verdict-no _ _ _ (c .before .before .before .judge .ensures) (c .enum-told2 .given .1)
+
+-- src/lib.rt:36:1
+returns-2 : tie.Need-returns-2
+returns-2 c = verdict-yes _ _ _ _ (c .before .before .before .judge .ensures) (c .enum-told .given .1)
+
+pub is-sound-spec : {M : Type 1} → statement M
+is-sound-spec =
+    tie.close
+    (tie.spec slice-aggregate-judge judge-requires enum-told enum-told-2 returns returns-2)

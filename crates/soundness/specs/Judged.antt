@@ -1,0 +1,145 @@
+-- What the verdict on an image promises, and the law of each way out of the code.
+-- Relies on: tree_check's Callers (all but the live count) and live's count of the table.
+use Prim.Native.Nat.{ℕ, zero, suc, _+_, _*_, _<_, _≤_}
+use mathlib.Core.Path.{_≡_, refl, sym, ap, subst, _∙_}
+use mathlib.Core.List.{List}
+use mathlib.Core.Bool.{Bool, true, false, _&&_, false≢true}
+use native.Mathlib.Omega.{arith}
+use lib.ListN.{length}
+use lib.Dec.{eqb, leb, ltb}
+use borrow.Author.Tests.{eq-eqb, ne-eqb, eqb-true, eqb-false, leb-true}
+use Rattle.image.specs.Bytes.{u16}
+use Rattle.image.specs.Image.{nodesOf, wholeNodes, Header, headerOf, header, headerLaidOut, nodeBytes, treeOf}
+use Rattle.image.specs.Sound.{sound, tableOf, soundTree, once, inRange, numbers, lowest, highest, soundHeader}
+use Rattle.octets.specs.Order.{and-left, and-right}
+use Rattle.node.specs.Whole.{Whole, whole-parts}
+use Rattle.lookup.specs.Root.{first-u16}
+use Rattle.tree_check.specs.declared.Checked.{Checked}
+use Rattle.tree_check.specs.declared.Tally.{Tally}
+use Rattle.laws.specs.ButLive.{soundHead, soundNodes, soundButLive}
+use Rattle.tree_check.specs.Whole.{isSound, Verified}
+use Rattle.laws.specs.ButLive.{sound-live}
+use Rattle.tree_check.specs.Callers.{Holds, verified-yes, verified-no, sound-settled}
+use Rattle.live.specs.Walk.{cap, Countable}
+use Rattle.live.specs.WalkLaws.{cap-equal}
+
+pub record Judged (image : List ℕ) (r : Checked) (seen : List ℕ) : Type 0 where
+  pub answer : isSound r ≡ sound image
+  pub holds : (t : Tally) → r ≡ Checked.Sound t → Holds image t seen
+
+-- the parts of soundness but for the live count that the walks ask for
+heads : (image : List ℕ) → soundButLive image ≡ true → soundHead image ≡ true
+unfolding soundButLive
+heads image e = and-left (soundHead image) (soundNodes image) e
+
+nodes : (image : List ℕ) → soundButLive image ≡ true → soundNodes image ≡ true
+unfolding soundButLive
+nodes image e = and-right (soundHead image) (soundNodes image) e
+
+header-fits : (image : List ℕ) → soundButLive image ≡ true → (headerOf image .levels ≤ 8) × (headerOf image .live ≤ nodesOf (length image))
+unfolding soundHead soundHeader
+header-fits image e =
+    let h : soundHeader (nodesOf (length image)) (headerOf image) ≡ true = and-right (headerLaidOut (nodeBytes image 0)) _ (heads image e) in
+    let n : ℕ = nodesOf (length image) in
+    let x : Header = headerOf image in
+    let upper : eqb (x .count) n && leb 1 (x .root) && ltb (x .root) n && leb 1 (x .levels) && leb (x .levels) 8 ≡ true
+    = and-left (eqb (x .count) n && leb 1 (x .root) && ltb (x .root) n && leb 1 (x .levels) && leb (x .levels) 8) (leb (x .live) n) h in
+    (
+      leb-true (x .levels) 8 (and-right (eqb (x .count) n && leb 1 (x .root) && ltb (x .root) n && leb 1 (x .levels)) (leb (x .levels) 8) upper),
+      leb-true (x .live) n (and-right (eqb (x .count) n && leb 1 (x .root) && ltb (x .root) n && leb 1 (x .levels) && leb (x .levels) 8) (leb (x .live) n) h),
+    )
+
+pub countable : (image : List ℕ) → soundButLive image ≡ true → Countable image
+unfolding soundNodes
+countable image e =
+    let n : soundTree (treeOf image) lowest highest && once (numbers (treeOf image)) && inRange (nodesOf (length image)) (numbers (treeOf image)) ≡ true = nodes image e in
+    record {
+      tree = and-left (soundTree (treeOf image) lowest highest) _ (and-left (soundTree (treeOf image) lowest highest && once (numbers (treeOf image))) _ n);
+      range = and-right (soundTree (treeOf image) lowest highest && once (numbers (treeOf image))) _ n;
+      levels = header-fits image e .0;
+    }
+
+pub told-live : (image : List ℕ) (k : ℕ) → 1024 ≤ length image → k ≡ u16 image 10 → k ≡ headerOf image .live
+unfolding headerOf header
+told-live image k h e = e ∙ sym (first-u16 image 10 h (omega arith))
+
+turn : (a b : ℕ) → eqb a b ≡ eqb b a
+turn a b = go (eqb a b) refl
+  where
+    go : (x : Bool) → eqb a b ≡ x → eqb a b ≡ eqb b a
+    go true e = e ∙ sym (eq-eqb b a (sym (eqb-true a b e)))
+    go false e = e ∙ sym (ne-eqb b a (λ q. eqb-false a b e (sym q)))
+
+-- the ways out
+module _ (image : List ℕ) (seen : List ℕ) (c : Checked) (v : Verified image c seen) where
+  pub judged-no-tree : c ≡ Checked.Unsound → Judged image Checked.Unsound seen
+  unfolding isSound
+  judged-no-tree e =
+      record {
+        answer = sym (sound-live image ∙ ap (λ b. b && eqb (headerOf image .live) (length (tableOf image))) (verified-no image c seen v e));
+        holds = λ t q. absurd (no-tally t q);
+      }
+    where
+      no-tally : (t : Tally) → Checked.Unsound ≡ Checked.Sound t → ⊥
+      no-tally t q = false≢true (ap isSound q)
+
+  module _ (t : Tally) (is : c ≡ Checked.Sound t) (whole : wholeNodes (length image) ≡ true) (told : ℕ) (told-is : told ≡ u16 image 10) where
+    abbrev held : Holds image t seen
+    held = verified-yes image c t seen v is
+
+    abbrev parts : Whole (length image)
+    parts = whole-parts (length image) whole
+
+    long : 1024 ≤ length image
+    long = omega (arith, parts .filled, parts .enough)
+
+    live-is : told ≡ headerOf image .live
+    live-is = told-live image told long told-is
+
+    small : headerOf image .live < 65535
+    small = omega (arith, header-fits image (held .rules) .1, parts .few)
+
+    -- the answer Sound, with the tally
+    yes : sound image ≡ true → Judged image (Checked.Sound t) seen
+    unfolding isSound
+    yes e = record { answer = sym e; holds = λ u q. same-tally u q }
+      where
+        same-tally : (u : Tally) → Checked.Sound t ≡ Checked.Sound u → Holds image u seen
+        same-tally u q = verified-yes image c u seen v (is ∙ q)
+
+    no : sound image ≡ false → Judged image Checked.Unsound seen
+    unfolding isSound
+    no e = record { answer = sym e; holds = λ u q. absurd (false≢true (ap isSound q)) }
+
+    pub judged-settled-yes : t .messages ≡ 0 → t .pairs ≡ told → Judged image (Checked.Sound t) seen
+    judged-settled-yes m p = yes (sound-settled image t seen held (parts .few) m ∙ eq-eqb (headerOf image .live) (t .pairs) (sym live-is ∙ sym p))
+
+    pub judged-settled-no : t .messages ≡ 0 → (t .pairs ≡ told → ⊥) → Judged image Checked.Unsound seen
+    judged-settled-no m p = no (sound-settled image t seen held (parts .few) m ∙ ne-eqb (headerOf image .live) (t .pairs) (λ q. p (sym q ∙ sym live-is)))
+
+    counted-sound : sound image ≡ eqb (cap (length (tableOf image))) (headerOf image .live)
+    counted-sound =
+        sound-live image ∙ ap (λ b. b && eqb (headerOf image .live) (length (tableOf image))) (held .rules)
+        ∙ turn (headerOf image .live) (length (tableOf image))
+        ∙ sym (cap-equal (length (tableOf image)) (headerOf image .live) small)
+
+    pub judged-yes : (k : ℕ) → k ≡ cap (length (tableOf image)) → k ≡ told → Judged image (Checked.Sound t) seen
+    judged-yes k e p = yes (counted-sound ∙ eq-eqb (cap (length (tableOf image))) (headerOf image .live) (sym e ∙ p ∙ live-is))
+
+    pub judged-no : (k : ℕ) → k ≡ cap (length (tableOf image)) → (k ≡ told → ⊥) → Judged image Checked.Unsound seen
+    judged-no k e p = no (counted-sound ∙ ne-eqb (cap (length (tableOf image))) (headerOf image .live) (λ q. p (e ∙ q ∙ sym live-is)))
+
+  pub count-it : (t : Tally) → c ≡ Checked.Sound t → Countable image
+  count-it t e = countable image (verified-yes image c t seen v e .rules)
+
+-- the verdict as a Bool
+pub verdict-yes : (image seen : List ℕ) (c : Checked) (t : Tally) → Judged image c seen → c ≡ Checked.Sound t → true ≡ sound image
+unfolding isSound
+verdict-yes image seen c t j e = ap isSound (sym e) ∙ j .answer
+
+pub verdict-no : (image seen : List ℕ) (c : Checked) → Judged image c seen → c ≡ Checked.Unsound → false ≡ sound image
+unfolding isSound
+verdict-no image seen c j e = ap isSound (sym e) ∙ j .answer
+
+pub whole-long : (len : ℕ) → wholeNodes len ≡ true → (1024 ≤ len) × (nodesOf len ≤ 1024)
+whole-long len e = let p : Whole len = whole-parts len e in (omega (arith, p .filled, p .enough), p .few)

@@ -1,0 +1,32 @@
+-- Messages of a node, checked and counted.
+-- Relies on guard's check of messages and on ChildSteps.
+use borrow.Author.Tests.{not-true, not-false}
+use mathlib.Core.Path.{sym, _∙_}
+use Rattle.tree_check.specs.ChildSteps.{messages-unsound, messages-sound}
+use borrow.Author.Needs.{needs}
+use Rattle.tree_check.proofs.check_messages.Statement.{statement}
+use Rattle.tree_check.proofs.check_messages.Tie as tie
+use Rattle.tree_check.proofs.check_messages.Reads as reads
+use Rattle.tree_check.proofs.check_messages.Lts as lts
+use Rattle.node_check.proofs.check_messages.Reads as check-messages-reads
+use Rattle.tree_check.proofs.count_entries.Reads as count-entries-reads
+
+-- src/lib.rt:179:9
+check-messages-requires : tie.Need-check-messages-requires
+check-messages-requires c κs = search needs
+
+-- src/lib.rt:180:9
+returns : tie.Need-returns
+returns c = messages-unsound _ _ (sym (c .before .check-messages .ensures) ∙ not-true _ (c .if1 .taken))
+
+-- src/lib.rt:182:9
+count-entries-requires : tie.Need-count-entries-requires
+count-entries-requires c κs = search needs
+
+-- src/lib.rt:175:1
+returns-2 : tie.Need-returns-2
+returns-2 c = messages-sound _ _ (sym (c .before .before .check-messages .ensures) ∙ not-false _ (c .before .if1 .left)) _ (c .count-entries .ensures)
+
+pub check-messages-spec : {M : Type 1} → statement M
+check-messages-spec =
+    tie.close (tie.spec check-messages-requires returns count-entries-requires returns-2)

@@ -1,0 +1,79 @@
+-- `check_tree`: node 0, then the walk from the root with no mark set.
+-- Relies on RootSteps.
+use borrow.Author.Tests.{not-true, not-false}
+use lib.ListN.{length}
+use Rattle.tree_check.specs.RootSteps.{bad-head, from-root}
+use borrow.Author.Needs.{needs}
+use Rattle.tree_check.proofs.check_tree.Statement.{statement}
+use Rattle.tree_check.proofs.check_tree.Tie as tie
+use Rattle.tree_check.proofs.check_tree.Reads as reads
+use Rattle.tree_check.proofs.check_tree.Lts as lts
+use Rattle.octets.proofs.u16_at.Reads as u16-at-reads
+use Rattle.tree_check.proofs.check_node.Reads as check-node-reads
+use Rattle.tree_check.proofs.clear.Reads as clear-reads
+use Rattle.tree_check.proofs.header_good.Reads as header-good-reads
+
+-- src/lib.rt:323:9
+header-good-requires : tie.Need-header-good-requires
+header-good-requires c κs = search needs
+
+-- src/lib.rt:324:9
+returns : tie.Need-returns
+returns c = bad-head _ _ (c .before .header-good .ensures) (not-true _ (c .if1 .taken)) _
+
+-- src/lib.rt:326:5
+clear-requires : tie.Need-clear-requires
+clear-requires c κs = search needs
+
+-- src/lib.rt:327:9
+u16-at-requires : tie.Need-u16-at-requires
+u16-at-requires c κs = search needs
+
+-- src/lib.rt:328:9
+u16-at-requires-2 : tie.Need-u16-at-requires-2
+u16-at-requires-2 c κs = search needs
+
+-- src/lib.rt:330:37
+sub-check-node : tie.Need-sub-check-node
+sub-check-node c = search needs
+
+-- src/lib.rt:330:37
+part-check-node-start : tie.Need-part-check-node-start
+part-check-node-start c = search needs
+
+-- src/lib.rt:330:37
+part-check-node-end : tie.Need-part-check-node-end
+part-check-node-end c = search needs
+
+-- src/lib.rt:330:51
+slice-aggregate-check-node : tie.Need-slice-aggregate-check-node
+slice-aggregate-check-node c = search needs
+
+-- src/lib.rt:330:5
+check-node-requires : tie.Need-check-node-requires
+check-node-requires c κs = search needs
+
+-- src/lib.rt:319:1
+same-length : tie.Need-same-length
+same-length c = search needs
+
+-- src/lib.rt:319:1
+returns-2 : tie.Need-returns-2
+returns-2 c = from-root (c .before .before .before .before .before .before .before .before .before .before .before .before .before .before .before .before .args .store .now) (c .before .before .before .before .before .before .before .before .before .before .before .before .before .before .before .before .pre .0) _ (c .before .before .before .before .before .before .before .before .before .before .before .before .before .header-good .ensures) (not-false _ (c .before .before .before .before .before .before .before .before .before .before .before .before .if1 .left)) (length (c .before .before .before .before .before .before .before .before .before .before .before .before .before .before .before .before .args .seen .now)) (c .before .before .before .before .before .before .before .before .before .before .before .before .before .before .before .before .pre .1) _ (c .before .before .before .before .before .before .before .before .before .before .clear .ensures) _ _ (c .before .before .before .before .before .before .before .u16-at .ensures .0) (c .before .before .before .before .before .before .u16-at2 .ensures .0) _ _ (c .before .before .check-node .ensures)
+
+pub check-tree-spec : {M : Type 1} → statement M
+check-tree-spec =
+    tie.close
+    (tie.spec
+    header-good-requires
+    returns
+    clear-requires
+    u16-at-requires
+    u16-at-requires-2
+    sub-check-node
+    part-check-node-start
+    part-check-node-end
+    slice-aggregate-check-node
+    check-node-requires
+    same-length
+    returns-2)

@@ -1,0 +1,14 @@
+-- `node_count` is `nodesOf` the length.
+-- Relies on Layout.
+use Rattle.tree_check.specs.Layout.{nodes-are}
+use Rattle.tree_check.proofs.node_count.Statement.{statement}
+use Rattle.tree_check.proofs.node_count.Tie as tie
+use Rattle.tree_check.proofs.node_count.Reads as reads
+use Rattle.tree_check.proofs.node_count.Lts as lts
+
+-- src/lib.rt:69:1
+returns : tie.Need-returns
+returns c = nodes-are _
+
+pub node-count-spec : {M : Type 1} → statement M
+node-count-spec = tie.close (tie.spec returns)

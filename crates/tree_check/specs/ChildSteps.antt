@@ -1,0 +1,206 @@
+-- The exits of the check of a child, of the children that follow it, and of the messages after them.
+-- Relies on guard's walk over an interior node's entries (Inside) and on Sequence.
+use Prim.Native.Nat.{ℕ, _-_, _<_, _≤_}
+use mathlib.Core.Path.{_≡_, refl, sym, ap, ap₂, _∙_}
+use mathlib.Core.List.{List, _∷_, _++_}
+use mathlib.Core.Bool.{Bool, true, false, cond}
+use mathlib.Core.Option.{Option, none, some}
+use native.Mathlib.Omega.{arith}
+use lib.ListN.{length, take, drop}
+use lib.Seq.{take-at}
+use Rattle.image.specs.Bytes.{before, shared}
+use Rattle.image.specs.Path.{owns}
+use Rattle.image.specs.Entry as defined
+use Rattle.image.specs.Image.{nodesOf, treeAt}
+use Rattle.octets.specs.Order.{and-false, begins-split}
+use Rattle.reading.specs.Relative.{lifts}
+use Rattle.path.specs.Shape.{Shape, feed}
+use Rattle.reading.specs.SoundHere.{shared-left}
+use Rattle.reading.specs.Visit.{onward, visit}
+use Rattle.node.specs.Entries.{entriesFrom, entries-end, listed, listed-end}
+use Rattle.node.specs.Places.{part, entryIn, Within, Next, Stepped, step-bad-is}
+use Rattle.node.specs.declared.Place.{Place}
+use Rattle.node.specs.declared.Cursor.{Cursor}
+use Rattle.node.specs.declared.Entry.{Entry}
+use Rattle.node.specs.declared.Step.{Step}
+use Rattle.search.specs.declared.Kid.{Kid}
+use Rattle.search.specs.Own.{kidIs, kid-place, child-entry}
+use Rattle.lookup.specs.Look.{part-rest}
+use Rattle.node_check.specs.Inside.{messagesRun, childRun, kidsList, kidsRun, kids-step, kids-end}
+use Rattle.tree_check.specs.declared.Tally.{Tally}
+use Rattle.tree_check.specs.declared.Checked.{Checked}
+use Rattle.tree_check.specs.Count.{cap, Count, plus, countOf, onlyMessages, kidsCount, tallySum}
+use Rattle.tree_check.specs.CountLaws.{messages-capped, count-end, count-more}
+use Rattle.tree_check.specs.Answer.{Checks, unsound, all-sound, checks-as}
+use Rattle.tree_check.specs.Walk.{nodeRun}
+use Rattle.tree_check.specs.Sequence.{first-stops, second-stops, both-sound}
+
+-- messages
+module _ (b : Bool) (n : ℕ) where
+  pub messages-unsound : b ≡ false → (seen : List ℕ) → Checks (cond b (some seen) none) (onlyMessages n) Checked.Unsound seen
+  messages-unsound e seen = unsound (cond b (some seen) none) (onlyMessages n) seen (rw e)
+
+  pub messages-sound : b ≡ true → (k : ℕ) → k ≡ cap n → (seen : List ℕ)
+      → Checks (cond b (some seen) none) (onlyMessages n) (Checked.Sound (record { pairs = 0; messages = k; nodes = 0 })) seen
+  messages-sound e k ek seen =
+      all-sound (cond b (some seen) none) (onlyMessages n) (record { pairs = 0; messages = k; nodes = 0 }) seen (rw e) (messages-capped k n ek)
+
+-- what two pivots share, as a part of the low one
+shared-part : (low high : List ℕ) (k : ℕ) → k ≡ length (shared low high) → take k low ≡ shared low high
+shared-part low high k e =
+    let w : shared low high ++ drop (length (shared low high)) low ≡ low = begins-split (shared low high) low (shared-left low high) in
+    ap (λ l. take k l) (sym w) ∙ take-at (shared low high) (drop (length (shared low high)) low) k (sym e)
+
+none-onward : (o : Option (List ℕ)) → none ≡ onward o (λ after. none)
+unfolding onward
+none-onward none = refl
+none-onward (some a) = refl
+
+-- one child
+module _ (level : ℕ) (s : List ℕ) (sh : Shape) (lo hi : List ℕ) (i : ℕ) (low high seen : List ℕ) where
+  abbrev pub Child : Checked → List ℕ → Type 0
+  Child r after = Checks (childRun (nodeRun level s) sh lo hi i low high seen) (countOf (treeAt level s i)) r after
+
+  out-none : owns lo hi low ≡ false → childRun (nodeRun level s) sh lo hi i low high seen ≡ none
+  unfolding childRun
+  out-none e = rw e
+
+  flat-none : before low high ≡ false → childRun (nodeRun level s) sh lo hi i low high seen ≡ none
+  unfolding childRun
+  flat-none e = rw (e, and-false (owns lo hi low))
+
+  by-node : owns lo hi low ≡ true → before low high ≡ true
+      → nodeRun level s i (feed sh (shared low high)) (drop (lifts low high) low) (drop (lifts low high) high) seen ≡ childRun (nodeRun level s) sh lo hi i low high seen
+  unfolding childRun
+  by-node e f = rw (e, f)
+
+  of-node : (y : Shape) (p q : List ℕ) → visit (treeAt level s i) (nodesOf (length s)) y p q seen ≡ nodeRun level s i y p q seen
+  unfolding nodeRun
+  of-node y p q = refl
+
+  lifted : (k : ℕ) → k ≡ length (shared low high) → k ≡ lifts low high
+  unfolding lifts
+  lifted k e = e
+
+  pub child-out : (b : Bool) → b ≡ owns lo hi low → b ≡ false → (after : List ℕ) → Child Checked.Unsound after
+  child-out b e f after = unsound (childRun (nodeRun level s) sh lo hi i low high seen) (countOf (treeAt level s i)) after (out-none (sym e ∙ f))
+
+  pub child-flat : (b : Bool) → b ≡ before low high → b ≡ false → (after : List ℕ) → Child Checked.Unsound after
+  child-flat b e f after = unsound (childRun (nodeRun level s) sh lo hi i low high seen) (countOf (treeAt level s i)) after (flat-none (sym e ∙ f))
+
+  pub child-walk : (a b : Bool) → a ≡ owns lo hi low → a ≡ true → b ≡ before low high → b ≡ true → (k m : ℕ) → k ≡ length (shared low high) → m ≡ k
+      → (z : Shape) → z ≡ feed sh (take m low) → (r : Checked) (after : List ℕ)
+      → Checks (visit (treeAt level s i) (nodesOf (length s)) z (take (length low - k) (drop k low)) (take (length high - k) (drop k high)) seen) (countOf (treeAt level s i)) r after
+      → Child r after
+  child-walk a b ea fa eb fb k m ek em z ez r after h =
+      checks-as (visit (treeAt level s i) (nodesOf (length s)) z (take (length low - k) (drop k low)) (take (length high - k) (drop k high)) seen)
+      (childRun (nodeRun level s) sh lo hi i low high seen) (countOf (treeAt level s i)) (countOf (treeAt level s i)) r after
+      (ap₂ (λ p q. visit (treeAt level s i) (nodesOf (length s)) z p q seen) (part-rest k low) (part-rest k high)
+      ∙ ap₂ (λ y n. visit (treeAt level s i) (nodesOf (length s)) y (drop n low) (drop n high) seen) (ez ∙ ap (λ p. feed sh p) (shared-part low high m (em ∙ ek))) (lifted k ek)
+      ∙ of-node (feed sh (shared low high)) (drop (lifts low high) low) (drop (lifts low high) high)
+      ∙ by-node (sym ea ∙ fa) (sym eb ∙ fb))
+      refl h
+
+-- the child in hand and the entries after it
+module _ (level : ℕ) (s : List ℕ) (sh : Shape) (lo hi : List ℕ) (i : ℕ) (low : List ℕ) (at end : ℕ) (seen : List ℕ) where
+  -- what the walk over them leaves, and what they hold
+  abbrev X : Option (List ℕ)
+  X = kidsRun (nodeRun level s) sh lo hi i low (entriesFrom s at end) seen
+
+  abbrev Y : Count
+  Y = kidsCount (treeAt level s) i (listed s at end)
+
+  pub kids-last : end ≤ at → (r : Checked) (after : List ℕ) → Child level s sh lo hi i low hi seen r after → Checks X Y r after
+  kids-last h r after c =
+      checks-as (childRun (nodeRun level s) sh lo hi i low hi seen) X (countOf (treeAt level s i)) Y r after
+      (sym (ap (λ o. kidsRun (nodeRun level s) sh lo hi i low o seen) (entries-end s at end h) ∙ kids-end (nodeRun level s) sh lo hi i low seen))
+      (count-end (treeAt level s) i (listed s at end) (listed-end s at end h)) c
+
+  no-walk : (o : Option (List defined.Entry)) → o ≡ none → kidsRun (nodeRun level s) sh lo hi i low o seen ≡ none
+  unfolding kidsRun
+  no-walk o e = rw e
+
+  pub kids-unread : at < end → (r : Step) → Stepped s at end r → r ≡ Step.Bad → (after : List ℕ) → Checks X Y Checked.Unsound after
+  kids-unread h r st e after = unsound X Y after (no-walk (entriesFrom s at end) (step-bad-is s at end r st e .0 h))
+
+  module _ (e : Entry) (c : Cursor) (next : Next s at end e c) where
+    -- another child follows
+    module _ (j : ℕ) (p : Place) (ek : kidIs e ≡ Kid.Of j p) where
+      pub next-place : end ≤ length s → Within 0 (length s) p
+      next-place h = let w = kid-place at end e j p ek (next .reachable) in record { low = omega arith; rises = w .rises; high = omega arith }
+
+      more : X ≡ onward (childRun (nodeRun level s) sh lo hi i low (part s p) seen) (λ after. kidsRun (nodeRun level s) sh lo hi j (part s p) (entriesFrom s (c .at) (c .end)) after)
+      more =
+          ap (λ o. kidsRun (nodeRun level s) sh lo hi i low o seen)
+          (next .first ∙ ap (λ x. defined.entryThen (some (entryIn s x)) (entriesFrom s (c .at) (c .end))) (child-entry e j p ek))
+          ∙ kids-step (nodeRun level s) sh lo hi i low j (part s p) (entriesFrom s (c .at) (c .end)) seen
+
+      more-count : Y ≡ plus (countOf (treeAt level s i)) (kidsCount (treeAt level s) j (listed s (c .at) (c .end)))
+      more-count =
+          sym (count-more (treeAt level s) i j (part s p) (listed s at end) (listed s (c .at) (c .end))
+          (next .lists ∙ ap (λ x. entryIn s x ∷ listed s (c .at) (c .end)) (child-entry e j p ek)))
+
+      module _ (r : Checked) (after : List ℕ) (h : Child level s sh lo hi i low (part s p) seen r after) where
+        pub child-stops : r ≡ Checked.Unsound → (z : List ℕ) → Checks X Y Checked.Unsound z
+        child-stops f z =
+            first-stops X Y (childRun (nodeRun level s) sh lo hi i low (part s p) seen) (λ a. kidsRun (nodeRun level s) sh lo hi j (part s p) (entriesFrom s (c .at) (c .end)) a)
+            (countOf (treeAt level s i)) (kidsCount (treeAt level s) j (listed s (c .at) (c .end))) more more-count r after h f z
+
+        module _ (t : Tally) (et : r ≡ Checked.Sound t) (q : Checked) (last : List ℕ)
+            (g : Checks (kidsRun (nodeRun level s) sh lo hi j (part s p) (entriesFrom s (c .at) (c .end)) after) (kidsCount (treeAt level s) j (listed s (c .at) (c .end))) q last) where
+          pub others-stop : q ≡ Checked.Unsound → (z : List ℕ) → Checks X Y Checked.Unsound z
+          others-stop f z =
+              second-stops X Y (childRun (nodeRun level s) sh lo hi i low (part s p) seen) (λ a. kidsRun (nodeRun level s) sh lo hi j (part s p) (entriesFrom s (c .at) (c .end)) a)
+              (countOf (treeAt level s i)) (kidsCount (treeAt level s) j (listed s (c .at) (c .end))) more more-count r after h t et q last g f z
+
+          pub others-sound : (u w : Tally) → q ≡ Checked.Sound u → w ≡ tallySum t u → Checks X Y (Checked.Sound w) last
+          others-sound u w eu ew =
+              both-sound X Y (childRun (nodeRun level s) sh lo hi i low (part s p) seen) (λ a. kidsRun (nodeRun level s) sh lo hi j (part s p) (entriesFrom s (c .at) (c .end)) a)
+              (countOf (treeAt level s i)) (kidsCount (treeAt level s) j (listed s (c .at) (c .end))) more more-count r after h t et q last g u w eu ew
+
+    -- messages follow
+    module _ (ek : kidIs e ≡ Kid.Other) where
+      ends-run : (e : Entry) (y : Option (List defined.Entry)) → kidIs e ≡ Kid.Other
+          → kidsRun (nodeRun level s) sh lo hi i low (defined.entryThen (some (entryIn s e)) y) seen
+          ≡ onward (childRun (nodeRun level s) sh lo hi i low hi seen) (λ after. cond (messagesRun sh lo hi (defined.entryThen (some (entryIn s e)) y)) (some after) none)
+      unfolding kidIs defined.entryThen kidsRun kidsList messagesRun
+      ends-run (Entry.Pair p v) none h = none-onward (childRun (nodeRun level s) sh lo hi i low hi seen)
+      ends-run (Entry.Pair p v) (some es) h = none-onward (childRun (nodeRun level s) sh lo hi i low hi seen)
+      ends-run (Entry.Child k p) y h = let z : _≡_ {A = ℕ} 0 1 = cc in absurd (omega arith)
+      ends-run (Entry.Message m) none h = none-onward (childRun (nodeRun level s) sh lo hi i low hi seen)
+      ends-run (Entry.Message m) (some es) h = refl
+
+      count-rest : (x : Entry) (es : List defined.Entry) → kidIs x ≡ Kid.Other
+          → kidsCount (treeAt level s) i (entryIn s x ∷ es) ≡ plus (countOf (treeAt level s i)) (onlyMessages (length (entryIn s x ∷ es)))
+      unfolding kidIs kidsCount
+      count-rest (Entry.Pair p v) es h = refl
+      count-rest (Entry.Child k p) es h = let z : _≡_ {A = ℕ} 0 1 = cc in absurd (omega arith)
+      count-rest (Entry.Message m) es h = refl
+
+      last-run : X ≡ onward (childRun (nodeRun level s) sh lo hi i low hi seen) (λ after. cond (messagesRun sh lo hi (entriesFrom s at end)) (some after) none)
+      last-run =
+          ap (λ o. kidsRun (nodeRun level s) sh lo hi i low o seen) (next .first) ∙ ends-run e (entriesFrom s (c .at) (c .end)) ek
+          ∙ ap (λ o. onward (childRun (nodeRun level s) sh lo hi i low hi seen) (λ after. cond (messagesRun sh lo hi o) (some after) none)) (sym (next .first))
+
+      last-count : Y ≡ plus (countOf (treeAt level s i)) (onlyMessages (length (listed s at end)))
+      last-count =
+          ap (λ l. kidsCount (treeAt level s) i l) (next .lists) ∙ count-rest e (listed s (c .at) (c .end)) ek
+          ∙ ap (λ l. plus (countOf (treeAt level s i)) (onlyMessages (length l))) (sym (next .lists))
+
+      module _ (r : Checked) (after : List ℕ) (h : Child level s sh lo hi i low hi seen r after) where
+        pub last-stops : r ≡ Checked.Unsound → (z : List ℕ) → Checks X Y Checked.Unsound z
+        last-stops f z =
+            first-stops X Y (childRun (nodeRun level s) sh lo hi i low hi seen) (λ a. cond (messagesRun sh lo hi (entriesFrom s at end)) (some a) none)
+            (countOf (treeAt level s i)) (onlyMessages (length (listed s at end))) last-run last-count r after h f z
+
+        module _ (t : Tally) (et : r ≡ Checked.Sound t) (q : Checked)
+            (g : (seen : List ℕ) → Checks (cond (messagesRun sh lo hi (entriesFrom s at end)) (some seen) none) (onlyMessages (length (listed s at end))) q seen) where
+          pub messages-stop : q ≡ Checked.Unsound → (z : List ℕ) → Checks X Y Checked.Unsound z
+          messages-stop f z =
+              second-stops X Y (childRun (nodeRun level s) sh lo hi i low hi seen) (λ a. cond (messagesRun sh lo hi (entriesFrom s at end)) (some a) none)
+              (countOf (treeAt level s i)) (onlyMessages (length (listed s at end))) last-run last-count r after h t et q after (g after) f z
+
+          pub messages-end : (u w : Tally) → q ≡ Checked.Sound u → w ≡ tallySum t u → Checks X Y (Checked.Sound w) after
+          messages-end u w eu ew =
+              both-sound X Y (childRun (nodeRun level s) sh lo hi i low hi seen) (λ a. cond (messagesRun sh lo hi (entriesFrom s at end)) (some a) none)
+              (countOf (treeAt level s i)) (onlyMessages (length (listed s at end))) last-run last-count r after h t et q after (g after) u w eu ew

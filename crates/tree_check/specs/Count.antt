@@ -1,0 +1,64 @@
+-- What the check counts in a tree: pairs, waiting messages and nodes, each shown up to 65,535 so that no sum of the code can overflow.
+-- Relies on the tree of plan (Image), its numbers (Sound) and its pairs (Live). Definitions only.
+use Prim.Native.Nat.{ℕ, _+_}
+use mathlib.Core.List.{List, [], _∷_}
+use mathlib.Core.Bool.{cond}
+use lib.ListN.{length}
+use lib.Dec.{leb}
+use Rattle.image.specs.Entry as defined
+use Rattle.image.specs.Image.{Tree, unread, leaf, interior, Forest, end, tree}
+use Rattle.image.specs.Sound.{numbers, numbersIn}
+use Rattle.laws.specs.LiveCount.{pairCount, pairCountIn}
+use Rattle.tree_check.specs.declared.Tally.{Tally}
+
+-- the smaller of a number and 65,535
+unfoldable pub cap : ℕ → ℕ
+cap x = cond (leb x 65535) x 65535
+
+-- the messages that wait in the nodes of a tree
+unfoldable mutual
+  pub messageCount : Tree → ℕ
+  messageCount (unread i) = 0
+  messageCount (leaf i rs) = 0
+  messageCount (interior i f ms) = length ms + messageCountIn f
+
+  pub messageCountIn : Forest → ℕ
+  messageCountIn end = 0
+  messageCountIn (tree s t f) = messageCount t + messageCountIn f
+
+pub record Count : Type 0 where
+  pub pairs : ℕ
+  pub messages : ℕ
+  pub nodes : ℕ
+
+unfoldable pub plus : Count → Count → Count
+plus a b = record { pairs = a .pairs + b .pairs; messages = a .messages + b .messages; nodes = a .nodes + b .nodes }
+
+unfoldable pub countOf : Tree → Count
+countOf t = record { pairs = pairCount t; messages = messageCount t; nodes = length (numbers t) }
+
+unfoldable pub countIn : Forest → Count
+countIn f = record { pairs = pairCountIn f; messages = messageCountIn f; nodes = length (numbersIn f) }
+
+abbrev pub onlyPairs : ℕ → Count
+onlyPairs n = record { pairs = n; messages = 0; nodes = 1 }
+
+abbrev pub onlyMessages : ℕ → Count
+onlyMessages n = record { pairs = 0; messages = n; nodes = 0 }
+
+abbrev pub onlyNode : Count
+onlyNode = record { pairs = 0; messages = 0; nodes = 1 }
+
+-- the child of number i, and what the entries after it hold: further children, then messages
+unfoldable pub kidsCount : (ℕ → Tree) → ℕ → List defined.Entry → Count
+kidsCount below i [] = countOf (below i)
+kidsCount below i (defined.pair k v ∷ es) = plus (countOf (below i)) (onlyMessages (length (defined.pair k v ∷ es)))
+kidsCount below i (defined.child j q ∷ es) = plus (countOf (below i)) (kidsCount below j es)
+kidsCount below i (defined.message m ∷ es) = plus (countOf (below i)) (onlyMessages (length (defined.message m ∷ es)))
+
+-- a count as the code shows it, and the sum of two that are shown
+unfoldable pub capped : Count → Tally
+capped c = record { pairs = cap (c .pairs); messages = cap (c .messages); nodes = cap (c .nodes) }
+
+unfoldable pub tallySum : Tally → Tally → Tally
+tallySum a b = record { pairs = cap (a .pairs + b .pairs); messages = cap (a .messages + b .messages); nodes = cap (a .nodes + b .nodes) }

@@ -1,0 +1,214 @@
+-- Sums of counts, also capped, and what the entries of a node hold.
+-- Relies on Count and on plan's tree of entries.
+use Prim.Native.Nat.{ℕ, suc, _+_, _<_, _≤_}
+use mathlib.Core.Path.{_≡_, refl, sym, ap, ap₂, subst, _∙_}
+use mathlib.Core.List.{List, [], _∷_, _++_}
+use mathlib.Core.Bool.{Bool, true, false, cond}
+use mathlib.Core.Option.{Option, none, some}
+use native.Mathlib.Omega.{arith}
+use lib.ListN.{length, length-append}
+use lib.Dec.{leb}
+use borrow.Author.Tests.{le-leb, leb-true, leb-false}
+use Rattle.image.specs.Entry as defined
+use Rattle.image.specs.Table.{Row}
+use Rattle.image.specs.Image.{Tree, leaf, interior, Forest, end, tree, Inside, pairThen, pairsOf, messageThen, messagesOf, noKids, kidThen, insideOf, forestOf}
+use Rattle.image.specs.Sound.{numbers, numbersIn}
+use Rattle.laws.specs.LiveCount.{pairCount, pairCountIn}
+use Rattle.tree_check.specs.declared.Tally.{Tally}
+use Rattle.tree_check.specs.Count.{cap, messageCount, messageCountIn, Count, plus, countOf, countIn, onlyPairs, onlyMessages, onlyNode, kidsCount, capped, tallySum}
+
+pub cap-small : (x : ℕ) → x ≤ 65535 → cap x ≡ x
+unfolding cap
+cap-small x h = rw (le-leb x 65535 h)
+
+pub cap-large : (x : ℕ) → 65535 ≤ x → cap x ≡ 65535
+unfolding cap
+cap-large x h = go (leb x 65535) refl
+  where
+    go : (b : Bool) → leb x 65535 ≡ b → cond (leb x 65535) x 65535 ≡ 65535
+    go true e = let k : x ≤ 65535 = leb-true x 65535 e in rw e (omega arith)
+    go false e = rw e
+
+data Sized (x : ℕ) : Type 0 where
+  small : x ≤ 65535 → cap x ≡ x → Sized x
+  large : 65535 < x → cap x ≡ 65535 → Sized x
+
+sized : (x : ℕ) → Sized x
+sized x = go (leb x 65535) refl
+  where
+    go : (b : Bool) → leb x 65535 ≡ b → Sized x
+    go true e = let k : x ≤ 65535 = leb-true x 65535 e in small k (cap-small x k)
+    go false e = let k : 65535 < x = leb-false x 65535 e in large k (cap-large x (omega arith))
+
+-- sums may be capped at every step
+pub cap-sum : (a b : ℕ) → cap (cap a + cap b) ≡ cap (a + b)
+cap-sum a b = go (sized a) (sized b)
+  where
+    go : Sized a → Sized b → cap (cap a + cap b) ≡ cap (a + b)
+    go (small h e) (small k f) = ap₂ (λ x y. cap (x + y)) e f
+    go (small h e) (large k f) = cap-large (cap a + cap b) (omega arith) ∙ sym (cap-large (a + b) (omega arith))
+    go (large h e) y = cap-large (cap a + cap b) (omega arith) ∙ sym (cap-large (a + b) (omega arith))
+
+tally-path : {a b c x y z : ℕ} → a ≡ x → b ≡ y → c ≡ z → _≡_ {A = Tally} (record { pairs = a; messages = b; nodes = c }) (record { pairs = x; messages = y; nodes = z })
+tally-path p q r = rw (p, q, r)
+
+count-path : {a b c x y z : ℕ} → a ≡ x → b ≡ y → c ≡ z → _≡_ {A = Count} (record { pairs = a; messages = b; nodes = c }) (record { pairs = x; messages = y; nodes = z })
+count-path p q r = rw (p, q, r)
+
+pub tally-plus : (x y : Count) → tallySum (capped x) (capped y) ≡ capped (plus x y)
+unfolding tallySum capped plus
+tally-plus x y = tally-path (cap-sum (x .pairs) (y .pairs)) (cap-sum (x .messages) (y .messages)) (cap-sum (x .nodes) (y .nodes))
+
+-- two tallies joined
+pub tally-joined : (a b r : Tally) (x y : Count) → a ≡ capped x → b ≡ capped y → r ≡ tallySum a b → r ≡ capped (plus x y)
+tally-joined a b r x y e f g = g ∙ ap₂ (λ u v. tallySum u v) e f ∙ tally-plus x y
+
+pub sum-is : (a b : Tally) (p q r : ℕ) → p ≡ cap (a .pairs + b .pairs) → q ≡ cap (a .messages + b .messages) → r ≡ cap (a .nodes + b .nodes)
+    → _≡_ {A = Tally} (record { pairs = p; messages = q; nodes = r }) (tallySum a b)
+unfolding tallySum
+sum-is a b p q r h k l = tally-path h k l
+
+-- a capped number beside none of the others
+pub pairs-capped : (k n : ℕ) → k ≡ cap n → _≡_ {A = Tally} (record { pairs = k; messages = 0; nodes = 1 }) (capped (onlyPairs n))
+unfolding capped
+pairs-capped k n e = tally-path e (sym (cap-small 0 (omega arith))) (sym (cap-small 1 (omega arith)))
+
+pub messages-capped : (k n : ℕ) → k ≡ cap n → _≡_ {A = Tally} (record { pairs = 0; messages = k; nodes = 0 }) (capped (onlyMessages n))
+unfolding capped
+messages-capped k n e = tally-path (sym (cap-small 0 (omega arith))) e (sym (cap-small 0 (omega arith)))
+
+pub node-capped : _≡_ {A = Tally} (record { pairs = 0; messages = 0; nodes = 1 }) (capped onlyNode)
+unfolding capped
+node-capped = tally-path (sym (cap-small 0 (omega arith))) (sym (cap-small 0 (omega arith))) (sym (cap-small 1 (omega arith)))
+
+plus-assoc : (a b c : Count) → plus a (plus b c) ≡ plus (plus a b) c
+unfolding plus
+plus-assoc a b c = count-path (omega arith) (omega arith) (omega arith)
+
+-- the parts of a tree
+tree-count : (s : List ℕ) (t : Tree) (f : Forest) → countIn (tree s t f) ≡ plus (countOf t) (countIn f)
+unfolding countIn countOf plus pairCountIn messageCountIn numbersIn
+tree-count s t f = count-path refl refl (length-append (numbers t) (numbersIn f))
+
+last-count : (s : List ℕ) (t : Tree) → countIn (tree s t end) ≡ countOf t
+unfolding countIn countOf pairCountIn messageCountIn numbersIn
+last-count s t =
+    let l : length (numbers t ++ []) ≡ length (numbers t) + length (numbersIn end) = length-append (numbers t) [] in
+    let z : length (numbersIn end) ≡ 0 = refl in
+    count-path (omega arith) (omega arith) (omega arith)
+
+plus-none : (a : Count) → plus a (onlyMessages 0) ≡ a
+unfolding plus
+plus-none a = count-path (omega arith) (omega arith) (omega arith)
+
+interior-count : (i : ℕ) (f : Forest) (ms : List defined.Message) → countOf (interior i f ms) ≡ plus onlyNode (plus (countIn f) (onlyMessages (length ms)))
+unfolding countIn countOf plus pairCount messageCount numbers
+interior-count i f ms = count-path (omega arith) (omega arith) (omega arith)
+
+leaf-count : (i : ℕ) (rs : List Row) → countOf (leaf i rs) ≡ onlyPairs (length rs)
+unfolding countOf pairCount messageCount numbers
+leaf-count i rs = refl
+
+pairs-length : (es : List defined.Entry) (rs : List Row) → pairsOf es ≡ some rs → length rs ≡ length es
+unfolding pairsOf
+pairs-length [] rs h = let q : rs ≡ [] = cc in rw q
+pairs-length (defined.pair k v ∷ es) rs h = go (pairsOf es) refl (pairs-length es)
+  where
+    go : (o : Option (List Row)) → pairsOf es ≡ o → ((ts : List Row) → pairsOf es ≡ some ts → length ts ≡ length es) → length rs ≡ suc (length es)
+    go none e ih = let q : none ≡ some rs = unfold pairThen in rw e at h in let z : _≡_ {A = ℕ} 0 1 = cc in absurd (omega arith)
+    go (some ts) e ih =
+        let q : some (record { key = k; value = v } ∷ ts) ≡ some rs = unfold pairThen in rw e at h in
+        let p : rs ≡ record { key = k; value = v } ∷ ts = cc in
+        rw p (ap suc (ih ts e))
+pairs-length (defined.child i k ∷ es) rs h = let q : none ≡ some rs = unfold pairThen in h in let z : _≡_ {A = ℕ} 0 1 = cc in absurd (omega arith)
+pairs-length (defined.message m ∷ es) rs h = let q : none ≡ some rs = unfold pairThen in h in let z : _≡_ {A = ℕ} 0 1 = cc in absurd (omega arith)
+
+messages-length : (es : List defined.Entry) (ms : List defined.Message) → messagesOf es ≡ some ms → length ms ≡ length es
+unfolding messagesOf
+messages-length [] ms h = let q : ms ≡ [] = cc in rw q
+messages-length (defined.pair k v ∷ es) ms h = let q : none ≡ some ms = h in let z : _≡_ {A = ℕ} 0 1 = cc in absurd (omega arith)
+messages-length (defined.child i k ∷ es) ms h = let q : none ≡ some ms = h in let z : _≡_ {A = ℕ} 0 1 = cc in absurd (omega arith)
+messages-length (defined.message m ∷ es) ms h = go (messagesOf es) refl (messages-length es)
+  where
+    go : (o : Option (List defined.Message)) → messagesOf es ≡ o → ((ts : List defined.Message) → messagesOf es ≡ some ts → length ts ≡ length es) → length ms ≡ suc (length es)
+    go none e ih = let q : none ≡ some ms = unfold messageThen in rw e at h in let z : _≡_ {A = ℕ} 0 1 = cc in absurd (omega arith)
+    go (some ts) e ih =
+        let q : some (m ∷ ts) ≡ some ms = unfold messageThen in rw e at h in
+        let p : ms ≡ m ∷ ts = cc in
+        rw p (ap suc (ih ts e))
+
+-- what the entries of a leaf hold
+pub leaf-holds : (i : ℕ) (es : List defined.Entry) (rs : List Row) → pairsOf es ≡ some rs → countOf (leaf i rs) ≡ onlyPairs (length es)
+leaf-holds i es rs h = leaf-count i rs ∙ ap (λ n. onlyPairs n) (pairs-length es rs h)
+
+module _ (below : ℕ → Tree) where
+  pub kids-hold : (es : List defined.Entry) (x : Inside) → insideOf es ≡ some x → (i : ℕ) (low : List ℕ)
+      → kidsCount below i es ≡ plus (countIn (tree low (below i) (forestOf below (x .kids)))) (onlyMessages (length (x .messages)))
+  unfolding kidsCount insideOf
+  kids-hold [] x h i low =
+      let p : (record { kids = []; messages = [] }) ≡ x = cc in
+      subst (λ (y : Inside). countOf (below i) ≡ plus (countIn (tree low (below i) (forestOf below (y .kids)))) (onlyMessages (length (y .messages)))) p
+      (alone i low)
+    where
+      alone : (i : ℕ) (low : List ℕ) → countOf (below i) ≡ plus (countIn (tree low (below i) (forestOf below []))) (onlyMessages 0)
+      alone i low = unfold forestOf in sym (plus-none (countIn (tree low (below i) end)) ∙ last-count low (below i))
+  kids-hold (defined.pair k v ∷ es) x h i low = let q : none ≡ some x = h in let z : _≡_ {A = ℕ} 0 1 = cc in absurd (omega arith)
+  kids-hold (defined.child j q ∷ es) x h i low = go (insideOf es) refl (λ y e. kids-hold es y e j q)
+    where
+      more : (y : Inside) (K : Count) → K ≡ plus (countIn (tree q (below j) (forestOf below (y .kids)))) (onlyMessages (length (y .messages)))
+          → plus (countOf (below i)) K ≡ plus (countIn (tree low (below i) (forestOf below (record { number = j; pivot = q } ∷ y .kids)))) (onlyMessages (length (y .messages)))
+      more y K e =
+          unfold forestOf in
+          ap (λ k. plus (countOf (below i)) k) e
+          ∙ plus-assoc (countOf (below i)) (countIn (tree q (below j) (forestOf below (y .kids)))) (onlyMessages (length (y .messages)))
+          ∙ ap (λ k. plus k (onlyMessages (length (y .messages)))) (sym (tree-count low (below i) (tree q (below j) (forestOf below (y .kids)))))
+
+      go : (o : Option Inside) → insideOf es ≡ o
+          → ((y : Inside) → insideOf es ≡ some y → kidsCount below j es ≡ plus (countIn (tree q (below j) (forestOf below (y .kids)))) (onlyMessages (length (y .messages))))
+          → plus (countOf (below i)) (kidsCount below j es) ≡ plus (countIn (tree low (below i) (forestOf below (x .kids)))) (onlyMessages (length (x .messages)))
+      go none e ih = let w : none ≡ some x = unfold kidThen in rw e at h in let z : _≡_ {A = ℕ} 0 1 = cc in absurd (omega arith)
+      go (some y) e ih =
+          let w : some (record { kids = record { number = j; pivot = q } ∷ y .kids; messages = y .messages }) ≡ some x = unfold kidThen in rw e at h in
+          let p : (record { kids = record { number = j; pivot = q } ∷ y .kids; messages = y .messages }) ≡ x = cc in
+          subst (λ (z : Inside). plus (countOf (below i)) (kidsCount below j es) ≡ plus (countIn (tree low (below i) (forestOf below (z .kids)))) (onlyMessages (length (z .messages)))) p
+          (more y (kidsCount below j es) (ih y e))
+  kids-hold (defined.message m ∷ es) x h i low = go (messagesOf (defined.message m ∷ es)) refl
+    where
+      last : (ms : List defined.Message) → length ms ≡ suc (length es)
+          → plus (countOf (below i)) (onlyMessages (suc (length es))) ≡ plus (countIn (tree low (below i) (forestOf below []))) (onlyMessages (length ms))
+      last ms e = unfold forestOf in ap₂ (λ k n. plus k (onlyMessages n)) (sym (last-count low (below i))) (sym e)
+
+      go : (o : Option (List defined.Message)) → messagesOf (defined.message m ∷ es) ≡ o
+          → plus (countOf (below i)) (onlyMessages (suc (length es))) ≡ plus (countIn (tree low (below i) (forestOf below (x .kids)))) (onlyMessages (length (x .messages)))
+      go none e = let w : none ≡ some x = unfold noKids in rw e at h in let z : _≡_ {A = ℕ} 0 1 = cc in absurd (omega arith)
+      go (some ms) e =
+          let w : some (record { kids = []; messages = ms }) ≡ some x = unfold noKids in rw e at h in
+          let p : (record { kids = []; messages = ms }) ≡ x = cc in
+          subst (λ (z : Inside). plus (countOf (below i)) (onlyMessages (suc (length es))) ≡ plus (countIn (tree low (below i) (forestOf below (z .kids)))) (onlyMessages (length (z .messages)))) p
+          (last ms (messages-length (defined.message m ∷ es) ms e))
+
+  -- what the entries of an interior node hold
+  pub interior-holds : (n i : ℕ) (q : List ℕ) (es : List defined.Entry) (x : Inside) → insideOf es ≡ some x
+      → countOf (interior n (tree q (below i) (forestOf below (x .kids))) (x .messages)) ≡ plus onlyNode (kidsCount below i es)
+  interior-holds n i q es x h =
+      interior-count n (tree q (below i) (forestOf below (x .kids))) (x .messages) ∙ ap (λ k. plus onlyNode k) (sym (kids-hold es x h i q))
+
+  pub count-end : (i : ℕ) (l : List defined.Entry) → l ≡ [] → countOf (below i) ≡ kidsCount below i l
+  unfolding kidsCount
+  count-end i l e = rw e
+
+  pub count-more : (i j : ℕ) (q : List ℕ) (l es : List defined.Entry) → l ≡ defined.child j q ∷ es → plus (countOf (below i)) (kidsCount below j es) ≡ kidsCount below i l
+  unfolding kidsCount
+  count-more i j q l es e = rw e
+
+-- a list counted from its front
+pub count-done : (n X r : ℕ) (l : List defined.Entry) → l ≡ [] → n + length l ≡ X → r ≡ cap (n + 0) → r ≡ cap X
+count-done n X r l e inv h =
+    let z : length l ≡ 0 = rw e in
+    let q : n + 0 ≡ X = omega arith in
+    h ∙ ap (λ k. cap k) q
+
+pub count-on : (n X : ℕ) (l es : List defined.Entry) (e : defined.Entry) → l ≡ e ∷ es → n + length l ≡ X → n + 1 + length es ≡ X
+count-on n X l es e q inv =
+    let z : length l ≡ suc (length es) = rw q in
+    omega arith

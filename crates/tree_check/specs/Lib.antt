@@ -1,0 +1,13 @@
+pub mod Count
+pub mod Answer
+pub mod CountLaws
+pub mod Walk
+pub mod Layout
+pub mod First
+pub mod LeafSteps
+pub mod Sequence
+pub mod ChildSteps
+pub mod NodeSteps
+pub mod Whole
+pub mod RootSteps
+pub mod Callers

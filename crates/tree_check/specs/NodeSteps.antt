@@ -1,0 +1,120 @@
+-- The exits of the check of a node.
+-- Relies on Walk, First and ChildSteps.
+use Prim.Native.Nat.{ℕ, zero, suc, _-_, _<_, _≤_}
+use mathlib.Core.Path.{_≡_, refl, sym, ap, _∙_}
+use mathlib.Core.List.{List}
+use mathlib.Core.Bool.{true, false, cond}
+use mathlib.Core.Option.{Option, none, some}
+use native.Mathlib.Omega.{arith}
+use lib.ListN.{length, getD, set}
+use Rattle.image.specs.Entry as defined
+use Rattle.image.specs.Image.{Tree, nodeBytes, nodesOf, nodeEntries, insideOf, orNone, interiorOf, treeAt}
+use Rattle.path.specs.Shape.{Shape}
+use Rattle.reading.specs.SoundHere.{soundHere}
+use Rattle.reading.specs.Visit.{unmet, visit}
+use Rattle.node.specs.Entries.{entriesFrom, listed}
+use Rattle.node.specs.Places.{part}
+use Rattle.node.specs.declared.Place.{Place}
+use Rattle.node.specs.declared.Cursor.{Cursor}
+use Rattle.node_check.specs.Inside.{kidsRun}
+use Rattle.tree_check.specs.declared.Tally.{Tally}
+use Rattle.tree_check.specs.declared.Checked.{Checked}
+use Rattle.tree_check.specs.declared.First.{First}
+use Rattle.tree_check.specs.Count.{Count, plus, countOf, onlyNode, kidsCount, capped, tallySum}
+use Rattle.tree_check.specs.CountLaws.{node-capped, tally-joined}
+use Rattle.tree_check.specs.Answer.{Checks, unsound, all-sound, unsound-is, sound-is, tally-is, checks-as}
+use Rattle.tree_check.specs.Walk.{nodeRun, node-met, unmet-low, unmet-past, unmet-again, unmet-yes, leaf-walk, headless, first-walk, first-counts}
+use Rattle.tree_check.specs.Layout.{reads-listed}
+use Rattle.tree_check.specs.First.{FirstAs, Leads, first-nothing-is, first-child-is}
+use Rattle.tree_check.specs.LeafSteps.{LeafChecks}
+
+module _ (s : List ℕ) (i level : ℕ) (sh : Shape) (lo hi seen : List ℕ) where
+  -- what the walk over the tree leaves, and what it holds
+  abbrev X : Option (List ℕ)
+  X = visit (treeAt level s i) (nodesOf (length s)) sh lo hi seen
+
+  abbrev Y : Count
+  Y = countOf (treeAt level s i)
+
+  met : unmet (nodesOf (length s)) seen i ≡ false → (after : List ℕ) → Checks X Y Checked.Unsound after
+  met e after = unsound X Y after (node-met level s i (nodesOf (length s)) sh lo hi seen e)
+
+  pub number-low : i < 1 → (after : List ℕ) → Checks X Y Checked.Unsound after
+  number-low h after = met (unmet-low (nodesOf (length s)) i seen h) after
+
+  pub number-past : (n : ℕ) → n ≡ nodesOf (length s) → n ≤ i → (after : List ℕ) → Checks X Y Checked.Unsound after
+  number-past n e h after = met (unmet-past (nodesOf (length s)) i seen (omega arith)) after
+
+  pub reached-before : (getD seen i 0 ≡ 0 → ⊥) → (after : List ℕ) → Checks X Y Checked.Unsound after
+  reached-before h after = met (unmet-again (nodesOf (length s)) i seen h) after
+
+  unread-walk : (l : ℕ) → l < 1 → visit (treeAt l s i) (nodesOf (length s)) sh lo hi seen ≡ none
+  unfolding treeAt visit
+  unread-walk zero h = refl
+  unread-walk (suc l) h = absurd (omega arith)
+
+  pub level-zero : level < 1 → (after : List ℕ) → Checks X Y Checked.Unsound after
+  level-zero h after = unsound X Y after (unread-walk level h)
+
+  module _ (n : ℕ) (en : n ≡ nodesOf (length s)) (low : 1 ≤ i) (high : i < n) (fresh : getD seen i 0 ≡ 0) where
+    open-node : unmet (nodesOf (length s)) seen i ≡ true
+    open-node = unmet-yes (nodesOf (length s)) i seen low (omega arith) fresh
+
+    -- a leaf
+    pub node-leaf : level ≡ 1 → (r : Checked) → LeafChecks s i sh lo hi r → Checks X Y r (set seen i 1)
+    node-leaf e r h =
+        checks-as (cond (soundHere (treeAt 1 s i) sh lo hi) (some (set seen i 1)) none) X (countOf (treeAt 1 s i)) Y r (set seen i 1)
+        (leaf-walk s i (nodesOf (length s)) sh lo hi seen open-node level e) (ap (λ l. countOf (treeAt l s i)) (sym e)) (h (set seen i 1))
+
+    -- an interior node
+    module _ (two : 2 ≤ level) where
+      interior-tree : (l : ℕ) → 2 ≤ l → treeAt l s i ≡ interiorOf (treeAt (l - 1) s) i (orNone insideOf (nodeEntries 0x0002 l (nodeBytes s i)))
+      unfolding treeAt
+      interior-tree zero h = absurd (omega arith)
+      interior-tree (suc zero) h = absurd (omega arith)
+      interior-tree (suc (suc l)) h =
+          let e : suc l ≡ suc (suc l) - 1 = omega arith in
+          ap (λ m. interiorOf (treeAt m s) i (orNone insideOf (nodeEntries 0x0002 (suc (suc l)) (nodeBytes s i)))) e
+
+      alike : (j : ℕ) (z : Shape) (a b q : List ℕ) → nodeRun (level - 1) s j z a b q ≡ visit (treeAt (level - 1) s j) (nodesOf (length s)) z a b q
+      unfolding nodeRun
+      alike j z a b q = refl
+
+      abbrev T : Tree
+      T = interiorOf (treeAt (level - 1) s) i (orNone insideOf (nodeEntries 0x0002 level (nodeBytes s i)))
+
+      module _ (f : First) (hf : FirstAs s i level lo f) where
+        pub no-first : f ≡ First.Nothing → (after : List ℕ) → Checks X Y Checked.Unsound after
+        no-first e after =
+            unsound X Y after
+            (ap (λ t. visit t (nodesOf (length s)) sh lo hi seen) (interior-tree level two)
+            ∙ headless (treeAt (level - 1) s) (nodesOf (length s)) (nodeRun (level - 1) s) alike i sh lo hi seen (nodeEntries 0x0002 level (nodeBytes s i)) (first-nothing-is s i level lo f hf e))
+
+        module _ (j : ℕ) (p : Place) (c : Cursor) (ef : f ≡ First.Child j p c) where
+          pub leads : Leads s i level lo j p c
+          leads = first-child-is s i level lo f j p c hf ef
+
+          abbrev K : Option (List ℕ)
+          K = kidsRun (nodeRun (level - 1) s) sh lo hi j (part s p) (entriesFrom s (c .at) (c .end)) (set seen i 1)
+
+          walk-is : K ≡ X
+          walk-is =
+              first-walk (treeAt (level - 1) s) (nodesOf (length s)) (nodeRun (level - 1) s) alike i sh lo hi seen open-node j (part s p) (leads .pivot)
+              (nodeEntries 0x0002 level (nodeBytes s i)) (entriesFrom s (c .at) (c .end)) (leads .reads)
+              ∙ ap (λ t. visit t (nodesOf (length s)) sh lo hi seen) (sym (interior-tree level two))
+
+          module _ (r : Checked) (after : List ℕ) (h : Checks K (kidsCount (treeAt (level - 1) s) j (listed s (c .at) (c .end))) r after) where
+            pub kids-stop : r ≡ Checked.Unsound → Checks X Y Checked.Unsound after
+            kids-stop e = unsound X Y after (sym walk-is ∙ unsound-is K (kidsCount (treeAt (level - 1) s) j (listed s (c .at) (c .end))) r after h e)
+
+            pub kids-sound : (t w : Tally) → r ≡ Checked.Sound t → w ≡ tallySum (record { pairs = 0; messages = 0; nodes = 1 }) t → Checks X Y (Checked.Sound w) after
+            kids-sound t w e j2 =
+                let k : K ≡ some after = sound-is K (kidsCount (treeAt (level - 1) s) j (listed s (c .at) (c .end))) r t after h e in
+                let y : plus onlyNode (kidsCount (treeAt (level - 1) s) j (listed s (c .at) (c .end))) ≡ countOf T
+                = first-counts (treeAt (level - 1) s) (nodesOf (length s)) (nodeRun (level - 1) s) alike i sh lo hi seen open-node j (part s p) (leads .pivot)
+                (nodeEntries 0x0002 level (nodeBytes s i)) (entriesFrom s (c .at) (c .end)) (listed s (c .at) (c .end)) (set seen i 1) after (leads .reads)
+                (λ es q. reads-listed s (c .at) (c .end) es q) k in
+                all-sound X Y w after (sym walk-is ∙ k)
+                (tally-joined (record { pairs = 0; messages = 0; nodes = 1 }) t w onlyNode (kidsCount (treeAt (level - 1) s) j (listed s (c .at) (c .end))) node-capped
+                (tally-is K (kidsCount (treeAt (level - 1) s) j (listed s (c .at) (c .end))) r t after h e) j2
+                ∙ ap (λ z. capped z) (y ∙ ap (λ z. countOf z) (sym (interior-tree level two))))

@@ -1,0 +1,27 @@
+-- The whole check: all that makes an image sound but its live count, and what the check of an image promises.
+-- Relies on plan's `sound` and on Count and Answer. Definitions only.
+use Prim.Native.Nat.{ℕ, _<_}
+use mathlib.Core.Path.{_≡_}
+use mathlib.Core.List.{List}
+use mathlib.Core.Bool.{Bool, true, false, _&&_, cond}
+use lib.ListN.{length, getD}
+use Rattle.image.specs.Image.{nodeBytes, nodesOf, headerOf, headerLaidOut, treeOf}
+use Rattle.image.specs.Sound.{soundTree, once, inRange, numbers, isIn, lowest, highest, soundHeader}
+use Rattle.laws.specs.ButLive.{soundButLive}
+use Rattle.tree_check.specs.declared.Checked.{Checked}
+use Rattle.tree_check.specs.Count.{countOf}
+use Rattle.tree_check.specs.Answer.{Counts}
+
+unfoldable pub isSound : Checked → Bool
+isSound Checked.Unsound = false
+isSound (Checked.Sound t) = true
+
+-- after a sound answer: one byte for each node, 1 where the node is reached and 0 elsewhere
+unfoldable pub Marked : List ℕ → List ℕ → Checked → Type 0
+Marked image seen Checked.Unsound = Unit
+Marked image seen (Checked.Sound t) = (i : ℕ) → i < nodesOf (length image) → getD seen i 0 ≡ cond (isIn i (numbers (treeOf image))) 1 0
+
+pub record Verified (image : List ℕ) (r : Checked) (seen : List ℕ) : Type 0 where
+  pub answer : isSound r ≡ soundButLive image
+  pub counts : Counts (countOf (treeOf image)) r
+  pub marks : Marked image seen r

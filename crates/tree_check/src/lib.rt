@@ -1,0 +1,401 @@
+// The soundness check of document 01 as code.
+// It reads any store of at least one node, and meets plan's definition of `sound`, the live count apart; it counts what a sound tree holds.
+use node::Cursor;
+use node::Place;
+use node::Step;
+use path::Shape;
+use search::Kid;
+ghost use mathlib.Core.Path.{_≡_};
+ghost use mathlib.Core.Bool.{cond};
+ghost use mathlib.Core.List.{List};
+ghost use mathlib.Core.Option.{none, some};
+ghost use Prim.Native.Nat.{ℕ, _+_, _-_, _*_, _<_, _≤_};
+ghost use lib.ListN.{length};
+ghost use Rattle.image.specs.Bytes.{zeros};
+ghost use Rattle.image.specs.Image.{nodesOf, nodeBytes, laidOut, treeAt};
+ghost use Rattle.reading.specs.SoundHere.{soundHere};
+ghost use Rattle.reading.specs.Visit.{visit, blank};
+ghost use Rattle.node.specs.Cut.{cut};
+ghost use Rattle.node.specs.Entries.{entriesFrom, listed};
+ghost use Rattle.node.specs.Places.{Within, part};
+ghost use Rattle.path.specs.Fed.{shapeIs};
+ghost use Rattle.node_check.specs.Inside.{messagesRun, childRun, kidsRun};
+ghost use Rattle.tree_check.specs.Count.{cap, tallySum, countOf, onlyMessages, kidsCount};
+ghost use Rattle.tree_check.specs.Answer.{Checks};
+ghost use Rattle.tree_check.specs.Walk.{nodeRun};
+ghost use Rattle.tree_check.specs.First.{FirstAs};
+ghost use Rattle.laws.specs.ButLive.{soundHead};
+ghost use Rattle.tree_check.specs.Whole.{Verified};
+
+// What a sound tree holds, each number shown up to 65,535.
+pub struct Tally {
+    pub pairs: usize,
+    pub messages: usize,
+    pub nodes: usize,
+}
+
+pub enum Checked {
+    Unsound,
+    Sound(Tally),
+}
+
+// The first child of an interior node: its number, its pivot, and the cursor past it.
+pub enum First {
+    Child(usize, Place, Cursor),
+    Nothing,
+}
+
+pub fn capped_sum(a: usize, b: usize) -> usize
+    ensures { λ r. ⌜ r ≡ cap (a + b) ⌝ }
+{
+    if 65535 <= a {
+        return 65535;
+    }
+    if 65535 - a <= b {
+        return 65535;
+    }
+    a + b
+}
+
+pub fn joined(a: Tally, b: Tally) -> Tally
+    ensures { λ r. ⌜ r ≡ tallySum a b ⌝ }
+{
+    let pairs = capped_sum(a.pairs, b.pairs);
+    let messages = capped_sum(a.messages, b.messages);
+    let nodes = capped_sum(a.nodes, b.nodes);
+    Tally {
+        pairs,
+        messages,
+        nodes,
+    }
+}
+
+// How many nodes the store has room for.
+pub fn node_count(store: &[u8]) -> usize
+    ensures { λ r. ⌜ r ≡ nodesOf (length (now (store .entry))) ⌝ }
+{
+    store.len() / 1024
+}
+
+// Whether every byte from a place up to another is zero.
+pub fn all_zero(s: &[u8], from: usize, end: usize) -> bool
+    requires { ⌜ end ≤ length (now s) ⌝ }
+    ensures { λ r. ⌜ r ≡ zeros (cut (now (s .entry)) from end) ⌝ }
+{
+    let mut i = from;
+    while i < end {
+        if s[i] != 0 {
+            return false;
+        }
+        i += 1;
+    }
+    true
+}
+
+// Whether a node of the store is laid out as one of this kind and level.
+pub fn laid_out(store: &[u8], num: usize, kind: usize, level: usize) -> bool
+    requires { ⌜ num * 1024 + 1024 ≤ length (now store) ⌝ }
+    ensures { λ r. ⌜ r ≡ laidOut kind level (nodeBytes (now (store .entry)) num) ⌝ }
+{
+    let at = num * 1024;
+    let len = octets::u16_at(store, at);
+    if 1016 < len {
+        return false;
+    }
+    if octets::u16_at(store, at + 2) != kind {
+        return false;
+    }
+    if octets::u16_at(store, at + 4) != level {
+        return false;
+    }
+    if octets::u16_at(store, at + 6) != 0 {
+        return false;
+    }
+    all_zero(store, at + 8 + len, at + 1024)
+}
+
+// How many entries stand from a place up to another, as far as they read. The check of each entry has read it by then: this walks their headers only.
+pub fn count_entries(s: &[u8], from: usize, end: usize) -> usize
+    requires { ⌜ end ≤ length (now s) ⌝ }
+    ensures { λ r. ⌜ r ≡ cap (length (listed (now (s .entry)) from end)) ⌝ }
+{
+    let mut c = Cursor { at: from, end };
+    let mut n: usize = 0;
+    while c.at < end {
+        let Step::Read(_, next) = c.step(s) else {
+            return capped_sum(n, 0);
+        };
+        n += 1;
+        c = next;
+    }
+    capped_sum(n, 0)
+}
+
+// Whether a node of the store is a sound leaf, and how many pairs it holds.
+pub fn check_leaf(store: &[u8], num: usize, lo: &[u8], hi: &[u8], sh: Shape) -> Checked
+    requires { ⌜ num * 1024 + 1024 ≤ length (now store) ⌝ }
+    ensures { λ r. ⌜ ((seen : List ℕ) → Checks (cond (soundHere (treeAt 1 (now (store .entry)) num) (shapeIs sh) (now (lo .entry)) (now (hi .entry))) (some seen) none) (countOf (treeAt 1 (now (store .entry)) num)) r seen) ⌝ }
+{
+    if !laid_out(store, num, 1, 1) {
+        return Checked::Unsound;
+    }
+    let at = num * 1024;
+    let len = octets::u16_at(store, at);
+    let from = at + 8;
+    let end = from + len;
+    if !node_check::check_leaf(store, from, end, lo, hi, sh) {
+        return Checked::Unsound;
+    }
+    let pairs = count_entries(store, from, end);
+    Checked::Sound(Tally {
+        pairs,
+        messages: 0,
+        nodes: 1,
+    })
+}
+
+// The first child of an interior node of the store, if its pivot is the node's low one.
+pub fn first_child(store: &[u8], num: usize, level: usize, lo: &[u8]) -> First
+    requires { ⌜ num * 1024 + 1024 ≤ length (now store) ⌝ }
+    ensures { λ r. ⌜ FirstAs (now (store .entry)) num level (now (lo .entry)) r ⌝ }
+{
+    if !laid_out(store, num, 2, level) {
+        return First::Nothing;
+    }
+    let at = num * 1024;
+    let len = octets::u16_at(store, at);
+    let from = at + 8;
+    let c = Cursor {
+        at: from,
+        end: from + len,
+    };
+    let Step::Read(e, next) = c.step(store) else {
+        return First::Nothing;
+    };
+    let Kid::Of(child, p) = search::kid_of(e) else {
+        return First::Nothing;
+    };
+    let a = p.start;
+    let b = p.stop;
+    if !octets::equal(&store[a..b], lo) {
+        return First::Nothing;
+    }
+    First::Child(child, p, next)
+}
+
+// Whether the entries from a place up to another are sound messages, and how many.
+pub fn check_messages(s: &[u8], from: usize, end: usize, lo: &[u8], hi: &[u8], sh: Shape) -> Checked
+    requires { ⌜ end ≤ length (now s) ⌝ }
+    ensures { λ r. ⌜ ((seen : List ℕ) → Checks (cond (messagesRun (shapeIs sh) (now (lo .entry)) (now (hi .entry)) (entriesFrom (now (s .entry)) from end)) (some seen) none) (onlyMessages (length (listed (now (s .entry)) from end))) r seen) ⌝ }
+{
+    if !node_check::check_messages(s, from, end, lo, hi, sh) {
+        return Checked::Unsound;
+    }
+    let messages = count_entries(s, from, end);
+    Checked::Sound(Tally {
+        pairs: 0,
+        messages,
+        nodes: 0,
+    })
+}
+
+// The tree under the node `num`, which is to be of this level. Its pivots are without what it lifts, of which the shape tells.
+pub fn check_node(
+    store: &[u8],
+    num: usize,
+    level: usize,
+    lo: &[u8],
+    hi: &[u8],
+    sh: Shape,
+    seen: &mut [u8],
+) -> Checked
+    requires { ⌜ nodesOf (length (now store)) ≤ length (now seen) ⌝ }
+    ensures { λ r. ⌜ Checks (visit (treeAt level (now (store .entry)) num) (nodesOf (length (now (store .entry)))) (shapeIs sh) (now (lo .entry)) (now (hi .entry)) (now (seen .entry))) (countOf (treeAt level (now (store .entry)) num)) r (now (seen .exit)) ⌝ }
+{
+    if num < 1 {
+        return Checked::Unsound;
+    }
+    if node_count(store) <= num {
+        return Checked::Unsound;
+    }
+    if level < 1 {
+        return Checked::Unsound;
+    }
+    if seen[num] != 0 {
+        return Checked::Unsound;
+    }
+    seen[num] = 1;
+    if level == 1 {
+        return check_leaf(store, num, lo, hi, sh);
+    }
+    let First::Child(child, p, next) = first_child(store, num, level, lo) else {
+        return Checked::Unsound;
+    };
+    let Checked::Sound(t) = check_children(store, child, p, next, level - 1, lo, hi, sh, seen)
+    else {
+        return Checked::Unsound;
+    };
+    Checked::Sound(joined(
+        Tally {
+            pairs: 0,
+            messages: 0,
+            nodes: 1,
+        },
+        t,
+    ))
+}
+
+// The child `num` with the low pivot `low`, and the entries of its parent that follow it from the cursor on.
+pub fn check_children(
+    store: &[u8],
+    num: usize,
+    low: Place,
+    start: Cursor,
+    level: usize,
+    lo: &[u8],
+    hi: &[u8],
+    sh: Shape,
+    seen: &mut [u8],
+) -> Checked
+    requires { ⌜ (nodesOf (length (now store)) ≤ length (now seen)) × (start .end ≤ length (now store)) × Within 0 (length (now store)) low ⌝ }
+    ensures { λ r. ⌜ Checks (kidsRun (nodeRun level (now (store .entry))) (shapeIs sh) (now (lo .entry)) (now (hi .entry)) num (part (now (store .entry)) low) (entriesFrom (now (store .entry)) (start .at) (start .end)) (now (seen .entry))) (kidsCount (treeAt level (now (store .entry))) num (listed (now (store .entry)) (start .at) (start .end))) r (now (seen .exit)) ⌝ }
+{
+    let at = start.at;
+    let end = start.end;
+    let a = low.start;
+    let b = low.stop;
+    if end <= at {
+        return check_child(store, num, &store[a..b], hi, level, lo, hi, sh, seen);
+    }
+    let Step::Read(e, next) = start.step(store) else {
+        return Checked::Unsound;
+    };
+    let Kid::Of(child, p) = search::kid_of(e) else {
+        let Checked::Sound(t) = check_child(store, num, &store[a..b], hi, level, lo, hi, sh, seen)
+        else {
+            return Checked::Unsound;
+        };
+        let Checked::Sound(u) = check_messages(store, at, end, lo, hi, sh) else {
+            return Checked::Unsound;
+        };
+        return Checked::Sound(joined(t, u));
+    };
+    let x = p.start;
+    let y = p.stop;
+    let Checked::Sound(t) = check_child(
+        store,
+        num,
+        &store[a..b],
+        &store[x..y],
+        level,
+        lo,
+        hi,
+        sh,
+        seen,
+    ) else {
+        return Checked::Unsound;
+    };
+    let Checked::Sound(u) = check_children(store, child, p, next, level, lo, hi, sh, seen) else {
+        return Checked::Unsound;
+    };
+    Checked::Sound(joined(t, u))
+}
+
+// The child `num` between two pivots of its parent, whose own pivots are `lo` and `hi`.
+pub fn check_child(
+    store: &[u8],
+    num: usize,
+    low: &[u8],
+    high: &[u8],
+    level: usize,
+    lo: &[u8],
+    hi: &[u8],
+    sh: Shape,
+    seen: &mut [u8],
+) -> Checked
+    requires { ⌜ nodesOf (length (now store)) ≤ length (now seen) ⌝ }
+    ensures { λ r. ⌜ Checks (childRun (nodeRun level (now (store .entry))) (shapeIs sh) (now (lo .entry)) (now (hi .entry)) num (now (low .entry)) (now (high .entry)) (now (seen .entry))) (countOf (treeAt level (now (store .entry)) num)) r (now (seen .exit)) ⌝ }
+{
+    if !octets::owned(lo, hi, low) {
+        return Checked::Unsound;
+    }
+    if !octets::precedes(low, high) {
+        return Checked::Unsound;
+    }
+    let k = octets::common_length(low, high);
+    let deeper = path::feed(sh, &low[0..k]);
+    check_node(store, num, level, &low[k..], &high[k..], deeper, seen)
+}
+
+// Whether node 0 is laid out, and its numbers are in the range that a store of this length asks for.
+pub fn header_good(store: &[u8]) -> bool
+    requires { ⌜ 1024 ≤ length (now store) ⌝ }
+    ensures { λ r. ⌜ r ≡ soundHead (now (store .entry)) ⌝ }
+{
+    let n = node_count(store);
+    let len = octets::u16_at(store, 0);
+    let kind = octets::u16_at(store, 2);
+    let count = octets::u16_at(store, 4);
+    let root = octets::u16_at(store, 6);
+    let levels = octets::u16_at(store, 8);
+    let live = octets::u16_at(store, 10);
+    if len != 8 {
+        return false;
+    }
+    if kind != 256 {
+        return false;
+    }
+    if count != n {
+        return false;
+    }
+    if root < 1 {
+        return false;
+    }
+    if n <= root {
+        return false;
+    }
+    if levels < 1 {
+        return false;
+    }
+    if 8 < levels {
+        return false;
+    }
+    if n < live {
+        return false;
+    }
+    all_zero(store, 12, 1024)
+}
+
+// Sets every byte to zero.
+pub fn clear(seen: &mut [u8])
+    ensures { λ _. ⌜ now (seen .exit) ≡ blank (length (now (seen .entry))) ⌝ }
+{
+    let mut i = 0;
+    while i < seen.len() {
+        seen[i] = 0;
+        i += 1;
+    }
+}
+
+// The check of a store: node 0, and the tree from the root. After a sound answer `seen` has 1 for each node that is reached, and 0 for the others.
+pub fn check_tree(store: &[u8], seen: &mut [u8]) -> Checked
+    requires { ⌜ (1024 ≤ length (now store)) × (nodesOf (length (now store)) ≤ length (now seen)) ⌝ }
+    ensures { λ r. ⌜ Verified (now (store .entry)) r (now (seen .exit)) ⌝ }
+{
+    if !header_good(store) {
+        return Checked::Unsound;
+    }
+    clear(seen);
+    let root = octets::u16_at(store, 6);
+    let levels = octets::u16_at(store, 8);
+    let highest = [255u8; 1];
+    check_node(
+        store,
+        root,
+        levels,
+        &store[0..0],
+        &highest,
+        Shape::Partway(0, 0, 0),
+        seen,
+    )
+}

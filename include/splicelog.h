@@ -1,0 +1,50 @@
+/* The splice log: a store of paths and values in a byte array that the caller owns.
+ *
+ * A store is n nodes of 1,024 bytes, n from 32 to 1,024. A path is 1 to 8 components of 1 to 16 bytes (21 to 7E without 2F), each
+ * followed by a byte 00, at most 64 bytes in all. A value is 0 to 32 bytes. Every function takes any bytes, decides for itself whether
+ * they are fit, and refuses by a number: then it has changed no byte.
+ *
+ *   0 accepted                      4 value over 32 bytes           8 no such path
+ *   1 a length is wrong             5 buffer too short              9 a moved path would be malformed
+ *   2 the image is not sound        6 no reachable interior node    10 the store is full
+ *   3 a path is malformed           7 one path begins the other
+ *
+ * A slice is a pointer and a length; pass a pointer that is not null even where the length is 0. An array that is written must not
+ * overlap another argument.
+ */
+#ifndef SPLICELOG_H
+#define SPLICELOG_H
+
+#include <stddef.h>
+#include <stdint.h>
+
+#ifdef __cplusplus
+extern "C" {
+#endif
+
+/* Makes the store empty. Refuses by 1. */
+uint32_t splicelog_make(uint8_t *store, size_t store_len);
+
+/* The value of a path, at the front of a buffer of at least 32 bytes; later bytes of the buffer stay. Beside the number: its length.
+ * Refuses by 1, 2, 3, 5, 8. */
+uint64_t splicelog_get(const uint8_t *store, size_t store_len, const uint8_t *path, size_t path_len, uint8_t *buffer, size_t buffer_len);
+
+/* The least path below `path` and greater than `after` (which may be empty), at the front of a buffer of at least 64 bytes; later bytes
+ * of the buffer stay. Beside the number: its length. Refuses by 1, 2, 3, 5, 8. */
+uint64_t splicelog_next(const uint8_t *store, size_t store_len, const uint8_t *path, size_t path_len, const uint8_t *after,
+                        size_t after_len, uint8_t *buffer, size_t buffer_len);
+
+/* Whether two stores hold the same paths. Beside the number: 1 if they do, else 0. Refuses by 1, 2. */
+uint64_t splicelog_same(const uint8_t *store, size_t store_len, const uint8_t *other, size_t other_len);
+
+/* The number of an answer: 0 if the call was accepted. */
+static inline uint32_t splicelog_number(uint64_t answer) { return (uint32_t)answer; }
+
+/* What stands beside the number: a length, or same's 1 or 0. It is 0 in a refusal. */
+static inline uint32_t splicelog_beside(uint64_t answer) { return (uint32_t)(answer >> 32); }
+
+#ifdef __cplusplus
+}
+#endif
+
+#endif

@@ -84,7 +84,7 @@ module _ (image : List ℕ) (n live : ℕ) (b : Built) (h : Holds image n live b
   unfolding nodesOf
   held-nodes = rw (h .size) (omega arith)
 
-  held-header : headerOf image ≡ record { count = n; root = numberOf (b .root); levels = b .levels; live = live }
+  pub held-header : headerOf image ≡ record { count = n; root = numberOf (b .root); levels = b .levels; live = live }
   unfolding headerOf
   held-header = rw (h .head) (head-header n (numberOf (b .root)) (b .levels) live)
 

@@ -141,7 +141,7 @@ values-cleared p (r ∷ t) e = go (below (r .key) p) refl (values-cleared p t (a
     go true b ih = rw b ih
     go false b ih = rw b (both (and-left (valueFits (r .value)) _ e) ih)
 
-values-apply : (l : List ℕ) (m : Message) (t : List Row) → smallValue m ≡ true → valuesFit t ≡ true → valuesFit (apply l m t) ≡ true
+pub values-apply : (l : List ℕ) (m : Message) (t : List Row) → smallValue m ≡ true → valuesFit t ≡ true → valuesFit (apply l m t) ≡ true
 unfolding apply smallValue
 values-apply l (puts s v) t a e = values-with (l ++ s) v t a e
 values-apply l (drops s) t a e = values-without (l ++ s) t e
@@ -160,7 +160,7 @@ message-owned lo hi (puts s v) e = and-right (wellFormed (shared lo hi ++ s)) _ 
 message-owned lo hi (drops s) e = refl
 message-owned lo hi (clears s) e = refl
 
-message-small : (lo hi : List ℕ) (m : Message) → soundMessage lo hi m ≡ true → smallValue m ≡ true
+pub message-small : (lo hi : List ℕ) (m : Message) → soundMessage lo hi m ≡ true → smallValue m ≡ true
 unfolding soundMessage smallValue
 message-small lo hi (puts s v) e = and-right (wellFormed (shared lo hi ++ s) && owns lo hi (shared lo hi ++ s)) _ e
 message-small lo hi (drops s) e = refl

@@ -1,0 +1,43 @@
+-- What a rebuild promises: the same map in packed form, and the work area as an accepted call must leave it.
+-- Relies on the paper's definitions only.
+use Prim.Native.Nat.{ℕ, _*_, _-_, _≤_}
+use mathlib.Core.Path.{_≡_}
+use mathlib.Core.List.{List, _++_}
+use mathlib.Core.Bool.{true}
+use lib.ListN.{length, drop, replicate}
+use Rattle.image.specs.Table.{Row}
+use Rattle.image.specs.Image.{nodesOf, wholeNodes, headerOf}
+use Rattle.image.specs.Sound.{sound, tableOf}
+use Rattle.image.specs.Upkeep.{settled, tidied}
+use Rattle.image.specs.Calls.{workPerNode}
+use Rattle.packed.specs.Tidy.{Table}
+use Rattle.rows.specs.Area.{rowsOf}
+
+-- the store holds the table t in packed form; three levels at most, so that a new root can be put above
+pub record Repacked (s s′ : List ℕ) (t : List Row) : Type 0 where
+  pub is-sound : sound s′ ≡ true
+  pub table : tableOf s′ ≡ t
+  pub is-tidied : tidied s′ ≡ true
+  pub is-settled : settled s′ ≡ true
+  pub size : length s′ ≡ length s
+  pub levels : headerOf s′ .levels ≤ 3
+
+-- what the packing of the first m rows of an area asks; the numbers have room for every node but node 0
+pub record Packable (s area : List ℕ) (m : ℕ) (given : List ℕ) : Type 0 where
+  pub whole : wholeNodes (length s) ≡ true
+  pub room : 128 * m ≤ length area
+  pub table : Table (nodesOf (length s)) (rowsOf m area 0)
+  pub numbers : length given ≡ 2 * (nodesOf (length s) - 1)
+
+-- the work area after an accepted call on a store of n nodes
+abbrev pub cleared : ℕ → List ℕ → List ℕ
+cleared n w = replicate (workPerNode * n) 0 ++ drop (workPerNode * n) w
+
+pub record Rebuilt (s s′ w w′ : List ℕ) : Type 0 where
+  pub is-sound : sound s′ ≡ true
+  pub table : tableOf s′ ≡ tableOf s
+  pub is-tidied : tidied s′ ≡ true
+  pub is-settled : settled s′ ≡ true
+  pub size : length s′ ≡ length s
+  pub work : w′ ≡ cleared (nodesOf (length s)) w
+  pub levels : headerOf s′ .levels ≤ 3

@@ -1,0 +1,127 @@
+-- The steps of the rebuild: what build asks and gives, and how the parts of the work area come back.
+-- Relies on build/specs/BuiltLaws and on packed/specs (the packed image has at most three levels).
+use Prim.Native.Nat.{ℕ, _+_, _*_, _-_, _/_, _≤_}
+use mathlib.Core.Path.{_≡_, refl, sym, ap, ap₂, subst, _∙_}
+use mathlib.Core.List.{List, _++_, append-nil}
+use mathlib.Core.Bool.{true}
+use native.Mathlib.Omega.{arith}
+use lib.ListN.{length, take, drop, replicate, length-replicate, drop-of-length-le}
+use lib.Dec.{leb}
+use lib.Seq.{length-take-le}
+use Rattle.image.specs.Image.{nodesOf, wholeNodes, headerOf}
+use Rattle.image.specs.Sound.{sound, tableOf}
+use Rattle.image.specs.Upkeep.{settled, tidied, used}
+use Rattle.octets.specs.Order.{and-left}
+use Rattle.node.specs.Whole.{whole-parts}
+use Rattle.packed.specs.Packed.{packed, numbersFrom}
+use Rattle.packed.specs.Stored.{held-header}
+use Rattle.packed.specs.Tidy.{imageOf, built-packs, built-holds, zerosOf}
+use Rattle.rows.specs.Area.{rowsOf}
+use Rattle.rows.specs.Steps.{rows-length}
+use Rattle.build.specs.Handed.{handed}
+use Rattle.build.specs.Built.{Asks, builtImage}
+use Rattle.build.specs.BuiltLaws.{built, counted-numbers}
+use Rattle.rebuild.specs.StoreTable.{store-table}
+use Rattle.rebuild.specs.Dump.{Dumped}
+use Rattle.rebuild.specs.Rebuild.{Repacked, Packable, Rebuilt}
+
+pub tidied-settled : (s : List ℕ) → tidied s ≡ true → settled s ≡ true
+unfolding tidied
+tidied-settled s e = and-left (settled s) (leb (used s) (nodesOf (length s) / 4)) e
+
+-- THE PACKING
+module _ (s area : List ℕ) (m : ℕ) (given given′ : List ℕ) (p : Packable s area m given) (e : handed given′ ≡ numbersFrom 1 (length given / 2)) where
+  pub pack-asks : Asks s area m given′
+  pack-asks =
+      let w = whole-parts (length s) (p .whole) in
+      let n : length given / 2 ≡ nodesOf (length s) - 1 = let q = p .numbers in omega arith in
+      let least = w .enough in
+      let c = counted-numbers given′ (nodesOf (length s)) (length given / 2) e (omega arith) (omega arith) in
+      record {
+        size = sym (w .filled);
+        least = w .enough;
+        most = w .few;
+        room = p .room;
+        table = p .table;
+        enough = c .0;
+        differ = c .1;
+        ranged = c .2;
+      }
+
+  -- the levels of the image
+  levels-few : headerOf (builtImage s area m given′) .levels ≤ 3
+  unfolding builtImage
+  levels-few =
+      let a = pack-asks in
+      let enough : nodesOf (length s) / 4 ≤ length (handed given′) + 1 = let x = a .enough in omega arith in
+      let l : m ≡ length (rowsOf m area 0) = sym (rows-length m area 0) in
+      let h = built-holds s (handed given′) (nodesOf (length s)) (rowsOf m area 0) (a .size) (a .least) (a .most) enough (a .differ) (a .ranged) (a .table) in
+      let k = built-packs s (handed given′) (nodesOf (length s)) (rowsOf m area 0) (a .size) (a .least) (a .most) enough (a .differ) (a .ranged) (a .table) .levels-most in
+      subst (λ live. headerOf (imageOf s (nodesOf (length s)) live (packed (handed given′) (rowsOf m area 0))) .levels ≤ 3) (sym l)
+      (rw (held-header (imageOf s (nodesOf (length s)) (length (rowsOf m area 0)) (packed (handed given′) (rowsOf m area 0))) (nodesOf (length s)) (length (rowsOf m area 0))
+      (packed (handed given′) (rowsOf m area 0)) h) k)
+
+  pub pack-done : (s′ : List ℕ) → s′ ≡ builtImage s area m given′ → Repacked s s′ (rowsOf m area 0)
+  pack-done s′ f =
+      let b = built s s′ area m given′ pack-asks f in
+      record {
+        is-sound = b .is-sound;
+        table = b .same-table;
+        is-tidied = b .is-tidied;
+        is-settled = tidied-settled s′ (b .is-tidied);
+        size = b .same-size;
+        levels = rw f levels-few;
+      }
+
+-- the number of nodes as the code counts them
+pub node-count : (len : ℕ) → wholeNodes len ≡ true → (nodesOf len ≡ len / 1024) × (32 ≤ len / 1024) × (len / 1024 ≤ 1024)
+unfolding nodesOf
+node-count len e = let w = whole-parts len e in (refl, w .enough, w .few)
+
+-- THE WORK AREA
+pub dumped-packable : (s area area′ given : List ℕ) (m : ℕ) → wholeNodes (length s) ≡ true → sound s ≡ true → Dumped s area area′ m
+    → length given ≡ 2 * (nodesOf (length s) - 1) → Packable s area′ m given
+dumped-packable s area area′ given m w h d n =
+    record { whole = w; room = d .fit .room; table = rw (d .table) (store-table s h); numbers = n }
+
+pub repacked-table : (s s′ area area′ : List ℕ) (m : ℕ) → Dumped s area area′ m → Repacked s s′ (rowsOf m area′ 0) → Repacked s s′ (tableOf s)
+repacked-table s s′ area area′ m d p = subst (λ t. Repacked s s′ t) (d .table) p
+
+-- the first bytes of a slice, lent as a part
+part-length : (k : ℕ) (l : List ℕ) → k ≤ length l → length (take (k - 0) (drop 0 l)) ≡ k
+part-length k l h = let e : k - 0 ≡ k = omega arith in rw e (length-take-le k l h)
+
+-- the room for numbers: 2,048 bytes are enough for a store of 1,024 nodes
+pub numbers-room : (s : List ℕ) (e : ℕ) → wholeNodes (length s) ≡ true → e ≡ 2 * (length s / 1024 - 1)
+    → length {A = ℕ} (take (e - 0) (drop 0 (replicate 2048 0))) ≡ 2 * (nodesOf (length s) - 1)
+numbers-room s e w q =
+    let n = node-count (length s) w in
+    let l : length {A = ℕ} (replicate 2048 0) ≡ 2048 = length-replicate {A = ℕ} 2048 0 in
+    part-length e (replicate 2048 0) (omega arith) ∙ (omega arith)
+
+pub work-room : (s w : List ℕ) (k : ℕ) → wholeNodes (length s) ≡ true → k ≡ 128 * (length s / 1024) → 128 * nodesOf (length s) ≤ length w
+    → length (take (k - 0) (drop 0 w)) ≡ 128 * nodesOf (length s)
+unfolding nodesOf
+work-room s w k e q h = part-length k w (omega arith) ∙ q
+
+-- zeros in the whole of a part
+pub all-zeros : (area area′ : List ℕ) (len k : ℕ) → area′ ≡ zerosOf len ++ drop len area → length area ≡ len → len ≡ k → area′ ≡ replicate k 0
+unfolding zerosOf
+all-zeros area area′ len k f e q =
+    let h : length area ≤ len = omega arith in
+    f ∙ ap (λ l. replicate len 0 ++ l) (drop-of-length-le area h) ∙ append-nil (replicate len 0) ∙ ap (λ j. replicate j 0) q
+
+pub rebuilt : (s s′ w area′ : List ℕ) (k : ℕ) → k ≡ 128 * (length s / 1024) → Repacked s s′ (tableOf s) → area′ ≡ replicate (128 * nodesOf (length s)) 0
+    → Rebuilt s s′ w (take 0 w ++ (area′ ++ drop (k - 0) (drop 0 w)))
+unfolding nodesOf
+rebuilt s s′ w area′ k q p e =
+    let z : k - 0 ≡ 128 * (length s / 1024) = omega arith in
+    record {
+      is-sound = p .is-sound;
+      table = p .table;
+      is-tidied = p .is-tidied;
+      is-settled = p .is-settled;
+      size = p .size;
+      work = ap₂ (λ a j. a ++ drop j w) e z;
+      levels = p .levels;
+    }

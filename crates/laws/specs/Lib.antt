@@ -7,6 +7,7 @@ pub mod Frame
 pub mod WriteNode
 pub mod Encode
 pub mod Next
+pub mod Follow
 pub mod Made
 pub mod PushDown
 pub mod Filter

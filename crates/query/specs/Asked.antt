@@ -36,7 +36,7 @@ unfolding queryQuestions pathsFit bufferLimit foundBy
 questions-are (get p) buffer t = refl
 questions-are (next p q) buffer t = refl
 
-number-is : (s : List ℕ) (q : Query) (buffer : List ℕ)
+pub number-is : (s : List ℕ) (q : Query) (buffer : List ℕ)
     → firstNoOn s (asks q buffer)
     ≡ firstNo (ask 1 (wholeNodes (length s)) ∷ ask 2 (sound s) ∷ ask 3 (pathsFit q) ∷ ask 5 (leb (bufferLimit q) (length buffer)) ∷ ask 8 (isSome (foundBy q (tableOf s))) ∷ [])
 unfolding firstNoOn workLong nodeQuestions questions

@@ -1,2 +1,4 @@
 pub mod Asked
+pub mod SamePaths
+pub mod SameSteps
 pub mod Steps

@@ -2,14 +2,19 @@
 // no byte. Relies on: soundness (question 2), path (question 3), lookup and seek for what is found.
 use image::Found;
 use image::Refusal;
+use image::Sameness;
+use seek::PathBuffer;
 ghost use mathlib.Core.Path.{_≡_};
-ghost use mathlib.Core.Bool.{_&&_, _||_};
+ghost use mathlib.Core.Bool.{true, _&&_, _||_};
 ghost use mathlib.Core.List.{[]};
 ghost use lib.ListN.{length};
 ghost use Rattle.image.specs.Calls.{asks, get, next};
-ghost use Rattle.image.specs.Contract.{Meets};
-ghost use Rattle.image.specs.Answers.{foundAnswer};
+ghost use Rattle.image.specs.Sound.{sound, tableOf};
+ghost use Rattle.image.specs.Contract.{Meets, sameKeys, SameMeets};
+ghost use Rattle.image.specs.Answers.{foundAnswer, samenessNumber, samenessVerdict};
+ghost use Rattle.seek.specs.Buffer.{bufferIs};
 ghost use Rattle.query.specs.Asked.{pathsFit};
+ghost use Rattle.query.specs.SamePaths.{sameHeld};
 
 // The value of a path, at the front of the buffer.
 pub fn get(store: &[u8], path: &[u8], buffer: &mut [u8]) -> Found
@@ -29,7 +34,7 @@ pub fn get(store: &[u8], path: &[u8], buffer: &mut [u8]) -> Found
     }
     let found = lookup::value_of(store, path);
     let search::Found::Value(value) = found else {
-        return Found::Refused(Refusal::Absent);
+        return Found::Refused(Refusal::Absent); // the path has no value
     };
     let start = value.start;
     let stop = value.stop;
@@ -74,4 +79,64 @@ pub fn next(store: &[u8], path: &[u8], after: &[u8], buffer: &mut [u8]) -> Found
     let bytes = found.bytes;
     octets::copy_at(buffer, 0, &bytes[0..len]);
     Found::Length(len)
+}
+
+// Whether two buffers hold the same path, or neither holds one.
+fn same_held(p: PathBuffer, q: PathBuffer) -> bool
+    ensures { λ r. ⌜ r ≡ sameHeld (bufferIs p) (bufferIs q) ⌝ }
+{
+    let first = p.len;
+    let second = q.len;
+    if 64 < first {
+        return 64 < second;
+    }
+    if 64 < second {
+        return false;
+    }
+    let a = p.bytes;
+    let b = q.bytes;
+    octets::equal(&a[0..first], &b[0..second])
+}
+
+// Whether two sound stores hold the same paths: each turn takes the next path of both after the last one that they share.
+fn same_paths(store: &[u8], other: &[u8]) -> bool
+    requires { ⌜ (sound (now store) ≡ true) × (sound (now other) ≡ true) ⌝ }
+    ensures { λ r. ⌜ r ≡ sameKeys (tableOf (now (store .entry))) (tableOf (now (other .entry))) ⌝ }
+{
+    let mut last = [0u8; 64];
+    let mut size = 0;
+    loop {
+        let p = seek::next_path(store, &store[0..0], &last[0..size]);
+        let q = seek::next_path(other, &other[0..0], &last[0..size]);
+        if !same_held(p, q) {
+            return false;
+        }
+        size = p.len;
+        if 64 < size {
+            return true;
+        }
+        last = p.bytes;
+    }
+}
+
+// Whether two stores hold the same paths.
+pub fn same(store: &[u8], other: &[u8]) -> Sameness
+    ensures { λ r. ⌜ SameMeets (now (store .entry)) (now (other .entry)) (samenessNumber r) (samenessVerdict r) ⌝ }
+{
+    if !node::whole_nodes(store.len()) {
+        return Sameness::Refused(Refusal::Length);
+    }
+    if !node::whole_nodes(other.len()) {
+        return Sameness::Refused(Refusal::Length);
+    }
+    if !soundness::is_sound(store) {
+        return Sameness::Refused(Refusal::Unsound);
+    }
+    if !soundness::is_sound(other) {
+        return Sameness::Refused(Refusal::Unsound);
+    }
+    if same_paths(store, other) {
+        return Sameness::Same;
+    }
+    Sameness::Different
 }

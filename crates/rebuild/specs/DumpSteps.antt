@@ -7,8 +7,8 @@ use mathlib.Core.Bool.{Bool, true, false, false≢true}
 use mathlib.Core.Option.{none, some}
 use native.Mathlib.Omega.{arith}
 use lib.ListN.{length, take, drop, length-append, length-take}
-use Rattle.image.specs.Bytes.{same, before, begins}
-use Rattle.image.specs.Path.{wellFormed, readsOn, valueFits, pathLimit}
+use Rattle.image.specs.Bytes.{same, before}
+use Rattle.image.specs.Path.{wellFormed, valueFits}
 use Rattle.image.specs.Table.{Row, find, isSome, firstKey, leastAfter, everyKey, leads, rising}
 use Rattle.image.specs.Sound.{sound, valueIn, valuesFit, tableOf}
 use Rattle.image.specs.Image.{nodesOf}
@@ -17,6 +17,7 @@ use Rattle.laws.specs.Tables.{find-nil, find-yes, find-no}
 use Rattle.laws.specs.Rising.{row-path}
 use Rattle.laws.specs.LookupTable.{means-table}
 use Rattle.laws.specs.Next.{least-yes, least-early, nil-none}
+use Rattle.laws.specs.Follow.{formed-some, begins-empty, least-first, after-all, table-rises}
 use Rattle.packed.specs.Leaves.{value-length}
 use Rattle.node.specs.Places.{part, Within}
 use Rattle.node.specs.declared.Place.{Place}
@@ -31,7 +32,7 @@ use Rattle.seek.specs.Buffer.{bufferIs}
 use Rattle.seek.specs.BufferSteps.{held, empty-handed}
 use Rattle.seek.specs.Walk.{isPresent}
 use Rattle.seek.specs.Steps.{front-is}
-use Rattle.rebuild.specs.StoreTable.{table-rises, table-formed, table-values, table-few}
+use Rattle.rebuild.specs.StoreTable.{table-formed, table-values, table-few}
 use Rattle.rebuild.specs.Dump.{pathIn, orEmpty, valueAt, Dumping, Dumped}
 
 -- A TABLE CUT AT A ROW
@@ -51,29 +52,16 @@ cut-value (q ∷ a) r b e =
     let u : rising (a ++ r ∷ b) ≡ true = and-right (leads (q .key) (a ++ r ∷ b)) (rising (a ++ r ∷ b)) e in
     find-no (r .key) q (a ++ r ∷ b) (before-not-same (q .key) (r .key) (leads-past (q .key) a r b l u)) ∙ cut-value a r b u
 
-begins-empty : (k : List ℕ) → begins [] k ≡ true
-unfolding begins
-begins-empty k = refl
-
-first-after : (k : List ℕ) (b : List Row) → leads k b ≡ true → leastAfter [] k b ≡ firstKey b
-unfolding leads firstKey
-first-after k [] e = nil-none [] k
-first-after k (q ∷ b) e = least-yes [] k q b (begins-empty (q .key)) e
-
 cut-next : (a : List Row) (r : Row) (b : List Row) → rising (a ++ r ∷ b) ≡ true → leastAfter [] (r .key) (a ++ r ∷ b) ≡ firstKey b
 unfolding rising
 cut-next [] r b e =
-    least-early [] (r .key) r b (before-irrefl (r .key)) ∙ first-after (r .key) b (and-left (leads (r .key) b) (rising b) e)
+    least-early [] (r .key) r b (before-irrefl (r .key))
+    ∙ least-first (r .key) b
+    ∙ ap (λ t. firstKey t) (after-all (r .key) b (and-left (leads (r .key) b) (rising b) e) (and-right (leads (r .key) b) (rising b) e))
 cut-next (q ∷ a) r b e =
     let l : leads (q .key) (a ++ r ∷ b) ≡ true = and-left (leads (q .key) (a ++ r ∷ b)) (rising (a ++ r ∷ b)) e in
     let u : rising (a ++ r ∷ b) ≡ true = and-right (leads (q .key) (a ++ r ∷ b)) (rising (a ++ r ∷ b)) e in
     least-early [] (r .key) q (a ++ r ∷ b) (before-asym (q .key) (r .key) (leads-past (q .key) a r b l u)) ∙ cut-next a r b u
-
--- no path is empty
-formed-some : (k : List ℕ) → wellFormed k ≡ true → before [] k ≡ true
-unfolding wellFormed readsOn before pathLimit
-formed-some [] h = absurd (false≢true h)
-formed-some (b ∷ k) h = refl
 
 first-of-all : (t : List Row) → everyKey wellFormed t ≡ true → leastAfter [] [] t ≡ firstKey t
 unfolding everyKey firstKey

@@ -12,13 +12,14 @@ use borrow.Author.Tests.{leb-true, eqb-true}
 use Rattle.image.specs.Bytes.{shared}
 use Rattle.image.specs.Path.{wellFormed}
 use Rattle.image.specs.Entry.{Message}
-use Rattle.image.specs.Table.{Row, find, isSome, everyKey, rising}
+use Rattle.image.specs.Table.{Row, find, isSome, everyKey}
 use Rattle.image.specs.Image.{Tree, unread, leaf, interior, Forest, end, tree, Header, headerOf, headerLaidOut, nodeBytes, nodesOf, treeOf}
 use Rattle.image.specs.Meaning.{highOf, apply, applyAll, rows, rowsIn}
 use Rattle.image.specs.Sound.{sound, soundHeader, soundRoot, soundTree, soundForest, soundMessage, soundMessages, valuesFit, valueIn, tableOf, lowest, highest, once, inRange, numbers, levelsLimit}
 use Rattle.octets.specs.Order.{and-left, and-right, not-so}
 use Rattle.laws.specs.LookupTable.{parts, inner, means-table}
-use Rattle.laws.specs.RowsRising.{every-key, rows-rise}
+use Rattle.laws.specs.RowsRising.{every-key}
+use Rattle.laws.specs.Follow.{table-rises}
 use Rattle.laws.specs.Filter.{leaf-rowed}
 use Rattle.upkeep.specs.Flush.{values-apply, message-small}
 use Rattle.upkeep.specs.Merge.{values-append}
@@ -76,10 +77,6 @@ live-right n live s e =
     (and-right (soundTree (treeOf s) lowest highest && once (numbers (treeOf s)) && inRange n (numbers (treeOf s))) _ e)
 
 module _ (s : List ℕ) (whole : sound s ≡ true) where
-  pub table-rises : rising (tableOf s) ≡ true
-  unfolding tableOf
-  table-rises = rows-rise (treeOf s) lowest highest (starts s whole .tree)
-
   pub table-values : valuesFit (tableOf s) ≡ true
   unfolding tableOf
   table-values = rows-values (treeOf s) lowest highest (starts s whole .tree)
@@ -104,4 +101,4 @@ module _ (s : List ℕ) (whole : sound s ≡ true) where
       omega arith
 
   pub store-table : Table (nodesOf (length s)) (tableOf s)
-  store-table = record { few = table-few; rises = table-rises; formed = table-formed; values = table-values }
+  store-table = record { few = table-few; rises = table-rises s whole; formed = table-formed; values = table-values }

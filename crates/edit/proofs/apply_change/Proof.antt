@@ -1,0 +1,57 @@
+use native.Mathlib.Omega.{arith}
+use Prim.Native.Nat.{ℕ, suc, _+_, _-_, _≤_, _<_}
+use mathlib.Core.Path.{_≡_, refl, sym, ap, subst, _∙_}
+use mathlib.Core.List.{List, [], _∷_, _++_}
+use lib.ListN.{length, getD, take, drop}
+use borrow.Author.Needs.{needs}
+use Rattle.laws.specs.ButLive.{sound-but-live}
+use Rattle.edit.specs.Change.{size-small, sizeOf}
+use Rattle.edit.specs.Edited.{edited, few-rows, still-whole, still-long, spot-sized, room-whole}
+use Rattle.edit.proofs.apply_change.Statement.{statement}
+use Rattle.edit.proofs.apply_change.Tie as tie
+use Rattle.edit.proofs.apply_change.Reads as reads
+use Rattle.edit.proofs.apply_change.Lts as lts
+use Rattle.edit.proofs.add.Reads as add-reads
+use Rattle.edit.proofs.entry_size.Reads as entry-size-reads
+use Rattle.edit.proofs.finish.Reads as finish-reads
+use Rattle.edit.proofs.make_room.Reads as make-room-reads
+
+-- src/lib.rt:159:9
+entry-size-requires : tie.Need-entry-size-requires
+entry-size-requires c κs = let z = size-small (c .before .before .before .before .args .change) _ _ (c .before .before .before .before .pre .3 .formed) (c .before .before .before .before .pre .3 .fits) in (z .1, z .2)
+
+-- src/lib.rt:160:9
+make-room-requires : tie.Need-make-room-requires
+make-room-requires c κs = let z = size-small (c .before .before .before .before .before .before .before .args .change) _ _ (c .before .before .before .before .before .before .before .pre .3 .formed) (c .before .before .before .before .before .before .before .pre .3 .fits) in (c .before .before .before .before .before .before .before .pre .0, c .before .before .before .before .before .before .before .pre .1, c .before .before .before .before .before .before .before .pre .2, subst (λ k. k ≤ 1010) (sym (c .before .before .entry-size .ensures)) (omega (arith, z .0)))
+
+-- src/lib.rt:161:5
+add-requires : tie.Need-add-requires
+add-requires c κs = (room-whole _ _ _ _ _ _ (c .before .before .before .before .before .before .before .before .before .before .before .before .before .pre .0) (c .before .before .before .before .before .make-room .ensures), c .before .before .before .before .before .make-room .ensures .is-sound, c .before .before .before .before .before .before .before .before .before .before .before .before .before .pre .3 .formed, c .before .before .before .before .before .before .before .before .before .before .before .before .before .pre .3 .fits, spot-sized _ _ _ _ (c .before .before .before .before .before .make-room .ensures .spot) (c .before .before .before .before .before .before .before .before .entry-size .ensures))
+
+-- src/lib.rt:162:5
+finish-requires : tie.Need-finish-requires
+finish-requires c κs = (still-whole (c .before .before .before .before .before .before .before .before .before .before .before .before .before .before .before .before .before .before .args .store .now) _ _ [] (c .before .before .before .before .before .before .before .before .before .before .before .before .before .before .before .before .before .before .args .work .now) _ [] (c .before .before .before .before .before .before .before .before .before .before .before .before .before .before .before .before .before .before .args .path .now) (c .before .before .before .before .before .before .before .before .before .before .before .before .before .before .before .before .before .before .args .value .now) (c .before .before .before .before .before .before .before .before .before .before .before .before .before .before .before .before .before .before .args .change) _ _ (c .before .before .before .before .before .before .before .before .before .before .before .before .before .before .before .before .before .before .pre .0) (c .before .before .before .before .before .before .before .before .before .before .before .before .before .before .before .before .before .before .pre .1) (c .before .before .before .before .before .before .before .before .before .before .before .before .before .before .before .before .before .before .pre .2) (c .before .before .before .before .before .before .before .before .before .before .before .before .before .before .before .before .before .before .pre .3) (c .before .before .before .before .before .before .before .before .before .before .make-room .ensures) (c .before .before .before .before .add .ensures), c .before .before .before .before .add .ensures .but-live, few-rows (c .before .before .before .before .before .before .before .before .before .before .before .before .before .before .before .before .before .before .args .store .now) _ _ [] (c .before .before .before .before .before .before .before .before .before .before .before .before .before .before .before .before .before .before .args .work .now) _ [] (c .before .before .before .before .before .before .before .before .before .before .before .before .before .before .before .before .before .before .args .path .now) (c .before .before .before .before .before .before .before .before .before .before .before .before .before .before .before .before .before .before .args .value .now) (c .before .before .before .before .before .before .before .before .before .before .before .before .before .before .before .before .before .before .args .change) _ _ (c .before .before .before .before .before .before .before .before .before .before .before .before .before .before .before .before .before .before .pre .0) (c .before .before .before .before .before .before .before .before .before .before .before .before .before .before .before .before .before .before .pre .1) (c .before .before .before .before .before .before .before .before .before .before .before .before .before .before .before .before .before .before .pre .2) (c .before .before .before .before .before .before .before .before .before .before .before .before .before .before .before .before .before .before .pre .3) (c .before .before .before .before .before .before .before .before .before .before .make-room .ensures) (c .before .before .before .before .add .ensures), still-long (c .before .before .before .before .before .before .before .before .before .before .before .before .before .before .before .before .before .before .args .store .now) _ _ [] (c .before .before .before .before .before .before .before .before .before .before .before .before .before .before .before .before .before .before .args .work .now) _ [] (c .before .before .before .before .before .before .before .before .before .before .before .before .before .before .before .before .before .before .args .path .now) (c .before .before .before .before .before .before .before .before .before .before .before .before .before .before .before .before .before .before .args .value .now) (c .before .before .before .before .before .before .before .before .before .before .before .before .before .before .before .before .before .before .args .change) _ _ (c .before .before .before .before .before .before .before .before .before .before .before .before .before .before .before .before .before .before .pre .0) (c .before .before .before .before .before .before .before .before .before .before .before .before .before .before .before .before .before .before .pre .1) (c .before .before .before .before .before .before .before .before .before .before .before .before .before .before .before .before .before .before .pre .2) (c .before .before .before .before .before .before .before .before .before .before .before .before .before .before .before .before .before .before .pre .3) (c .before .before .before .before .before .before .before .before .before .before .make-room .ensures) (c .before .before .before .before .add .ensures))
+
+-- src/lib.rt:155:1
+same-length : tie.Need-same-length
+same-length c = search needs
+
+-- src/lib.rt:155:1
+same-length-2 : tie.Need-same-length-2
+same-length-2 c = search needs
+
+-- src/lib.rt:155:1
+returns : tie.Need-returns
+returns c = edited (c .before .before .before .before .before .before .before .before .before .before .before .before .before .before .before .before .before .before .before .before .before .before .before .args .store .now) _ _ _ (c .before .before .before .before .before .before .before .before .before .before .before .before .before .before .before .before .before .before .before .before .before .before .before .args .work .now) _ _ (c .before .before .before .before .before .before .before .before .before .before .before .before .before .before .before .before .before .before .before .before .before .before .before .args .path .now) (c .before .before .before .before .before .before .before .before .before .before .before .before .before .before .before .before .before .before .before .before .before .before .before .args .value .now) (c .before .before .before .before .before .before .before .before .before .before .before .before .before .before .before .before .before .before .before .before .before .before .before .args .change) _ _ (c .before .before .before .before .before .before .before .before .before .before .before .before .before .before .before .before .before .before .before .before .before .before .before .pre .0) (c .before .before .before .before .before .before .before .before .before .before .before .before .before .before .before .before .before .before .before .before .before .before .before .pre .1) (c .before .before .before .before .before .before .before .before .before .before .before .before .before .before .before .before .before .before .before .before .before .before .before .pre .2) (c .before .before .before .before .before .before .before .before .before .before .before .before .before .before .before .before .before .before .before .before .before .before .before .pre .3) (c .before .before .before .before .before .before .before .before .before .before .before .before .before .before .before .make-room .ensures) (c .before .before .before .before .before .before .before .before .before .add .ensures) (c .before .before .before .before .finish .ensures)
+
+pub apply-change-spec : {M : Type 1} → statement M
+apply-change-spec =
+    tie.close
+    (tie.spec
+    entry-size-requires
+    make-room-requires
+    add-requires
+    finish-requires
+    same-length
+    same-length-2
+    returns)

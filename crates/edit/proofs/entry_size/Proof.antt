@@ -1,0 +1,66 @@
+use native.Mathlib.Omega.{arith}
+use Prim.Native.Nat.{ℕ, suc, _+_, _-_, _≤_, _<_}
+use mathlib.Core.Path.{_≡_, refl, sym, ap, subst, _∙_}
+use mathlib.Core.List.{List, [], _∷_, _++_}
+use lib.ListN.{length, getD, take, drop}
+use borrow.Author.Needs.{needs}
+use Rattle.edit.specs.Edited.{size-put, size-drop, size-clear}
+use Rattle.edit.proofs.entry_size.Statement.{statement}
+use Rattle.edit.proofs.entry_size.Tie as tie
+use Rattle.edit.proofs.entry_size.Reads as reads
+use Rattle.edit.proofs.entry_size.Lts as lts
+
+-- src/lib.rt:102:24
+enum-told : tie.Need-enum-told
+enum-told c = search needs
+
+-- src/lib.rt:102:24
+add-result : tie.Need-add-result
+add-result c = search needs
+
+-- src/lib.rt:102:24
+add-result-2 : tie.Need-add-result-2
+add-result-2 c = search needs
+
+-- src/lib.rt:103:25
+enum-told-2 : tie.Need-enum-told-2
+enum-told-2 c = search needs
+
+-- src/lib.rt:103:25
+add-result-3 : tie.Need-add-result-3
+add-result-3 c = search needs
+
+-- src/lib.rt:104:26
+enum-told-3 : tie.Need-enum-told-3
+enum-told-3 c = search needs
+
+-- src/lib.rt:104:26
+add-result-4 : tie.Need-add-result-4
+add-result-4 c = search needs
+
+-- src/lib.rt:97:1
+returns : tie.Need-returns
+returns c = size-put _ _ _ (c .enum-told .given .1)
+
+-- src/lib.rt:97:1
+returns-2 : tie.Need-returns-2
+returns-2 c = size-drop _ _ _ (c .enum-told2 .given .1)
+
+-- src/lib.rt:97:1
+returns-3 : tie.Need-returns-3
+returns-3 c = size-clear _ _ _ (c .enum-told3 .given .1)
+
+pub entry-size-spec : {M : Type 1} → statement M
+entry-size-spec =
+    tie.close
+    (tie.spec
+    enum-told
+    add-result
+    add-result-2
+    enum-told-2
+    add-result-3
+    enum-told-3
+    add-result-4
+    returns
+    returns-2
+    returns-3)

@@ -1,0 +1,55 @@
+use native.Mathlib.Omega.{arith}
+use Prim.Native.Nat.{ℕ, suc, _+_, _-_, _≤_, _<_}
+use mathlib.Core.Path.{_≡_, refl, sym, ap, subst, _∙_}
+use mathlib.Core.List.{List, [], _∷_, _++_}
+use lib.ListN.{length, getD, take, drop}
+use borrow.Author.Needs.{needs}
+use Rattle.soundness.specs.Judged.{countable}
+use Rattle.edit.specs.Edited.{finish-done, small-live, area-fits, len-kept}
+use Rattle.edit.proofs.finish.Statement.{statement}
+use Rattle.edit.proofs.finish.Tie as tie
+use Rattle.edit.proofs.finish.Reads as reads
+use Rattle.edit.proofs.finish.Lts as lts
+use Rattle.append.proofs.set_live.Reads as set-live-reads
+use Rattle.build.proofs.clear_area.Reads as clear-area-reads
+use Rattle.live.proofs.live_count.Reads as live-count-reads
+
+-- src/lib.rt:148:9
+live-count-requires : tie.Need-live-count-requires
+live-count-requires c κs = countable _ (c .before .before .before .pre .1)
+
+-- src/lib.rt:149:5
+set-live-requires : tie.Need-set-live-requires
+set-live-requires c κs = small-live _ _ (c .before .before .before .before .before .pre .0) (c .before .before .before .before .before .pre .2) (c .before .live-count .ensures)
+
+-- src/lib.rt:150:13
+mul-k : tie.Need-mul-k
+mul-k c = search needs
+
+-- src/lib.rt:151:5
+clear-area-requires : tie.Need-clear-area-requires
+clear-area-requires c κs = area-fits (c .before .before .before .before .before .before .before .before .before .args .store .now) _ (c .before .before .before .before .before .before .before .before .before .args .work .now) _ (c .before .before .before .before .before .before .before .before .before .pre .1) (c .before .before .before .set-live .ensures) (c .before .before .before .before .before .before .before .before .before .pre .3)
+
+-- src/lib.rt:144:1
+same-length : tie.Need-same-length
+same-length c = search needs
+
+-- src/lib.rt:144:1
+same-length-2 : tie.Need-same-length-2
+same-length-2 c = search needs
+
+-- src/lib.rt:144:1
+returns : tie.Need-returns
+returns c = finish-done _ _ _ _ _ _ (c .before .before .before .before .before .before .before .before .before .before .before .before .pre .0) (c .before .before .before .before .before .before .before .before .before .before .before .before .pre .1) (c .before .before .before .before .before .before .before .before .before .before .before .before .pre .2) (c .before .before .before .before .before .before .before .before .live-count .ensures) (c .before .before .before .before .before .before .set-live .ensures) (len-kept (c .before .before .before .before .before .before .before .before .before .before .before .before .args .store .now) _ _ (c .before .before .before .before .before .before .before .before .before .before .before .before .pre .1) (c .before .before .before .before .before .before .set-live .ensures)) (c .before .before .clear-area .ensures)
+
+pub finish-spec : {M : Type 1} → statement M
+finish-spec =
+    tie.close
+    (tie.spec
+    live-count-requires
+    set-live-requires
+    mul-k
+    clear-area-requires
+    same-length
+    same-length-2
+    returns)

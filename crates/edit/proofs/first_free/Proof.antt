@@ -1,0 +1,59 @@
+use borrow.Author.Needs.{needs}
+use native.Mathlib.Omega.{arith}
+use Prim.Native.Nat.{ℕ, suc, _+_, _-_, _≤_, _<_}
+use mathlib.Core.Path.{_≡_, refl, sym, ap, _∙_}
+use mathlib.Core.List.{List, [], _∷_, _++_}
+use lib.ListN.{length, getD, take, drop}
+use Rattle.edit.specs.Free.{free-found, free-none, free-more}
+use Rattle.edit.proofs.first_free.Statement.{statement}
+use Rattle.edit.proofs.first_free.Tie as tie
+use Rattle.edit.proofs.first_free.Reads as reads
+use Rattle.edit.proofs.first_free.Lts as lts
+
+abbrev Inv-loop : tie.InvT-loop
+Inv-loop seen n i₀ i = (1 ≤ i) × ((j : ℕ) → 1 ≤ j → j < i → getD seen j 0 ≡ 0 → ⊥)
+
+abbrev μ-loop : tie.MeasureT-loop
+μ-loop seen n i₀ i = n - i
+
+-- src/lib.rt:40:5
+loop-holds : tie.Need-loop-holds Inv-loop μ-loop
+loop-holds c = search needs
+
+-- src/lib.rt:41:12
+shared-slice-read-if1 : tie.Need-shared-slice-read-if1 Inv-loop μ-loop
+shared-slice-read-if1 c = search needs
+
+-- src/lib.rt:42:13
+returns : tie.Need-returns Inv-loop μ-loop
+returns c = search needs
+
+-- src/lib.rt:44:13
+add-i : tie.Need-add-i Inv-loop μ-loop
+add-i c = search needs
+
+-- src/lib.rt:40:5
+loop-less : tie.Need-loop-less Inv-loop μ-loop
+loop-less c = search needs
+
+-- src/lib.rt:40:5
+loop-again : tie.Need-loop-again Inv-loop μ-loop
+loop-again c = (omega arith, free-more (c .before .before .before .before .args .seen .now) (c .before .before .before .loop .i) (c .if1 .left) (c .before .before .before .loop .inv .1))
+
+-- src/lib.rt:35:1
+returns-2 : tie.Need-returns-2 Inv-loop μ-loop
+returns-2 c = free-none _ _ _ (omega arith) (c .before .loop .inv .1)
+
+pub first-free-spec : {M : Type 1} → statement M
+first-free-spec =
+    tie.close
+    (tie.spec
+    Inv-loop
+    μ-loop
+    loop-holds
+    shared-slice-read-if1
+    returns
+    add-i
+    loop-less
+    loop-again
+    returns-2)

@@ -1,0 +1,41 @@
+use native.Mathlib.Omega.{arith}
+use Prim.Native.Nat.{ℕ, suc, _+_, _-_, _≤_, _<_}
+use mathlib.Core.Path.{_≡_, refl, sym, ap, subst, _∙_}
+use mathlib.Core.List.{List, [], _∷_, _++_}
+use lib.ListN.{length, getD, take, drop}
+use borrow.Author.Needs.{needs}
+use Rattle.edit.specs.Room.{few-nodes}
+use Rattle.edit.specs.Edited.{place-present, place-left}
+use Rattle.edit.proofs.has_place.Statement.{statement}
+use Rattle.edit.proofs.has_place.Tie as tie
+use Rattle.edit.proofs.has_place.Reads as reads
+use Rattle.edit.proofs.has_place.Lts as lts
+use Rattle.lookup.proofs.value_of.Reads as value-of-reads
+use Rattle.octets.proofs.u16_at.Reads as u16-at-reads
+
+-- src/lib.rt:170:9
+value-of-requires : tie.Need-value-of-requires
+value-of-requires c κs = search needs
+
+enum-told : tie.Need-enum-told
+enum-told c = search needs
+
+-- src/lib.rt:172:9
+enum-told-2 : tie.Need-enum-told-2
+enum-told-2 c = search needs
+
+-- src/lib.rt:172:9
+returns : tie.Need-returns
+returns c = place-present _ _ _ _ (c .before .before .before .before .before .pre .1) (c .before .before .value-of .ensures) (c .enum-told2 .given .1)
+
+-- src/lib.rt:174:9
+u16-at-requires : tie.Need-u16-at-requires
+u16-at-requires c κs = omega (arith, few-nodes _ (c .before .before .before .before .before .pre .0) .1)
+
+-- src/lib.rt:166:1
+returns-2 : tie.Need-returns-2
+returns-2 c = place-left _ _ _ _ _ (c .before .before .before .before .before .before .pre .0) (c .before .before .before .before .before .before .pre .1) (c .before .before .before .value-of .ensures) (c .before .enum-told .given .1) (c .u16-at .ensures .0) refl
+
+pub has-place-spec : {M : Type 1} → statement M
+has-place-spec =
+    tie.close (tie.spec value-of-requires enum-told enum-told-2 returns u16-at-requires returns-2)

@@ -1,0 +1,96 @@
+use native.Mathlib.Omega.{arith}
+use Prim.Native.Nat.{ℕ, suc, _+_, _-_, _≤_, _<_}
+use mathlib.Core.Path.{_≡_, refl, sym, ap, _∙_}
+use mathlib.Core.List.{List, [], _∷_, _++_}
+use lib.ListN.{length, getD, take, drop}
+use borrow.Author.Needs.{needs}
+use Rattle.image.specs.Image.{wholeNodes}
+use Rattle.laws.specs.ButLive.{sound-but-live}
+use Rattle.edit.specs.Room.{roomy-now, roomy-above, rebuilt-now, rebuilt-above}
+use Rattle.edit.proofs.make_room.Statement.{statement}
+use Rattle.edit.proofs.make_room.Tie as tie
+use Rattle.edit.proofs.make_room.Reads as reads
+use Rattle.edit.proofs.make_room.Lts as lts
+use Rattle.append.proofs.fits_at_root.Reads as fits-at-root-reads
+use Rattle.edit.proofs.free_above.Reads as free-above-reads
+use Rattle.rebuild.proofs.rebuild.Reads as rebuild-reads
+
+-- src/lib.rt:74:8
+fits-at-root-requires : tie.Need-fits-at-root-requires
+fits-at-root-requires c κs = (sound-but-live _ (c .before .before .before .pre .1), omega arith)
+
+-- src/lib.rt:75:9
+same-length : tie.Need-same-length
+same-length c = search needs
+
+-- src/lib.rt:75:9
+returns : tie.Need-returns
+returns c = roomy-now _ _ _ _ (c .before .before .before .before .before .pre .1) (c .before .fits-at-root .ensures) (c .if1 .taken)
+
+-- src/lib.rt:77:9
+free-above-requires : tie.Need-free-above-requires
+free-above-requires c κs = search needs
+
+-- src/lib.rt:79:9
+same-length-2 : tie.Need-same-length-2
+same-length-2 c = search needs
+
+-- src/lib.rt:79:9
+returns-2 : tie.Need-returns-2
+returns-2 c = roomy-above _ _ _ _ (c .before .before .before .before .before .before .before .before .pre .1) (c .before .free-above .ensures) (c .if2 .taken)
+
+-- src/lib.rt:81:5
+rebuild-requires : tie.Need-rebuild-requires
+rebuild-requires c κs = search needs
+
+-- src/lib.rt:82:8
+fits-at-root-requires-2 : tie.Need-fits-at-root-requires-2
+fits-at-root-requires-2 c κs = (sound-but-live _ (c .before .before .before .before .before .rebuild .ensures .is-sound), omega arith)
+
+-- src/lib.rt:83:9
+same-length-3 : tie.Need-same-length-3
+same-length-3 c = search needs
+
+-- src/lib.rt:83:9
+same-length-4 : tie.Need-same-length-4
+same-length-4 c = search needs
+
+-- src/lib.rt:83:9
+returns-3 : tie.Need-returns-3
+returns-3 c = rebuilt-now _ _ _ _ _ (c .before .before .before .before .before .before .before .before .before .before .before .before .before .before .before .before .before .before .pre .0) (c .before .before .before .before .before .before .before .before .before .before .before .before .before .before .before .before .before .before .pre .2) (c .before .before .before .before .before .before .before .rebuild .ensures) _ (c .before .fits-at-root2 .ensures) (c .if3 .taken)
+
+-- src/lib.rt:85:17
+free-above-requires-2 : tie.Need-free-above-requires-2
+free-above-requires-2 c κs = (ap (λ k. wholeNodes k) (c .before .before .before .before .before .before .before .before .rebuild .ensures .size) ∙ c .before .before .before .before .before .before .before .before .before .before .before .before .before .before .before .before .before .before .before .pre .0, c .before .before .before .before .before .before .before .before .rebuild .ensures .is-sound)
+
+-- src/lib.rt:70:1
+same-length-5 : tie.Need-same-length-5
+same-length-5 c = search needs
+
+-- src/lib.rt:70:1
+same-length-6 : tie.Need-same-length-6
+same-length-6 c = search needs
+
+-- src/lib.rt:70:1
+returns-4 : tie.Need-returns-4
+returns-4 c = rebuilt-above _ _ _ _ _ (c .before .before .before .before .before .before .before .before .before .before .before .before .before .before .before .before .before .before .before .before .pre .0) (c .before .before .before .before .before .before .before .before .before .before .before .before .before .before .before .before .before .before .before .before .pre .2) (c .before .before .before .before .before .before .before .before .before .rebuild .ensures) _ (c .free-above2 .ensures)
+
+pub make-room-spec : {M : Type 1} → statement M
+make-room-spec =
+    tie.close
+    (tie.spec
+    fits-at-root-requires
+    same-length
+    returns
+    free-above-requires
+    same-length-2
+    returns-2
+    rebuild-requires
+    fits-at-root-requires-2
+    same-length-3
+    same-length-4
+    returns-3
+    free-above-requires-2
+    same-length-5
+    same-length-6
+    returns-4)

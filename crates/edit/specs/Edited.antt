@@ -1,0 +1,295 @@
+-- A change carried out: what each step leaves, and the contract of put, drop and clear from it.
+use Prim.Native.Nat.{ℕ, zero, suc, _+_, _*_, _-_, _/_, _<_, _≤_}
+use mathlib.Core.Path.{_≡_, refl, sym, ap, ap₂, subst, _∙_}
+use mathlib.Core.List.{List, [], _∷_, _++_}
+use mathlib.Core.Bool.{Bool, true, false, _&&_, _||_, not, cond, false≢true}
+use mathlib.Core.Option.{Option, none, some}
+use native.Mathlib.Omega.{arith}
+use lib.ListN.{length, take, drop, replicate}
+use lib.Dec.{leb, ltb, eqb}
+use borrow.Author.Tests.{le-leb, lt-leb, lt-ltb, eqb-true}
+use Rattle.image.specs.Bytes.{u16}
+use Rattle.image.specs.Path.{wellFormed, valueLimit, valueFits}
+use Rattle.image.specs.Entry.{Message, puts, drops, clears, message}
+use Rattle.image.specs.Table.{Row, find, isSome, withRow, without, withoutBelow, rising}
+use Rattle.image.specs.Image.{nodesOf, wholeNodes, headerOf}
+use Rattle.image.specs.Meaning.{apply}
+use Rattle.image.specs.Sound.{sound, valueIn, tableOf}
+use Rattle.image.specs.Calls as calls
+use Rattle.image.specs.Calls.{Call, acts, Act, ask, firstNo, workPerNode, questions, actQuestions, tableAfter, actTable}
+use Rattle.image.specs.Contract.{nodeQuestions, firstNoOn, Besides, Meets}
+use Rattle.image.specs.Answers.{refusalNumber, outcomeAnswer}
+use Rattle.image.specs.declared.Refusal.{Refusal}
+use Rattle.image.specs.declared.Outcome.{Outcome}
+use Rattle.octets.specs.Order.{and-right}
+use Rattle.laws.specs.ButLive.{soundButLive, sound-live, sound-but-live}
+use Rattle.laws.specs.LookupTable.{means-table}
+use Rattle.laws.specs.Encode.{bytesOf}
+use Rattle.packed.specs.Tidy.{zerosOf}
+use Rattle.node.specs.Whole.{Whole, whole-parts}
+use Rattle.node.specs.declared.Place.{Place}
+use Rattle.node.specs.Places.{part}
+use Rattle.search.specs.declared.Found.{Found}
+use Rattle.search.specs.Pairs.{Finds, foundIn}
+use Rattle.live.specs.Walk.{cap}
+use Rattle.soundness.specs.Judged.{told-live}
+use Rattle.append_laws.specs.Append.{roomAtRoot, appended, Appended}
+use Rattle.append_laws.specs.Raise.{rootRaised}
+use Rattle.append_laws.specs.SetLive.{withLive, live-right, live-length, live-table}
+use Rattle.append.specs.Callers as code
+use Rattle.laws.specs.Follow.{table-rises}
+use Rattle.rebuild.specs.StoreTable.{table-few}
+use Rattle.rebuild.specs.Rebuild.{cleared}
+use Rattle.rebuild.specs.Callers.{Lent, to-act, laterNo, later-number, act-meets, act-refused}
+use Rattle.edit.specs.declared.Change.{Change}
+use Rattle.edit.specs.declared.Spot.{Spot}
+use Rattle.edit.specs.Change.{messageOf, sizeOf, message-size, Allowed, message-sound, size-small, few-after}
+use Rattle.edit.specs.Room.{Free, SpotFits, Roomy}
+
+-- the live count right and the work area zeroed
+pub record Finished (s s′ w w′ : List ℕ) : Type 0 where
+  pub is-sound : sound s′ ≡ true
+  pub table : tableOf s′ ≡ tableOf s
+  pub size : length s′ ≡ length s
+  pub work : w′ ≡ cleared (nodesOf (length s)) w
+
+cap-small : (n : ℕ) → n ≤ 65535 → cap n ≡ n
+unfolding cap
+cap-small n h = rw (le-leb n 65535 h)
+
+area-size : (len : ℕ) → 128 * (len / 1024) ≡ workPerNode * nodesOf len
+unfolding nodesOf
+area-size len = refl
+
+zeroed : (k n : ℕ) (w : List ℕ) → k ≡ workPerNode * n → zerosOf k ++ drop k w ≡ cleared n w
+unfolding zerosOf
+zeroed k n w e = ap (λ j. replicate j 0 ++ drop j w) e
+
+pub finish-done : (s s′ w w′ : List ℕ) (live k : ℕ) → wholeNodes (length s) ≡ true → soundButLive s ≡ true → length (tableOf s) ≤ nodesOf (length s)
+    → live ≡ cap (length (tableOf s)) → s′ ≡ withLive s live → k ≡ 128 * (length s / 1024) → w′ ≡ zerosOf k ++ drop k w → Finished s s′ w w′
+finish-done s s′ w w′ live k whole e few l q z r =
+    let p : Whole (length s) = whole-parts (length s) whole in
+    let counted : live ≡ length (tableOf s) = l ∙ cap-small (length (tableOf s)) (omega (arith, p .few)) in
+    record {
+      is-sound = ap sound q ∙ live-right s live e counted (omega arith);
+      table = ap tableOf q ∙ live-table s live e;
+      size = ap length q ∙ live-length s live e;
+      work = r ∙ zeroed k (nodesOf (length s)) w (z ∙ area-size (length s));
+    }
+
+pub small-live : (s : List ℕ) (live : ℕ) → wholeNodes (length s) ≡ true → length (tableOf s) ≤ nodesOf (length s) → live ≡ cap (length (tableOf s))
+    → (12 ≤ length s) × (length s ≤ 2000000) × (live < 65536)
+small-live s live whole few l =
+    let p : Whole (length s) = whole-parts (length s) whole in
+    let c = cap-small (length (tableOf s)) (omega (arith, p .few)) in
+    (omega (arith, p .filled, p .enough), omega (arith, p .filled, p .few), omega (arith, p .few))
+
+-- The message written, by each arm of the code.
+module _ (s s′ p v : List ℕ) (ok : sound s ≡ true) (formed : wellFormed p ≡ true) (fits : valueFits v ≡ true) where
+  module _ (c : Change) (room : roomAtRoot s (sizeOf c (length p) (length v)) ≡ true) where
+    pub put-here : c ≡ Change.Put → s′ ≡ appended s (puts p v) → Appended s (messageOf c p v) s′
+    unfolding messageOf sizeOf
+    put-here e q =
+        subst (λ x. Appended s (messageOf x p v) s′) (sym e)
+        (code.put-appended s s′ (sound-but-live s ok) p v (subst (λ x. roomAtRoot s (sizeOf x (length p) (length v)) ≡ true) e room) (message-sound Change.Put p v formed fits) q)
+
+    pub drop-here : c ≡ Change.Drop → s′ ≡ appended s (drops p) → Appended s (messageOf c p v) s′
+    unfolding messageOf sizeOf
+    drop-here e q =
+        subst (λ x. Appended s (messageOf x p v) s′) (sym e)
+        (code.drop-appended s s′ (sound-but-live s ok) p (subst (λ x. roomAtRoot s (sizeOf x (length p) (length v)) ≡ true) e room) (message-sound Change.Drop p v formed fits) q)
+
+    pub clear-here : c ≡ Change.Clear → s′ ≡ appended s (clears p) → Appended s (messageOf c p v) s′
+    unfolding messageOf sizeOf
+    clear-here e q =
+        subst (λ x. Appended s (messageOf x p v) s′) (sym e)
+        (code.clear-appended s s′ (sound-but-live s ok) p (subst (λ x. roomAtRoot s (sizeOf x (length p) (length v)) ≡ true) e room) (message-sound Change.Clear p v formed fits) q)
+
+  module _ (c : Change) (i : ℕ) (f : Free s i) where
+    pub put-above : c ≡ Change.Put → s′ ≡ rootRaised s i (puts p v) → Appended s (messageOf c p v) s′
+    unfolding messageOf
+    put-above e q =
+        let z = size-small Change.Put p v formed fits in
+        subst (λ x. Appended s (messageOf x p v) s′) (sym e)
+        (code.put-raised s s′ (sound-but-live s ok) i (f .low) (f .high) (f .unused) (f .seven) p v (omega (arith, z .1, z .2)) (message-sound Change.Put p v formed fits) q)
+
+    pub drop-above : c ≡ Change.Drop → s′ ≡ rootRaised s i (drops p) → Appended s (messageOf c p v) s′
+    unfolding messageOf
+    drop-above e q =
+        let z = size-small Change.Drop p v formed fits in
+        subst (λ x. Appended s (messageOf x p v) s′) (sym e)
+        (code.drop-raised s s′ (sound-but-live s ok) i (f .low) (f .high) (f .unused) (f .seven) p (omega (arith, z .1)) (message-sound Change.Drop p v formed fits) q)
+
+    pub clear-above : c ≡ Change.Clear → s′ ≡ rootRaised s i (clears p) → Appended s (messageOf c p v) s′
+    unfolding messageOf
+    clear-above e q =
+        let z = size-small Change.Clear p v formed fits in
+        subst (λ x. Appended s (messageOf x p v) s′) (sym e)
+        (code.clear-raised s s′ (sound-but-live s ok) i (f .low) (f .high) (f .unused) (f .seven) p (omega (arith, z .1)) (message-sound Change.Clear p v formed fits) q)
+
+-- what an arm of append asks of the room, by the change
+pub room-put : (s : List ℕ) (c : Change) (p v : ℕ) → roomAtRoot s (sizeOf c p v) ≡ true → c ≡ Change.Put → roomAtRoot s (6 + p + v) ≡ true
+unfolding sizeOf
+room-put s c p v room e = subst (λ x. roomAtRoot s (sizeOf x p v) ≡ true) e room
+
+pub room-drop : (s : List ℕ) (c : Change) (p v : ℕ) → roomAtRoot s (sizeOf c p v) ≡ true → c ≡ Change.Drop → roomAtRoot s (4 + p) ≡ true
+unfolding sizeOf
+room-drop s c p v room e = subst (λ x. roomAtRoot s (sizeOf x p v) ≡ true) e room
+
+pub room-clear : (s : List ℕ) (c : Change) (p v : ℕ) → roomAtRoot s (sizeOf c p v) ≡ true → c ≡ Change.Clear → roomAtRoot s (4 + p) ≡ true
+unfolding sizeOf
+room-clear s c p v room e = subst (λ x. roomAtRoot s (sizeOf x p v) ≡ true) e room
+
+pub size-put : (c : Change) (p v : ℕ) → c ≡ Change.Put → 6 + p + v ≡ sizeOf c p v
+unfolding sizeOf
+size-put c p v e = rw e
+
+pub size-drop : (c : Change) (p v : ℕ) → c ≡ Change.Drop → 4 + p ≡ sizeOf c p v
+unfolding sizeOf
+size-drop c p v e = rw e
+
+pub size-clear : (c : Change) (p v : ℕ) → c ≡ Change.Clear → 4 + p ≡ sizeOf c p v
+unfolding sizeOf
+size-clear c p v e = rw e
+
+-- the spot that add matches on
+pub spot-root : (s : List ℕ) (size : ℕ) (r : Spot) → SpotFits s size r → r ≡ Spot.AtRoot → roomAtRoot s size ≡ true
+unfolding SpotFits
+spot-root s size r f e = subst (SpotFits s size) e f
+
+pub spot-above : (s : List ℕ) (size : ℕ) (r : Spot) (i : ℕ) → SpotFits s size r → r ≡ Spot.Above i → Free s i
+unfolding SpotFits
+spot-above s size r i f e = subst (SpotFits s size) e f
+
+-- a whole change
+pub record Edited (s s′ w w′ : List ℕ) (m : Message) : Type 0 where
+  pub is-sound : sound s′ ≡ true
+  pub table : tableOf s′ ≡ apply [] m (tableOf s)
+  pub size : length s′ ≡ length s
+  pub work : w′ ≡ cleared (nodesOf (length s)) w
+
+module _ (s s₁ s₂ s₃ w w₁ w₃ p v : List ℕ) (c : Change) (size : ℕ) (spot : Spot) (whole : wholeNodes (length s) ≡ true) (ok : sound s ≡ true)
+  (long : workPerNode * nodesOf (length s) ≤ length w) (allowed : Allowed c p v (tableOf s) (nodesOf (length s)))
+  (roomy : Roomy s s₁ w w₁ size spot) (appended : Appended s₁ (messageOf c p v) s₂) where
+  same-nodes : nodesOf (length s₂) ≡ nodesOf (length s)
+  same-nodes = ap nodesOf (appended .size ∙ roomy .length-same)
+
+  new-table : tableOf s₂ ≡ apply [] (messageOf c p v) (tableOf s)
+  new-table = appended .table ∙ ap (apply [] (messageOf c p v)) (roomy .table)
+
+  pub few-rows : length (tableOf s₂) ≤ nodesOf (length s₂)
+  few-rows =
+      let n : length (apply [] (messageOf c p v) (tableOf s)) ≤ nodesOf (length s) = few-after c p v (tableOf s) (nodesOf (length s)) (table-rises s ok) (table-few s ok) allowed in
+      subst (λ k. length (tableOf s₂) ≤ k) (sym same-nodes) (subst (λ t. length t ≤ nodesOf (length s)) (sym new-table) n)
+
+  pub still-whole : wholeNodes (length s₂) ≡ true
+  still-whole = ap wholeNodes (appended .size ∙ roomy .length-same) ∙ whole
+
+  pub still-long : workPerNode * nodesOf (length s₂) ≤ length w₁
+  still-long = let a = same-nodes in let b = roomy .work-length in subst (λ k. workPerNode * k ≤ length w₁) (sym same-nodes) (subst (λ k. workPerNode * nodesOf (length s) ≤ k) (sym (roomy .work-length)) long)
+
+  pub edited : Finished s₂ s₃ w₁ w₃ → Edited s s₃ w w₃ (messageOf c p v)
+  edited f =
+      record {
+        is-sound = f .is-sound;
+        table = f .table ∙ new-table;
+        size = f .size ∙ appended .size ∙ roomy .length-same;
+        work = f .work ∙ ap (λ n. cleared n w₁) same-nodes ∙ ap (λ l. replicate (workPerNode * nodesOf (length s)) 0 ++ l) (roomy .work-later);
+      }
+
+-- THE CALLS
+-- question 10
+pub place-present : (s p : List ℕ) (r : Found) (v : Place) → sound s ≡ true → Finds s (valueIn s p) r → r ≡ Found.Value v
+    → true ≡ isSome (find p (tableOf s)) || ltb (length (tableOf s)) (nodesOf (length s))
+unfolding isSome foundIn
+place-present s p r v ok f e = let q : find p (tableOf s) ≡ some (part s v) = sym (means-table s ok p) ∙ sym (f .meant) ∙ ap (foundIn s) e in rw q
+
+pub place-left : (s p : List ℕ) (r : Found) (live n : ℕ) → wholeNodes (length s) ≡ true → sound s ≡ true → Finds s (valueIn s p) r → r ≡ Found.Nothing → live ≡ u16 s 10
+    → n ≡ length s / 1024 → ltb live n ≡ isSome (find p (tableOf s)) || ltb (length (tableOf s)) (nodesOf (length s))
+unfolding isSome foundIn nodesOf
+place-left s p r live n whole ok f e l z =
+    let parts : Whole (length s) = whole-parts (length s) whole in
+    let q : find p (tableOf s) ≡ none = sym (means-table s ok p) ∙ sym (f .meant) ∙ ap (foundIn s) e in
+    let right : eqb (headerOf s .live) (length (tableOf s)) ≡ true = and-right (soundButLive s) _ (sym (sound-live s) ∙ ok) in
+    let count : live ≡ length (tableOf s) = told-live s live (omega (arith, parts .filled, parts .enough)) l ∙ eqb-true (headerOf s .live) (length (tableOf s)) right in
+    rw (q, z) (ap (λ k. ltb k (length s / 1024)) count)
+
+module _ (s w : List ℕ) (whole : wholeNodes (length s) ≡ true) (ok : sound s ≡ true) (long : workPerNode * nodesOf (length s) ≤ length w) where
+  number-by : (a : Act) → firstNoOn s (acts a w) ≡ firstNo (actQuestions (nodesOf (length s)) a (tableOf s))
+  unfolding laterNo nodeQuestions questions
+  number-by a = later-number s to-act whole long ok
+
+  module _ (p : List ℕ) (x : Bool) (x-is : x ≡ wellFormed p) where
+    pub put-malformed : (v : List ℕ) → x ≡ false → Meets s (acts (calls.put p v) w) (outcomeAnswer (Outcome.Refused Refusal.Malformed)) s w
+    unfolding actQuestions firstNo refusalNumber
+    put-malformed v f = act-refused s Refusal.Malformed to-act (number-by (calls.put p v) ∙ rw (sym x-is ∙ f) refl)
+
+    pub drop-malformed : x ≡ false → Meets s (acts (calls.drops p) w) (outcomeAnswer (Outcome.Refused Refusal.Malformed)) s w
+    unfolding actQuestions firstNo refusalNumber
+    drop-malformed f = act-refused s Refusal.Malformed to-act (number-by (calls.drops p) ∙ rw (sym x-is ∙ f) refl)
+
+    pub clear-malformed : x ≡ false → Meets s (acts (calls.clear p) w) (outcomeAnswer (Outcome.Refused Refusal.Malformed)) s w
+    unfolding actQuestions firstNo refusalNumber
+    clear-malformed f = act-refused s Refusal.Malformed to-act (number-by (calls.clear p) ∙ rw (sym x-is ∙ f) refl)
+
+    module _ (x-yes : x ≡ true) where
+      pub drop-done : (v s′ w′ : List ℕ) → Edited s s′ w w′ (messageOf Change.Drop p v) → Meets s (acts (calls.drops p) w) (outcomeAnswer Outcome.Done) s′ w′
+      unfolding actQuestions firstNo messageOf apply tableAfter actTable Besides
+      drop-done v s′ w′ e =
+          act-meets s s′ w′ to-act (number-by (calls.drops p) ∙ rw (sym x-is ∙ x-yes) refl) (e .is-sound) (e .table) (e .size) (e .work) tt
+
+      pub clear-done : (v s′ w′ : List ℕ) → Edited s s′ w w′ (messageOf Change.Clear p v) → Meets s (acts (calls.clear p) w) (outcomeAnswer Outcome.Done) s′ w′
+      unfolding actQuestions firstNo messageOf apply tableAfter actTable Besides
+      clear-done v s′ w′ e =
+          act-meets s s′ w′ to-act (number-by (calls.clear p) ∙ rw (sym x-is ∙ x-yes) refl) (e .is-sound) (e .table) (e .size) (e .work) tt
+
+      pub put-long : (v : List ℕ) → 32 < length v → Meets s (acts (calls.put p v) w) (outcomeAnswer (Outcome.Refused Refusal.LongValue)) s w
+      unfolding actQuestions firstNo refusalNumber valueFits valueLimit
+      put-long v h = act-refused s Refusal.LongValue to-act (number-by (calls.put p v) ∙ rw (sym x-is ∙ x-yes, lt-leb (length v) 32 h) refl)
+
+      module _ (v : List ℕ) (short : length v ≤ 32) (y : Bool) (y-is : y ≡ isSome (find p (tableOf s)) || ltb (length (tableOf s)) (nodesOf (length s))) where
+        pub put-full : y ≡ false → Meets s (acts (calls.put p v) w) (outcomeAnswer (Outcome.Refused Refusal.Full)) s w
+        unfolding actQuestions firstNo refusalNumber valueFits valueLimit
+        put-full f = act-refused s Refusal.Full to-act (number-by (calls.put p v) ∙ rw (sym x-is ∙ x-yes, le-leb (length v) 32 short, sym y-is ∙ f) refl)
+
+        pub put-done : (s′ w′ : List ℕ) → y ≡ true → Edited s s′ w w′ (messageOf Change.Put p v) → Meets s (acts (calls.put p v) w) (outcomeAnswer Outcome.Done) s′ w′
+        unfolding actQuestions firstNo messageOf apply tableAfter actTable Besides valueFits valueLimit
+        put-done s′ w′ f e =
+            act-meets s s′ w′ to-act (number-by (calls.put p v) ∙ rw (sym x-is ∙ x-yes, le-leb (length v) 32 short, sym y-is ∙ f) refl) (e .is-sound) (e .table) (e .size) (e .work) tt
+
+        pub put-allowed : y ≡ true → Allowed Change.Put p v (tableOf s) (nodesOf (length s))
+        unfolding valueFits valueLimit
+        put-allowed f = record { formed = sym x-is ∙ x-yes; fits = le-leb (length v) 32 short; place = λ e. sym y-is ∙ f }
+
+      pub drop-allowed : (c : Change) (v : List ℕ) → length v ≤ 32 → (c ≡ Change.Put → ⊥) → Allowed c p v (tableOf s) (nodesOf (length s))
+      unfolding valueFits valueLimit
+      drop-allowed c v short d = record { formed = sym x-is ∙ x-yes; fits = le-leb (length v) 32 short; place = λ e. absurd (d e) }
+
+-- what the code asks between the steps
+pub area-fits : (s s′ w : List ℕ) (live : ℕ) → soundButLive s ≡ true → s′ ≡ withLive s live → workPerNode * nodesOf (length s) ≤ length w → 128 * (length s′ / 1024) ≤ length w
+area-fits s s′ w live e q h = subst (λ k. 128 * (k / 1024) ≤ length w) (sym (ap length q ∙ live-length s live e)) (subst (λ k. k ≤ length w) (sym (area-size (length s))) h)
+
+pub len-kept : (s s′ : List ℕ) (live : ℕ) → soundButLive s ≡ true → s′ ≡ withLive s live → 128 * (length s′ / 1024) ≡ 128 * (length s / 1024)
+len-kept s s′ live e q = ap (λ k. 128 * (k / 1024)) (ap length q ∙ live-length s live e)
+
+pub spot-sized : (s : List ℕ) (size size′ : ℕ) (r : Spot) → SpotFits s size r → size ≡ size′ → SpotFits s size′ r
+spot-sized s size size′ r f e = subst (λ k. SpotFits s k r) e f
+
+pub room-whole : (s s₁ w w₁ : List ℕ) (size : ℕ) (r : Spot) → wholeNodes (length s) ≡ true → Roomy s s₁ w w₁ size r → wholeNodes (length s₁) ≡ true
+room-whole s s₁ w w₁ size r whole room = ap wholeNodes (room .length-same) ∙ whole
+
+pub not-put-drop : Change.Drop ≡ Change.Put → ⊥
+not-put-drop e = false≢true (ap is-put e)
+  where
+    is-put : Change → Bool
+    is-put Change.Put = true
+    is-put Change.Drop = false
+    is-put Change.Clear = false
+
+pub not-put-clear : Change.Clear ≡ Change.Put → ⊥
+not-put-clear e = false≢true (ap is-put e)
+  where
+    is-put : Change → Bool
+    is-put Change.Put = true
+    is-put Change.Drop = false
+    is-put Change.Clear = false

@@ -1,0 +1,4 @@
+pub mod Change
+pub mod Free
+pub mod Room
+pub mod Edited

@@ -1,0 +1,254 @@
+// put, drop and clear: each becomes one message at the root. Where the root has no room, a new root is put above an old one that holds no
+// message; where that cannot be, the store is rebuilt first, and then one of the two always can. The live count is counted anew.
+// Relies on: append (the message), rebuild, live, and the marks of tree_check for a free node.
+use image::Outcome;
+use image::Refusal;
+use ready::Ready;
+use search::Found;
+use tree_check::Checked;
+ghost use mathlib.Core.Path.{_≡_};
+ghost use mathlib.Core.Bool.{true, _||_};
+ghost use Prim.Native.Nat.{_+_, _*_, _<_, _≤_};
+ghost use lib.ListN.{length};
+ghost use lib.Dec.{ltb};
+ghost use Rattle.image.specs.Path.{wellFormed, valueFits};
+ghost use Rattle.image.specs.Table.{find, isSome};
+ghost use Rattle.image.specs.Image.{nodesOf, wholeNodes};
+ghost use Rattle.image.specs.Sound.{sound, tableOf};
+ghost use Rattle.image.specs.Calls.{workPerNode};
+ghost use Rattle.laws.specs.ButLive.{soundButLive};
+ghost use Rattle.edit.specs.Free.{FirstFree};
+ghost use Rattle.image.specs.Calls.{acts, put, drops, clear};
+ghost use Rattle.image.specs.Contract.{Meets};
+ghost use Rattle.image.specs.Answers.{outcomeAnswer};
+ghost use Rattle.append_laws.specs.Append.{roomAtRoot, Appended};
+ghost use Rattle.edit.specs.Change.{messageOf, sizeOf, Allowed};
+ghost use Rattle.edit.specs.Room.{Above, Free, SpotFits, Roomy};
+ghost use Rattle.edit.specs.Edited.{Finished, Edited};
+
+// What is done to a path.
+pub enum Change {
+    Put,
+    Drop,
+    Clear,
+}
+
+// Where a message goes: to the root, or with a new root into this free node.
+pub enum Spot {
+    AtRoot,
+    Above(usize),
+}
+
+// The least number of a node that is not marked, 0 if there is none.
+fn first_free(seen: &[u8], n: usize) -> usize
+    requires { ⌜ n ≤ length (now seen) ⌝ }
+    ensures { λ r. ⌜ FirstFree (now (seen .entry)) n r ⌝ }
+{
+    let mut i = 1;
+    while i < n {
+        if seen[i] == 0 {
+            return i;
+        }
+        i = i + 1;
+    }
+    0
+}
+
+// A free node for a new root above the old one; 0 where the root holds a message, there is no level left, or no node is free.
+fn free_above(store: &[u8]) -> usize
+    requires { ⌜ (wholeNodes (length (now store)) ≡ true) × (sound (now store) ≡ true) ⌝ }
+    ensures { λ r. ⌜ Above (now (store .entry)) r ⌝ }
+{
+    if append::has_messages_at_root(store) {
+        return 0;
+    }
+    let levels = octets::u16_at(store, 8);
+    if 7 < levels {
+        return 0;
+    }
+    let mut seen = [0u8; 1024];
+    let c = tree_check::check_tree(store, &mut seen);
+    let Checked::Sound(_) = c else {
+        return 0;
+    };
+    first_free(&seen, store.len() / 1024)
+}
+
+// Makes room for a message of this size, and tells where.
+fn make_room(store: &mut [u8], work: &mut [u8], size: usize) -> Spot
+    requires { ⌜ (wholeNodes (length (now store)) ≡ true) × (sound (now store) ≡ true) × (workPerNode * nodesOf (length (now store)) ≤ length (now work)) × (size ≤ 1010) ⌝ }
+    ensures { λ r. ⌜ Roomy (now (store .entry)) (now (store .exit)) (now (work .entry)) (now (work .exit)) size r ⌝ }
+{
+    if append::fits_at_root(store, size) {
+        return Spot::AtRoot;
+    }
+    let free = free_above(store);
+    if free != 0 {
+        return Spot::Above(free);
+    }
+    rebuild::rebuild(store, work);
+    if append::fits_at_root(store, size) {
+        return Spot::AtRoot;
+    }
+    Spot::Above(free_above(store))
+}
+
+// How many bytes the entry of a change has.
+fn entry_size(change: Change, path: usize, value: usize) -> usize
+    requires { ⌜ (path ≤ 64) × (value ≤ 32) ⌝ }
+    ensures { λ r. ⌜ r ≡ sizeOf change path value ⌝ }
+{
+    match change {
+        Change::Put => 6 + path + value,
+        Change::Drop => 4 + path,
+        Change::Clear => 4 + path,
+    }
+}
+
+// The change as a message after the root's others.
+fn add_at_root(store: &mut [u8], change: Change, path: &[u8], value: &[u8])
+    requires { ⌜ (wholeNodes (length (now store)) ≡ true) × (sound (now store) ≡ true) × (wellFormed (now path) ≡ true) × (valueFits (now value) ≡ true) × (roomAtRoot (now store) (sizeOf change (length (now path)) (length (now value))) ≡ true) ⌝ }
+    ensures { λ _. ⌜ Appended (now (store .entry)) (messageOf change (now (path .entry)) (now (value .entry))) (now (store .exit)) ⌝ }
+{
+    match change {
+        Change::Put => append::append_put(store, path, value),
+        Change::Drop => append::append_drop(store, path),
+        Change::Clear => append::append_clear(store, path),
+    }
+}
+
+// The change as the one message of a new root, in a free node.
+fn add_above(store: &mut [u8], free: usize, change: Change, path: &[u8], value: &[u8])
+    requires { ⌜ (wholeNodes (length (now store)) ≡ true) × (sound (now store) ≡ true) × (wellFormed (now path) ≡ true) × (valueFits (now value) ≡ true) × Free (now store) free ⌝ }
+    ensures { λ _. ⌜ Appended (now (store .entry)) (messageOf change (now (path .entry)) (now (value .entry))) (now (store .exit)) ⌝ }
+{
+    match change {
+        Change::Put => append::raise_put(store, free, path, value),
+        Change::Drop => append::raise_drop(store, free, path),
+        Change::Clear => append::raise_clear(store, free, path),
+    }
+}
+
+// The change as a message at a spot that has room for it.
+fn add(store: &mut [u8], spot: Spot, change: Change, path: &[u8], value: &[u8])
+    requires { ⌜ (wholeNodes (length (now store)) ≡ true) × (sound (now store) ≡ true) × (wellFormed (now path) ≡ true) × (valueFits (now value) ≡ true) × SpotFits (now store) (sizeOf change (length (now path)) (length (now value))) spot ⌝ }
+    ensures { λ _. ⌜ Appended (now (store .entry)) (messageOf change (now (path .entry)) (now (value .entry))) (now (store .exit)) ⌝ }
+{
+    match spot {
+        Spot::AtRoot => add_at_root(store, change, path, value),
+        Spot::Above(free) => add_above(store, free, change, path, value),
+    }
+}
+
+// The live count made right, and the work area zeroed.
+fn finish(store: &mut [u8], work: &mut [u8])
+    requires { ⌜ (wholeNodes (length (now store)) ≡ true) × (soundButLive (now store) ≡ true) × (length (tableOf (now store)) ≤ nodesOf (length (now store))) × (workPerNode * nodesOf (length (now store)) ≤ length (now work)) ⌝ }
+    ensures { λ _. ⌜ Finished (now (store .entry)) (now (store .exit)) (now (work .entry)) (now (work .exit)) ⌝ }
+{
+    let live = live::live_count(store);
+    append::set_live(store, live);
+    let k = 128 * (store.len() / 1024);
+    build::clear_area(work, k);
+}
+
+// A change that the questions allow.
+fn apply_change(store: &mut [u8], work: &mut [u8], change: Change, path: &[u8], value: &[u8])
+    requires { ⌜ (wholeNodes (length (now store)) ≡ true) × (sound (now store) ≡ true) × (workPerNode * nodesOf (length (now store)) ≤ length (now work)) × Allowed change (now path) (now value) (tableOf (now store)) (nodesOf (length (now store))) ⌝ }
+    ensures { λ _. ⌜ Edited (now (store .entry)) (now (store .exit)) (now (work .entry)) (now (work .exit)) (messageOf change (now (path .entry)) (now (value .entry))) ⌝ }
+{
+    let size = entry_size(change, path.len(), value.len());
+    let spot = make_room(store, work, size);
+    add(store, spot, change, path, value);
+    finish(store, work);
+}
+
+// Question 10: is the path present, or are fewer than n paths?
+fn has_place(store: &[u8], path: &[u8]) -> bool
+    requires { ⌜ (wholeNodes (length (now store)) ≡ true) × (sound (now store) ≡ true) ⌝ }
+    ensures { λ r. ⌜ r ≡ isSome (find (now (path .entry)) (tableOf (now (store .entry)))) || ltb (length (tableOf (now (store .entry)))) (nodesOf (length (now (store .entry)))) ⌝ }
+{
+    let found = lookup::value_of(store, path);
+    let Found::Nothing = found else {
+        return true;
+    };
+    let live = octets::u16_at(store, 10);
+    live < store.len() / 1024
+}
+
+// put, on a store and a work area that are fit.
+fn put_fit(store: &mut [u8], work: &mut [u8], path: &[u8], value: &[u8]) -> Outcome
+    requires { ⌜ (wholeNodes (length (now store)) ≡ true) × (sound (now store) ≡ true) × (workPerNode * nodesOf (length (now store)) ≤ length (now work)) ⌝ }
+    ensures { λ r. ⌜ Meets (now (store .entry)) (acts (put (now (path .entry)) (now (value .entry))) (now (work .entry))) (outcomeAnswer r) (now (store .exit)) (now (work .exit)) ⌝ }
+{
+    if !path::is_path(path) {
+        return Outcome::Refused(Refusal::Malformed);
+    }
+    if 32 < value.len() {
+        return Outcome::Refused(Refusal::LongValue);
+    }
+    if !has_place(store, path) {
+        return Outcome::Refused(Refusal::Full);
+    }
+    apply_change(store, work, Change::Put, path, value);
+    Outcome::Done
+}
+
+// The path has this value.
+pub fn put(store: &mut [u8], work: &mut [u8], path: &[u8], value: &[u8]) -> Outcome
+    ensures { λ r. ⌜ Meets (now (store .entry)) (acts (put (now (path .entry)) (now (value .entry))) (now (work .entry))) (outcomeAnswer r) (now (store .exit)) (now (work .exit)) ⌝ }
+{
+    let mut seen = [0u8; 1024];
+    let asked = ready::ask(store, work, &mut seen);
+    match asked {
+        Ready::Refused(refusal) => Outcome::Refused(refusal),
+        Ready::Fit(_) => put_fit(store, work, path, value),
+    }
+}
+
+// drop, on a store and a work area that are fit.
+fn drop_fit(store: &mut [u8], work: &mut [u8], path: &[u8]) -> Outcome
+    requires { ⌜ (wholeNodes (length (now store)) ≡ true) × (sound (now store) ≡ true) × (workPerNode * nodesOf (length (now store)) ≤ length (now work)) ⌝ }
+    ensures { λ r. ⌜ Meets (now (store .entry)) (acts (drops (now (path .entry))) (now (work .entry))) (outcomeAnswer r) (now (store .exit)) (now (work .exit)) ⌝ }
+{
+    if !path::is_path(path) {
+        return Outcome::Refused(Refusal::Malformed);
+    }
+    apply_change(store, work, Change::Drop, path, &path[0..0]);
+    Outcome::Done
+}
+
+// The path is absent.
+pub fn drop(store: &mut [u8], work: &mut [u8], path: &[u8]) -> Outcome
+    ensures { λ r. ⌜ Meets (now (store .entry)) (acts (drops (now (path .entry))) (now (work .entry))) (outcomeAnswer r) (now (store .exit)) (now (work .exit)) ⌝ }
+{
+    let mut seen = [0u8; 1024];
+    let asked = ready::ask(store, work, &mut seen);
+    match asked {
+        Ready::Refused(refusal) => Outcome::Refused(refusal),
+        Ready::Fit(_) => drop_fit(store, work, path),
+    }
+}
+
+// clear, on a store and a work area that are fit.
+fn clear_fit(store: &mut [u8], work: &mut [u8], path: &[u8]) -> Outcome
+    requires { ⌜ (wholeNodes (length (now store)) ≡ true) × (sound (now store) ≡ true) × (workPerNode * nodesOf (length (now store)) ≤ length (now work)) ⌝ }
+    ensures { λ r. ⌜ Meets (now (store .entry)) (acts (clear (now (path .entry))) (now (work .entry))) (outcomeAnswer r) (now (store .exit)) (now (work .exit)) ⌝ }
+{
+    if !path::is_path(path) {
+        return Outcome::Refused(Refusal::Malformed);
+    }
+    apply_change(store, work, Change::Clear, path, &path[0..0]);
+    Outcome::Done
+}
+
+// Every path below the given one is absent.
+pub fn clear(store: &mut [u8], work: &mut [u8], path: &[u8]) -> Outcome
+    ensures { λ r. ⌜ Meets (now (store .entry)) (acts (clear (now (path .entry))) (now (work .entry))) (outcomeAnswer r) (now (store .exit)) (now (work .exit)) ⌝ }
+{
+    let mut seen = [0u8; 1024];
+    let asked = ready::ask(store, work, &mut seen);
+    match asked {
+        Ready::Refused(refusal) => Outcome::Refused(refusal),
+        Ready::Fit(_) => clear_fit(store, work, path),
+    }
+}

@@ -1,0 +1,13 @@
+-- `listing::start` meets its contract: a length of 0 is of the empty path.
+use mathlib.Core.Path.{refl}
+use Rattle.image.specs.Path.{pathLimit}
+use Rattle.listing.specs.Place.{lastPath}
+use Rattle.listing.proofs.start.Statement.{statement}
+use Rattle.listing.proofs.start.Tie as tie
+
+returns : tie.Need-returns
+unfolding lastPath pathLimit
+returns c = refl
+
+pub start-spec : {M : Type 1} → statement M
+start-spec = tie.close (tie.spec returns)

@@ -1,0 +1,5 @@
+pub mod Place
+pub mod Moves
+pub mod Callers
+pub mod Listed
+pub mod ListedLaws

@@ -1,0 +1,212 @@
+-- A listing that steps until 8 has given every path below, each once, rising: the table's rows below the path, in the table's order.
+-- Relies on: the table of a sound image rises; the questions of a step.
+use Prim.Native.Nat.{ℕ}
+use mathlib.Core.Path.{_≡_, refl, sym, ap, ap₂, _∙_}
+use mathlib.Core.List.{List, [], _∷_, _++_, append-nil}
+use mathlib.Core.Bool.{Bool, true, false, false≢true}
+use mathlib.Core.Option.{Option, none, some}
+use native.Mathlib.Omega.{arith}
+use Rattle.image.specs.Bytes.{before, begins}
+use Rattle.image.specs.Path.{wellFormed, readsOn, pathLimit, below as isBelow}
+use Rattle.image.specs.Table.{Row, isSome, rowsBelow, rowsAfter, firstKey, leastAfter, leads, rising}
+use Rattle.image.specs.Image.{treeOf}
+use Rattle.image.specs.Sound.{sound, tableOf, lowest, highest}
+use Rattle.image.specs.Calls.{ask, firstNo}
+use Rattle.octets.specs.Order.{and-left, and-right, before-irrefl, before-trans, before-asym}
+use Rattle.laws.specs.RowsRising.{rows-rise}
+use Rattle.lookup.specs.Root.{starts}
+use Rattle.listing.specs.declared.Listing.{Listing}
+use Rattle.listing.specs.Place.{lastPath, stepNo, pathAt, Steps}
+use Rattle.listing.specs.Callers.{step-asks}
+use Rattle.listing.specs.Listed.{Gives, stop, step, pathsOf}
+
+table-rises : (s : List ℕ) → sound s ≡ true → rising (tableOf s) ≡ true
+unfolding tableOf
+table-rises s e = rows-rise (treeOf s) lowest highest (starts s e .tree)
+
+-- what comes before the first row of a rising table comes before the second
+leads-on : (m : List ℕ) (r : Row) (t : List Row) → before m (r .key) ≡ true → leads (r .key) t ≡ true → leads m t ≡ true
+unfolding leads
+leads-on m r [] h l = refl
+leads-on m r (x ∷ t) h l = before-trans m (r .key) (x .key) h l
+
+first-is : (k : List ℕ) (r : Row) (t : List Row) → firstKey (r ∷ t) ≡ some k → r .key ≡ k
+unfolding firstKey
+first-is k r t h = cc
+
+none-some : {A : Type 0} (k : List ℕ) → firstKey [] ≡ some k → A
+unfolding firstKey
+none-some k h = let o : _≡_ {A = ℕ} 0 1 = cc in absurd (omega arith)
+
+paths-cons : (r : Row) (t : List Row) → pathsOf (r ∷ t) ≡ r .key ∷ pathsOf t
+unfolding pathsOf
+paths-cons r t = refl
+
+module _ (p : List ℕ) where
+  rows-none : (q : List ℕ) → rowsAfter q (rowsBelow p []) ≡ []
+  unfolding rowsBelow rowsAfter
+  rows-none q = refl
+
+  -- the rows below p and greater than q, as the first row is one of them, is not below p, or is not greater than q
+  rows-yes : (q : List ℕ) (r : Row) (t : List Row) → begins p (r .key) ≡ true → before q (r .key) ≡ true
+      → rowsAfter q (rowsBelow p (r ∷ t)) ≡ r ∷ rowsAfter q (rowsBelow p t)
+  unfolding rowsAfter rowsBelow isBelow
+  rows-yes q r t a b = rw (a, b)
+
+  rows-far : (q : List ℕ) (r : Row) (t : List Row) → begins p (r .key) ≡ false → rowsAfter q (rowsBelow p (r ∷ t)) ≡ rowsAfter q (rowsBelow p t)
+  unfolding rowsAfter rowsBelow isBelow
+  rows-far q r t a = rw a
+
+  rows-early : (q : List ℕ) (r : Row) (t : List Row) → before q (r .key) ≡ false → rowsAfter q (rowsBelow p (r ∷ t)) ≡ rowsAfter q (rowsBelow p t)
+  unfolding rowsAfter rowsBelow isBelow
+  rows-early q r t b = go (begins p (r .key)) refl
+    where
+      go : (x : Bool) → begins p (r .key) ≡ x → rowsAfter q (rowsBelow p (r ∷ t)) ≡ rowsAfter q (rowsBelow p t)
+      go true a = rw (a, b)
+      go false a = rw a
+
+  below-yes : (r : Row) (t : List Row) → begins p (r .key) ≡ true → rowsBelow p (r ∷ t) ≡ r ∷ rowsBelow p t
+  unfolding rowsBelow isBelow
+  below-yes r t a = rw a
+
+  below-no : (r : Row) (t : List Row) → begins p (r .key) ≡ false → rowsBelow p (r ∷ t) ≡ rowsBelow p t
+  unfolding rowsBelow isBelow
+  below-no r t a = rw a
+
+  -- in a rising table whose first row is greater than q, every row is
+  after-all : (q : List ℕ) (t : List Row) → leads q t ≡ true → rising t ≡ true → rowsAfter q (rowsBelow p t) ≡ rowsBelow p t
+  unfolding leads rising
+  after-all q [] l e = unfold rowsBelow rowsAfter in refl
+  after-all q (r ∷ t) l e = go (begins p (r .key)) refl (after-all q t (leads-on q r t l (and-left _ _ e)) (and-right (leads (r .key) t) _ e))
+    where
+      go : (x : Bool) → begins p (r .key) ≡ x → rowsAfter q (rowsBelow p t) ≡ rowsBelow p t → rowsAfter q (rowsBelow p (r ∷ t)) ≡ rowsBelow p (r ∷ t)
+      go true a ih = rows-yes q r t a l ∙ ap (λ (u : List Row). r ∷ u) ih ∙ sym (below-yes r t a)
+      go false a ih = rows-far q r t a ∙ ih ∙ sym (below-no r t a)
+
+  -- the least of a rising table comes after whatever comes before the first row
+  least-later : (m q k : List ℕ) (t : List Row) → leads m t ≡ true → rising t ≡ true → firstKey (rowsAfter q (rowsBelow p t)) ≡ some k → before m k ≡ true
+  unfolding leads rising
+  least-later m q k [] l e h = none-some k (ap firstKey (sym (rows-none q)) ∙ h)
+  least-later m q k (r ∷ t) l e h =
+      go (begins p (r .key)) refl (before q (r .key)) refl (λ g. least-later m q k t (leads-on m r t l (and-left _ _ e)) (and-right (leads (r .key) t) _ e) g)
+    where
+      go : (x : Bool) → begins p (r .key) ≡ x → (y : Bool) → before q (r .key) ≡ y
+          → (firstKey (rowsAfter q (rowsBelow p t)) ≡ some k → before m k ≡ true) → before m k ≡ true
+      go true a true b ih = sym (ap (before m) (first-is k r (rowsAfter q (rowsBelow p t)) (sym (ap firstKey (rows-yes q r t a b)) ∙ h))) ∙ l
+      go true a false b ih = ih (sym (ap firstKey (rows-early q r t b)) ∙ h)
+      go false a y b ih = ih (sym (ap firstKey (rows-far q r t a)) ∙ h)
+
+  -- The rows after q are the least of them and the rows after that one.
+  least-then : (q k : List ℕ) (t : List Row) → rising t ≡ true → firstKey (rowsAfter q (rowsBelow p t)) ≡ some k
+      → pathsOf (rowsAfter q (rowsBelow p t)) ≡ k ∷ pathsOf (rowsAfter k (rowsBelow p t))
+  unfolding rising
+  least-then q k [] e h = none-some k (ap firstKey (sym (rows-none q)) ∙ h)
+  least-then q k (r ∷ t) e h =
+      go (begins p (r .key)) refl (before q (r .key)) refl (λ g. least-then q k t (and-right (leads (r .key) t) _ e) g)
+    where
+      lead : leads (r .key) t ≡ true
+      lead = and-left _ _ e
+
+      later : rising t ≡ true
+      later = and-right (leads (r .key) t) _ e
+
+      go : (x : Bool) → begins p (r .key) ≡ x → (y : Bool) → before q (r .key) ≡ y
+          → (firstKey (rowsAfter q (rowsBelow p t)) ≡ some k → pathsOf (rowsAfter q (rowsBelow p t)) ≡ k ∷ pathsOf (rowsAfter k (rowsBelow p t)))
+          → pathsOf (rowsAfter q (rowsBelow p (r ∷ t))) ≡ k ∷ pathsOf (rowsAfter k (rowsBelow p (r ∷ t)))
+      go true a true b ih =
+          let z : r .key ≡ k = first-is k r (rowsAfter q (rowsBelow p t)) (sym (ap firstKey (rows-yes q r t a b)) ∙ h) in
+          let low : before k (r .key) ≡ false = ap (before k) z ∙ before-irrefl k in
+          let all-q : rowsAfter q (rowsBelow p t) ≡ rowsBelow p t = after-all q t (leads-on q r t b lead) later in
+          let all-k : rowsAfter k (rowsBelow p t) ≡ rowsBelow p t = after-all k t (sym (ap (λ (m : List ℕ). leads m t) z) ∙ lead) later in
+          ap pathsOf (rows-yes q r t a b) ∙ paths-cons r (rowsAfter q (rowsBelow p t))
+          ∙ ap₂ (λ (m : List ℕ) (u : List Row). m ∷ pathsOf u) z (all-q ∙ sym all-k ∙ sym (rows-early k r t low))
+      go true a false b ih = onward (sym (ap firstKey (rows-early q r t b)) ∙ h) (rows-early q r t b) ih
+        where
+          onward : firstKey (rowsAfter q (rowsBelow p t)) ≡ some k → rowsAfter q (rowsBelow p (r ∷ t)) ≡ rowsAfter q (rowsBelow p t)
+              → (firstKey (rowsAfter q (rowsBelow p t)) ≡ some k → pathsOf (rowsAfter q (rowsBelow p t)) ≡ k ∷ pathsOf (rowsAfter k (rowsBelow p t)))
+              → pathsOf (rowsAfter q (rowsBelow p (r ∷ t))) ≡ k ∷ pathsOf (rowsAfter k (rowsBelow p (r ∷ t)))
+          onward g f ih′ =
+              let low : before k (r .key) ≡ false = before-asym (r .key) k (least-later (r .key) q k t lead later g) in
+              ap pathsOf f ∙ ih′ g ∙ ap (λ (u : List Row). k ∷ pathsOf u) (sym (rows-early k r t low))
+      go false a y b ih =
+          ap pathsOf (rows-far q r t a) ∙ ih (sym (ap firstKey (rows-far q r t a)) ∙ h) ∙ ap (λ (u : List Row). k ∷ pathsOf u) (sym (rows-far k r t a))
+
+-- below a path that is not empty, every row is greater than the empty one
+from-start : (b : ℕ) (l : List ℕ) (t : List Row) → rowsAfter [] (rowsBelow (b ∷ l) t) ≡ rowsBelow (b ∷ l) t
+from-start b l [] = unfold rowsBelow rowsAfter in refl
+from-start b l (r ∷ t) = go (begins (b ∷ l) (r .key)) refl (from-start b l t)
+  where
+    longer : (k : List ℕ) → begins (b ∷ l) k ≡ true → before [] k ≡ true
+    longer [] h = absurd (false≢true (unfold begins in h))
+    longer (x ∷ k) h = unfold before in refl
+
+    go : (x : Bool) → begins (b ∷ l) (r .key) ≡ x → rowsAfter [] (rowsBelow (b ∷ l) t) ≡ rowsBelow (b ∷ l) t
+        → rowsAfter [] (rowsBelow (b ∷ l) (r ∷ t)) ≡ rowsBelow (b ∷ l) (r ∷ t)
+    go true a ih =
+        rows-yes (b ∷ l) [] r t a (longer (r .key) a) ∙ ap (λ (u : List Row). r ∷ u) ih ∙ sym (below-yes (b ∷ l) r t a)
+    go false a ih = rows-far (b ∷ l) [] r t a ∙ ih ∙ sym (below-no (b ∷ l) r t a)
+
+-- a step that is refused 8: the questions before it were a yes, and there is no path
+record Ends (s below : List ℕ) (p : Listing) : Type 0 where
+  is-sound : sound s ≡ true
+  formed : wellFormed below ≡ true
+  nothing : leastAfter below (lastPath p) (tableOf s) ≡ none
+
+eight : (a b c d : Bool) → firstNo (ask 1 a ∷ ask 2 b ∷ ask 3 c ∷ ask 8 d ∷ []) ≡ 8 → (b ≡ true) × ((c ≡ true) × (d ≡ false))
+unfolding firstNo
+eight true true true false h = (refl, (refl, refl))
+eight true true true true h = absurd (omega arith)
+eight true true false d h = absurd (omega arith)
+eight true false c d h = absurd (omega arith)
+eight false b c d h = absurd (omega arith)
+
+is-none : (o : Option (List ℕ)) → isSome o ≡ false → o ≡ none
+unfolding isSome
+is-none none h = refl
+is-none (some v) h = absurd (false≢true (sym h))
+
+ended : (s below : List ℕ) (p : Listing) → stepNo s below p ≡ 8 → Ends s below p
+ended s below p h =
+    let w = eight _ _ _ _ (sym (step-asks s below p) ∙ h) in
+    record { is-sound = w .0; formed = and-left (wellFormed below) _ (w .1 .0); nothing = is-none _ (w .1 .1) }
+
+formed-some : {A : Type 0} → wellFormed [] ≡ true → A
+unfolding wellFormed readsOn pathLimit
+formed-some h = absurd (false≢true h)
+
+no-paths : (t : List Row) → firstKey t ≡ none → pathsOf t ≡ []
+unfolding firstKey pathsOf
+no-paths [] h = refl
+no-paths (r ∷ t) h = let o : _≡_ {A = ℕ} 0 1 = cc in absurd (omega arith)
+
+-- what an accepted step moves on to
+step-found : (s below : List ℕ) (p p′ : Listing) → Steps s below p 0 p′ → firstKey (rowsAfter (lastPath p) (rowsBelow below (tableOf s))) ≡ some (lastPath p′)
+unfolding leastAfter pathAt
+step-found s below p p′ m = sym (m .path ∙ ap (λ (k : ℕ). pathAt k below (lastPath p) (tableOf s)) (sym (m .answer)))
+
+module _ (s below : List ℕ) where
+  -- The paths after the first place are those given, and then those after the last place: none is left out, and none is given twice.
+  pub given-then : {p p′ : Listing} {ks : List (List ℕ)} → sound s ≡ true → Gives s below p ks p′
+      → pathsOf (rowsAfter (lastPath p) (rowsBelow below (tableOf s))) ≡ ks ++ pathsOf (rowsAfter (lastPath p′) (rowsBelow below (tableOf s)))
+  given-then ok stop = refl
+  given-then {p} ok (step {p′ = m} f g) =
+      least-then below (lastPath p) (lastPath m) (tableOf s) (table-rises s ok) (step-found s below p m f)
+      ∙ ap (λ (l : List (List ℕ)). lastPath m ∷ l) (given-then ok g)
+
+  -- a listing that goes on until it is refused 8 has given all paths below that are greater than its first place
+  pub rest-given : {p p′ : Listing} {ks : List (List ℕ)} → Gives s below p ks p′ → stepNo s below p′ ≡ 8
+      → ks ≡ pathsOf (rowsAfter (lastPath p) (rowsBelow below (tableOf s)))
+  unfolding leastAfter
+  rest-given {p} {p′} {ks} g h =
+      let e : Ends s below p′ = ended s below p′ h in
+      sym (given-then (e .is-sound) g ∙ ap (λ (l : List (List ℕ)). ks ++ l) (no-paths _ (e .nothing)) ∙ append-nil ks)
+
+  -- and one that began at the start has given all paths below
+  pub all-given : {p p′ : Listing} {ks : List (List ℕ)} → lastPath p ≡ [] → Gives s below p ks p′ → stepNo s below p′ ≡ 8
+      → ks ≡ pathsOf (rowsBelow below (tableOf s))
+  all-given {p} {p′} begun g h =
+      rest-given g h ∙ ap (λ (q : List ℕ). pathsOf (rowsAfter q (rowsBelow below (tableOf s)))) begun ∙ ap pathsOf (all-rows below (ended s below p′ h .formed))
+    where
+      all-rows : (l : List ℕ) → wellFormed l ≡ true → rowsAfter [] (rowsBelow l (tableOf s)) ≡ rowsBelow l (tableOf s)
+      all-rows [] f = formed-some f
+      all-rows (b ∷ l) f = from-start b l (tableOf s)

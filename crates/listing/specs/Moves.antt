@@ -1,0 +1,158 @@
+-- What an answer of next says of a step: an accepted one moves the place on, a refused one leaves it. One law for each.
+-- Relies on: query's list of next's questions, seek's law of the path that next finds.
+use Prim.Native.Nat.{ℕ, zero, suc, _-_, _≤_, _<_}
+use mathlib.Core.Path.{_≡_, refl, sym, ap, subst, _∙_}
+use mathlib.Core.List.{List, [], _∷_, _++_}
+use mathlib.Core.Bool.{Bool, true, false, false≢true}
+use mathlib.Core.Option.{Option, none, some}
+use native.Mathlib.Omega.{arith}
+use lib.ListN.{length, take, drop}
+use lib.Seq.{take-at}
+use borrow.Author.Tests.{le-leb, lt-leb}
+use Rattle.image.specs.Bytes.{before}
+use Rattle.image.specs.Path.{pathLimit}
+use Rattle.image.specs.Table.{Row, isSome, leastAfter}
+use Rattle.image.specs.Sound.{tableOf}
+use Rattle.image.specs.Calls.{asks, Query, next, Answer, filled, numberOf, ask, firstNo, foundBy, fill, accepted, refused, answerAt}
+use Rattle.image.specs.Contract.{firstNoOn, Meets}
+use Rattle.image.specs.Answers.{refusalNumber, outcomeNumber, foundAnswer}
+use Rattle.image.specs.declared.Refusal.{Refusal}
+use Rattle.image.specs.declared.Outcome.{Outcome}
+use Rattle.image.specs.declared.Found.{Found}
+use Rattle.query.specs.Asked.{number-is}
+use Rattle.seek.specs.Present.{Next, next-found}
+use Rattle.listing.specs.declared.Listing.{Listing}
+use Rattle.listing.specs.Place.{lastPath, blank, stepNo, pathAt, Steps}
+
+-- the path at a place, by its length
+pub last-fits : (p : Listing) → p .len ≤ 64 → lastPath p ≡ take (p .len) (p .last)
+unfolding lastPath pathLimit
+last-fits p h = rw (le-leb (p .len) 64 h)
+
+pub last-over : (p : Listing) → 64 < p .len → lastPath p ≡ 0 ∷ []
+unfolding lastPath pathLimit
+last-over p h = rw (lt-leb (p .len) 64 h)
+
+-- what next answers to the bytes that the code hands it is what it answers to the place's path
+module _ (s below : List ℕ) (p : Listing) (buffer : List ℕ) (a : Answer) where
+  pub after-over : 64 < p .len → Meets s (asks (next below (0 ∷ [])) buffer) a s [] → Meets s (asks (next below (lastPath p)) buffer) a s []
+  after-over h m = subst (λ (q : List ℕ). Meets s (asks (next below q) buffer) a s []) (sym (last-over p h)) m
+
+  pub after-fits : p .len ≤ 64 → Meets s (asks (next below (take (p .len - 0) (drop 0 (p .last)))) buffer) a s []
+      → Meets s (asks (next below (lastPath p)) buffer) a s []
+  after-fits h m =
+      let z : p .len - 0 ≡ p .len = omega arith in
+      subst (λ (q : List ℕ). Meets s (asks (next below q) buffer) a s []) (ap (λ (k : ℕ). take k (p .last)) z ∙ sym (last-fits p h)) m
+
+-- a query that is answered 0 finds something
+last-yes : (a b c d e : Bool) → firstNo (ask 1 a ∷ ask 2 b ∷ ask 3 c ∷ ask 5 d ∷ ask 8 e ∷ []) ≡ 0 → e ≡ true
+unfolding firstNo
+last-yes a b c d true h = refl
+last-yes true true true true false h = absurd (omega arith)
+last-yes true true true false false h = absurd (omega arith)
+last-yes true true false d false h = absurd (omega arith)
+last-yes true false c d false h = absurd (omega arith)
+last-yes false b c d false h = absurd (omega arith)
+
+finds : (s : List ℕ) (q : Query) (buffer : List ℕ) → firstNoOn s (asks q buffer) ≡ 0 → isSome (foundBy q (tableOf s)) ≡ true
+finds s q buffer h = last-yes _ _ _ _ _ (sym (number-is s q buffer) ∙ h)
+
+-- the number of a refusal is not 0
+refusal-some : (r : Refusal) → refusalNumber r ≡ 0 → ⊥
+unfolding refusalNumber
+refusal-some Refusal.Length h = omega arith
+refusal-some Refusal.Unsound h = omega arith
+refusal-some Refusal.Malformed h = omega arith
+refusal-some Refusal.LongValue h = omega arith
+refusal-some Refusal.ShortBuffer h = omega arith
+refusal-some Refusal.NotInterior h = omega arith
+refusal-some Refusal.Nested h = omega arith
+refusal-some Refusal.Absent h = omega arith
+refusal-some Refusal.BecomesMalformed h = omega arith
+refusal-some Refusal.Full h = omega arith
+
+-- the number of an answer is the number of the first no
+fill-number : (buffer : List ℕ) (o : Option (List ℕ)) → numberOf (fill buffer o) ≡ 0
+unfolding numberOf fill
+fill-number buffer none = refl
+fill-number buffer (some v) = refl
+
+number-at : (k : ℕ) (q : Query) (buffer : List ℕ) (t : List Row) → numberOf (answerAt k (asks q buffer) t) ≡ k
+unfolding answerAt accepted refused numberOf
+number-at zero q buffer t = fill-number buffer (foundBy q t)
+number-at (suc k) q buffer t = refl
+
+-- what stands at the front of a filled buffer is what was found
+front-is : (buffer : List ℕ) (o : Option (List ℕ)) (n : ℕ) (buffer′ : List ℕ) → isSome o ≡ true → filled 0 n buffer′ ≡ fill buffer o
+    → (o ≡ some (take n buffer′)) × (length (take n buffer′) ≡ n)
+unfolding isSome fill
+front-is buffer none n buffer′ h e = absurd (false≢true h)
+front-is buffer (some v) n buffer′ h e =
+    let size : n ≡ length v = cc in
+    let bytes : buffer′ ≡ v ++ drop (length v) buffer = cc in
+    let front : take n buffer′ ≡ v = ap (take n) bytes ∙ take-at v (drop (length v) buffer) n (sym size) in
+    (ap some (sym front), ap length front ∙ sym size)
+
+-- the number of each of next's answers
+length-number : (n : ℕ) (buffer : List ℕ) → numberOf (foundAnswer (Found.Length n) buffer) ≡ 0
+unfolding foundAnswer numberOf
+length-number n buffer = refl
+
+refused-number : (why : Refusal) (buffer : List ℕ) → numberOf (foundAnswer (Found.Refused why) buffer) ≡ refusalNumber why
+unfolding foundAnswer numberOf
+refused-number why buffer = refl
+
+path-kept : (k : ℕ) (below q : List ℕ) (t : List Row) → (k ≡ 0 → ⊥) → some q ≡ pathAt k below q t
+unfolding pathAt
+path-kept zero below q t h = absurd (h refl)
+path-kept (suc k) below q t h = refl
+
+module _ (s below : List ℕ) (p : Listing) (buffer : List ℕ) (clean : buffer ≡ blank) (r : Found) (buffer′ : List ℕ)
+    (m : Meets s (asks (next below (lastPath p)) buffer) (foundAnswer r buffer′) s []) where
+  no-is : firstNoOn s (asks (next below (lastPath p)) buffer) ≡ stepNo s below p
+  unfolding stepNo
+  no-is = ap (λ (b : List ℕ). firstNoOn s (asks (next below (lastPath p)) b)) clean
+
+  number-told : numberOf (foundAnswer r buffer′) ≡ stepNo s below p
+  number-told = ap numberOf (m .answer) ∙ number-at (firstNoOn s (asks (next below (lastPath p)) buffer)) (next below (lastPath p)) buffer (tableOf s) ∙ no-is
+
+  answer-told : (n : ℕ) → r ≡ Found.Length n → firstNoOn s (asks (next below (lastPath p)) buffer) ≡ 0
+      → filled 0 n buffer′ ≡ fill buffer (leastAfter below (lastPath p) (tableOf s))
+  unfolding foundAnswer answerAt accepted foundBy
+  answer-told n e z =
+      sym (ap (λ (x : Found). foundAnswer x buffer′) e) ∙ m .answer
+      ∙ ap (λ (k : ℕ). answerAt k (asks (next below (lastPath p)) buffer) (tableOf s)) z
+
+  there-is : firstNoOn s (asks (next below (lastPath p)) buffer) ≡ 0 → isSome (leastAfter below (lastPath p) (tableOf s)) ≡ true
+  unfolding foundBy
+  there-is z = finds s (next below (lastPath p)) buffer z
+
+  -- next found a path: the place moves on to it
+  pub moves-on : (n : ℕ) → r ≡ Found.Length n → Steps s below p (outcomeNumber Outcome.Done) (record { last = buffer′; len = n })
+  unfolding outcomeNumber pathAt
+  moves-on n e =
+      let number : 0 ≡ stepNo s below p = sym (length-number n buffer′) ∙ ap (λ (x : Found). numberOf (foundAnswer x buffer′)) (sym e) ∙ number-told in
+      let no-no : firstNoOn s (asks (next below (lastPath p)) buffer) ≡ 0 = no-is ∙ sym number in
+      let front = front-is buffer (leastAfter below (lastPath p) (tableOf s)) n buffer′ (there-is no-no) (answer-told n e no-no) in
+      let found : Next s below (lastPath p) (take n buffer′) = next-found s below (lastPath p) (take n buffer′) (m .leaves no-no) (front .0) in
+      let short : n ≤ 64 = omega (arith, found .short, front .1) in
+      let path : lastPath (record { last = buffer′; len = n }) ≡ take n buffer′ = last-fits (record { last = buffer′; len = n }) short in
+      record {
+        answer = number;
+        path = ap some path ∙ sym (front .0) ∙ ap (λ (k : ℕ). pathAt k below (lastPath p) (tableOf s)) number;
+        rises = λ h. ap (before (lastPath p)) path ∙ found .after;
+        stays = λ k h. absurd (omega (arith, number, h));
+      }
+
+  -- next refused: the place stays
+  pub stays-put : (why : Refusal) → r ≡ Found.Refused why → Steps s below p (outcomeNumber (Outcome.Refused why)) p
+  unfolding outcomeNumber
+  stays-put why e =
+      let number : refusalNumber why ≡ stepNo s below p = sym (refused-number why buffer′) ∙ ap (λ (x : Found). numberOf (foundAnswer x buffer′)) (sym e) ∙ number-told in
+      let some-no : stepNo s below p ≡ 0 → ⊥ = λ h. refusal-some why (number ∙ h) in
+      record {
+        answer = number;
+        path = path-kept (stepNo s below p) below (lastPath p) (tableOf s) some-no;
+        rises = λ h. absurd (some-no h);
+        stays = λ k h. refl;
+      }

@@ -89,7 +89,7 @@ pub path-absent : (s p q : List ℕ) (r : PathBuffer) → bufferIs r ≡ leastAf
 unfolding foundBy
 path-absent s p q r e h = next-none s p q r e h
 
-pub path-there : (s p q : List ℕ) (r : PathBuffer) → bufferIs r ≡ leastAfter p q (tableOf s) → r .len ≤ 64 
+pub path-there : (s p q : List ℕ) (r : PathBuffer) → bufferIs r ≡ leastAfter p q (tableOf s) → r .len ≤ 64
     → foundBy (next p q) (tableOf s) ≡ some (take (r .len - 0) (drop 0 (r .bytes)))
 unfolding foundBy
 path-there s p q r e h =

@@ -43,8 +43,7 @@ header-fits image e =
     let n : ℕ = nodesOf (length image) in
     let x : Header = headerOf image in
     let upper : eqb (x .count) n && leb 1 (x .root) && ltb (x .root) n && leb 1 (x .levels) && leb (x .levels) 8 ≡ true
-    = and-left (eqb (x .count) n && leb 1 (x .root) && ltb (x .root) n && leb 1 (x .levels) && leb (x .levels) 8) (leb (x .live) n) h in
-    (
+    = and-left (eqb (x .count) n && leb 1 (x .root) && ltb (x .root) n && leb 1 (x .levels) && leb (x .levels) 8) (leb (x .live) n) h in (
       leb-true (x .levels) 8 (and-right (eqb (x .count) n && leb 1 (x .root) && ltb (x .root) n && leb 1 (x .levels)) (leb (x .levels) 8) upper),
       leb-true (x .live) n (and-right (eqb (x .count) n && leb 1 (x .root) && ltb (x .root) n && leb 1 (x .levels) && leb (x .levels) 8) (leb (x .live) n) h),
     )

@@ -120,3 +120,16 @@ module _ (s : List ℕ) (q : Query) (buffer : List ℕ) where
               let no : firstNoOn s (asks q buffer) ≡ 0 = number-is s q buffer ∙ rw (sym x-is ∙ x-yes, sym y-is ∙ y-yes, sym z-is ∙ z-yes, le-leb (bufferLimit q) (length buffer) room, e) refl in
               let skip : 0 + length v ≡ length v = omega arith in
               answer-meets s q buffer (filled 0 n buffer′) (rw (no, e, f, g, skip) refl)
+
+-- how many bytes an answer says are at the front of the buffer: never more than a path has, so that the number fits any word
+unfoldable pub foundLength : Found → ℕ
+foundLength (Found.Length n) = n
+foundLength (Found.Refused r) = 0
+
+pub refused-short : (r : Refusal) → foundLength (Found.Refused r) ≤ 64
+unfolding foundLength
+refused-short r = omega arith
+
+pub found-short : (n : ℕ) → n ≤ 64 → foundLength (Found.Length n) ≤ 64
+unfolding foundLength
+found-short n h = h

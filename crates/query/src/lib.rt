@@ -7,18 +7,20 @@ use seek::PathBuffer;
 ghost use mathlib.Core.Path.{_≡_};
 ghost use mathlib.Core.Bool.{true, _&&_, _||_};
 ghost use mathlib.Core.List.{[]};
+ghost use Prim.Native.Nat.{_≤_};
 ghost use lib.ListN.{length};
 ghost use Rattle.image.specs.Calls.{asks, get, next};
 ghost use Rattle.image.specs.Sound.{sound, tableOf};
 ghost use Rattle.image.specs.Contract.{Meets, sameKeys, SameMeets};
 ghost use Rattle.image.specs.Answers.{foundAnswer, samenessNumber, samenessVerdict};
 ghost use Rattle.seek.specs.Buffer.{bufferIs};
-ghost use Rattle.query.specs.Asked.{pathsFit};
+ghost use Rattle.query.specs.Asked.{pathsFit, foundLength};
 ghost use Rattle.query.specs.SamePaths.{sameHeld};
 
 // The value of a path, at the front of the buffer.
 pub fn get(store: &[u8], path: &[u8], buffer: &mut [u8]) -> Found
     ensures { λ r. ⌜ Meets (now (store .entry)) (asks (get (now (path .entry))) (now (buffer .entry))) (foundAnswer r (now (buffer .exit))) (now (store .entry)) [] ⌝ }
+    ensures short { λ r. ⌜ foundLength r ≤ 64 ⌝ }
 {
     if !node::whole_nodes(store.len()) {
         return Found::Refused(Refusal::Length);
@@ -58,6 +60,7 @@ fn paths_fit(path: &[u8], after: &[u8]) -> bool
 // The least path below the first and greater than the second, at the front of the buffer.
 pub fn next(store: &[u8], path: &[u8], after: &[u8], buffer: &mut [u8]) -> Found
     ensures { λ r. ⌜ Meets (now (store .entry)) (asks (next (now (path .entry)) (now (after .entry))) (now (buffer .entry))) (foundAnswer r (now (buffer .exit))) (now (store .entry)) [] ⌝ }
+    ensures short { λ r. ⌜ foundLength r ≤ 64 ⌝ }
 {
     if !node::whole_nodes(store.len()) {
         return Found::Refused(Refusal::Length);

@@ -2,7 +2,7 @@
 use Prim.Native.Nat.{ℕ, zero, suc, _+_, _-_, _*_, _<_, _≤_}
 use mathlib.Core.Path.{_≡_, refl, sym, ap, subst, _∙_}
 use mathlib.Core.List.{List, [], _∷_, _++_}
-use mathlib.Core.Bool.{Bool, true, false, cond}
+use mathlib.Core.Bool.{Bool, true, false, cond, true≢false}
 use mathlib.Core.Option.{Option, none, some}
 use native.Mathlib.Omega.{arith}
 use lib.ListN.{length}
@@ -133,3 +133,55 @@ as-entry s best rest m q r e h = rw e h
 pub silent-fits : (n : ℕ) → HeardFits n Heard.Silent
 unfolding HeardFits
 silent-fits n = tt
+
+-- whether anything is said
+unfoldable pub speaks : Said → Bool
+speaks nothing = false
+speaks (says v) = true
+
+if-said : (b : Bool) (x : Option (List ℕ)) → b ≡ speaks (cond b (says x) nothing)
+unfolding speaks
+if-said true x = refl
+if-said false x = refl
+
+module _ (s rest : List ℕ) (b : Bool) (m : Message) where
+  pub put-speaks : (p v : Place) → m ≡ Message.Put p v → b ≡ same (part s p) rest → b ≡ speaks (saysOf (messageIn s m) rest)
+  unfolding saysOf
+  put-speaks p v q e = rw (q, sym e) (if-said b (some (part s v)))
+
+  pub drop-speaks : (p : Place) → m ≡ Message.Drop p → b ≡ same (part s p) rest → b ≡ speaks (saysOf (messageIn s m) rest)
+  unfolding saysOf
+  drop-speaks p q e = rw (q, sym e) (if-said b none)
+
+  pub clear-speaks : (p : Place) → m ≡ Message.Clear p → b ≡ begins (part s p) rest → b ≡ speaks (saysOf (messageIn s m) rest)
+  unfolding saysOf
+  clear-speaks p q e = rw (q, sym e) (if-said b none)
+
+module _ (s rest : List ℕ) (e : Entry) where
+  pub pair-silent : (p v : Place) → e ≡ Entry.Pair p v → false ≡ speaks (saysE (entryIn s e) rest)
+  unfolding saysE speaks
+  pair-silent p v q = rw q
+
+  pub child-silent : (i : ℕ) (p : Place) → e ≡ Entry.Child i p → false ≡ speaks (saysE (entryIn s e) rest)
+  unfolding saysE speaks
+  child-silent i p q = rw q
+
+  pub message-on : (b : Bool) (m : Message) → e ≡ Entry.Message m → b ≡ speaks (saysOf (messageIn s m) rest) → b ≡ speaks (saysE (entryIn s e) rest)
+  unfolding saysE
+  message-on b m q h = rw q h
+
+quiet : (x : Said) → speaks x ≡ false → x ≡ nothing
+unfolding speaks
+quiet nothing g = refl
+quiet (says v) g = absurd (true≢false g)
+
+-- an entry that does not speak may be passed
+pub silent-step : (s : List ℕ) (best : Heard) (b : Bool) (e : Entry) (es ts : List defined.Entry) (rest : List ℕ) (X : Said) → es ≡ entryIn s e ∷ ts
+    → b ≡ speaks (saysE (entryIn s e) rest) → b ≡ false
+    → newer (heardIn s best) (newestE es rest) ≡ X → newer (heardIn s best) (newestE ts rest) ≡ X
+unfolding newestE
+silent-step s best b e es ts rest X q h f inv =
+    let w : newer (heardIn s best) (newer (saysE (entryIn s e) rest) (newestE ts rest)) ≡ X = rw q at inv in
+    let z : saysE (entryIn s e) rest ≡ nothing = quiet (saysE (entryIn s e) rest) (sym h ∙ f) in
+    let y : newer (saysE (entryIn s e) rest) (newestE ts rest) ≡ newestE ts rest = ap (λ x. newer x (newestE ts rest)) z ∙ newer-nothing (newestE ts rest) in
+    ap (newer (heardIn s best)) (sym y) ∙ w

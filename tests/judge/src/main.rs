@@ -1,7 +1,8 @@
-// Judges the static library by lists of calls: `judge [SEED [CASES]]`. A failure names the seed and the case.
+// Judges the static library: `judge [SEED [CASES]]`. First by lists of calls, then by reading whole images, one round of them for each
+// thousand lists. A failure names the seed and the case.
 #![deny(warnings)]
 
-use judge::Library;
+use judge::{reading, Library};
 use std::process::ExitCode;
 
 const SEED: u64 = 20261115;
@@ -14,14 +15,19 @@ fn main() -> ExitCode {
         .collect();
     let seed = numbers.first().copied().unwrap_or(SEED);
     let cases = numbers.get(1).map_or(CASES, |count| *count as usize);
-    match second::judge::run(&mut Library, seed, cases) {
-        Ok(stats) => {
-            println!("{} calls judged: {:?}", stats.calls, stats.answers);
-            ExitCode::SUCCESS
-        }
+    match judged(seed, cases) {
+        Ok(()) => ExitCode::SUCCESS,
         Err(what) => {
             eprintln!("{what}");
             ExitCode::FAILURE
         }
     }
+}
+
+fn judged(seed: u64, cases: usize) -> Result<(), String> {
+    let lists = second::judge::run(&mut Library, seed, cases)?;
+    println!("{} calls judged: {:?}", lists.calls, lists.answers);
+    let images = reading::run(&mut Library, seed, cases.div_ceil(1000))?;
+    println!("whole images read: {images:?}");
+    Ok(())
 }

@@ -1,0 +1,163 @@
+// The images that are measured, all sound: full stores, settled and with messages waiting in the root, and trees of eight levels.
+
+use second::limits::*;
+use second::path::well_formed;
+use second::rng::Rng;
+use second::sound;
+use second::tree::{Body, Message, Node, Pair, Table, Tree, Visit};
+use second::{meaning, pack, words};
+
+/// A settled store of n nodes that holds n paths: "the store is full".
+pub fn settled(n: usize) -> Vec<u8> {
+    let mut rng = Rng::new(n as u64);
+    let mut table = Table::new();
+    while table.len() < n {
+        table.insert(words::path(&mut rng), words::value(&mut rng));
+    }
+    pack::image(&table, n).expect("n paths fit n nodes")
+}
+
+/// The same tree below a root that has it as its one child and is full of messages: puts and drops of paths that are present.
+pub fn buffered(n: usize) -> Vec<u8> {
+    let image = settled(n);
+    let sound = sound::judge(&image).expect("a packed image is sound");
+    let mut tree = Tree {
+        levels: sound.tree.levels + 1,
+        root: Node::interior(ROOT_LOW, vec![sound.tree.root], Vec::new()),
+    };
+    let numbers: Vec<u16> = (1..=tree.walk().len() as u16).collect();
+    tree.number(&numbers);
+    let paths: Vec<Vec<u8>> = sound.table.into_keys().collect();
+    let mut rng = Rng::new(n as u64 + 1);
+    fill(&mut tree.root, tree.levels, ROOT_HIGH, |i| {
+        let path = rng.pick(&paths).cloned().unwrap_or_default();
+        match i % 2 {
+            0 => Message::Drop { path },
+            _ => Message::Put {
+                path,
+                value: Vec::new(),
+            },
+        }
+    });
+    written(tree, n)
+}
+
+/// Eight levels; on one way down every node has several children and is full of messages.
+pub fn waiting() -> Vec<u8> {
+    Spine {
+        children: [0, 0, 70, 60, 60, 40, 25, 15, 10],
+        full: true,
+    }
+    .image()
+}
+
+/// Eight levels; the nodes on one way down have as many children as 1,024 nodes allow, and the way goes by the last but one of them. A
+/// walk that keeps something for each child it has passed keeps the most here.
+pub fn deepest() -> Vec<u8> {
+    Spine {
+        children: [0, 0, 144, 144, 144, 39, 1, 1, 1],
+        full: false,
+    }
+    .image()
+}
+
+/// A tree with one way down: how many children the node on it has at each level, and whether these nodes are full of messages.
+struct Spine {
+    children: [u8; 9],
+    full: bool,
+}
+
+impl Spine {
+    fn image(&self) -> Vec<u8> {
+        let mut tree = Tree {
+            levels: LEVELS_MOST,
+            root: self.node(LEVELS_MOST, ROOT_LOW, ROOT_HIGH),
+        };
+        let numbers: Vec<u16> = (1..=tree.walk().len() as u16).collect();
+        tree.number(&numbers);
+        written(tree, NODES_MOST)
+    }
+
+    /// A node on the way. The last child's pivot is that of the one before and FF, so that the next node on the way lifts all it can.
+    fn node(&self, level: u16, low: &[u8], high: &[u8]) -> Node {
+        if level == 1 {
+            return leaf(low);
+        }
+        let count = self.children[usize::from(level)];
+        if count == 1 {
+            let child = self.node(level - 1, low, high);
+            return Node::interior(low, vec![child], Vec::new());
+        }
+        let pivot = |i: u8| match i {
+            0 => low.to_vec(),
+            _ => [low, &[if count < 80 { b'0' } else { 0 } + i]].concat(),
+        };
+        let mut children: Vec<Node> = (0..count - 2)
+            .map(|i| chain(level - 1, &pivot(i)))
+            .collect();
+        let (way, past) = (pivot(count - 2), [&pivot(count - 2), &[0xFF][..]].concat());
+        children.push(self.node(level - 1, &way, &past));
+        children.push(chain(level - 1, &past));
+        let mut node = Node::interior(low, children, Vec::new());
+        if self.full {
+            let path = [&way[..], &[0]].concat();
+            fill(&mut node, level, high, |_| Message::Put {
+                path: path.clone(),
+                value: Vec::new(),
+            });
+        }
+        node
+    }
+}
+
+/// A node of one child at each level.
+fn chain(level: u16, low: &[u8]) -> Node {
+    match level {
+        1 => leaf(low),
+        _ => Node::interior(low, vec![chain(level - 1, low)], Vec::new()),
+    }
+}
+
+/// A leaf with the path that its low pivot makes, where that is a path.
+fn leaf(low: &[u8]) -> Node {
+    let pair = Pair {
+        path: [low, &[0]].concat(),
+        value: Vec::new(),
+    };
+    let pairs = if well_formed(&pair.path) {
+        vec![pair]
+    } else {
+        Vec::new()
+    };
+    Node::leaf(low, pairs)
+}
+
+/// Appends messages to an interior node until the next one has no room.
+fn fill(node: &mut Node, level: u16, high: &[u8], mut message: impl FnMut(usize) -> Message) {
+    for i in 0.. {
+        let before = node.clone();
+        let Body::Interior { messages, .. } = &mut node.body else {
+            return;
+        };
+        messages.push(message(i));
+        let visit = Visit {
+            node,
+            level,
+            low: &node.low,
+            high,
+        };
+        let length = visit.entry_bytes().map_or(usize::MAX, |bytes| bytes.len());
+        if length > ENTRY_BYTES_LIMIT {
+            *node = before;
+            return;
+        }
+    }
+}
+
+fn written(tree: Tree, n: usize) -> Vec<u8> {
+    let mut store = vec![0; n * NODE];
+    let live = meaning::table(&tree.root).len() as u16;
+    tree.write(live, &mut store).expect("the tree fits");
+    sound::judge(&store).expect("the image is sound");
+    store
+}

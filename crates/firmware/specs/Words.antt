@@ -1,0 +1,81 @@
+-- An answer as one word of 64 bits: the number in the low 32 bits and what stands beside it in the high 32. One law for each arm of the
+-- code, and one that carries a contract from the enum to the word.
+use Prim.Native.Nat.{ℕ, _≤_, _*_, _/_, _%_}
+use mathlib.Core.Path.{_≡_, refl, sym, ap, ap₂, subst, _∙_}
+use mathlib.Core.List.{List, []}
+use native.Mathlib.Omega.{arith}
+use Rattle.image.specs.Calls.{Call, filled}
+use Rattle.image.specs.Contract.{Meets, SameMeets}
+use Rattle.image.specs.Answers.{refusalNumber, outcomeNumber, foundAnswer, samenessNumber, samenessVerdict}
+use Rattle.image.specs.declared.Refusal.{Refusal}
+use Rattle.image.specs.declared.Outcome.{Outcome}
+use Rattle.image.specs.declared.Found.{Found}
+use Rattle.image.specs.declared.Sameness.{Sameness}
+use Rattle.query.specs.Asked.{foundLength}
+
+-- the number of get's or next's answer; foundLength is what stands beside it
+unfoldable pub foundNumber : Found → ℕ
+foundNumber (Found.Length n) = 0
+foundNumber (Found.Refused r) = refusalNumber r
+
+-- the arms of refusal_number: the refusal is known to be y
+pub numbered : (x y : Refusal) (k : ℕ) → x ≡ y → k ≡ refusalNumber y → k ≡ refusalNumber x
+numbered x y k e f = f ∙ ap refusalNumber (sym e)
+
+-- the arms of outcome_number
+pub done-number : (o : Outcome) → o ≡ Outcome.Done → 0 ≡ outcomeNumber o
+unfolding outcomeNumber
+done-number o e = rw e
+
+pub refused-number : (o : Outcome) (r : Refusal) (k : ℕ) → o ≡ Outcome.Refused r → k ≡ refusalNumber r → k ≡ outcomeNumber o
+unfolding outcomeNumber
+refused-number o r k e f = rw e f
+
+-- the arms of found_word
+pub length-bound : (f : Found) (n : ℕ) → f ≡ Found.Length n → foundLength f ≤ 64 → n ≤ 64
+unfolding foundLength
+length-bound f n e h = rw e at h
+
+pub length-word : (f : Found) (n : ℕ) → f ≡ Found.Length n → (n * 4294967296 % 4294967296 ≡ foundNumber f) × (n * 4294967296 / 4294967296 ≡ foundLength f)
+unfolding foundNumber foundLength
+length-word f n e = rw e (omega arith, omega arith)
+
+pub refused-word : (f : Found) (r : Refusal) (k : ℕ) → f ≡ Found.Refused r → k ≡ refusalNumber r → k ≤ 10
+    → (k % 4294967296 ≡ foundNumber f) × (k / 4294967296 ≡ foundLength f)
+unfolding foundNumber foundLength
+refused-word f r k e g h =
+    let low : k % 4294967296 ≡ k = omega arith in
+    let high : k / 4294967296 ≡ 0 = omega arith in
+    rw e (low ∙ g, high)
+
+-- the arms of sameness_word
+pub same-word : (v : Sameness) → v ≡ Sameness.Same → (4294967296 % 4294967296 ≡ samenessNumber v) × (4294967296 / 4294967296 ≡ samenessVerdict v)
+unfolding samenessNumber samenessVerdict
+same-word v e = rw e (omega arith, omega arith)
+
+pub different-word : (v : Sameness) → v ≡ Sameness.Different → (0 % 4294967296 ≡ samenessNumber v) × (0 / 4294967296 ≡ samenessVerdict v)
+unfolding samenessNumber samenessVerdict
+different-word v e = rw e (omega arith, omega arith)
+
+pub refused-sameness : (v : Sameness) (r : Refusal) (k : ℕ) → v ≡ Sameness.Refused r → k ≡ refusalNumber r → k ≤ 10
+    → (k % 4294967296 ≡ samenessNumber v) × (k / 4294967296 ≡ samenessVerdict v)
+unfolding samenessNumber samenessVerdict
+refused-sameness v r k e g h =
+    let low : k % 4294967296 ≡ k = omega arith in
+    let high : k / 4294967296 ≡ 0 = omega arith in
+    rw e (low ∙ g, high)
+
+-- the contract of a call that answers by such a word
+answer-is : (f : Found) (buffer : List ℕ) → foundAnswer f buffer ≡ filled (foundNumber f) (foundLength f) buffer
+unfolding foundAnswer foundNumber foundLength
+answer-is (Found.Length n) buffer = refl
+answer-is (Found.Refused r) buffer = refl
+
+pub word-meets : (s : List ℕ) (c : Call) (f : Found) (buffer : List ℕ) (w : ℕ) → Meets s c (foundAnswer f buffer) s []
+    → (w % 4294967296 ≡ foundNumber f) × (w / 4294967296 ≡ foundLength f) → Meets s c (filled (w % 4294967296) (w / 4294967296) buffer) s []
+word-meets s c f buffer w m e =
+    subst (λ a. Meets s c a s []) (answer-is f buffer ∙ sym (ap₂ (λ k n. filled k n buffer) (e .0) (e .1))) m
+
+pub same-meets : (s t : List ℕ) (v : Sameness) (w : ℕ) → SameMeets s t (samenessNumber v) (samenessVerdict v)
+    → (w % 4294967296 ≡ samenessNumber v) × (w / 4294967296 ≡ samenessVerdict v) → SameMeets s t (w % 4294967296) (w / 4294967296)
+same-meets s t v w m e = record { answer = e .0 ∙ m .answer; beside = e .1 ∙ m .beside }

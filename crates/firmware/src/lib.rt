@@ -1,0 +1,83 @@
+// The calls for C, whose prototypes stand in include/splicelog.h. Each hands its slices to the call of the same name and turns the answer
+// into numbers. Relies on: make and query for the calls; image for the answers and their numbers.
+use image::Found;
+use image::Outcome;
+use image::Refusal;
+use image::Sameness;
+ghost use Prim.Native.Nat.{_≤_, _/_, _%_};
+ghost use mathlib.Core.Path.{_≡_};
+ghost use mathlib.Core.List.{[]};
+ghost use Rattle.image.specs.Answers.{refusalNumber, outcomeNumber, samenessNumber, samenessVerdict};
+ghost use Rattle.image.specs.Calls.{asks, get, next, filled};
+ghost use Rattle.image.specs.Contract.{Meets, MakeMeets};
+ghost use Rattle.query.specs.Asked.{foundLength};
+ghost use Rattle.firmware.specs.Words.{foundNumber};
+
+fn refusal_number(refusal: Refusal) -> u32
+    ensures { λ r. ⌜ (r ≡ refusalNumber refusal) × (r ≤ 10) ⌝ }
+{
+    match refusal {
+        Refusal::Length => 1,
+        Refusal::Unsound => 2,
+        Refusal::Malformed => 3,
+        Refusal::LongValue => 4,
+        Refusal::ShortBuffer => 5,
+        Refusal::NotInterior => 6,
+        Refusal::Nested => 7,
+        Refusal::Absent => 8,
+        Refusal::BecomesMalformed => 9,
+        Refusal::Full => 10,
+    }
+}
+
+fn outcome_number(outcome: Outcome) -> u32
+    ensures { λ r. ⌜ r ≡ outcomeNumber outcome ⌝ }
+{
+    match outcome {
+        Outcome::Done => 0,
+        Outcome::Refused(refusal) => refusal_number(refusal),
+    }
+}
+
+// The number in the low 32 bits, the length in the high 32.
+fn found_word(found: Found) -> u64
+    requires { ⌜ foundLength found ≤ 64 ⌝ }
+    ensures { λ r. ⌜ (r % 4294967296 ≡ foundNumber found) × (r / 4294967296 ≡ foundLength found) ⌝ }
+{
+    match found {
+        Found::Length(n) => (n as u64) * 4294967296,
+        Found::Refused(refusal) => refusal_number(refusal) as u64,
+    }
+}
+
+// The number in the low 32 bits, 1 or 0 in the high 32.
+fn sameness_word(sameness: Sameness) -> u64
+    ensures { λ r. ⌜ (r % 4294967296 ≡ samenessNumber sameness) × (r / 4294967296 ≡ samenessVerdict sameness) ⌝ }
+{
+    match sameness {
+        Sameness::Same => 4294967296,
+        Sameness::Different => 0,
+        Sameness::Refused(refusal) => refusal_number(refusal) as u64,
+    }
+}
+
+#[no_mangle]
+pub extern "C" fn splicelog_make(store: &mut [u8]) -> u32
+    ensures { λ r. ⌜ MakeMeets (now (store .entry)) r (now (store .exit)) ⌝ }
+{
+    outcome_number(make::make(store))
+}
+
+#[no_mangle]
+pub extern "C" fn splicelog_get(store: &[u8], path: &[u8], buffer: &mut [u8]) -> u64
+    ensures { λ r. ⌜ Meets (now (store .entry)) (asks (get (now (path .entry))) (now (buffer .entry))) (filled (r % 4294967296) (r / 4294967296) (now (buffer .exit))) (now (store .entry)) [] ⌝ }
+{
+    found_word(query::get(store, path, buffer))
+}
+
+#[no_mangle]
+pub extern "C" fn splicelog_next(store: &[u8], path: &[u8], after: &[u8], buffer: &mut [u8]) -> u64
+    ensures { λ r. ⌜ Meets (now (store .entry)) (asks (next (now (path .entry)) (now (after .entry))) (now (buffer .entry))) (filled (r % 4294967296) (r / 4294967296) (now (buffer .exit))) (now (store .entry)) [] ⌝ }
+{
+    found_word(query::next(store, path, after, buffer))
+}

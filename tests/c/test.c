@@ -1,0 +1,186 @@
+/* Calls the store as firmware does, through include/splicelog.h: `test IMAGE TABLE`. It makes stores, causes each refusal that a caller of
+ * make, get and next can cause, and reads IMAGE, whose paths and values TABLE lists (both written by the second program).
+ * Every call is made on arrays of exactly the lengths that it is told, from malloc, so that valgrind sees a read or a write outside.
+ */
+#include "splicelog.h"
+
+#include <stdio.h>
+#include <stdlib.h>
+#include <string.h>
+
+enum { NODE = 1024, NODES = 32, VALUE_MOST = 32, PATH_MOST = 64, LATER = 0xA5 };
+
+typedef struct {
+    uint8_t *at;
+    size_t len;
+} bytes;
+
+static unsigned checks;
+
+#define CHECK(holds)                                                                                                                       \
+    do {                                                                                                                                   \
+        checks++;                                                                                                                          \
+        if (!(holds)) {                                                                                                                    \
+            fprintf(stderr, "%s:%d: not so: %s\n", __FILE__, __LINE__, #holds);                                                            \
+            exit(1);                                                                                                                       \
+        }                                                                                                                                  \
+    } while (0)
+
+/* An array of its own; malloc gives no null pointer for a length of 0. */
+static bytes filled(size_t len, uint8_t byte) {
+    bytes made = {malloc(len ? len : 1), len};
+    if (!made.at)
+        abort();
+    memset(made.at, byte, len);
+    return made;
+}
+
+static bytes copy(const void *from, size_t len) {
+    bytes made = filled(len, 0);
+    memcpy(made.at, from, len);
+    return made;
+}
+
+/* A path from its components with '/' between them. */
+static bytes path(const char *text) {
+    bytes made = copy(text, strlen(text) + 1);
+    for (size_t i = 0; i < made.len; i++)
+        if (made.at[i] == '/')
+            made.at[i] = 0;
+    return made;
+}
+
+static int equal(bytes a, bytes b) { return a.len == b.len && memcmp(a.at, b.at, a.len) == 0; }
+
+/* Makes one get, or one next where `after` is given, and checks the answer, the front of the buffer and that nothing else changed. The
+ * path, `after` and the expected bytes are freed. */
+static void ask(bytes store, bytes of, const bytes *after, size_t room, uint32_t number, bytes found) {
+    bytes before = copy(store.at, store.len), buffer = filled(room, LATER), expected = filled(room, LATER);
+    uint64_t answer = after ? splicelog_next(store.at, store.len, of.at, of.len, after->at, after->len, buffer.at, buffer.len)
+                            : splicelog_get(store.at, store.len, of.at, of.len, buffer.at, buffer.len);
+    CHECK(splicelog_number(answer) == number);
+    CHECK(splicelog_beside(answer) == found.len);
+    memcpy(expected.at, found.at, found.len);
+    CHECK(equal(buffer, expected));
+    CHECK(equal(store, before));
+    free(before.at), free(buffer.at), free(expected.at), free(of.at), free(found.at);
+    if (after)
+        free(after->at);
+}
+
+static void refuse_get(bytes store, bytes of, size_t room, uint32_t number) { ask(store, of, NULL, room, number, filled(0, 0)); }
+
+static void refuse_next(bytes store, bytes of, bytes after, size_t room, uint32_t number) {
+    ask(store, of, &after, room, number, filled(0, 0));
+}
+
+static void test_make(void) {
+    static const size_t wrong[] = {0, 1, NODE, (NODES - 1) * NODE, NODES * NODE - 1, NODES * NODE + 1, 1025 * NODE};
+    for (size_t i = 0; i < sizeof wrong / sizeof *wrong; i++) {
+        bytes store = filled(wrong[i], LATER), before = filled(wrong[i], LATER);
+        CHECK(splicelog_make(store.at, store.len) == 1);
+        CHECK(equal(store, before));
+        refuse_get(store, path("a"), VALUE_MOST, 1);
+        refuse_next(store, path("a"), filled(0, 0), PATH_MOST, 1);
+        free(store.at), free(before.at);
+    }
+    for (size_t n = NODES; n <= 1024; n *= 2) {
+        bytes store = filled(n * NODE, LATER);
+        refuse_get(store, path("a"), VALUE_MOST, 2);
+        CHECK(splicelog_make(store.at, store.len) == 0);
+        refuse_get(store, path("a"), VALUE_MOST, 8);
+        refuse_next(store, path("a"), filled(0, 0), PATH_MOST, 8);
+        free(store.at);
+    }
+}
+
+/* Each rule of a path, and the order of the questions: an unsound store is told before a malformed path, that before a short buffer. */
+static void test_refusals(void) {
+    static const char *const malformed[] = {
+        "", "/", "a/", "/a", "a//b", "a b", "a\x7F", "a\x80", "\xFF", "aaaaaaaaaaaaaaaaa", "1/2/3/4/5/6/7/8/9",
+        "aaaaaaaaaaaaaaaa/aaaaaaaaaaaaaaaa/aaaaaaaaaaaaaaaa/aaaaaaaaaaaaa"};
+    bytes store = filled(NODES * NODE, 0);
+    CHECK(splicelog_make(store.at, store.len) == 0);
+    for (size_t i = 0; i < sizeof malformed / sizeof *malformed; i++) {
+        refuse_get(store, path(malformed[i]), 0, 3);
+        refuse_next(store, path(malformed[i]), filled(0, 0), 0, 3);
+        refuse_next(store, path("a"), path(malformed[i]), 0, 3);
+    }
+    refuse_get(store, filled(0, 0), VALUE_MOST, 3);
+    refuse_get(store, copy("a", 1), VALUE_MOST, 3);
+    refuse_get(store, path("a"), VALUE_MOST - 1, 5);
+    refuse_next(store, path("a"), filled(0, 0), PATH_MOST - 1, 5);
+    refuse_get(store, path("1/2/3/4/5/6/7/8"), VALUE_MOST, 8);
+    refuse_next(store, path("aaaaaaaaaaaaaaaa/b"), path("a"), PATH_MOST + 1, 8);
+    store.at[2] ^= 1;
+    refuse_get(store, path(""), 0, 2);
+    refuse_next(store, path(""), path(""), 0, 2);
+    free(store.at);
+}
+
+static bytes file(const char *name) {
+    bytes read = {NULL, 0};
+    FILE *from = fopen(name, "rb");
+    if (!from || fseek(from, 0, SEEK_END) || ftell(from) < 0) {
+        perror(name);
+        exit(1);
+    }
+    read = filled((size_t)ftell(from), 0);
+    rewind(from);
+    CHECK(fread(read.at, 1, read.len, from) == read.len);
+    fclose(from);
+    return read;
+}
+
+/* A value of the table: two digits for each byte, or "-" for none. */
+static bytes value(const char *digits) {
+    bytes made = filled(*digits == '-' ? 0 : strlen(digits) / 2, 0);
+    for (size_t i = 0; i < made.len; i++) {
+        unsigned byte;
+        CHECK(sscanf(digits + 2 * i, "%2x", &byte) == 1);
+        made.at[i] = (uint8_t)byte;
+    }
+    return made;
+}
+
+/* The path of its first component alone. */
+static bytes first(const char *text) {
+    bytes made = path(text);
+    made.len = strlen((const char *)made.at) + 1;
+    return made;
+}
+
+/* Gets every path of the table, and lists the paths below each first component by next: the table is in the order of next. */
+static void test_image(const char *image, const char *table) {
+    bytes store = file(image);
+    char text[PATH_MOST + 1], digits[2 * VALUE_MOST + 1], last[PATH_MOST + 1] = "";
+    FILE *rows = fopen(table, "r");
+    CHECK(rows != NULL);
+    while (fscanf(rows, "%64s %64s", text, digits) == 2) {
+        bytes of = first(text), of_last = first(last);
+        int goes_on = *last && equal(of, of_last);
+        if (*last && !goes_on)
+            refuse_next(store, first(last), path(last), PATH_MOST, 8);
+        bytes after = goes_on ? path(last) : filled(0, 0);
+        ask(store, of, &after, PATH_MOST, 0, path(text));
+        ask(store, path(text), NULL, VALUE_MOST, 0, value(digits));
+        free(of_last.at);
+        strcpy(last, text);
+    }
+    if (*last)
+        refuse_next(store, first(last), path(last), PATH_MOST, 8);
+    fclose(rows);
+    free(store.at);
+}
+
+int main(int count, char **words) {
+    if (count != 3) {
+        fprintf(stderr, "usage: test IMAGE TABLE\n");
+        return 2;
+    }
+    test_make();
+    test_refusals();
+    test_image(words[1], words[2]);
+    printf("%s: %u checks passed\n", words[1], checks);
+    return 0;
+}

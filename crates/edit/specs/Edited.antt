@@ -169,8 +169,8 @@ pub record Edited (s s′ w w′ : List ℕ) (m : Message) : Type 0 where
   pub work : w′ ≡ cleared (nodesOf (length s)) w
 
 module _ (s s₁ s₂ s₃ w w₁ w₃ p v : List ℕ) (c : Change) (size : ℕ) (spot : Spot) (whole : wholeNodes (length s) ≡ true) (ok : sound s ≡ true)
-  (long : workPerNode * nodesOf (length s) ≤ length w) (allowed : Allowed c p v (tableOf s) (nodesOf (length s)))
-  (roomy : Roomy s s₁ w w₁ size spot) (appended : Appended s₁ (messageOf c p v) s₂) where
+    (long : workPerNode * nodesOf (length s) ≤ length w) (allowed : Allowed c p v (tableOf s) (nodesOf (length s)))
+    (roomy : Roomy s s₁ w w₁ size spot) (appended : Appended s₁ (messageOf c p v) s₂) where
   same-nodes : nodesOf (length s₂) ≡ nodesOf (length s)
   same-nodes = ap nodesOf (appended .size ∙ roomy .length-same)
 

@@ -4,9 +4,9 @@ use Prim.Native.Nat.{ℕ, _≤_, _*_, _/_, _%_}
 use mathlib.Core.Path.{_≡_, refl, sym, ap, ap₂, subst, _∙_}
 use mathlib.Core.List.{List, []}
 use native.Mathlib.Omega.{arith}
-use Rattle.image.specs.Calls.{Call, filled}
+use Rattle.image.specs.Calls.{Call, filled, number}
 use Rattle.image.specs.Contract.{Meets, SameMeets}
-use Rattle.image.specs.Answers.{refusalNumber, outcomeNumber, foundAnswer, samenessNumber, samenessVerdict}
+use Rattle.image.specs.Answers.{refusalNumber, outcomeNumber, outcomeAnswer, foundAnswer, samenessNumber, samenessVerdict}
 use Rattle.image.specs.declared.Refusal.{Refusal}
 use Rattle.image.specs.declared.Outcome.{Outcome}
 use Rattle.image.specs.declared.Found.{Found}
@@ -79,3 +79,8 @@ word-meets s c f buffer w m e =
 pub same-meets : (s t : List ℕ) (v : Sameness) (w : ℕ) → SameMeets s t (samenessNumber v) (samenessVerdict v)
     → (w % 4294967296 ≡ samenessNumber v) × (w / 4294967296 ≡ samenessVerdict v) → SameMeets s t (w % 4294967296) (w / 4294967296)
 same-meets s t v w m e = record { answer = e .0 ∙ m .answer; beside = e .1 ∙ m .beside }
+
+-- an outcome as its number
+pub number-meets : (s : List ℕ) (c : Call) (o : Outcome) (k : ℕ) (s′ w′ : List ℕ) → Meets s c (outcomeAnswer o) s′ w′ → k ≡ outcomeNumber o → Meets s c (number k) s′ w′
+unfolding outcomeAnswer
+number-meets s c o k s′ w′ m e = subst (λ j. Meets s c (number j) s′ w′) (sym e) m

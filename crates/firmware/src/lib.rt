@@ -1,5 +1,5 @@
 // The calls for C, whose prototypes stand in include/splicelog.h. Each hands its slices to the call of the same name and turns the answer
-// into numbers. Relies on: make and query for the calls; image for the answers and their numbers.
+// into numbers. Relies on: make, query, edit and maintain for the calls; image for the answers and their numbers.
 use image::Found;
 use image::Outcome;
 use image::Refusal;
@@ -8,8 +8,8 @@ ghost use Prim.Native.Nat.{_≤_, _/_, _%_};
 ghost use mathlib.Core.Path.{_≡_};
 ghost use mathlib.Core.List.{[]};
 ghost use Rattle.image.specs.Answers.{refusalNumber, outcomeNumber, samenessNumber, samenessVerdict};
-ghost use Rattle.image.specs.Calls.{asks, get, next, filled};
-ghost use Rattle.image.specs.Contract.{Meets, MakeMeets};
+ghost use Rattle.image.specs.Calls.{asks, get, next, filled, acts, keeps, put, drops, clear, settle, tidy, flush, number};
+ghost use Rattle.image.specs.Contract.{Meets, MakeMeets, SameMeets};
 ghost use Rattle.query.specs.Asked.{foundLength};
 ghost use Rattle.firmware.specs.Words.{foundNumber};
 
@@ -80,4 +80,53 @@ pub extern "C" fn splicelog_next(store: &[u8], path: &[u8], after: &[u8], buffer
     ensures { λ r. ⌜ Meets (now (store .entry)) (asks (next (now (path .entry)) (now (after .entry))) (now (buffer .entry))) (filled (r % 4294967296) (r / 4294967296) (now (buffer .exit))) (now (store .entry)) [] ⌝ }
 {
     found_word(query::next(store, path, after, buffer))
+}
+
+#[no_mangle]
+pub extern "C" fn splicelog_same(store: &[u8], other: &[u8]) -> u64
+    ensures { λ r. ⌜ SameMeets (now (store .entry)) (now (other .entry)) (r % 4294967296) (r / 4294967296) ⌝ }
+{
+    sameness_word(query::same(store, other))
+}
+
+#[no_mangle]
+pub extern "C" fn splicelog_put(store: &mut [u8], work: &mut [u8], path: &[u8], value: &[u8]) -> u32
+    ensures { λ r. ⌜ Meets (now (store .entry)) (acts (put (now (path .entry)) (now (value .entry))) (now (work .entry))) (number r) (now (store .exit)) (now (work .exit)) ⌝ }
+{
+    outcome_number(edit::put(store, work, path, value))
+}
+
+#[no_mangle]
+pub extern "C" fn splicelog_drop(store: &mut [u8], work: &mut [u8], path: &[u8]) -> u32
+    ensures { λ r. ⌜ Meets (now (store .entry)) (acts (drops (now (path .entry))) (now (work .entry))) (number r) (now (store .exit)) (now (work .exit)) ⌝ }
+{
+    outcome_number(edit::drop(store, work, path))
+}
+
+#[no_mangle]
+pub extern "C" fn splicelog_clear(store: &mut [u8], work: &mut [u8], path: &[u8]) -> u32
+    ensures { λ r. ⌜ Meets (now (store .entry)) (acts (clear (now (path .entry))) (now (work .entry))) (number r) (now (store .exit)) (now (work .exit)) ⌝ }
+{
+    outcome_number(edit::clear(store, work, path))
+}
+
+#[no_mangle]
+pub extern "C" fn splicelog_settle(store: &mut [u8], work: &mut [u8]) -> u32
+    ensures { λ r. ⌜ Meets (now (store .entry)) (acts settle (now (work .entry))) (number r) (now (store .exit)) (now (work .exit)) ⌝ }
+{
+    outcome_number(maintain::settle(store, work))
+}
+
+#[no_mangle]
+pub extern "C" fn splicelog_tidy(store: &mut [u8], work: &mut [u8]) -> u32
+    ensures { λ r. ⌜ Meets (now (store .entry)) (acts tidy (now (work .entry))) (number r) (now (store .exit)) (now (work .exit)) ⌝ }
+{
+    outcome_number(maintain::tidy(store, work))
+}
+
+#[no_mangle]
+pub extern "C" fn splicelog_flush(store: &mut [u8], work: &mut [u8], node: u32) -> u32
+    ensures { λ r. ⌜ Meets (now (store .entry)) (keeps flush node (now (work .entry))) (number r) (now (store .exit)) (now (work .exit)) ⌝ }
+{
+    outcome_number(maintain::flush(store, work, node as usize))
 }

@@ -72,7 +72,7 @@ pub laid-short : (kind level : ℕ) (node : List ℕ) → laidOut kind level nod
 unfolding laidOut
 laid-short kind level node h = leb-true (u16 node 0) 1016 (and-left _ _ (and-left _ _ (and-left _ _ (and-left _ _ h))))
 
-read-of : (kind level : ℕ) (node : List ℕ) (es : List defined.Entry) → nodeEntries kind level node ≡ some es → (laidOut kind level node ≡ true) × (defined.entriesOf (entryBytes node) ≡ some es)
+pub read-of : (kind level : ℕ) (node : List ℕ) (es : List defined.Entry) → nodeEntries kind level node ≡ some es → (laidOut kind level node ≡ true) × (defined.entriesOf (entryBytes node) ≡ some es)
 unfolding nodeEntries
 read-of kind level node es h = go (laidOut kind level node) refl
   where

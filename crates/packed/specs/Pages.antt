@@ -37,15 +37,15 @@ zeros-replicate zero = refl
 zeros-replicate (suc k) = zeros-replicate k
 
 module _ (kind level : ℕ) (es : List ℕ) where
-  page-0 : u16 (page kind level es) 0 ≡ length es
+  pub page-0 : u16 (page kind level es) 0 ≡ length es
   unfolding u16 page
   page-0 = omega arith
 
-  page-2 : u16 (page kind level es) 2 ≡ kind
+  pub page-2 : u16 (page kind level es) 2 ≡ kind
   unfolding u16 page
   page-2 = omega arith
 
-  page-4 : u16 (page kind level es) 4 ≡ level
+  pub page-4 : u16 (page kind level es) 4 ≡ level
   unfolding u16 page
   page-4 = omega arith
 
@@ -60,7 +60,7 @@ module _ (kind level : ℕ) (es : List ℕ) where
       (es ++ replicate (1016 - length es) 0) (length es)
       ∙ drop-append-seam es (replicate (1016 - length es) 0)
 
-  page-laid : length es ≤ 1016 → laidOut kind level (page kind level es) ≡ true
+  pub page-laid : length es ≤ 1016 → laidOut kind level (page kind level es) ≡ true
   unfolding laidOut
   page-laid h =
       rw (
@@ -75,7 +75,7 @@ module _ (kind level : ℕ) (es : List ℕ) where
         zeros-replicate (1016 - length es),
       )
 
-  page-entries : entryBytes (page kind level es) ≡ es
+  pub page-entries : entryBytes (page kind level es) ≡ es
   unfolding entryBytes
   page-entries = rw page-0 (unfold page in take-append-seam es (replicate (1016 - length es) 0))
 

@@ -6,12 +6,11 @@ use mathlib.Core.List.{List}
 use mathlib.Core.Bool.{Bool, true, false}
 use lib.ListN.{length}
 use Rattle.image.specs.Image.{nodesOf, wholeNodes}
-use Rattle.image.specs.Calls.{Call}
 use Rattle.image.specs.declared.Refusal.{Refusal}
 use Rattle.tree_check.specs.declared.Checked.{Checked}
 use Rattle.tree_check.specs.declared.Tally.{Tally}
 use Rattle.soundness.specs.Judged.{Judged, verdict-yes, verdict-no}
-use Rattle.rebuild.specs.Callers.{Lent, ragged-number, short-number, unsound-number}
+use Rattle.rebuild.specs.Callers.{ragged-number, short-number, unsound-number}
 use Rattle.ready.specs.declared.Ready.{Ready}
 use Rattle.ready.specs.Asked.{Fit, Asked}
 

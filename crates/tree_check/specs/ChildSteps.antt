@@ -33,7 +33,7 @@ use Rattle.tree_check.specs.Count.{cap, Count, plus, countOf, onlyMessag
 use Rattle.tree_check.specs.CountLaws.{messages-capped, count-end, count-more}
 use Rattle.tree_check.specs.Answer.{Checks, unsound, all-sound, checks-as}
 use Rattle.tree_check.specs.Walk.{nodeRun}
-use Rattle.tree_check.specs.Sequence.{first-stops, second-stops, both-sound}
+use Rattle.tree_check.specs.Sequence.{first-stops, second-stops, both-sound, Passed, one-passed}
 
 -- messages
 module _ (b : Bool) (n : ℕ) where
@@ -146,17 +146,12 @@ module _ (level : ℕ) (s : List ℕ) (sh : Shape) (lo hi : List ℕ) (i : ℕ) 
             first-stops X Y (childRun (nodeRun level s) sh lo hi i low (part s p) seen) (λ a. kidsRun (nodeRun level s) sh lo hi j (part s p) (entriesFrom s (c .at) (c .end)) a)
             (countOf (treeAt level s i)) (kidsCount (treeAt level s) j (listed s (c .at) (c .end))) more more-count r after h f z
 
-        module _ (t : Tally) (et : r ≡ Checked.Sound t) (q : Checked) (last : List ℕ)
-            (g : Checks (kidsRun (nodeRun level s) sh lo hi j (part s p) (entriesFrom s (c .at) (c .end)) after) (kidsCount (treeAt level s) j (listed s (c .at) (c .end))) q last) where
-          pub others-stop : q ≡ Checked.Unsound → (z : List ℕ) → Checks X Y Checked.Unsound z
-          others-stop f z =
-              second-stops X Y (childRun (nodeRun level s) sh lo hi i low (part s p) seen) (λ a. kidsRun (nodeRun level s) sh lo hi j (part s p) (entriesFrom s (c .at) (c .end)) a)
-              (countOf (treeAt level s i)) (kidsCount (treeAt level s) j (listed s (c .at) (c .end))) more more-count r after h t et q last g f z
-
-          pub others-sound : (u w : Tally) → q ≡ Checked.Sound u → w ≡ tallySum t u → Checks X Y (Checked.Sound w) last
-          others-sound u w eu ew =
-              both-sound X Y (childRun (nodeRun level s) sh lo hi i low (part s p) seen) (λ a. kidsRun (nodeRun level s) sh lo hi j (part s p) (entriesFrom s (c .at) (c .end)) a)
-              (countOf (treeAt level s i)) (kidsCount (treeAt level s) j (listed s (c .at) (c .end))) more more-count r after h t et q last g u w eu ew
+        pub child-passed : (run : Option (List ℕ)) (count : Count) (total t w : Tally) → Passed run count X Y total → r ≡ Checked.Sound t → w ≡ tallySum total t
+            → Passed run count (kidsRun (nodeRun level s) sh lo hi j (part s p) (entriesFrom s (c .at) (c .end)) after) (kidsCount (treeAt level s) j (listed s (c .at) (c .end))) w
+        child-passed run count total t w passed et ew =
+            one-passed run count X Y total passed r after (childRun (nodeRun level s) sh lo hi i low (part s p) seen)
+            (λ a. kidsRun (nodeRun level s) sh lo hi j (part s p) (entriesFrom s (c .at) (c .end)) a)
+            (countOf (treeAt level s i)) (kidsCount (treeAt level s) j (listed s (c .at) (c .end))) more more-count h t w et ew
 
     -- messages follow
     module _ (ek : kidIs e ≡ Kid.Other) where

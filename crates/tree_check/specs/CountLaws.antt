@@ -81,7 +81,7 @@ pub node-capped : _≡_ {A = Tally} (record { pairs = 0; messages = 0; nodes = 1
 unfolding capped
 node-capped = tally-path (sym (cap-small 0 (omega arith))) (sym (cap-small 0 (omega arith))) (sym (cap-small 1 (omega arith)))
 
-plus-assoc : (a b c : Count) → plus a (plus b c) ≡ plus (plus a b) c
+pub plus-assoc : (a b c : Count) → plus a (plus b c) ≡ plus (plus a b) c
 unfolding plus
 plus-assoc a b c = count-path (omega arith) (omega arith) (omega arith)
 
@@ -100,6 +100,10 @@ last-count s t =
 plus-none : (a : Count) → plus a (onlyMessages 0) ≡ a
 unfolding plus
 plus-none a = count-path (omega arith) (omega arith) (omega arith)
+
+pub none-plus : (a : Count) → plus (onlyMessages 0) a ≡ a
+unfolding plus
+none-plus a = count-path (omega arith) (omega arith) (omega arith)
 
 interior-count : (i : ℕ) (f : Forest) (ms : List defined.Message) → countOf (interior i f ms) ≡ plus onlyNode (plus (countIn f) (onlyMessages (length ms)))
 unfolding countIn countOf plus pairCount messageCount numbers

@@ -1,14 +1,15 @@
--- Two checks one after another: the second starts from the marks of the first, and the counts add up.
+-- Checks one after another: each starts from the marks of the one before it, and the counts add up.
 -- Relies on Answer.
 use Prim.Native.Nat.{ℕ}
-use mathlib.Core.Path.{_≡_, sym, ap, _∙_}
+use mathlib.Core.Path.{_≡_, refl, sym, ap, _∙_}
 use mathlib.Core.List.{List}
 use mathlib.Core.Option.{Option, none, some}
+use native.Mathlib.Omega.{arith}
 use Rattle.reading.specs.Visit.{onward}
 use Rattle.tree_check.specs.declared.Tally.{Tally}
 use Rattle.tree_check.specs.declared.Checked.{Checked}
-use Rattle.tree_check.specs.Count.{Count, plus, capped, tallySum}
-use Rattle.tree_check.specs.CountLaws.{tally-joined}
+use Rattle.tree_check.specs.Count.{Count, plus, capped, onlyMessages, tallySum}
+use Rattle.tree_check.specs.CountLaws.{cap-small, messages-capped, tally-joined, plus-assoc, none-plus}
 use Rattle.tree_check.specs.Answer.{Checks, unsound, all-sound, unsound-is, sound-is, tally-is}
 
 stops : (x : Option (List ℕ)) (f : List ℕ → Option (List ℕ)) → x ≡ none → onward x f ≡ none
@@ -35,3 +36,35 @@ module _ (X : Option (List ℕ)) (Y : Count) (x : Option (List ℕ)) (f : List �
     both-sound u w e j =
         all-sound X Y w last (then-is ∙ sound-is (f after) z q u last g e)
         (tally-joined t u w y z (tally-is x y r t after h et) (tally-is (f after) z q u last g e) j ∙ ap (λ c. capped c) (sym eY))
+
+-- Some of the checks are done: of the whole walk X and the whole count Y, x and y are left, and the tally is of what was passed.
+pub record Passed (X : Option (List ℕ)) (Y : Count) (x : Option (List ℕ)) (y : Count) (total : Tally) : Type 0 where
+  pub counted : Count
+  pub tally : total ≡ capped counted
+  pub counts : Y ≡ plus counted y
+  pub walk : X ≡ x
+
+pub nothing-passed : (X : Option (List ℕ)) (Y : Count) → Passed X Y X Y (record { pairs = 0; messages = 0; nodes = 0 })
+nothing-passed X Y =
+    record { counted = onlyMessages 0; tally = messages-capped 0 0 (sym (cap-small 0 (omega arith))); counts = sym (none-plus Y); walk = refl }
+
+module _ (X : Option (List ℕ)) (Y : Count) (x : Option (List ℕ)) (y : Count) (total : Tally) (p : Passed X Y x y total) (r : Checked) (after : List ℕ) where
+  -- the last check
+  pub rest-stops : Checks x y r after → r ≡ Checked.Unsound → (seen : List ℕ) → Checks X Y Checked.Unsound seen
+  rest-stops h e seen = unsound X Y seen (p .walk ∙ unsound-is x y r after h e)
+
+  pub rest-sound : Checks x y r after → (u w : Tally) → r ≡ Checked.Sound u → w ≡ tallySum total u → Checks X Y (Checked.Sound w) after
+  rest-sound h u w e j =
+      all-sound X Y w after (p .walk ∙ sound-is x y r u after h e)
+      (tally-joined total u w (p .counted) y (p .tally) (tally-is x y r u after h e) j ∙ ap (λ c. capped c) (sym (p .counts)))
+
+  -- one check more is passed
+  pub one-passed : (v : Option (List ℕ)) (f : List ℕ → Option (List ℕ)) (a z : Count) → x ≡ onward v f → y ≡ plus a z → Checks v a r after
+      → (t w : Tally) → r ≡ Checked.Sound t → w ≡ tallySum total t → Passed X Y (f after) z w
+  one-passed v f a z ex ey h t w e j =
+      record {
+        counted = plus (p .counted) a;
+        tally = tally-joined total t w (p .counted) a (p .tally) (tally-is v a r t after h e) j;
+        counts = p .counts ∙ ap (λ c. plus (p .counted) c) ey ∙ plus-assoc (p .counted) a z;
+        walk = p .walk ∙ ex ∙ goes v f after (sound-is v a r t after h e);
+      }

@@ -245,7 +245,7 @@ pub fn check_node(
     ))
 }
 
-// The child `num` with the low pivot `low`, and the entries of its parent that follow it from the cursor on.
+// The child `num` with the low pivot `low`, and the entries of its parent that follow it from the cursor on. A loop, so that the stack holds one frame for each level.
 pub fn check_children(
     store: &[u8],
     num: usize,
@@ -260,45 +260,77 @@ pub fn check_children(
     requires { ⌜ (nodesOf (length (now store)) ≤ length (now seen)) × (start .end ≤ length (now store)) × Within 0 (length (now store)) low ⌝ }
     ensures { λ r. ⌜ Checks (kidsRun (nodeRun level (now (store .entry))) (shapeIs sh) (now (lo .entry)) (now (hi .entry)) num (part (now (store .entry)) low) (entriesFrom (now (store .entry)) (start .at) (start .end)) (now (seen .entry))) (kidsCount (treeAt level (now (store .entry))) num (listed (now (store .entry)) (start .at) (start .end))) r (now (seen .exit)) ⌝ }
 {
-    let at = start.at;
-    let end = start.end;
-    let a = low.start;
-    let b = low.stop;
-    if end <= at {
-        return check_child(store, num, &store[a..b], hi, level, lo, hi, sh, seen);
+    let mut c = start;
+    let mut child = num;
+    let mut pivot = low;
+    let mut total = Tally {
+        pairs: 0,
+        messages: 0,
+        nodes: 0,
+    };
+    loop {
+        let at = c.at;
+        let end = c.end;
+        let a = pivot.start;
+        let b = pivot.stop;
+        if end <= at {
+            let Checked::Sound(t) = check_child(
+                store,
+                child,
+                &store[a..b],
+                hi,
+                level,
+                lo,
+                hi,
+                sh,
+                seen,
+            ) else {
+                return Checked::Unsound;
+            };
+            return Checked::Sound(joined(total, t));
+        }
+        let Step::Read(e, next) = c.step(store) else {
+            return Checked::Unsound;
+        };
+        let Kid::Of(k, p) = search::kid_of(e) else {
+            let Checked::Sound(t) = check_child(
+                store,
+                child,
+                &store[a..b],
+                hi,
+                level,
+                lo,
+                hi,
+                sh,
+                seen,
+            ) else {
+                return Checked::Unsound;
+            };
+            let Checked::Sound(u) = check_messages(store, at, end, lo, hi, sh) else {
+                return Checked::Unsound;
+            };
+            return Checked::Sound(joined(total, joined(t, u)));
+        };
+        let x = p.start;
+        let y = p.stop;
+        let Checked::Sound(t) = check_child(
+            store,
+            child,
+            &store[a..b],
+            &store[x..y],
+            level,
+            lo,
+            hi,
+            sh,
+            seen,
+        ) else {
+            return Checked::Unsound;
+        };
+        total = joined(total, t);
+        child = k;
+        pivot = p;
+        c = next;
     }
-    let Step::Read(e, next) = start.step(store) else {
-        return Checked::Unsound;
-    };
-    let Kid::Of(child, p) = search::kid_of(e) else {
-        let Checked::Sound(t) = check_child(store, num, &store[a..b], hi, level, lo, hi, sh, seen)
-        else {
-            return Checked::Unsound;
-        };
-        let Checked::Sound(u) = check_messages(store, at, end, lo, hi, sh) else {
-            return Checked::Unsound;
-        };
-        return Checked::Sound(joined(t, u));
-    };
-    let x = p.start;
-    let y = p.stop;
-    let Checked::Sound(t) = check_child(
-        store,
-        num,
-        &store[a..b],
-        &store[x..y],
-        level,
-        lo,
-        hi,
-        sh,
-        seen,
-    ) else {
-        return Checked::Unsound;
-    };
-    let Checked::Sound(u) = check_children(store, child, p, next, level, lo, hi, sh, seen) else {
-        return Checked::Unsound;
-    };
-    Checked::Sound(joined(t, u))
 }
 
 // The child `num` between two pivots of its parent, whose own pivots are `lo` and `hi`.

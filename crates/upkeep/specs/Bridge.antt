@@ -62,7 +62,7 @@ once-apart (i ∷ is) js j e f = go (eqb j i) refl (λ h. once-apart is js j (an
     go false g ih = ih (subst (λ x. x || isIn j is ≡ true) g f)
 
 -- the numbers of places that are found, and not found
-found-in : (n : ℕ) (xs : List Reachable) (x : Reachable) → reachableAt n xs ≡ some x → isIn n (numbersOf xs) ≡ true
+pub found-in : (n : ℕ) (xs : List Reachable) (x : Reachable) → reachableAt n xs ≡ some x → isIn n (numbersOf xs) ≡ true
 unfolding reachableAt numbersOf isIn
 found-in n [] x e = absurd (Option·none-ne-some x e)
 found-in n (y ∷ xs) x e = go (eqb n (y .number)) refl (λ h. found-in n xs x h)
@@ -71,7 +71,7 @@ found-in n (y ∷ xs) x e = go (eqb n (y .number)) refl (λ h. found-in n xs x h
     go true f ih = rw f
     go false f ih = rw f (ih (rw f at e))
 
-not-found : (n : ℕ) (xs : List Reachable) → reachableAt n xs ≡ none → isIn n (numbersOf xs) ≡ false
+pub not-found : (n : ℕ) (xs : List Reachable) → reachableAt n xs ≡ none → isIn n (numbersOf xs) ≡ false
 unfolding reachableAt numbersOf isIn
 not-found n [] e = refl
 not-found n (y ∷ xs) e = go (eqb n (y .number)) refl (λ h. not-found n xs h)

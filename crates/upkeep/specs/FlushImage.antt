@@ -98,7 +98,7 @@ under-in : (j : ℕ) (t : Tree) → isIn j (numbersUnder t) ≡ true → isIn j 
 unfolding isIn
 under-in j t e = ap (isIn j) (numbers-split t) ∙ or-right (eqb j (numberOf t)) (isIn j (numbersUnder t)) e
 
-deep-in : (j : ℕ) (f : Forest) → isIn j (deepIn f) ≡ true → isIn j (numbersIn f) ≡ true
+pub deep-in : (j : ℕ) (f : Forest) → isIn j (deepIn f) ≡ true → isIn j (numbersIn f) ≡ true
 unfolding deepIn numbersIn isIn
 deep-in j end e = e
 deep-in j (tree s t f) e =
@@ -115,7 +115,7 @@ no-true false f = refl
 apart-true : (b : Bool) → b ≡ true → b ≡ false → ⊥
 apart-true b p q = true≢false (sym p ∙ q)
 
-deep-apart : (j : ℕ) (f : Forest) → once (numbersIn f) ≡ true → isIn j (deepIn f) ≡ true → isIn j (heads f) ≡ false
+pub deep-apart : (j : ℕ) (f : Forest) → once (numbersIn f) ≡ true → isIn j (deepIn f) ≡ true → isIn j (heads f) ≡ false
 unfolding deepIn numbersIn heads isIn once
 deep-apart j end o e = absurd (false≢true e)
 deep-apart j (tree s t f) o e =
@@ -136,7 +136,7 @@ deep-apart j (tree s t f) o e =
         (ap (λ k. isIn k (numbersUnder t)) (eqb-true j (numberOf t) c) ∙ not-true (isIn (numberOf t) (numbersUnder t)) (and-left _ _ root-once)))
 
 -- A CHILD that is written reads back
-allowed-left : (es fs : List Entry) → allAllowed (es ++ fs) ≡ true → allAllowed es ≡ true
+pub allowed-left : (es fs : List Entry) → allAllowed (es ++ fs) ≡ true → allAllowed es ≡ true
 unfolding allAllowed
 allowed-left [] fs e = refl
 allowed-left (x ∷ es) fs e = both (and-left (allowed x) _ e) (allowed-left es fs (and-right (allowed x) _ e))

@@ -195,7 +195,7 @@ pages-after l s s′ s″ ms lifted hi (tree p t f) (Pages.written w ws) k =
 pages-after l s s′ s″ ms lifted hi (tree p t f) (Pages.alone q w ws) k =
     Pages.alone q (k (numberOf t) (head-in p t f) ∙ w) (pages-after l s s′ s″ ms lifted hi f ws (λ j c. k j (heads-later p t f j c)))
 
-heads-sub : (f : Forest) → Sub (heads f) (numbersIn f)
+pub heads-sub : (f : Forest) → Sub (heads f) (numbersIn f)
 unfolding heads numbersIn
 heads-sub end = Sub.empty
 heads-sub (tree s t f) = rw (numbers-split t) (Sub.keep (sub-append (sub-none (numbersUnder t)) (heads-sub f)))

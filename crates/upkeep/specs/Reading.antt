@@ -26,7 +26,7 @@ either true x y e p = inl p
 either false x y e p = inr p
 
 -- an entry's bytes: its rest and four more
-abbrev Good : Entry → List ℕ → Type 0
+abbrev pub Good : Entry → List ℕ → Type 0
 Good e r = (length (bytesOf e) ≡ 4 + length r) × (allowed e ≡ true)
 
 halves : (n : ℕ) (r : List ℕ) → 2 ≤ length r → length (take n (drop 2 r)) + length (drop n (drop 2 r)) ≡ length r - 2
@@ -69,7 +69,7 @@ pair-always : (s v : List ℕ) → allowed (pair s v) ≡ true
 unfolding allowed
 pair-always s v = refl
 
-entry-good : (kind : ℕ) (r : List ℕ) (e : Entry) → entryOf kind r ≡ some e → Good e r
+pub entry-good : (kind : ℕ) (r : List ℕ) (e : Entry) → entryOf kind r ≡ some e → Good e r
 unfolding entryOf
 entry-good kind r e p = first (either (eqb kind 0x0001) _ _ e p)
   where

@@ -17,7 +17,7 @@ same-length : tie.Need-same-length
 same-length c = search needs
 
 returns : tie.Need-returns
-returns c = after-over _ _ (c .before .before .before .before .before .before .before .before .before .args .place) _ _ (omega arith) (c .before .before .next .ensures)
+returns c = after-over _ _ (c .before .before .before .before .before .before .before .before .before .args .place) _ _ (omega arith) (c .before .before .next .ensures .0)
 
 sub-next : tie.Need-sub-next
 sub-next c = search needs
@@ -35,7 +35,7 @@ same-length-2 : tie.Need-same-length-2
 same-length-2 c = search needs
 
 returns-2 : tie.Need-returns-2
-returns-2 c = after-fits _ _ (c .before .before .before .before .before .before .before .before .before .before .before .args .place) _ _ (omega arith) (c .before .before .next2 .ensures)
+returns-2 c = after-fits _ _ (c .before .before .before .before .before .before .before .before .before .before .before .args .place) _ _ (omega arith) (c .before .before .next2 .ensures .0)
 
 pub next-after-spec : {M : Type 1} → statement M
 next-after-spec =

@@ -1,8 +1,8 @@
+-- `ready::ask` meets its contract: one law of specs/Steps for each way out.
+-- Assumes nothing.
 use native.Mathlib.Omega.{arith}
-use Prim.Native.Nat.{ℕ, suc, _+_, _-_, _≤_, _<_}
-use mathlib.Core.Path.{_≡_, refl, sym, ap, _∙_}
-use mathlib.Core.List.{List, [], _∷_, _++_}
-use lib.ListN.{length, getD, take, drop}
+use mathlib.Core.Path.{_≡_, sym, _∙_}
+use lib.ListN.{length}
 use borrow.Author.Needs.{needs}
 use borrow.Author.Tests.{not-true, not-false}
 use Rattle.soundness.specs.Judged.{whole-long}
@@ -14,23 +14,18 @@ use Rattle.ready.proofs.ask.Lts as lts
 use Rattle.node.proofs.whole_nodes.Reads as whole-nodes-reads
 use Rattle.soundness.proofs.judge.Reads as judge-reads
 
--- src/lib.rt:18:9
 whole-nodes-requires : tie.Need-whole-nodes-requires
 whole-nodes-requires c κs = search needs
 
--- src/lib.rt:19:9
 returns : tie.Need-returns
 returns c = ragged-store _ _ _ _ (c .before .whole-nodes .ensures) (not-true _ (c .if1 .taken))
 
--- src/lib.rt:21:21
 mul-if2 : tie.Need-mul-if2
 mul-if2 c = search needs
 
--- src/lib.rt:22:9
 returns-2 : tie.Need-returns-2
 returns-2 c = short-work _ _ _ (omega arith)
 
--- src/lib.rt:24:9
 judge-requires : tie.Need-judge-requires
 judge-requires c κs =
     let w = sym (c .before .before .before .whole-nodes .ensures) ∙ not-false _ (c .before .before .if1 .left) in
@@ -38,19 +33,15 @@ judge-requires c κs =
     let h : length (c .before .before .before .before .before .before .args .seen .now) ≡ 1024 = search needs in
     (w, omega (arith, n .1))
 
--- src/lib.rt:25:24
 enum-known-c : tie.Need-enum-known-c
 enum-known-c c = search needs
 
--- src/lib.rt:26:31
 enum-told : tie.Need-enum-told
 enum-told c = search needs
 
--- src/lib.rt:26:9
 returns-3 : tie.Need-returns-3
 returns-3 c = unsound-store _ _ _ _ (c .before .before .before .before .before .before .whole-nodes .ensures) (not-false _ (c .before .before .before .before .before .if1 .left)) (omega arith) _ (c .before .before .judge .ensures) (c .enum-told .given .1)
 
--- src/lib.rt:15:1
 returns-4 : tie.Need-returns-4
 returns-4 c = sound-store _ _ _ _ (c .before .before .before .before .before .before .before .whole-nodes .ensures) (not-false _ (c .before .before .before .before .before .before .if1 .left)) (omega arith) _ (c .before .before .before .judge .ensures) _ (c .before .c .given .1)
 

@@ -1,0 +1,37 @@
+use native.Mathlib.Omega.{arith}
+use Prim.Native.Nat.{ℕ, suc, _+_, _-_, _≤_, _<_}
+use mathlib.Core.Path.{_≡_, refl, sym, ap, _∙_}
+use mathlib.Core.List.{List, [], _∷_, _++_}
+use lib.ListN.{length, getD, take, drop}
+use borrow.Author.Needs.{needs}
+use Rattle.firmware.specs.Words.{number-meets}
+use Rattle.firmware.proofs.splicelog_flush.Statement.{statement}
+use Rattle.firmware.proofs.splicelog_flush.Tie as tie
+use Rattle.firmware.proofs.splicelog_flush.Reads as reads
+use Rattle.firmware.proofs.splicelog_flush.Lts as lts
+use Rattle.firmware.proofs.outcome_number.Reads as outcome-number-reads
+use Rattle.maintain.proofs.flush.Reads as flush-reads
+
+-- src/lib.rt:131:20
+flush-requires : tie.Need-flush-requires
+flush-requires c κs = search needs
+
+-- src/lib.rt:131:5
+outcome-number-requires : tie.Need-outcome-number-requires
+outcome-number-requires c κs = search needs
+
+-- src/lib.rt:127:1
+same-length : tie.Need-same-length
+same-length c = search needs
+
+-- src/lib.rt:127:1
+same-length-2 : tie.Need-same-length-2
+same-length-2 c = search needs
+
+-- src/lib.rt:127:1
+returns : tie.Need-returns
+returns c = number-meets _ _ _ _ _ _ (c .before .before .before .before .before .flush .ensures) (c .outcome-number .ensures)
+
+pub splicelog-flush-spec : {M : Type 1} → statement M
+splicelog-flush-spec =
+    tie.close (tie.spec flush-requires outcome-number-requires same-length same-length-2 returns)

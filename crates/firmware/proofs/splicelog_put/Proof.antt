@@ -1,0 +1,37 @@
+use native.Mathlib.Omega.{arith}
+use Prim.Native.Nat.{ℕ, suc, _+_, _-_, _≤_, _<_}
+use mathlib.Core.Path.{_≡_, refl, sym, ap, _∙_}
+use mathlib.Core.List.{List, [], _∷_, _++_}
+use lib.ListN.{length, getD, take, drop}
+use borrow.Author.Needs.{needs}
+use Rattle.firmware.specs.Words.{number-meets}
+use Rattle.firmware.proofs.splicelog_put.Statement.{statement}
+use Rattle.firmware.proofs.splicelog_put.Tie as tie
+use Rattle.firmware.proofs.splicelog_put.Reads as reads
+use Rattle.firmware.proofs.splicelog_put.Lts as lts
+use Rattle.edit.proofs.put.Reads as put-reads
+use Rattle.firmware.proofs.outcome_number.Reads as outcome-number-reads
+
+-- src/lib.rt:96:20
+put-requires : tie.Need-put-requires
+put-requires c κs = search needs
+
+-- src/lib.rt:96:5
+outcome-number-requires : tie.Need-outcome-number-requires
+outcome-number-requires c κs = search needs
+
+-- src/lib.rt:92:1
+same-length : tie.Need-same-length
+same-length c = search needs
+
+-- src/lib.rt:92:1
+same-length-2 : tie.Need-same-length-2
+same-length-2 c = search needs
+
+-- src/lib.rt:92:1
+returns : tie.Need-returns
+returns c = number-meets _ _ _ _ _ _ (c .before .before .before .before .before .put .ensures) (c .outcome-number .ensures)
+
+pub splicelog-put-spec : {M : Type 1} → statement M
+splicelog-put-spec =
+    tie.close (tie.spec put-requires outcome-number-requires same-length same-length-2 returns)

@@ -1,0 +1,57 @@
+-- `maintain::settle` meets its contract: a refusal by ready's laws, an accepted call by specs/Steps.
+-- Assumes nothing.
+use borrow.Author.Needs.{needs}
+use Rattle.rebuild.specs.Callers.{to-act}
+use Rattle.ready.specs.Asked.{asked-fit, refused-meets}
+use Rattle.maintain.specs.Steps.{passed, settled-done}
+use Rattle.maintain.proofs.settle.Statement.{statement}
+use Rattle.maintain.proofs.settle.Tie as tie
+use Rattle.maintain.proofs.settle.Reads as reads
+use Rattle.maintain.proofs.settle.Lts as lts
+use Rattle.maintain.proofs.rebuild_unless.Reads as rebuild-unless-reads
+use Rattle.ready.proofs.ask.Reads as ask-reads
+
+ask-requires : tie.Need-ask-requires
+ask-requires c κs = search needs
+
+enum-known-ready : tie.Need-enum-known-ready
+enum-known-ready c = search needs
+
+enum-known-ready-2 : tie.Need-enum-known-ready-2
+enum-known-ready-2 c = search needs
+
+rebuild-unless-requires : tie.Need-rebuild-unless-requires
+rebuild-unless-requires c κs = passed _ _ _ _ (asked-fit _ _ _ _ (c .before .before .before .before .before .before .ask .ensures) _ (c .before .before .before .before .ready2 .given .1))
+
+same-length : tie.Need-same-length
+same-length c = search needs
+
+same-length-2 : tie.Need-same-length-2
+same-length-2 c = search needs
+
+returns : tie.Need-returns
+returns c = refused-meets _ _ _ _ (c .before .before .before .ask .ensures) _ (c .before .ready .given .1) _ to-act
+
+same-length-3 : tie.Need-same-length-3
+same-length-3 c = search needs
+
+same-length-4 : tie.Need-same-length-4
+same-length-4 c = search needs
+
+returns-2 : tie.Need-returns-2
+returns-2 c = settled-done _ _ _ _ _ _ (asked-fit _ _ _ _ (c .before .before .before .before .before .before .before .before .before .before .before .ask .ensures) _ (c .before .before .before .before .before .before .before .before .before .ready2 .given .1)) (c .before .before .before .before .rebuild-unless .ensures)
+
+pub settle-spec : {M : Type 1} → statement M
+settle-spec =
+    tie.close
+    (tie.spec
+    ask-requires
+    enum-known-ready
+    enum-known-ready-2
+    rebuild-unless-requires
+    same-length
+    same-length-2
+    returns
+    same-length-3
+    same-length-4
+    returns-2)

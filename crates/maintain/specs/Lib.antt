@@ -1,0 +1,3 @@
+pub mod Upkept
+pub mod Interior
+pub mod Steps

@@ -1,0 +1,137 @@
+-- The steps of settle, tidy and flush: one law for each way out of the code.
+-- Relies on ready (questions 1 and 2), on rebuild's Callers (the contract from what was done) and on tree_check's tally of messages.
+use Prim.Native.Nat.{ℕ, _*_, _/_, _≤_}
+use mathlib.Core.Path.{_≡_, refl, sym, ap, subst, _∙_}
+use mathlib.Core.List.{List, [], _∷_, _++_}
+use mathlib.Core.Bool.{Bool, true, false, _&&_, _||_, not, false≢true, true≢false}
+use mathlib.Core.Option.{Option, none, some}
+use lib.ListN.{length, drop}
+use lib.Dec.{eqb}
+use Rattle.image.specs.Image.{nodesOf, wholeNodes}
+use Rattle.image.specs.Sound.{sound, tableOf}
+use Rattle.image.specs.Upkeep.{Reachable, reachableNodes, reachableAt, every, holdsNoMessage, settled, overlap, flushed}
+use Rattle.image.specs.Calls.{acts, settle, tidy, keeps, flush, workPerNode, firstNo, questions, tableAfter}
+use Rattle.image.specs.Contract.{isInterior, nodeQuestions, upkeepRule, Besides, Meets}
+use Rattle.image.specs.Answers.{refusalNumber, outcomeAnswer}
+use Rattle.image.specs.declared.Refusal.{Refusal}
+use Rattle.image.specs.declared.Outcome.{Outcome}
+use Rattle.octets.specs.Order.{and-left, and-right}
+use Rattle.laws.specs.Rising.{both}
+use Rattle.laws.specs.Frame.{or-right}
+use Rattle.packed.specs.Tidy.{zerosOf}
+use Rattle.tree_check.specs.declared.Tally.{Tally}
+use Rattle.tree_check.specs.Callers.{messages-settled}
+use Rattle.rebuild.specs.Rebuild.{Rebuilt, cleared}
+use Rattle.rebuild.specs.Callers.{to-act, to-keep, laterNo, act-meets, act-refused, plain-settle, plain-number, settle-meets, tidy-meets}
+use Rattle.ready.specs.Asked.{Fit, fit-number}
+use Rattle.push_laws.specs.PushedDown.{PushedDown}
+use Rattle.maintain.specs.Upkept.{Passed, Reached, Stayed, Upkept, Flushes}
+
+-- what questions 1 and 2 leave
+pub passed : (s w seen : List ℕ) (t : Tally) → Fit s w t seen → Passed s w
+passed s w seen t f = record { whole = f .whole; long = f .long; is-sound = f .is-sound }
+
+pub reached : (s w seen : List ℕ) (t : Tally) → Fit s w t seen → Reached s seen
+reached s w seen t f = record { whole = f .whole; is-sound = f .is-sound; marks = f .holds .reached }
+
+-- REBUILD, OR NOT
+pub stayed : (done : Bool) (s w w′ : List ℕ) (len : ℕ) → done ≡ true → len ≡ 128 * (length s / 1024) → w′ ≡ zerosOf len ++ drop len w → Upkept done s s w w′
+unfolding Upkept zerosOf nodesOf
+stayed true s w w′ len d e f = record { same = refl; work = f ∙ rw e refl }
+stayed false s w w′ len d e f = absurd (false≢true d)
+
+pub rebuilt : (done : Bool) (s s′ w w′ : List ℕ) → done ≡ false → Rebuilt s s′ w w′ → Upkept done s s′ w w′
+unfolding Upkept
+rebuilt true s s′ w w′ d r = absurd (true≢false d)
+rebuilt false s s′ w w′ d r = r
+
+-- SETTLE AND TIDY
+module _ (s s′ w w′ seen : List ℕ) (t : Tally) (f : Fit s w t seen) where
+  settle-stays : settled s ≡ true → Stayed s s′ w w′ → Meets s (acts settle w) (outcomeAnswer Outcome.Done) s′ w′
+  unfolding Besides tableAfter
+  settle-stays e l =
+      act-meets s s′ w′ to-act (plain-number s s′ w w′ (f .whole) (f .long) (f .is-sound) settle plain-settle) (ap sound (l .same) ∙ f .is-sound)
+      (ap tableOf (l .same) ∙ sym (plain-settle .same-table (tableOf s))) (ap length (l .same)) (l .work) (ap settled (l .same) ∙ e)
+
+  pub settled-done : Upkept (eqb (t .messages) 0) s s′ w w′ → Meets s (acts settle w) (outcomeAnswer Outcome.Done) s′ w′
+  settled-done u = go (eqb (t .messages) 0) refl u
+    where
+      go : (b : Bool) → eqb (t .messages) 0 ≡ b → Upkept b s s′ w w′ → Meets s (acts settle w) (outcomeAnswer Outcome.Done) s′ w′
+      go true e l = settle-stays (sym (messages-settled s t seen (f .holds)) ∙ e) (unfold Upkept in l)
+      go false e r = settle-meets s s′ w w′ (f .whole) (f .long) (f .is-sound) (unfold Upkept in r)
+
+  pub tidied-done : Upkept false s s′ w w′ → Meets s (acts tidy w) (outcomeAnswer Outcome.Done) s′ w′
+  unfolding Upkept
+  tidied-done r = tidy-meets s s′ w w′ (f .whole) (f .long) (f .is-sound) r
+
+-- FLUSH
+every-weaker : (test other : Reachable → Bool) → ((y : Reachable) → test y ≡ true → other y ≡ true) → (xs : List Reachable) → every test xs ≡ true → every other xs ≡ true
+unfolding every
+every-weaker test other law [] e = refl
+every-weaker test other law (y ∷ xs) e = both (law y (and-left (test y) _ e)) (every-weaker test other law xs (and-right (test y) _ e))
+
+-- where no node holds a message, every node is flushed
+pub settled-flushed : (x : Reachable) (after : List Reachable) → every holdsNoMessage after ≡ true → flushed x after ≡ true
+unfolding flushed
+settled-flushed x after e =
+    every-weaker holdsNoMessage (λ y. not (eqb (y .level) (x .level) && overlap x y) || holdsNoMessage y)
+    (λ y h. or-right (not (eqb (y .level) (x .level) && overlap x y)) (holdsNoMessage y) h) after e
+
+pub settled-rule : (o : Option Reachable) (was : List Reachable) (s′ : List ℕ) → settled s′ ≡ true → upkeepRule flush o was (reachableNodes s′) ≡ true
+unfolding upkeepRule settled
+settled-rule none was s′ e = refl
+settled-rule (some x) was s′ e = settled-flushed x (reachableNodes s′) e
+
+pub flushes : (node : ℕ) (s s′ w w′ : List ℕ) → Upkept false s s′ w w′ → Flushes node s s′ w w′
+unfolding Upkept
+flushes node s s′ w w′ r =
+    record {
+      is-sound = r .is-sound;
+      table = r .table;
+      size = r .size;
+      work = r .work;
+      rule = settled-rule (reachableAt node (reachableNodes s)) (reachableNodes s) s′ (r .is-settled);
+    }
+
+module _ (s w seen : List ℕ) (t : Tally) (f : Fit s w t seen) (node : ℕ) (b : Bool) (b-is : b ≡ isInterior (reachableAt node (reachableNodes s))) where
+  later-is : laterNo s (keeps flush node w) ≡ firstNo (nodeQuestions (keeps flush node w) s)
+  unfolding laterNo nodeQuestions questions
+  later-is = refl
+
+  pub not-interior : b ≡ false → Meets s (keeps flush node w) (outcomeAnswer (Outcome.Refused Refusal.NotInterior)) s w
+  unfolding nodeQuestions firstNo refusalNumber
+  not-interior e = act-refused s Refusal.NotInterior to-keep (fit-number s w seen t f (keeps flush node w) to-keep ∙ later-is ∙ rw (sym b-is ∙ e) refl)
+
+  pub flushed-done : b ≡ true → (s′ w′ : List ℕ) → Flushes node s s′ w w′ → Meets s (keeps flush node w) (outcomeAnswer Outcome.Done) s′ w′
+  unfolding nodeQuestions firstNo tableAfter Besides
+  flushed-done e s′ w′ r =
+      act-meets s s′ w′ to-keep (fit-number s w seen t f (keeps flush node w) to-keep ∙ later-is ∙ rw (sym b-is ∙ e) refl)
+      (r .is-sound) (r .table) (r .size) (r .work) (r .rule)
+
+-- A PUSH BEFORE THE REST
+pub pushed-passed : (node : ℕ) (s s₁ w : List ℕ) → Passed s w → PushedDown s node s₁ → Passed s₁ w
+pushed-passed node s s₁ w p d =
+    record {
+      whole = ap wholeNodes (d .size) ∙ p .whole;
+      long = subst (λ k. workPerNode * nodesOf k ≤ length w) (sym (d .size)) (p .long);
+      is-sound = d .is-sound;
+    }
+
+-- the messages are with the children, and the work area is cleared
+pub pushed-flushes : (node : ℕ) (s s₁ s₂ w w₂ : List ℕ) → PushedDown s node s₁ → Upkept true s₁ s₂ w w₂ → Flushes node s s₂ w w₂
+unfolding Upkept
+pushed-flushes node s s₁ s₂ w w₂ d u =
+    record {
+      is-sound = ap sound (u .same) ∙ d .is-sound;
+      table = ap tableOf (u .same) ∙ d .table;
+      size = ap length (u .same) ∙ d .size;
+      work = u .work ∙ ap (λ k. cleared (nodesOf k) w) (d .size);
+      rule = ap (λ x. upkeepRule flush (reachableAt node (reachableNodes s)) (reachableNodes s) (reachableNodes x)) (u .same) ∙ d .rule;
+    }
+
+-- there was no room, and no byte changed
+pub unpushed-passed : (s s₁ w : List ℕ) → Passed s w → s₁ ≡ s → Passed s₁ w
+unpushed-passed s s₁ w p e = subst (λ x. Passed x w) (sym e) p
+
+pub unpushed-flushes : (node : ℕ) (s s₁ s₂ w w₂ : List ℕ) → s₁ ≡ s → Upkept false s₁ s₂ w w₂ → Flushes node s s₂ w w₂
+unpushed-flushes node s s₁ s₂ w w₂ e u = subst (λ x. Flushes node x s₂ w w₂) e (flushes node s₁ s₂ w w₂ u)

@@ -1,0 +1,103 @@
+// settle, tidy and flush: the public upkeep calls. Each asks the paper's questions in order and refuses at the first no; a refusal changes
+// no byte, and an accepted call leaves the first 128 bytes for each node of the work area zero.
+// Relies on ready (questions 1 and 2) and on rebuild, which leaves the same map in packed form, with no message anywhere.
+use image::Outcome;
+use image::Refusal;
+use push::Pushed;
+use ready::Ready;
+ghost use mathlib.Core.Path.{_≡_};
+ghost use mathlib.Core.Bool.{true};
+ghost use Rattle.image.specs.Upkeep.{reachableNodes, reachableAt};
+ghost use Rattle.image.specs.Calls.{acts, settle, tidy, keeps, flush};
+ghost use Rattle.image.specs.Contract.{isInterior, Meets};
+ghost use Rattle.image.specs.Answers.{outcomeAnswer};
+ghost use Rattle.maintain.specs.Upkept.{Passed, Reached, Upkept, Flushes};
+
+// Ends an accepted call. Where the store already is as the call asks, only the work area is cleared; else the store is rebuilt.
+fn rebuild_unless(done: bool, store: &mut [u8], work: &mut [u8])
+    requires { ⌜ Passed (now store) (now work) ⌝ }
+    ensures { λ _. ⌜ Upkept done (now (store .entry)) (now (store .exit)) (now (work .entry)) (now (work .exit)) ⌝ }
+{
+    if done {
+        let len = 128 * (store.len() / 1024);
+        build::clear_area(work, len);
+        return;
+    }
+    rebuild::rebuild(store, work);
+}
+
+// Leaves no message in any node; where none waits, the store stays as it is.
+pub fn settle(store: &mut [u8], work: &mut [u8]) -> Outcome
+    ensures { λ r. ⌜ Meets (now (store .entry)) (acts settle (now (work .entry))) (outcomeAnswer r) (now (store .exit)) (now (work .exit)) ⌝ }
+{
+    let mut seen = [0u8; 1024];
+    let ready = ready::ask(store, work, &mut seen);
+    match ready {
+        Ready::Refused(refusal) => Outcome::Refused(refusal),
+        Ready::Fit(tally) => {
+            let is_settled = tally.messages == 0;
+            rebuild_unless(is_settled, store, work);
+            Outcome::Done
+        }
+    }
+}
+
+// Leaves no message in any node, and at most a quarter of the nodes in use.
+pub fn tidy(store: &mut [u8], work: &mut [u8]) -> Outcome
+    ensures { λ r. ⌜ Meets (now (store .entry)) (acts tidy (now (work .entry))) (outcomeAnswer r) (now (store .exit)) (now (work .exit)) ⌝ }
+{
+    let mut seen = [0u8; 1024];
+    let ready = ready::ask(store, work, &mut seen);
+    match ready {
+        Ready::Refused(refusal) => Outcome::Refused(refusal),
+        Ready::Fit(_) => {
+            rebuild_unless(false, store, work);
+            Outcome::Done
+        }
+    }
+}
+
+// Question 6: whether the number is that of a reachable interior node. `seen` has the marks of the check.
+pub fn is_interior(store: &[u8], seen: &[u8; 1024], node: usize) -> bool
+    requires { ⌜ Reached (now store) (now seen) ⌝ }
+    ensures { λ r. ⌜ r ≡ isInterior (reachableAt node (reachableNodes (now (store .entry)))) ⌝ }
+{
+    if store.len() / 1024 <= node {
+        return false;
+    }
+    if seen[node] != 1 {
+        return false;
+    }
+    octets::u16_at(store, node * 1024 + 2) == 2
+}
+
+// The act of a flush: the messages of a node go to its children, where there is room for all of them; else a rebuild sends down those of
+// every node.
+fn act_flush(store: &mut [u8], work: &mut [u8], node: usize)
+    requires { ⌜ Passed (now store) (now work) × (isInterior (reachableAt node (reachableNodes (now store))) ≡ true) ⌝ }
+    ensures { λ _. ⌜ Flushes node (now (store .entry)) (now (store .exit)) (now (work .entry)) (now (work .exit)) ⌝ }
+{
+    let pushed = push::push_down(store, node);
+    match pushed {
+        Pushed::Done => rebuild_unless(true, store, work),
+        Pushed::NoRoom => rebuild_unless(false, store, work),
+    }
+}
+
+// Leaves no message in the nodes of this node's level that own any of what it owned.
+pub fn flush(store: &mut [u8], work: &mut [u8], node: usize) -> Outcome
+    ensures { λ r. ⌜ Meets (now (store .entry)) (keeps flush node (now (work .entry))) (outcomeAnswer r) (now (store .exit)) (now (work .exit)) ⌝ }
+{
+    let mut seen = [0u8; 1024];
+    let ready = ready::ask(store, work, &mut seen);
+    match ready {
+        Ready::Refused(refusal) => Outcome::Refused(refusal),
+        Ready::Fit(_) => {
+            if !is_interior(store, &seen, node) {
+                return Outcome::Refused(Refusal::NotInterior);
+            }
+            act_flush(store, work, node);
+            Outcome::Done
+        }
+    }
+}

@@ -1,0 +1,48 @@
+-- `clear_messages` meets its contract: the child entries and the first bytes make the new page.
+-- Relies on specs/NodeSteps.
+use Rattle.packed.specs.Tidy.{zerosOf}
+use Rattle.push.specs.NodeSteps.{node-emptied}
+use borrow.Author.Needs.{needs}
+use Rattle.push.proofs.clear_messages.Statement.{statement}
+use Rattle.push.proofs.clear_messages.Tie as tie
+
+-- src/lib.rt:371:29
+slice-aggregate-emit-children : tie.Need-slice-aggregate-emit-children
+slice-aggregate-emit-children c = search needs
+
+-- src/lib.rt:371:9
+emit-children-requires : tie.Need-emit-children-requires
+emit-children-requires c κs = search needs
+
+-- src/lib.rt:372:28
+slice-aggregate-write-page : tie.Need-slice-aggregate-write-page
+slice-aggregate-write-page c = search needs
+
+-- src/lib.rt:372:49
+sub-write-page : tie.Need-sub-write-page
+sub-write-page c = search needs
+
+-- src/lib.rt:372:5
+write-page-requires : tie.Need-write-page-requires
+write-page-requires c κs = search needs
+
+-- src/lib.rt:366:1
+same-length : tie.Need-same-length
+same-length c = search needs
+
+-- src/lib.rt:366:1
+returns : tie.Need-returns
+unfolding zerosOf
+returns c = node-emptied (c .before .before .before .before .before .before .before .before .before .before .before .args .store .now) _ _ (c .before .before .before .before .before .before .before .before .before .before .before .args .num) (c .before .before .before .before .before .before .before .before .before .before .before .args .level) _ _ (c .before .before .before .before .before .before .before .before .before .before .before .pre .3) (c .before .before .before .before .before .before .before .emit-children .ensures .0) (c .before .before .before .before .before .before .before .emit-children .ensures .1) (c .before .before .before .write-page .ensures)
+
+pub clear-messages-spec : {M : Type 1} → statement M
+clear-messages-spec =
+    tie.close
+    (tie.spec
+    slice-aggregate-emit-children
+    emit-children-requires
+    slice-aggregate-write-page
+    sub-write-page
+    write-page-requires
+    same-length
+    returns)

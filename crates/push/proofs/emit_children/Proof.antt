@@ -1,0 +1,97 @@
+-- `emit_children` meets its contract: the child entries left, written behind what is written, are all child entries.
+-- Relies on specs/WriteSteps and on live's reader of children.
+use borrow.Author.Needs.{needs}
+use native.Mathlib.Omega.{arith}
+use lib.ListN.{length}
+use mathlib.Core.Bool.{true}
+use mathlib.Core.Path.{_≡_, refl}
+use Prim.Native.Nat.{_≤_, _-_, _+_}
+use Rattle.search.specs.Own.{kidsE}
+use Rattle.node.specs.Entries.{listed}
+use Rattle.node.specs.Places.{part}
+use Rattle.laws.specs.Encode.{bytesOf}
+use Rattle.image.specs.Entry.{child}
+use Rattle.octets.specs.Put.{put}
+use Rattle.live.specs.Steps.{pends-child, pends-end}
+use Rattle.live.specs.Walk.{NextChild}
+use Rattle.push_laws.specs.Written.{childBytes, smallNumbers}
+use Rattle.push.specs.WriteSteps.{line-fits, line-length, line-on, line-end, line-ends, children-cons, children-none, small-first, small-later, child-length, as-child}
+use Rattle.push.proofs.emit_children.Statement.{statement}
+use Rattle.push.proofs.emit_children.Tie as tie
+
+abbrev Inv-loop : tie.InvT-loop
+Inv-loop page₀ at node stop c₀ to₀ page c to = (c .end ≤ length node) × (length page ≡ length page₀) × (smallNumbers (kidsE (listed node (c .at) (c .end))) ≡ true) × (to + length (childBytes (kidsE (listed node (c .at) (c .end)))) ≡ at + length (childBytes (kidsE (listed node 8 stop)))) × (put page to (childBytes (kidsE (listed node (c .at) (c .end)))) ≡ put page₀ at (childBytes (kidsE (listed node 8 stop))))
+
+abbrev μ-loop : tie.MeasureT-loop
+μ-loop page₀ at node stop c₀ to₀ page c to = c .end - c .at
+
+-- the child that was read, and where it leaves the cursor
+kid-next : (c : tie.After-known-told Inv-loop μ-loop) → NextChild (c .before .before .before .before .before .before .before .args .node .now) (c .before .before .before .before .loop .c .at) (c .before .before .before .before .loop .c .end) (c .before .k .given .0 .0) (c .before .k .given .0 .1 .0) (c .before .k .given .0 .1 .1 .0)
+kid-next c = pends-child _ _ _ _ _ _ _ (c .before .before .before .read-child .ensures) (c .before .k .given .1)
+
+-- src/lib.rt:334:5
+loop-holds : tie.Need-loop-holds Inv-loop μ-loop
+loop-holds c = (omega arith, refl, c .before .before .pre .3, refl, refl)
+
+-- src/lib.rt:335:42
+read-child-requires : tie.Need-read-child-requires Inv-loop μ-loop
+read-child-requires c κs = c .loop .inv .0
+
+-- src/lib.rt:335:28
+enum-known-k : tie.Need-enum-known-k Inv-loop μ-loop
+enum-known-k c = search needs
+
+-- src/lib.rt:336:13
+enum-told : tie.Need-enum-told Inv-loop μ-loop
+enum-told c = search needs
+
+-- src/lib.rt:336:13
+same-length : tie.Need-same-length Inv-loop μ-loop
+same-length c = c .before .before .before .loop .inv .1
+
+-- src/lib.rt:336:13
+returns : tie.Need-returns Inv-loop μ-loop
+returns c = let z = children-none _ (pends-end _ _ _ _ (c .before .before .read-child .ensures) (c .enum-told .given .1)) in (line-end _ _ _ _ _ _ z (c .before .before .before .loop .inv .4), line-ends _ _ (childBytes (kidsE (listed (c .before .before .before .before .before .before .args .node .now) 8 (c .before .before .before .before .before .before .args .stop)))) (childBytes (kidsE (listed (c .before .before .before .before .before .before .args .node .now) (c .before .before .before .loop .c .at) (c .before .before .before .loop .c .end)))) z (c .before .before .before .loop .inv .3))
+
+-- src/lib.rt:340:45
+sub-emit-child : tie.Need-sub-emit-child Inv-loop μ-loop
+sub-emit-child c = let n = kid-next (c .before) in let w = n .place in omega arith
+
+-- src/lib.rt:340:45
+part-emit-child-start : tie.Need-part-emit-child-start Inv-loop μ-loop
+part-emit-child-start c = let n = kid-next (c .before) in let w = n .place in omega arith
+
+-- src/lib.rt:340:45
+part-emit-child-end : tie.Need-part-emit-child-end Inv-loop μ-loop
+part-emit-child-end c = let n = kid-next (c .before) in let w = n .place in omega arith
+
+-- src/lib.rt:340:9
+emit-child-requires : tie.Need-emit-child-requires Inv-loop μ-loop
+emit-child-requires c κs = let n = kid-next (c .before .before) in let z = child-length (c .before .before .before .k .given .0 .0) (part (c .before .before .before .before .before .before .before .before .before .args .node .now) (c .before .before .before .k .given .0 .1 .0)) in let f = line-fits (c .before .before .before .before .before .before .before .before .before .args .page .now) (c .before .before .before .before .before .before .loop .page) (c .before .before .before .before .before .before .loop .page) (c .before .before .before .before .before .before .before .before .before .args .at) (c .before .before .before .before .before .before .loop .to) 0 (childBytes (kidsE (listed (c .before .before .before .before .before .before .before .before .before .args .node .now) 8 (c .before .before .before .before .before .before .before .before .before .args .stop)))) (childBytes (kidsE (listed (c .before .before .before .before .before .before .before .before .before .args .node .now) (c .before .before .before .before .before .before .loop .c .at) (c .before .before .before .before .before .before .loop .c .end)))) (bytesOf (child (c .before .before .before .k .given .0 .0) (part (c .before .before .before .before .before .before .before .before .before .args .node .now) (c .before .before .before .k .given .0 .1 .0)))) (childBytes (kidsE (listed (c .before .before .before .before .before .before .before .before .before .args .node .now) (c .before .before .before .k .given .0 .1 .1 .0 .at) (c .before .before .before .k .given .0 .1 .1 .0 .end)))) (children-cons _ _ _ (n .lists)) (c .before .before .before .before .before .before .loop .inv .3) (c .before .before .before .before .before .before .before .before .before .pre .1) (c .before .before .before .before .before .before .loop .inv .1) in (omega arith, omega arith, small-first _ _ _ (n .lists) (c .before .before .before .before .before .before .loop .inv .2))
+
+-- src/lib.rt:334:5
+loop-less : tie.Need-loop-less Inv-loop μ-loop
+loop-less c = let n = kid-next (c .before .before .before .before .before) in omega arith
+
+-- src/lib.rt:334:5
+loop-again : tie.Need-loop-again Inv-loop μ-loop
+loop-again c = let n = kid-next (c .before .before .before .before .before) in let z = children-cons _ _ _ (n .lists) in let e = as-child _ _ _ _ (c .before .before .emit-child .ensures .1) in (omega arith, search needs, small-later _ _ _ (n .lists) (c .before .before .before .before .before .before .before .before .before .loop .inv .2), line-length (c .before .before .before .before .before .before .before .before .before .before .before .before .args .page .now) (c .before .before .before .before .before .before .before .before .before .loop .page) (c .before .before .before .before .before .before .before .before .before .loop .page) (c .before .before .before .before .before .before .before .before .before .before .before .before .args .at) (c .before .before .before .before .before .before .before .before .before .loop .to) (c .before .before .emit-child .result) (childBytes (kidsE (listed (c .before .before .before .before .before .before .before .before .before .before .before .before .args .node .now) 8 (c .before .before .before .before .before .before .before .before .before .before .before .before .args .stop)))) (childBytes (kidsE (listed (c .before .before .before .before .before .before .before .before .before .before .before .before .args .node .now) (c .before .before .before .before .before .before .before .before .before .loop .c .at) (c .before .before .before .before .before .before .before .before .before .loop .c .end)))) (bytesOf (child (c .before .before .before .before .before .before .k .given .0 .0) (part (c .before .before .before .before .before .before .before .before .before .before .before .before .args .node .now) (c .before .before .before .before .before .before .k .given .0 .1 .0)))) (childBytes (kidsE (listed (c .before .before .before .before .before .before .before .before .before .before .before .before .args .node .now) (c .before .before .before .before .before .before .k .given .0 .1 .1 .0 .at) (c .before .before .before .before .before .before .k .given .0 .1 .1 .0 .end)))) z (c .before .before .before .before .before .before .before .before .before .loop .inv .3) e, line-on (c .before .before .before .before .before .before .before .before .before .before .before .before .args .page .now) (c .before .before .before .before .before .before .before .before .before .loop .page) _ (c .before .before .before .before .before .before .before .before .before .before .before .before .args .at) (c .before .before .before .before .before .before .before .before .before .loop .to) (c .before .before .emit-child .result) (childBytes (kidsE (listed (c .before .before .before .before .before .before .before .before .before .before .before .before .args .node .now) 8 (c .before .before .before .before .before .before .before .before .before .before .before .before .args .stop)))) (childBytes (kidsE (listed (c .before .before .before .before .before .before .before .before .before .before .before .before .args .node .now) (c .before .before .before .before .before .before .before .before .before .loop .c .at) (c .before .before .before .before .before .before .before .before .before .loop .c .end)))) (bytesOf (child (c .before .before .before .before .before .before .k .given .0 .0) (part (c .before .before .before .before .before .before .before .before .before .before .before .before .args .node .now) (c .before .before .before .before .before .before .k .given .0 .1 .0)))) (childBytes (kidsE (listed (c .before .before .before .before .before .before .before .before .before .before .before .before .args .node .now) (c .before .before .before .before .before .before .k .given .0 .1 .1 .0 .at) (c .before .before .before .before .before .before .k .given .0 .1 .1 .0 .end)))) z (c .before .before .before .before .before .before .before .before .before .loop .inv .3) (c .before .before .before .before .before .before .before .before .before .before .before .before .pre .1) (c .before .before .before .before .before .before .before .before .before .loop .inv .1) e (c .before .before .emit-child .ensures .0) (c .before .before .before .before .before .before .before .before .before .loop .inv .4))
+
+pub emit-children-spec : {M : Type 1} → statement M
+emit-children-spec =
+    tie.close
+    (tie.spec
+    Inv-loop
+    μ-loop
+    loop-holds
+    read-child-requires
+    enum-known-k
+    enum-told
+    same-length
+    returns
+    sub-emit-child
+    part-emit-child-start
+    part-emit-child-end
+    emit-child-requires
+    loop-less
+    loop-again)

@@ -1,0 +1,9 @@
+pub mod Kinds
+pub mod Outcome
+pub mod Sides
+pub mod ReadSteps
+pub mod WriteSteps
+pub mod ChildSteps
+pub mod NodeSteps
+pub mod LeafSteps
+pub mod Callers

@@ -1,0 +1,142 @@
+-- Step lemmas of the flush of a node: the copy of its page lists its entries, and each exit keeps the promise.
+-- Relies on push_laws' PushedDown.
+use Prim.Native.Nat.{ℕ, suc, _+_, _*_, _-_, _≤_}
+use mathlib.Core.Path.{_≡_, refl, sym, ap, ap₂, subst, _∙_}
+use mathlib.Core.List.{List, [], _∷_, _++_, append-nil}
+use mathlib.Core.Bool.{Bool, true, false, not, true≢false}
+use mathlib.Core.Option.{some}
+use native.Mathlib.Omega.{arith}
+use lib.ListN.{length, take, drop}
+use Rattle.image.specs.Bytes.{u16, u16Bytes}
+use Rattle.image.specs.Entry as defined
+use Rattle.image.specs.Image.{Kid, treeOf, wholeNodes}
+use Rattle.image.specs.Sound.{sound, once, highest}
+use Rattle.image.specs.Upkeep.{Reachable, reachableAt, reachableNodes}
+use Rattle.image.specs.Contract.{hasChildren, isInterior}
+use Rattle.octets.specs.Order.{not-true}
+use Rattle.octets.specs.Put.{put}
+use Rattle.laws.specs.RowsRising.{is-true}
+use Rattle.packed.specs.Pages.{page, page-length}
+use Rattle.packed.specs.Tidy.{zerosOf, drop-zeros}
+use Rattle.pages.specs.Nodes.{page-is, node-written}
+use Rattle.node.specs.Cut.{cut, cut-drop, cut-take, cut-length}
+use Rattle.node.specs.Entries.{listed, listOf}
+use Rattle.search.specs.Own.{kidsE}
+use Rattle.lookup.specs.Look.{listing}
+use Rattle.live.specs.Walk.{isMessage, hasMessage}
+use Rattle.push_laws.specs.Arriving.{waiting}
+use Rattle.push_laws.specs.High.{highHere}
+use Rattle.push_laws.specs.Written.{childTakes, eachTakes, allHaveRoom, kidNumbers, smallNumbers, childBytes, emptied}
+use Rattle.push_laws.specs.TakesLaws.{each-size}
+use Rattle.push_laws.specs.PushedDown.{PushedDown, interior-place, two-levels, inside, short, stored-level, kids-once, children-fit, small-kids, few-nodes, nothing-waits, pushed-down}
+use Rattle.node_high.specs.Sought.{Seen}
+use Rattle.node_high.specs.Steps.{found-is}
+use Rattle.node_high.specs.declared.Sought.{Sought}
+use Rattle.push.specs.declared.Pushed.{Pushed}
+use Rattle.push.specs.Outcome.{Outcome, Pushable}
+
+-- THE NODE WITH ITS CHILDREN ALONE
+pub node-emptied : (s s′ p₁ : List ℕ) (n level e : ℕ) (ks : List Kid) → length (childBytes ks) ≤ 1016 → p₁ ≡ put (zerosOf 1024) 8 (childBytes ks) → e ≡ 8 + length (childBytes ks)
+    → s′ ≡ put s (n * 1024) (put (put (put p₁ 0 (u16Bytes (e - 8))) 2 (u16Bytes 2)) 4 (u16Bytes level)) → s′ ≡ emptied s n level ks
+unfolding emptied
+node-emptied s s′ p₁ n level e ks h a b d =
+    let z : e - 8 ≡ length (childBytes ks) = omega arith in
+    let t : put (put (put p₁ 0 (u16Bytes (e - 8))) 2 (u16Bytes 2)) 4 (u16Bytes level) ≡ page 2 level (childBytes ks) =
+    ap₂ (λ x y. put (put (put x 0 (u16Bytes y)) 2 (u16Bytes 2)) 4 (u16Bytes level)) a z ∙ page-is (childBytes ks) 2 level h in
+    node-written s (page 2 level (childBytes ks)) n s′ (page-length 2 level (childBytes ks) h) (d ∙ ap (put s (n * 1024)) t)
+
+-- ANSWERS
+pub no-room : (s : List ℕ) (n : ℕ) → Outcome s n Pushed.NoRoom s
+unfolding Outcome
+no-room s n = refl
+
+is-done : (s : List ℕ) (n : ℕ) (s′ : List ℕ) → PushedDown s n s′ → Outcome s n Pushed.Done s′
+unfolding Outcome
+is-done s n s′ h = h
+
+none-waits : (es : List defined.Entry) → hasMessage es ≡ false → waiting es ≡ []
+unfolding hasMessage waiting isMessage
+none-waits [] e = refl
+none-waits (defined.pair k v ∷ es) e = none-waits es e
+none-waits (defined.child i k ∷ es) e = none-waits es e
+none-waits (defined.message m ∷ es) e = absurd (true≢false e)
+
+-- THE COPY OF THE NODE
+copied : (b : List ℕ) → length b ≡ 1024 → put (zerosOf 1024) 0 b ≡ b
+unfolding put
+copied b h =
+    let z : 0 + length b ≡ 1024 = omega arith in
+    let none-left : drop (0 + length b) (zerosOf 1024) ≡ [] = ap (λ m. drop m (zerosOf 1024)) z ∙ drop-zeros 1024 1024 ∙ (unfold zerosOf in refl) in
+    ap (λ l. b ++ l) none-left ∙ append-nil b
+
+module _ (s : List ℕ) (n : ℕ) (hi : List ℕ) (pre : Pushable s n hi) where
+  abbrev found : (x : Reachable) × ((reachableAt n (reachableNodes s) ≡ some x) × (hasChildren (x .children) ≡ true))
+  found = interior-place (reachableAt n (reachableNodes s)) (pre .reached)
+
+  abbrev x : Reachable
+  x = found .0
+
+  pub node-in : n * 1024 + 1024 ≤ length s
+  node-in = inside s n x (pre .is-sound) (found .1 .0) (found .1 .1)
+
+  pub node-short : u16 s (n * 1024) ≤ 1016
+  node-short = short s n x (pre .is-sound) (found .1 .0) (found .1 .1)
+
+  module _ (len : ℕ) (el : len ≡ u16 s (n * 1024)) (node : List ℕ) (en : node ≡ put (zerosOf 1024) 0 (cut s (n * 1024) (n * 1024 + 1024))) where
+    copy-is : node ≡ cut s (n * 1024) (n * 1024 + 1024)
+    copy-is = en ∙ copied (cut s (n * 1024) (n * 1024 + 1024)) (cut-length s (n * 1024) (n * 1024 + 1024) (omega arith) node-in ∙ omega arith)
+
+    same-part : cut node 8 (8 + len) ≡ cut s (n * 1024 + 8) (n * 1024 + 8 + u16 s (n * 1024))
+    same-part =
+        let sh = node-short in
+        let z : 8 + len - 8 ≡ u16 s (n * 1024) = omega arith in
+        ap₂ (λ k l. take k (drop 8 l)) z copy-is
+        ∙ ap (take (u16 s (n * 1024))) (cut-drop s (n * 1024) (n * 1024 + 1024) 8 (omega arith))
+        ∙ cut-take s (n * 1024 + 8) (n * 1024 + 1024) (u16 s (n * 1024)) (omega arith)
+
+    pub lists : listed node 8 (8 + len) ≡ listing s n
+    unfolding listed
+    lists = ap listOf same-part
+
+    pub apart : once (kidNumbers (kidsE (listed node 8 (8 + len)))) ≡ true
+    apart = ap (λ es. once (kidNumbers (kidsE es))) lists ∙ kids-once s n x (pre .is-sound) (found .1 .0) (found .1 .1)
+
+    pub children-short : length (childBytes (kidsE (listed node 8 (8 + len)))) ≤ 1016
+    children-short = let a = children-fit s n x (pre .is-sound) (found .1 .0) (found .1 .1) in let b = ap (λ es. length (childBytes (kidsE es))) lists in omega arith
+
+    pub silent : (b : Bool) → b ≡ hasMessage (listed node 8 (8 + len)) → not b ≡ true → Outcome s n Pushed.Done s
+    silent b e q =
+        is-done s n s (nothing-waits s n x (pre .is-sound) (found .1 .0) (found .1 .1)
+        (none-waits (listing s n) (ap hasMessage (sym lists) ∙ sym e ∙ not-true b q)))
+
+    module _ (b : Bool) (eb : b ≡ allHaveRoom (listed node 8 (8 + len)) (kidsE (listed node 8 (8 + len))) hi s) (fits : not b ≡ false) where
+      pub rooms : allHaveRoom (listed node 8 (8 + len)) (kidsE (listed node 8 (8 + len))) hi s ≡ true
+      rooms = sym eb ∙ is-true b fits
+
+      pub small : smallNumbers (kidsE (listed node 8 (8 + len))) ≡ true
+      small = small-kids (listed node 8 (8 + len)) (kidsE (listed node 8 (8 + len))) hi s (few-nodes (length s) (pre .whole)) rooms
+
+      pub stays-long : (s₁ : List ℕ) → s₁ ≡ eachTakes (childTakes (listed node 8 (8 + len))) (kidsE (listed node 8 (8 + len))) hi s → length s₁ ≡ length s
+      stays-long s₁ e = ap length e ∙ each-size (listed node 8 (8 + len)) (kidsE (listed node 8 (8 + len))) hi s apart rooms
+
+      pub all-done : (level : ℕ) → level ≡ u16 s (n * 1024 + 4) → (s₁ s₂ : List ℕ) → s₁ ≡ eachTakes (childTakes (listed node 8 (8 + len))) (kidsE (listed node 8 (8 + len))) hi s
+          → s₂ ≡ emptied s₁ n level (kidsE (listed node 8 (8 + len))) → Outcome s n Pushed.Done s₂
+      all-done level ev s₁ s₂ a d =
+          let two = two-levels s n x (pre .is-sound) (found .1 .0) (found .1 .1) in
+          let v : level ≡ x .level = ev ∙ stored-level s n x (pre .is-sound) (found .1 .0) (found .1 .1) in
+          let w : level ≡ suc (suc (x .level - 2)) = omega arith in
+          let r : allHaveRoom (listing s n) (kidsE (listing s n)) hi s ≡ true = ap (λ es. allHaveRoom es (kidsE es) hi s) (sym lists) ∙ rooms in
+          let a′ : s₁ ≡ eachTakes (childTakes (listing s n)) (kidsE (listing s n)) hi s = a ∙ ap (λ es. eachTakes (childTakes es) (kidsE es) hi s) lists in
+          let d′ : s₂ ≡ emptied (eachTakes (childTakes (listing s n)) (kidsE (listing s n)) hi s) n (suc (suc (x .level - 2))) (kidsE (listing s n)) =
+          d ∙ ap₂ (λ m es. emptied s₁ n m (kidsE es)) w lists ∙ ap (λ q. emptied q n (suc (suc (x .level - 2))) (kidsE (listing s n))) a′ in
+          subst (Outcome s n Pushed.Done) (sym d′)
+          (is-done s n (emptied (eachTakes (childTakes (listing s n)) (kidsE (listing s n)) hi s) n (suc (suc (x .level - 2))) (kidsE (listing s n)))
+          (pushed-down s n x (pre .is-sound) (found .1 .0) (found .1 .1) hi (pre .high) r))
+
+-- THE HIGH PIVOT AS IT WAS FOUND
+pub pushable : (s : List ℕ) (n m : ℕ) (out : List ℕ) (r : Sought) → wholeNodes (length s) ≡ true → sound s ≡ true → isInterior (reachableAt n (reachableNodes s)) ≡ true
+    → Seen (highHere n (treeOf s) [] highest) r out → r ≡ Sought.Found m → m ≤ length out → Pushable s n (take (m - 0) (drop 0 out))
+pushable s n m out r w e i h q f =
+    let k = found-is (highHere n (treeOf s) [] highest) r m out h q in
+    let z : m - 0 ≡ m = omega arith in
+    record { whole = w; is-sound = e; reached = i; high = k .is ∙ ap some (sym (ap (λ j. take j out) z ∙ k .held .front f)) }

@@ -1,0 +1,12 @@
+pub mod Arriving
+pub mod Leaves
+pub mod Written
+pub mod Only
+pub mod LeafRoom
+pub mod High
+pub mod ArrivingLaws
+pub mod HighLaws
+pub mod ReadBack
+pub mod LeafLaws
+pub mod TakesLaws
+pub mod PushedDown

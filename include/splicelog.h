@@ -37,6 +37,28 @@ uint64_t splicelog_next(const uint8_t *store, size_t store_len, const uint8_t *p
 /* Whether two stores hold the same paths. Beside the number: 1 if they do, else 0. Refuses by 1, 2. */
 uint64_t splicelog_same(const uint8_t *store, size_t store_len, const uint8_t *other, size_t other_len);
 
+/* The calls that change a store are lent a work area of at least 128 bytes a node. An accepted call leaves the first 128 x n bytes of it
+ * zero and the later ones as they were; a refused call leaves it as it was. */
+
+/* The path has this value. Refuses by 1, 2, 3, 4, 10. */
+uint32_t splicelog_put(uint8_t *store, size_t store_len, uint8_t *work, size_t work_len, const uint8_t *path, size_t path_len,
+                       const uint8_t *value, size_t value_len);
+
+/* The path is absent. Refuses by 1, 2, 3. */
+uint32_t splicelog_drop(uint8_t *store, size_t store_len, uint8_t *work, size_t work_len, const uint8_t *path, size_t path_len);
+
+/* Every path below the given one, itself included, is absent. Refuses by 1, 2, 3. */
+uint32_t splicelog_clear(uint8_t *store, size_t store_len, uint8_t *work, size_t work_len, const uint8_t *path, size_t path_len);
+
+/* No message waits in any node; the map stays. Refuses by 1, 2. */
+uint32_t splicelog_settle(uint8_t *store, size_t store_len, uint8_t *work, size_t work_len);
+
+/* Settled, and at most a quarter of the nodes are in use; the map stays. Refuses by 1, 2. */
+uint32_t splicelog_tidy(uint8_t *store, size_t store_len, uint8_t *work, size_t work_len);
+
+/* The messages of a reachable interior node go down; the map stays. Refuses by 1, 2, 6. */
+uint32_t splicelog_flush(uint8_t *store, size_t store_len, uint8_t *work, size_t work_len, uint32_t node);
+
 /* The number of an answer: 0 if the call was accepted. */
 static inline uint32_t splicelog_number(uint64_t answer) { return (uint32_t)answer; }
 

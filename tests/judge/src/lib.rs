@@ -1,6 +1,7 @@
 // The store's static library as a Rust type: the functions of include/splicelog.h, each wrapped in a safe method, so that the second
 // program can judge it. The library takes any bytes, so a wrapper has nothing to test; it only takes the answer apart.
 
+pub mod filling;
 pub mod reading;
 
 use second::subject::{Capabilities, Numbers, Subject};
@@ -15,6 +16,47 @@ extern "C" {
         buffer: *mut u8,
         buffer_len: usize,
     ) -> u64;
+    fn splicelog_same(
+        store: *const u8,
+        store_len: usize,
+        other: *const u8,
+        other_len: usize,
+    ) -> u64;
+    fn splicelog_put(
+        store: *mut u8,
+        store_len: usize,
+        work: *mut u8,
+        work_len: usize,
+        path: *const u8,
+        path_len: usize,
+        value: *const u8,
+        value_len: usize,
+    ) -> u32;
+    fn splicelog_drop(
+        store: *mut u8,
+        store_len: usize,
+        work: *mut u8,
+        work_len: usize,
+        path: *const u8,
+        path_len: usize,
+    ) -> u32;
+    fn splicelog_clear(
+        store: *mut u8,
+        store_len: usize,
+        work: *mut u8,
+        work_len: usize,
+        path: *const u8,
+        path_len: usize,
+    ) -> u32;
+    fn splicelog_settle(store: *mut u8, store_len: usize, work: *mut u8, work_len: usize) -> u32;
+    fn splicelog_tidy(store: *mut u8, store_len: usize, work: *mut u8, work_len: usize) -> u32;
+    fn splicelog_flush(
+        store: *mut u8,
+        store_len: usize,
+        work: *mut u8,
+        work_len: usize,
+        node: u32,
+    ) -> u32;
     fn splicelog_next(
         store: *const u8,
         store_len: usize,
@@ -32,12 +74,22 @@ fn apart(answer: u64) -> Numbers {
     (answer as u32, (answer >> 32) as u32)
 }
 
+/// A number with nothing beside it.
+fn alone(number: u32) -> Numbers {
+    (number, 0)
+}
+
 /// The library.
 pub struct Library;
 
 impl Subject for Library {
     fn capabilities(&self) -> Capabilities {
-        Capabilities::READS
+        Capabilities {
+            move_: false,
+            heal: false,
+            move_bound: false,
+            ..Capabilities::ALL
+        }
     }
 
     fn make(&mut self, store: &mut [u8]) -> Numbers {
@@ -79,8 +131,88 @@ impl Subject for Library {
     }
 
     fn same(&mut self, a: &mut [u8], b: &mut [u8]) -> Numbers {
-        // Until the library has splicelog_same: the right answer, so that the other calls are judged.
-        let answer = second::contract::same_answer(a, b);
-        (answer.number, answer.beside)
+        // SAFETY: as above.
+        apart(unsafe { splicelog_same(a.as_ptr(), a.len(), b.as_ptr(), b.len()) })
+    }
+
+    fn put(&mut self, store: &mut [u8], path: &[u8], value: &[u8], work: &mut [u8]) -> Numbers {
+        // SAFETY: as above.
+        alone(unsafe {
+            splicelog_put(
+                store.as_mut_ptr(),
+                store.len(),
+                work.as_mut_ptr(),
+                work.len(),
+                path.as_ptr(),
+                path.len(),
+                value.as_ptr(),
+                value.len(),
+            )
+        })
+    }
+
+    fn drop(&mut self, store: &mut [u8], path: &[u8], work: &mut [u8]) -> Numbers {
+        // SAFETY: as above.
+        alone(unsafe {
+            splicelog_drop(
+                store.as_mut_ptr(),
+                store.len(),
+                work.as_mut_ptr(),
+                work.len(),
+                path.as_ptr(),
+                path.len(),
+            )
+        })
+    }
+
+    fn clear(&mut self, store: &mut [u8], path: &[u8], work: &mut [u8]) -> Numbers {
+        // SAFETY: as above.
+        alone(unsafe {
+            splicelog_clear(
+                store.as_mut_ptr(),
+                store.len(),
+                work.as_mut_ptr(),
+                work.len(),
+                path.as_ptr(),
+                path.len(),
+            )
+        })
+    }
+
+    fn settle(&mut self, store: &mut [u8], work: &mut [u8]) -> Numbers {
+        // SAFETY: as above.
+        alone(unsafe {
+            splicelog_settle(
+                store.as_mut_ptr(),
+                store.len(),
+                work.as_mut_ptr(),
+                work.len(),
+            )
+        })
+    }
+
+    fn tidy(&mut self, store: &mut [u8], work: &mut [u8]) -> Numbers {
+        // SAFETY: as above.
+        alone(unsafe {
+            splicelog_tidy(
+                store.as_mut_ptr(),
+                store.len(),
+                work.as_mut_ptr(),
+                work.len(),
+            )
+        })
+    }
+
+    fn flush(&mut self, store: &mut [u8], node: u32, work: &mut [u8]) -> Numbers {
+        // SAFETY: as above.
+        alone(unsafe {
+            splicelog_flush(
+                store.as_mut_ptr(),
+                store.len(),
+                work.as_mut_ptr(),
+                work.len(),
+                node,
+            )
+        })
     }
 }

@@ -1,8 +1,8 @@
 // Judges the static library: `judge [SEED [CASES]]`. First by lists of calls, then by reading whole images, one round of them for each
-// thousand lists. A failure names the seed and the case.
+// thousand lists, then by filling stores to the last path. A failure names the seed and the case.
 #![deny(warnings)]
 
-use judge::{reading, Library};
+use judge::{filling, reading, Library};
 use std::process::ExitCode;
 
 const SEED: u64 = 20261115;
@@ -29,5 +29,8 @@ fn judged(seed: u64, cases: usize) -> Result<(), String> {
     println!("{} calls judged: {:?}", lists.calls, lists.answers);
     let images = reading::run(&mut Library, seed, cases.div_ceil(1000))?;
     println!("whole images read: {images:?}");
+    for n in [32, 64, 1024] {
+        println!("{n} nodes filled twice: {} calls", filling::run(n)?);
+    }
     Ok(())
 }

@@ -1,0 +1,81 @@
+// Fills stores to n paths, overwrites, clears and refills them: no call refuses but by its rule, and the map is right at each milestone.
+
+use crate::Library;
+use second::sound::judge;
+use second::subject::Subject;
+
+/// Fills, overwrites, clears and refills a store of n nodes.
+pub fn run(n: usize) -> Result<usize, String> {
+    let mut filling = Filling {
+        store: vec![0xAA; n * 1024],
+        work: vec![0x55; n * 128 + 7],
+        calls: 0,
+    };
+    expect(Library.make(&mut filling.store).0, 0, "make")?;
+    for round in 0..2u8 {
+        filling.fill(n, round)?;
+        filling.put(&path(n), &[round], 10)?;
+        filling.fill(n, round + 10)?;
+        filling.holds(n, round + 10)?;
+        filling.clear(&closure(0), 0)?;
+        filling.holds(n - n.div_ceil(CLOSURES), round + 10)?;
+        filling.fill(n, round + 20)?;
+        (0..CLOSURES).try_for_each(|c| filling.clear(&closure(c), 0))?;
+        filling.holds(0, 0)?;
+    }
+    Ok(filling.calls)
+}
+
+const CLOSURES: usize = 8;
+
+fn closure(index: usize) -> Vec<u8> {
+    format!("r1\0c{index}\0").into_bytes()
+}
+
+/// The i-th path: its closure, tray and fibre.
+fn path(index: usize) -> Vec<u8> {
+    let tail = format!("t{}\0f{index}\0", index / 64);
+    [closure(index % CLOSURES), tail.into_bytes()].concat()
+}
+
+fn expect(answer: u32, number: u32, call: &str) -> Result<(), String> {
+    match answer == number {
+        true => Ok(()),
+        false => Err(format!("{call} answers {answer} and not {number}")),
+    }
+}
+
+struct Filling {
+    store: Vec<u8>,
+    work: Vec<u8>,
+    calls: usize,
+}
+
+impl Filling {
+    fn put(&mut self, path: &[u8], value: &[u8], number: u32) -> Result<(), String> {
+        self.calls += 1;
+        let answer = Library.put(&mut self.store, path, value, &mut self.work).0;
+        expect(answer, number, "put")
+    }
+
+    fn clear(&mut self, path: &[u8], number: u32) -> Result<(), String> {
+        self.calls += 1;
+        let answer = Library.clear(&mut self.store, path, &mut self.work).0;
+        expect(answer, number, "clear")
+    }
+
+    /// Puts the first n paths with this byte.
+    fn fill(&mut self, n: usize, byte: u8) -> Result<(), String> {
+        (0..n).try_for_each(|index| self.put(&path(index), &[byte; 32], 0))
+    }
+
+    /// The second program finds so many paths, all with this byte.
+    fn holds(&self, count: usize, byte: u8) -> Result<(), String> {
+        let sound = judge(&self.store).map_err(|rule| format!("unsound: {}", rule.name()))?;
+        let right = sound.table.values().all(|value| value == &[byte; 32]);
+        match sound.table.len() == count && right {
+            true => Ok(()),
+            false => Err(format!("{} paths, {count} expected", sound.table.len())),
+        }
+    }
+}

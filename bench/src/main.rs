@@ -1,9 +1,10 @@
-// Prints how long get, next and a whole listing take on full stores, beside the second program on the same images, and how deep a stack
-// get and next use. Times are in passes: one pass is a 64-bit FNV-1a, byte by byte, over the reachable nodes of the same image.
+// Prints how long get, next and a whole listing take on full stores, beside the second program on the same images, how deep a stack get
+// and next use, and what writing costs. Times are in passes: one pass is a 64-bit FNV-1a, byte by byte, over the reachable nodes of the same image.
 #![deny(warnings)]
 
 mod images;
 mod stack;
+mod writes;
 
 use judge::Library;
 use second::limits::*;
@@ -34,6 +35,10 @@ fn main() {
     println!("\nstack, in bytes           get    next");
     for case in &mut cases {
         case.print_stack();
+    }
+    println!("\nwriting, in passes     pass us     put    drop   clear   settle    tidy | nodes a put changes");
+    for n in [64, 256, 1024] {
+        writes::print(n, &images::settled(n));
     }
 }
 

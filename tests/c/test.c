@@ -1,5 +1,5 @@
 /* Calls the store as firmware does, through include/splicelog.h: `test IMAGE TABLE`. It makes stores, causes each refusal that a caller of
- * make, get and next can cause, and reads IMAGE, whose paths and values TABLE lists (both written by the second program).
+ * make, get and next can cause, writes to a store and reads it back, and reads IMAGE, whose paths and values TABLE lists (both written by the second program).
  * Every call is made on arrays of exactly the lengths that it is told, from malloc, so that valgrind sees a read or a write outside.
  */
 #include "splicelog.h"
@@ -173,6 +173,61 @@ static void test_image(const char *image, const char *table) {
     free(store.at);
 }
 
+/* One put of a value of these bytes; the path is freed. */
+static uint32_t put(bytes store, bytes work, bytes at, bytes value) {
+    uint32_t number = splicelog_put(store.at, store.len, work.at, work.len, at.at, at.len, value.at, value.len);
+    free(at.at);
+    free(value.at);
+    return number;
+}
+
+/* The first 128 bytes a node of the work area are zero, and the later ones stay. */
+static int cleared(bytes work) {
+    for (size_t i = 0; i < work.len; i++)
+        if (work.at[i] != (i < NODES * 128 ? 0 : LATER))
+            return 0;
+    return 1;
+}
+
+/* Writes, reads back, and causes the refusals that only a writer can cause. */
+static void test_writes(void) {
+    bytes store = filled(NODES * NODE, 1), work = filled(NODES * 128 + 3, LATER), of = path("r1/c7"), other = filled(NODES * NODE, 2);
+    CHECK(splicelog_make(store.at, store.len) == 0 && splicelog_make(other.at, other.len) == 0);
+    CHECK(put(store, work, path("r1/c7/t1"), copy("a", 1)) == 0 && cleared(work));
+    CHECK(put(store, work, path("r1/c7/t2"), filled(0, 0)) == 0 && put(store, work, path("r10"), copy("b", 1)) == 0);
+    CHECK(put(store, work, path("r1//t2"), copy("a", 1)) == 3 && put(store, work, path("r1"), filled(33, 0)) == 4);
+    ask(store, path("r1/c7/t1"), NULL, VALUE_MOST, 0, copy("a", 1));
+    uint64_t same = splicelog_same(store.at, store.len, store.at, store.len);
+    CHECK(splicelog_number(same) == 0 && splicelog_beside(same) == 1);
+    same = splicelog_same(store.at, store.len, other.at, other.len);
+    CHECK(splicelog_number(same) == 0 && splicelog_beside(same) == 0);
+    uint32_t root = store.at[6];
+    CHECK(splicelog_flush(store.at, store.len, work.at, work.len, root) == 0);
+    CHECK(splicelog_flush(store.at, store.len, work.at, work.len, 0) == 6 && splicelog_flush(store.at, store.len, work.at, work.len, UINT32_MAX) == 6);
+    CHECK(splicelog_settle(store.at, store.len, work.at, work.len) == 0 && cleared(work));
+    CHECK(splicelog_tidy(store.at, store.len, work.at, work.len) == 0 && cleared(work));
+    CHECK(splicelog_tidy(store.at, store.len, work.at, NODES * 128 - 1) == 1);
+    CHECK(splicelog_clear(store.at, store.len, work.at, work.len, of.at, of.len) == 0);
+    refuse_get(store, path("r1/c7/t1"), VALUE_MOST, 8);
+    ask(store, path("r10"), NULL, VALUE_MOST, 0, copy("b", 1));
+    free(of.at);
+    of = path("r10");
+    CHECK(splicelog_drop(store.at, store.len, work.at, work.len, of.at, of.len) == 0);
+    refuse_get(store, path("r10"), VALUE_MOST, 8);
+    same = splicelog_same(store.at, store.len, other.at, other.len);
+    CHECK(splicelog_number(same) == 0 && splicelog_beside(same) == 1);
+    for (int i = 0; i < NODES; i++) {
+        char text[8];
+        snprintf(text, sizeof text, "p%d", i);
+        CHECK(put(store, work, path(text), copy("x", 1)) == 0);
+    }
+    CHECK(put(store, work, path("one-more"), copy("x", 1)) == 10 && put(store, work, path("p3"), copy("y", 1)) == 0);
+    free(store.at);
+    free(work.at);
+    free(other.at);
+    free(of.at);
+}
+
 int main(int count, char **words) {
     if (count != 3) {
         fprintf(stderr, "usage: test IMAGE TABLE\n");
@@ -180,6 +235,7 @@ int main(int count, char **words) {
     }
     test_make();
     test_refusals();
+    test_writes();
     test_image(words[1], words[2]);
     printf("%s: %u checks passed\n", words[1], checks);
     return 0;

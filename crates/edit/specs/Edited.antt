@@ -38,7 +38,7 @@ use Rattle.append_laws.specs.Raise.{rootRaised}
 use Rattle.append_laws.specs.SetLive.{withLive, live-right, live-length, live-table}
 use Rattle.append.specs.Callers as code
 use Rattle.laws.specs.Follow.{table-rises}
-use Rattle.rebuild.specs.StoreTable.{table-few}
+use Rattle.dump.specs.RootSteps.{table-few}
 use Rattle.rebuild.specs.Rebuild.{cleared}
 use Rattle.rebuild.specs.Callers.{Lent, to-act, laterNo, later-number, act-meets, act-refused}
 use Rattle.edit.specs.declared.Change.{Change}

@@ -1,4 +1,5 @@
 pub mod Live
+pub mod KeepLaws
 pub mod LiveLaws
 pub mod PathBuffers
 pub mod Walk

@@ -1,5 +1,5 @@
 -- The entries that decide a path are as many as the rows of a sound tree's table.
--- Relies on the laws of tables and of sound trees (plan: Rising, RowsRising, Means, Keep; rel: Seek, SeekHere).
+-- Relies on the laws of tables and of sound trees (laws: RowsRising, LookupTable, Filter; reading: Seek, SeekHere) and on KeepLaws.
 use Prim.Native.Nat.{ℕ, _+_, _<_}
 use mathlib.Core.Path.{_≡_, refl, sym, ap, ap₂, _∙_}
 use mathlib.Core.List.{List, [], _∷_, _++_}
@@ -8,31 +8,23 @@ use mathlib.Core.Option.{Option, none, some}
 use native.Mathlib.Omega.{arith}
 use lib.ListN.{length, drop, length-append}
 use lib.Seq.{drop-append-seam, drop-append-add}
-use Rattle.image.specs.Bytes.{same, before, begins, shared}
-use Rattle.image.specs.Path.{wellFormed, owns, below}
+use Rattle.image.specs.Bytes.{same, begins, shared}
+use Rattle.image.specs.Path.{wellFormed, owns}
 use Rattle.image.specs.Entry.{Message, puts, drops, clears}
-use Rattle.image.specs.Table.{Row, find, isSome, withRow, without, withoutBelow, underPrefix, everyKey, leads, rising}
+use Rattle.image.specs.Table.{Row, find, isSome, withRow, underPrefix, everyKey, rising}
 use Rattle.image.specs.Image.{Tree, unread, leaf, interior, Forest, end, tree}
-use Rattle.image.specs.Meaning.{Said, nothing, says, saysOf, newer, newest, highOf, apply, applyAll, rows, rowsIn}
+use Rattle.image.specs.Meaning.{saysOf, newest, highOf, apply, applyAll, rows, rowsIn}
 use Rattle.image.specs.Sound.{soundTree, soundForest, soundMessage, soundMessages}
-use Rattle.octets.specs.Order.{and-false, and-left, and-right, not-so, same-eq, same-append, begins-append, begins-split, before-not-same, before-total, shared-append}
+use Rattle.octets.specs.Order.{and-left, and-right, not-so, same-eq, same-refl, shared-append}
 use Rattle.laws.specs.Tables.{find-fails}
-use Rattle.laws.specs.Rising.{find-leads}
-use Rattle.laws.specs.RowsRising.{every-key, is-true, rising-apply, rows-rise-in}
-use Rattle.laws.specs.LookupTable.{parts, inner, apply-none, outside-in}
-use Rattle.laws.specs.Filter.{keep, keep-append, keep-all, owned-begins, every-imp}
+use Rattle.laws.specs.RowsRising.{every-key, rising-apply, rows-rise-in}
+use Rattle.laws.specs.LookupTable.{parts, inner, outside-in}
+use Rattle.laws.specs.Filter.{keep, keep-append, keep-all, keep-passes}
 use Rattle.reading.specs.Relative.{lifts}
 use Rattle.reading.specs.SeekHere.{high-split, high-under}
 use Rattle.reading.specs.Seek.{every, holds, keys, keys-hold, isKey, present, stands}
 use Rattle.live.specs.Live.{holdsNoMessage, one, short, Shortens, countRows, countPuts, liveHere, liveKids}
-
--- two tests that agree on every key keep the same rows
-keep-ext : (a b g : List ℕ → Bool) (t : List Row) → everyKey g t ≡ true → ((q : List ℕ) → g q ≡ true → a q ≡ b q) → keep a t ≡ keep b t
-unfolding keep everyKey
-keep-ext a b g [] e h = refl
-keep-ext a b g (r ∷ t) e h =
-    ap₂ (λ x l. cond x (r ∷ l) (keep a t)) (h (r .key) (and-left _ _ e)) (keep-ext a b g t (and-right (g (r .key)) _ e) h)
-    ∙ ap (λ l. cond (b (r .key)) (r ∷ keep b t) l) (keep-ext a b g t (and-right (g (r .key)) _ e) h)
+use Rattle.live.specs.KeepLaws.{keep-ext, with-length, added, quiet-put, quiet-newer, message-keep, owned-apply, all-begin}
 
 keep-length : (test : List ℕ → Bool) (r : Row) (t : List Row) → length (keep test (r ∷ t)) ≡ one (test (r .key)) + length (keep test t)
 unfolding keep one
@@ -50,157 +42,48 @@ nothing-kept : (ok : List ℕ → Bool) → 0 ≡ length (keep ok [])
 unfolding keep
 nothing-kept ok = refl
 
--- a path before every key is none of them
-never : (p : List ℕ) (t : List Row) → rising t ≡ true → leads p t ≡ true → everyKey (λ q. not (same p q)) t ≡ true
-never p t e f = every-key (λ q. not (same p q)) t (λ q n. rw (← same-eq p q (is-true (same p q) n)) (find-leads p t e f))
-
-and-not : (x y : Bool) → not y ≡ true → x && not y ≡ x
-and-not true y e = e
-and-not false y e = refl
-
--- the test, but for one path
-abbrev sparing : (List ℕ → Bool) → List ℕ → List ℕ → Bool
-sparing test p q = test q && not (same p q)
-
--- the rows kept of a table that a put, a drop or a clear has changed
-pub keep-with : (test : List ℕ → Bool) (p v : List ℕ) (t : List Row) → rising t ≡ true
-    → length (keep test (withRow p v t)) ≡ one (test p) + length (keep (λ q. test q && not (same p q)) t)
-unfolding withRow rising
-keep-with test p v [] e = keep-length test (record { key = p; value = v }) [] ∙ ap (λ l. one (test p) + length l) (none-kept test (λ q. test q && not (same p q)))
-  where
-    none-kept : (a b : List ℕ → Bool) → keep a [] ≡ keep b []
-    none-kept a b = unfold keep in refl
-keep-with test p v (r ∷ t) e = go (before (r .key) p) refl (same p (r .key)) refl (keep-with test p v t (and-right (leads (r .key) t) _ e))
-  where
-    spared : (l : List Row) → everyKey (λ q. not (same p q)) l ≡ true → keep test l ≡ keep (sparing test p) l
-    spared l f = keep-ext test (sparing test p) (λ q. not (same p q)) l f (λ q n. sym (and-not (test q) (same p q) n))
-
-    go : (x : Bool) → before (r .key) p ≡ x → (y : Bool) → same p (r .key) ≡ y
-        → length (keep test (withRow p v t)) ≡ one (test p) + length (keep (sparing test p) t)
-        → length (keep test (cond (before (r .key) p) (r ∷ withRow p v t) (cond (same p (r .key)) (record { key = p; value = v } ∷ t) (record { key = p; value = v } ∷ r ∷ t))))
-        ≡ one (test p) + length (keep (sparing test p) (r ∷ t))
-    go true b y s ih =
-        let n : same p (r .key) ≡ false = before-not-same (r .key) p b in
-        let a : one (sparing test p (r .key)) ≡ one (test (r .key)) = ap one (and-not (test (r .key)) (same p (r .key)) (rw n)) in
-        let k = keep-length test r (withRow p v t) in
-        let m = keep-length (sparing test p) r t in
-        rw b (omega arith)
-    go false b true s ih =
-        let z : p ≡ r .key = same-eq p (r .key) s in
-        let f : everyKey (λ q. not (same p q)) t ≡ true = never p t (and-right (leads (r .key) t) _ e) (rw z (and-left _ _ e)) in
-        let a : one (sparing test p (r .key)) ≡ 0 = ap one (rw s (and-false (test (r .key)))) ∙ none-one in
-        let k = keep-length test (record { key = p; value = v }) t in
-        let m = keep-length (sparing test p) r t in
-        let w : length (keep test t) ≡ length (keep (sparing test p) t) = ap length (spared t f) in
-        rw (b, s) (omega arith)
-    go false b false s ih =
-        let f : everyKey (λ q. not (same p q)) (r ∷ t) ≡ true = never p (r ∷ t) e (unfold leads in before-total p (r .key) s b) in
-        let k = keep-length test (record { key = p; value = v }) (r ∷ t) in
-        let w : length (keep test (r ∷ t)) ≡ length (keep (sparing test p) (r ∷ t)) = ap length (spared (r ∷ t) f) in
-        rw (b, s) (omega arith)
-
-pub keep-without : (test : List ℕ → Bool) (p : List ℕ) (t : List Row) → keep test (without p t) ≡ keep (λ q. test q && not (same p q)) t
-unfolding without keep
-keep-without test p [] = refl
-keep-without test p (r ∷ t) = go (same p (r .key)) refl (test (r .key)) refl (keep-without test p t)
-  where
-    go : (x : Bool) → same p (r .key) ≡ x → (y : Bool) → test (r .key) ≡ y → keep test (without p t) ≡ keep (λ q. test q && not (same p q)) t
-        → keep test (without p (r ∷ t)) ≡ keep (λ q. test q && not (same p q)) (r ∷ t)
-    go true e true f ih = rw (e, f) ih
-    go true e false f ih = rw (e, f) ih
-    go false e true f ih = rw (e, f) (ap (λ l. r ∷ l) ih)
-    go false e false f ih = rw (e, f) ih
-
-pub keep-cleared : (test : List ℕ → Bool) (p : List ℕ) (t : List Row) → keep test (withoutBelow p t) ≡ keep (λ q. test q && not (begins p q)) t
-unfolding withoutBelow keep below
-keep-cleared test p [] = refl
-keep-cleared test p (r ∷ t) = go (begins p (r .key)) refl (test (r .key)) refl (keep-cleared test p t)
-  where
-    go : (x : Bool) → begins p (r .key) ≡ x → (y : Bool) → test (r .key) ≡ y → keep test (withoutBelow p t) ≡ keep (λ q. test q && not (begins p q)) t
-        → keep test (withoutBelow p (r ∷ t)) ≡ keep (λ q. test q && not (begins p q)) (r ∷ t)
-    go true e true f ih = rw (e, f) ih
-    go true e false f ih = rw (e, f) ih
-    go false e true f ih = rw (e, f) (ap (λ l. r ∷ l) ih)
-    go false e false f ih = rw (e, f) ih
-
 -- one message: what it adds by itself, and what it leaves of the table
 unfoldable adds : (List ℕ → Bool) → List ℕ → Message → ℕ
 adds ok X (puts s v) = one (ok (X ++ s))
 adds ok X (drops s) = 0
 adds ok X (clears s) = 0
 
-named : (X s q : List ℕ) → begins X q ≡ true → same (X ++ s) q ≡ same s (drop (length X) q)
-named X s q b = ap (λ z. same (X ++ s) z) (sym (begins-split X q b)) ∙ same-append X s (drop (length X) q)
-
-cleared : (X s q : List ℕ) → begins X q ≡ true → begins (X ++ s) q ≡ begins s (drop (length X) q)
-cleared X s q b = ap (λ z. begins (X ++ s) z) (sym (begins-split X q b)) ∙ begins-append X s (drop (length X) q)
-
-quiet-put : (s v r : List ℕ) → holdsNoMessage (saysOf (puts s v) r) ≡ not (same s r)
-unfolding saysOf
-quiet-put s v r = go (same s r)
-  where
-    go : (x : Bool) → holdsNoMessage (cond x (says (some v)) nothing) ≡ not x
-    go true = unfold holdsNoMessage in refl
-    go false = unfold holdsNoMessage in refl
-
-quiet-drop : (s r : List ℕ) → holdsNoMessage (saysOf (drops s) r) ≡ not (same s r)
-unfolding saysOf
-quiet-drop s r = go (same s r)
-  where
-    go : (x : Bool) → holdsNoMessage (cond x (says none) nothing) ≡ not x
-    go true = unfold holdsNoMessage in refl
-    go false = unfold holdsNoMessage in refl
-
-quiet-clear : (s r : List ℕ) → holdsNoMessage (saysOf (clears s) r) ≡ not (begins s r)
-unfolding saysOf
-quiet-clear s r = go (begins s r)
-  where
-    go : (x : Bool) → holdsNoMessage (cond x (says none) nothing) ≡ not x
-    go true = unfold holdsNoMessage in refl
-    go false = unfold holdsNoMessage in refl
-
 zero-plus : (n : ℕ) → n ≡ 0 + n
 zero-plus n = omega arith
 
+-- a put's own path is not among the rows that it says nothing of
+put-absent : (test : List ℕ → Bool) (X s v : List ℕ) (t : List Row) → everyKey (λ q. begins X q) t ≡ true
+    → find (X ++ s) (keep (λ q. test q && holdsNoMessage (saysOf (puts s v) (drop (length X) q))) t) ≡ none
+put-absent test X s v t g =
+    find-fails quiet (X ++ s) (keep (λ q. test q && quiet q) t) (keep-passes (λ q. begins X q) (λ q. test q && quiet q) quiet t (λ q a b. and-right (test q) _ b) g) named-it
+  where
+    quiet : List ℕ → Bool
+    quiet q = holdsNoMessage (saysOf (puts s v) (drop (length X) q))
+
+    named-it : quiet (X ++ s) ≡ false
+    named-it = quiet-put s v (drop (length X) (X ++ s)) ∙ rw (drop-append-seam X s, same-refl s)
+
 message-count : (test : List ℕ → Bool) (X : List ℕ) (m : Message) (t : List Row) → rising t ≡ true → everyKey (λ q. begins X q) t ≡ true
     → length (keep test (apply X m t)) ≡ adds test X m + length (keep (λ q. test q && holdsNoMessage (saysOf m (drop (length X) q))) t)
-unfolding apply adds
-message-count test X (puts s v) t e g =
-    keep-with test (X ++ s) v t e
-    ∙ ap (λ l. one (test (X ++ s)) + length l)
-    (keep-ext _ _ (λ q. begins X q) t g (λ q b. ap (λ x. test q && x) (ap not (named X s q b) ∙ sym (quiet-put s v (drop (length X) q)))))
-message-count test X (drops s) t e g =
-    ap length (keep-without test (X ++ s) t
-    ∙ keep-ext _ _ (λ q. begins X q) t g (λ q b. ap (λ x. test q && x) (ap not (named X s q b) ∙ sym (quiet-drop s (drop (length X) q)))))
-    ∙ zero-plus (length (keep (λ q. test q && holdsNoMessage (saysOf (drops s) (drop (length X) q))) t))
-message-count test X (clears s) t e g =
-    ap length (keep-cleared test (X ++ s) t
-    ∙ keep-ext _ _ (λ q. begins X q) t g (λ q b. ap (λ x. test q && x) (ap not (cleared X s q b) ∙ sym (quiet-clear s (drop (length X) q)))))
-    ∙ zero-plus (length (keep (λ q. test q && holdsNoMessage (saysOf (clears s) (drop (length X) q))) t))
+message-count test X m t e g = ap length (message-keep test X m t e g) ∙ sum m
+  where
+    sum : (m : Message) → length (added test X m (keep (λ q. test q && holdsNoMessage (saysOf m (drop (length X) q))) t))
+        ≡ adds test X m + length (keep (λ q. test q && holdsNoMessage (saysOf m (drop (length X) q))) t)
+    sum (puts s v) = unfold added adds in go (test (X ++ s)) (keep (λ q. test q && holdsNoMessage (saysOf (puts s v) (drop (length X) q))) t) (put-absent test X s v t g)
+      where
+        go : (x : Bool) (K : List Row) → find (X ++ s) K ≡ none → length (cond x (withRow (X ++ s) v K) K) ≡ one x + length K
+        go true K f = unfold one in (with-length (X ++ s) v K f ∙ (omega arith))
+        go false K f = unfold one in omega arith
+    sum (drops s) = unfold added adds in zero-plus (length (keep (λ q. test q && holdsNoMessage (saysOf (drops s) (drop (length X) q))) t))
+    sum (clears s) = unfold added adds in zero-plus (length (keep (λ q. test q && holdsNoMessage (saysOf (clears s) (drop (length X) q))) t))
 
 -- all the messages of a node
-quiet-newer : (x : Bool) (a b : Said) → x && holdsNoMessage b && holdsNoMessage a ≡ x && holdsNoMessage (newer a b)
-unfolding holdsNoMessage newer
-quiet-newer true nothing nothing = refl
-quiet-newer true nothing (says v) = refl
-quiet-newer true (says u) nothing = refl
-quiet-newer true (says u) (says v) = refl
-quiet-newer false a b = refl
-
 puts-cons : (ok : List ℕ → Bool) (X : List ℕ) (m : Message) (ms : List Message)
     → countPuts ok X (m ∷ ms) ≡ adds (λ q. ok q && holdsNoMessage (newest ms (drop (length X) q))) X m + countPuts ok X ms
 unfolding countPuts adds
 puts-cons ok X (puts s v) ms = rw (drop-append-seam X s)
 puts-cons ok X (drops s) ms = omega arith
 puts-cons ok X (clears s) ms = omega arith
-
-owned-apply : (lo hi : List ℕ) (m : Message) (t : List Row) → soundMessage lo hi m ≡ true → everyKey (owns lo hi) t ≡ true
-    → everyKey (owns lo hi) (apply (shared lo hi) m t) ≡ true
-owned-apply lo hi m t h e =
-    every-key (owns lo hi) (apply (shared lo hi) m t) (λ q n. apply-none lo hi q m t h n (find-fails (owns lo hi) q t e n))
-
-all-begin : (lo hi : List ℕ) (t : List Row) → everyKey (owns lo hi) t ≡ true → everyKey (λ q. begins (shared lo hi) q) t ≡ true
-all-begin lo hi t e = every-imp (owns lo hi) (λ q. begins (shared lo hi) q) t (λ q o. owned-begins lo hi q o) e
 
 pub messages-count : (ok : List ℕ → Bool) (lo hi : List ℕ) (ms : List Message) (t : List Row) → soundMessages lo hi ms ≡ true → rising t ≡ true
     → everyKey (owns lo hi) t ≡ true → length (keep ok (applyAll (shared lo hi) ms t))
@@ -294,7 +177,7 @@ short-formed : (lo hi q : List ℕ) → holds lo hi q ≡ true → short q ≡ t
 unfolding holds wellFormed short
 short-formed lo hi q h = and-left _ _ (and-left _ _ h)
 
-all-short : (t : Tree) (lo hi : List ℕ) → soundTree t lo hi ≡ true → everyKey short (rows t lo hi) ≡ true
+pub all-short : (t : Tree) (lo hi : List ℕ) → soundTree t lo hi ≡ true → everyKey short (rows t lo hi) ≡ true
 all-short t lo hi e = every-key short (rows t lo hi) (λ q n. go q n (find q (rows t lo hi)) refl)
   where
     there : (q v : List ℕ) → find q (rows t lo hi) ≡ some v → present q (rows t lo hi) ≡ true

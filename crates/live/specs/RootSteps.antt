@@ -36,7 +36,7 @@ module _ (s : List ℕ) (h : Countable s) where
     unfolding headerOf header
     root-is = a ∙ sym (first-u16 s 6 one-node (omega arith))
 
-    tree-is : treeAt levels s root ≡ treeOf s
+    pub tree-is : treeAt levels s root ≡ treeOf s
     unfolding treeOf
     tree-is = ap₂ (λ x y. treeAt x s y) levels-are root-is
 
@@ -49,11 +49,11 @@ module _ (s : List ℕ) (h : Countable s) where
           deep = let l = levels-are in let g = h .levels in omega arith;
         }
 
-    empty-prefix : (p : PathBuffer) → p .len ≡ 0 → pathIn p ≡ []
+    pub empty-prefix : (p : PathBuffer) → p .len ≡ 0 → pathIn p ≡ []
     unfolding pathIn
     empty-prefix p e = ap (λ n. take n (p .bytes)) e
 
-    no-trail : (t : Trail) → t .depth ≡ 0 → (q : List ℕ) → passing s t q ≡ short q
+    pub no-trail : (t : Trail) → t .depth ≡ 0 → (q : List ℕ) → passing s t q ≡ short q
     no-trail t e q = ap (λ d. passes s (t .nodes) (t .lifts) d q) e ∙ at-top q
       where
         at-top : (q : List ℕ) → passes s (t .nodes) (t .lifts) 0 q ≡ short q

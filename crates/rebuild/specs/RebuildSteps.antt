@@ -22,7 +22,7 @@ use Rattle.build.specs.Handed.{handed}
 use Rattle.build.specs.Built.{Asks, builtImage}
 use Rattle.build.specs.BuiltLaws.{built, counted-numbers}
 use Rattle.rebuild.specs.StoreTable.{store-table}
-use Rattle.rebuild.specs.Dump.{Dumped}
+use Rattle.dump.specs.Dump.{Dumped}
 use Rattle.rebuild.specs.Rebuild.{Repacked, Packable, Rebuilt}
 
 pub tidied-settled : (s : List ℕ) → tidied s ≡ true → settled s ≡ true

@@ -25,6 +25,7 @@ use Rattle.upkeep.specs.Flush.{values-apply, message-small}
 use Rattle.upkeep.specs.Merge.{values-append}
 use Rattle.lookup.specs.Root.{starts}
 use Rattle.packed.specs.Tidy.{Table}
+use Rattle.dump.specs.RootSteps.{table-few}
 use Rattle.seek.specs.Walk.{isPresent}
 use Rattle.seek.specs.Present.{present-formed}
 
@@ -56,26 +57,6 @@ mutual
       (rows-values t (lifted ++ s) (highOf lifted hi f) (parts s t f lifted lo hi e .first))
       (rows-values-in f lifted lo hi (parts s t f lifted lo hi e .later))
 
--- THE LIVE COUNT
-sound-parts : (s : List ℕ) → sound s ≡ true
-    → (soundHeader (nodesOf (length s)) (headerOf s) ≡ true) × (soundRoot (nodesOf (length s)) (headerOf s .live) (treeOf s) ≡ true)
-unfolding sound
-sound-parts s e = (
-  and-right (headerLaidOut (nodeBytes s 0)) _ (and-left _ _ e),
-  and-right (headerLaidOut (nodeBytes s 0) && soundHeader (nodesOf (length s)) (headerOf s)) _ e,
-)
-
-live-few : (n : ℕ) (h : Header) → soundHeader n h ≡ true → h .live ≤ n
-unfolding soundHeader
-live-few n h e =
-    leb-true (h .live) n (and-right (eqb (h .count) n && leb 1 (h .root) && ltb (h .root) n && leb 1 (h .levels) && leb (h .levels) levelsLimit) _ e)
-
-live-right : (n live : ℕ) (s : List ℕ) → soundRoot n live (treeOf s) ≡ true → live ≡ length (tableOf s)
-unfolding soundRoot tableOf
-live-right n live s e =
-    eqb-true live (length (rows (treeOf s) lowest highest))
-    (and-right (soundTree (treeOf s) lowest highest && once (numbers (treeOf s)) && inRange n (numbers (treeOf s))) _ e)
-
 module _ (s : List ℕ) (whole : sound s ≡ true) where
   pub table-values : valuesFit (tableOf s) ≡ true
   unfolding tableOf
@@ -94,11 +75,5 @@ module _ (s : List ℕ) (whole : sound s ≡ true) where
       absent q e none f = sym (means-table s whole q) ∙ f
       absent q e (some v) f = not-so (present-formed s q whole (present q v f)) e
 
-  pub table-few : length (tableOf s) ≤ nodesOf (length s)
-  table-few =
-      let a = live-few (nodesOf (length s)) (headerOf s) (sound-parts s whole .0) in
-      let b = live-right (nodesOf (length s)) (headerOf s .live) s (sound-parts s whole .1) in
-      omega arith
-
   pub store-table : Table (nodesOf (length s)) (tableOf s)
-  store-table = record { few = table-few; rises = table-rises s whole; formed = table-formed; values = table-values }
+  store-table = record { few = table-few s whole; rises = table-rises s whole; formed = table-formed; values = table-values }

@@ -1,0 +1,48 @@
+-- The dump from the root: an empty prefix, an empty trail, and the pivots of the root (specs/RootSteps).
+use Rattle.dump.specs.RootSteps.{dump-long, dump-ready, dump-sound, dump-room, dump-done}
+use borrow.Author.Needs.{needs}
+use native.Mathlib.Omega.{arith}
+use mathlib.Core.Path.{refl}
+use Rattle.dump.proofs.dump.Statement.{statement}
+use Rattle.dump.proofs.dump.Tie as tie
+
+u16-at-requires : tie.Need-u16-at-requires
+u16-at-requires c κs = let l = dump-long (c .before .before .args .store .now) (c .before .before .pre .0) in omega arith
+
+u16-at-requires-2 : tie.Need-u16-at-requires-2
+u16-at-requires-2 c κs = let l = dump-long (c .before .before .before .args .store .now) (c .before .before .before .pre .0) in omega arith
+
+sub-dump-node : tie.Need-sub-dump-node
+sub-dump-node c = search needs
+
+part-dump-node-start : tie.Need-part-dump-node-start
+part-dump-node-start c = search needs
+
+part-dump-node-end : tie.Need-part-dump-node-end
+part-dump-node-end c = search needs
+
+slice-aggregate-dump-node : tie.Need-slice-aggregate-dump-node
+slice-aggregate-dump-node c = search needs
+
+dump-node-requires : tie.Need-dump-node-requires
+dump-node-requires c κs = (dump-ready (c .before .before .before .before .before .before .before .before .args .store .now) (c .before .before .before .before .before .before .before .before .pre .0) _ _ (c .before .before .before .before .before .u16-at .ensures .0) (c .before .before .before .before .u16-at2 .ensures .0) _ refl _ refl, dump-sound (c .before .before .before .before .before .before .before .before .args .store .now) (c .before .before .before .before .before .before .before .before .pre .0) _ _ (c .before .before .before .before .before .u16-at .ensures .0) (c .before .before .before .before .u16-at2 .ensures .0) _ refl _ _ refl refl, dump-room (c .before .before .before .before .before .before .before .before .args .store .now) (c .before .before .before .before .before .before .before .before .pre .0) _ _ (c .before .before .before .before .before .u16-at .ensures .0) (c .before .before .before .before .u16-at2 .ensures .0) _ refl _ _ refl refl _ refl _ (c .before .before .before .before .before .before .before .before .pre .1) (c .before .before .before .before .before .before .before .before .pre .2))
+
+same-length : tie.Need-same-length
+same-length c = search needs
+
+returns : tie.Need-returns
+returns c = dump-done (c .before .before .before .before .before .before .before .before .before .before .before .args .store .now) (c .before .before .before .before .before .before .before .before .before .before .before .pre .0) _ _ (c .before .before .before .before .before .before .before .before .u16-at .ensures .0) (c .before .before .before .before .before .before .before .u16-at2 .ensures .0) _ refl _ _ refl refl _ refl _ _ _ (c .before .before .dump-node .ensures)
+
+pub dump-spec : {M : Type 1} → statement M
+dump-spec =
+    tie.close
+    (tie.spec
+    u16-at-requires
+    u16-at-requires-2
+    sub-dump-node
+    part-dump-node-start
+    part-dump-node-end
+    slice-aggregate-dump-node
+    dump-node-requires
+    same-length
+    returns)

@@ -1,0 +1,217 @@
+-- The steps of the append: one pair's row, and the loop over a leaf's entries. Relies on what put_row promises (build: RowPut) and on
+-- what the tests of `live` promise.
+use Prim.Native.Nat.{ℕ, _+_, _*_, _-_, _<_, _≤_}
+use mathlib.Core.Path.{_≡_, refl, sym, ap, subst, _∙_}
+use mathlib.Core.List.{List, [], _∷_, _++_, append-nil, append-assoc}
+use mathlib.Core.Bool.{Bool, true, false, _&&_, not, cond, true≢false}
+use native.Mathlib.Omega.{arith}
+use lib.ListN.{length, take, drop, length-append}
+use lib.Dec.{leb}
+use borrow.Author.Tests.{not-true, not-false, leb-true, leb-false}
+use Rattle.image.specs.Path.{valueFits}
+use Rattle.image.specs.Entry as defined
+use Rattle.image.specs.Table.{Row, underPrefix}
+use Rattle.octets.specs.Order.{and-left, and-right}
+use Rattle.laws.specs.Filter.{keep, keep-append}
+use Rattle.packed.specs.Leaves.{value-length}
+use Rattle.node.specs.Places.{part, entryIn}
+use Rattle.node.specs.declared.Place.{Place}
+use Rattle.node.specs.declared.Message.{Message}
+use Rattle.node.specs.declared.Entry.{Entry}
+use Rattle.rows.specs.Area.{rowsOf, RowsFit}
+use Rattle.build.specs.Rows.{RowPut}
+use Rattle.live.specs.Live.{Shortens}
+use Rattle.live.specs.PathBuffers.{pathIn}
+use Rattle.live.specs.PathSteps.{path-length}
+use Rattle.live.specs.declared.path_buffer.PathBuffer.{PathBuffer}
+use Rattle.live.specs.declared.Trail.{Trail}
+use Rattle.live.specs.Walk.{passing}
+use Rattle.live.specs.Steps.{passes-short, as-path}
+use Rattle.dump.specs.Dump.{rowIn, pairsE, valueFitsE, valuesFitE, Room, Added}
+
+-- ROWS ADDED
+pub added-none : (m : ℕ) (area : List ℕ) (t : List Row) → t ≡ [] → RowsFit m area → Added m area area m t
+added-none m area t e f =
+    record { fit = f; rows = sym (append-nil (rowsOf m area 0)) ∙ ap (λ l. rowsOf m area 0 ++ l) (sym e); count = rw e (omega arith); size = refl }
+
+pub added-as : (m r : ℕ) (a b : List ℕ) (t u : List Row) → t ≡ u → Added m a b r t → Added m a b r u
+added-as m r a b t u e x = subst (λ l. Added m a b r l) e x
+
+pub added-more : (m n r : ℕ) (a b c : List ℕ) (t u w : List Row) → w ≡ t ++ u → Added m a b n t → Added n b c r u → Added m a c r w
+added-more m n r a b c t u w e x y =
+    record {
+      fit = y .fit;
+      rows = y .rows ∙ ap (λ l. l ++ u) (x .rows) ∙ append-assoc (rowsOf m a 0) t u ∙ ap (λ l. rowsOf m a 0 ++ l) (sym e);
+      count =
+          let p = x .count in
+          let q = y .count in
+          let l : length w ≡ length t + length u = ap length e ∙ length-append t u in
+          omega arith;
+      size = y .size ∙ x .size;
+    }
+
+-- room for a first part of the rows, and after it for the rest
+pub room-first : (area : List ℕ) (m : ℕ) (t u w : List Row) → w ≡ t ++ u → Room area m w → Room area m t
+room-first area m t u w e r =
+    let l : length w ≡ length t + length u = ap length e ∙ length-append t u in
+    let h = r .room in
+    record { fit = r .fit; room = omega arith; bound = r .bound }
+
+pub room-rest : (a b : List ℕ) (m n : ℕ) (t u w : List Row) → w ≡ t ++ u → Room a m w → Added m a b n t → Room b n u
+room-rest a b m n t u w e r x =
+    let l : length w ≡ length t + length u = ap length e ∙ length-append t u in
+    let h = r .room in
+    let c = x .count in
+    let s = x .size in
+    let d = r .bound in
+    record { fit = x .fit; room = omega arith; bound = omega arith }
+
+-- ONE PAIR
+-- a path that passes is short
+pub passing-short : (s : List ℕ) (t : Trail) (q : List ℕ) → passing s t q ≡ true → length q ≤ 64
+unfolding Shortens
+passing-short s t q e = go (leb (length q) 64) refl
+  where
+    go : (x : Bool) → leb (length q) 64 ≡ x → length q ≤ 64
+    go true f = leb-true (length q) 64 f
+    go false f = absurd (true≢false (sym e ∙ passes-short s t q (leb-false (length q) 64 f)))
+
+-- a path that passes has room in a buffer
+module _ (s : List ℕ) (p : PathBuffer) (t : Trail) (k : List ℕ) (b : Bool) (e : b ≡ passing s t (pathIn p ++ k)) (n : not b ≡ false) (h : p .len ≤ length (p .bytes)) where
+  pub key-short : p .len + length k ≤ 64
+  key-short =
+      let a = passing-short s t (pathIn p ++ k) (sym e ∙ not-false b n) in
+      let c : length (pathIn p ++ k) ≡ p .len + length k = length-append (pathIn p) k ∙ ap (λ j. j + length k) (path-length p h) in
+      omega arith
+
+  pub full-short : (full : PathBuffer) → full .len ≡ p .len + length k → full .len ≤ 64
+  full-short full f = let a = key-short in omega arith
+
+keep-one : (ok : List ℕ → Bool) (r : Row) → ok (r .key) ≡ true → keep ok (r ∷ []) ≡ r ∷ []
+unfolding keep
+keep-one ok r e = rw e
+
+keep-not : (ok : List ℕ → Bool) (r : Row) → ok (r .key) ≡ false → keep ok (r ∷ []) ≡ []
+unfolding keep
+keep-not ok r e = rw e
+
+module _ (s : List ℕ) (p : PathBuffer) (t : Trail) (k v : Place) (area : List ℕ) (m : ℕ) (b : Bool) (e : b ≡ passing s t (pathIn p ++ part s k))
+    (room : Room area m (keep (passing s t) (rowIn s p k v ∷ []))) where
+  pub pair-hidden : not b ≡ true → Added m area area m (keep (passing s t) (rowIn s p k v ∷ []))
+  pair-hidden n = added-none m area (keep (passing s t) (rowIn s p k v ∷ [])) (keep-not (passing s t) (rowIn s p k v) (sym e ∙ not-true b n)) (room .fit)
+
+  module _ (n : not b ≡ false) where
+    passed : passing s t (pathIn p ++ part s k) ≡ true
+    passed = sym e ∙ not-false b n
+
+    kept : keep (passing s t) (rowIn s p k v ∷ []) ≡ rowIn s p k v ∷ []
+    kept = keep-one (passing s t) (rowIn s p k v) passed
+
+    pub pair-room : m * 128 + 128 ≤ length area
+    pair-room = let r = room .room in let l : length (keep (passing s t) (rowIn s p k v ∷ [])) ≡ 1 = ap length kept in omega arith
+
+    pub pair-added : (full : PathBuffer) (area′ : List ℕ) → pathIn full ≡ pathIn p ++ part s k → length area′ ≡ length area
+        → RowPut m area area′ (take (full .len - 0) (drop 0 (full .bytes))) (part s v) → Added m area area′ (m + 1) (keep (passing s t) (rowIn s p k v ∷ []))
+    pair-added full area′ f l put =
+        let key : take (full .len - 0) (drop 0 (full .bytes)) ≡ pathIn p ++ part s k = as-path full (full .len) (full .bytes) refl refl ∙ f in
+        record {
+          fit = put .fit;
+          rows = put .rows ∙ ap (λ q. rowsOf m area 0 ++ (record { key = q; value = part s v } ∷ [])) key ∙ ap (λ w. rowsOf m area 0 ++ w) (sym kept);
+          count = let c : length (keep (passing s t) (rowIn s p k v ∷ [])) ≡ 1 = ap length kept in omega arith;
+          size = l;
+        }
+
+pub path-short : (full : PathBuffer) → full .len ≤ 64 → full .len ≤ length (full .bytes) → length (take (full .len - 0) (drop 0 (full .bytes))) ≤ 64
+path-short full h l = rw (as-path full (full .len) (full .bytes) refl refl, path-length full l) (omega arith)
+
+pub value-short : (v : List ℕ) → valueFits v ≡ true → length v ≤ 60
+value-short v e = let m = value-length v e in omega arith
+
+-- ONE ENTRY, BY ITS KIND
+module _ (s : List ℕ) (p : PathBuffer) (t : Trail) (e : Entry) where
+  abbrev Rows : List Row
+  Rows = keep (passing s t) (underPrefix (pathIn p) (pairsE (entryIn s e ∷ [])))
+
+  pub entry-pair : (k v : Place) → e ≡ Entry.Pair k v → Rows ≡ keep (passing s t) (rowIn s p k v ∷ [])
+  unfolding underPrefix pairsE
+  entry-pair k v q = rw q
+
+  pub entry-value : (k v : Place) → e ≡ Entry.Pair k v → valueFitsE (entryIn s e) ≡ true → valueFits (part s v) ≡ true
+  unfolding valueFitsE
+  entry-value k v q h = rw q at h
+
+  pub entry-child : (i : ℕ) (k : Place) → e ≡ Entry.Child i k → Rows ≡ []
+  unfolding underPrefix pairsE keep
+  entry-child i k q = rw q
+
+  pub entry-message : (m : Message) → e ≡ Entry.Message m → Rows ≡ []
+  unfolding underPrefix pairsE keep
+  entry-message m q = rw q
+
+-- THE LOOP
+pairs-cons : (e : defined.Entry) (es : List defined.Entry) → pairsE (e ∷ es) ≡ pairsE (e ∷ []) ++ pairsE es
+unfolding pairsE
+pairs-cons (defined.pair k v) es = refl
+pairs-cons (defined.child i k) es = refl
+pairs-cons (defined.message m) es = refl
+
+under-append : (X : List ℕ) (t u : List Row) → underPrefix X (t ++ u) ≡ underPrefix X t ++ underPrefix X u
+unfolding underPrefix
+under-append X [] u = refl
+under-append X (r ∷ t) u = ap (λ l. record { key = X ++ r .key; value = r .value } ∷ l) (under-append X t u)
+
+module _ (ok : List ℕ → Bool) (X : List ℕ) where
+  pub rows-cons : (e : defined.Entry) (es ts : List defined.Entry) → es ≡ e ∷ ts
+      → keep ok (underPrefix X (pairsE es)) ≡ keep ok (underPrefix X (pairsE (e ∷ []))) ++ keep ok (underPrefix X (pairsE ts))
+  rows-cons e es ts q =
+      ap (λ l. keep ok (underPrefix X (pairsE l))) q
+      ∙ ap (λ l. keep ok (underPrefix X l)) (pairs-cons e ts)
+      ∙ ap (keep ok) (under-append X (pairsE (e ∷ [])) (pairsE ts))
+      ∙ keep-append ok (underPrefix X (pairsE (e ∷ []))) (underPrefix X (pairsE ts))
+
+  pub rows-none : (es : List defined.Entry) → es ≡ [] → keep ok (underPrefix X (pairsE es)) ≡ []
+  unfolding keep underPrefix pairsE
+  rows-none es q = rw q
+
+pub values-first : (e : defined.Entry) (es ts : List defined.Entry) → es ≡ e ∷ ts → valuesFitE es ≡ true → valueFitsE e ≡ true
+unfolding valuesFitE
+values-first e es ts q h = let z : valueFitsE e && valuesFitE ts ≡ true = rw q at h in and-left (valueFitsE e) (valuesFitE ts) z
+
+pub values-later : (e : defined.Entry) (es ts : List defined.Entry) → es ≡ e ∷ ts → valuesFitE es ≡ true → valuesFitE ts ≡ true
+unfolding valuesFitE
+values-later e es ts q h = let z : valueFitsE e && valuesFitE ts ≡ true = rw q at h in and-right (valueFitsE e) (valuesFitE ts) z
+
+-- the rows so far, t of all, and those of the entries to come, make all
+pub record Appending (first : ℕ) (area₀ area : List ℕ) (m : ℕ) (ok : List ℕ → Bool) (X : List ℕ) (es : List defined.Entry) (all : List Row) : Type 0 where
+  pub done : List Row
+  pub so-far : Added first area₀ area m done
+  pub room : Room area m (keep ok (underPrefix X (pairsE es)))
+  pub whole : all ≡ done ++ keep ok (underPrefix X (pairsE es))
+  pub values : valuesFitE es ≡ true
+
+pub append-first : (first : ℕ) (area : List ℕ) (ok : List ℕ → Bool) (X : List ℕ) (es : List defined.Entry) → valuesFitE es ≡ true
+    → Room area first (keep ok (underPrefix X (pairsE es))) → Appending first area area first ok X es (keep ok (underPrefix X (pairsE es)))
+append-first first area ok X es v r = record { done = []; so-far = added-none first area [] refl (r .fit); room = r; whole = refl; values = v }
+
+module _ (first : ℕ) (area₀ area : List ℕ) (m : ℕ) (ok : List ℕ → Bool) (X : List ℕ) (es : List defined.Entry) (all : List Row)
+    (a : Appending first area₀ area m ok X es all) where
+  pub append-end : es ≡ [] → Added first area₀ area m all
+  append-end q =
+      let e : all ≡ a .done = a .whole ∙ ap (λ l. a .done ++ l) (rows-none ok X es q) ∙ append-nil (a .done) in
+      subst (λ t. Added first area₀ area m t) (sym e) (a .so-far)
+
+  module _ (e : defined.Entry) (ts : List defined.Entry) (q : es ≡ e ∷ ts) where
+    pub append-room : Room area m (keep ok (underPrefix X (pairsE (e ∷ []))))
+    append-room = room-first area m (keep ok (underPrefix X (pairsE (e ∷ [])))) (keep ok (underPrefix X (pairsE ts))) _ (rows-cons ok X e es ts q) (a .room)
+
+    pub append-next : (area′ : List ℕ) (r : ℕ) → Added m area area′ r (keep ok (underPrefix X (pairsE (e ∷ [])))) → Appending first area₀ area′ r ok X ts all
+    append-next area′ r x =
+        let one : List Row = keep ok (underPrefix X (pairsE (e ∷ []))) in
+        let rest : List Row = keep ok (underPrefix X (pairsE ts)) in
+        record {
+          done = a .done ++ one;
+          so-far = added-more first m r area₀ area area′ (a .done) one (a .done ++ one) refl (a .so-far) x;
+          room = room-rest area area′ m r one rest (keep ok (underPrefix X (pairsE es))) (rows-cons ok X e es ts q) (a .room) x;
+          whole = a .whole ∙ ap (λ l. a .done ++ l) (rows-cons ok X e es ts q) ∙ sym (append-assoc (a .done) one rest);
+          values = values-later e es ts q (a .values);
+        }

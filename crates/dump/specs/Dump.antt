@@ -1,0 +1,103 @@
+-- What the walk writes of a node's entries, and what each of its functions asks and gives. Definitions only; the laws are beside.
+-- Relies on live/specs (which entry decides a path) and on rows/specs/Area (the rows of the work area).
+use Prim.Native.Nat.{ℕ, _+_, _*_, _-_, _≤_}
+use mathlib.Core.Path.{_≡_}
+use mathlib.Core.List.{List, [], _∷_, _++_}
+use mathlib.Core.Bool.{Bool, true, _&&_, cond}
+use lib.ListN.{length, drop}
+use Rattle.image.specs.Path.{valueFits}
+use Rattle.image.specs.Entry.{Entry, pair, child, message, puts, drops, clears}
+use Rattle.image.specs.Table.{Row, withRow, everyKey, rising}
+use Rattle.image.specs.Image.{Kid, treeAt, forestOf}
+use Rattle.image.specs.Sound.{soundForest, tableOf}
+use Rattle.node.specs.Places.{part}
+use Rattle.node.specs.declared.Place.{Place}
+use Rattle.search.specs.Hear.{newestE}
+use Rattle.rows.specs.Area.{rowsOf, RowsFit}
+use Rattle.live.specs.Live.{holdsNoMessage}
+use Rattle.live.specs.PathBuffers.{pathIn}
+use Rattle.live.specs.declared.path_buffer.PathBuffer.{PathBuffer}
+use Rattle.live.specs.Walk.{decides}
+
+-- the row of a key and a value at places of the store, under a prefix
+abbrev pub rowIn : List ℕ → PathBuffer → Place → Place → Row
+rowIn s prefix k v = record { key = pathIn prefix ++ part s k; value = part s v }
+
+-- the pairs among entries, as stored
+unfoldable pub pairsE : List Entry → List Row
+pairsE [] = []
+pairsE (pair k v ∷ es) = record { key = k; value = v } ∷ pairsE es
+pairsE (child i k ∷ es) = pairsE es
+pairsE (message m ∷ es) = pairsE es
+
+-- the values of pairs and puts are at most 32 bytes
+unfoldable pub valueFitsE : Entry → Bool
+valueFitsE (pair k v) = valueFits v
+valueFitsE (child i k) = true
+valueFitsE (message (puts k v)) = valueFits v
+valueFitsE (message (drops k)) = true
+valueFitsE (message (clears k)) = true
+
+unfoldable pub valuesFitE : List Entry → Bool
+valuesFitE [] = true
+valuesFitE (e ∷ es) = valueFitsE e && valuesFitE es
+
+-- a table after an entry: a put that decides its path comes in
+unfoldable pub withEntry : Bool → List ℕ → Entry → List Row → List Row
+withEntry b X (pair k v) t = t
+withEntry b X (child i k) t = t
+withEntry b X (message (puts k v)) t = cond b (withRow (X ++ k) v t) t
+withEntry b X (message (drops k)) t = t
+withEntry b X (message (clears k)) t = t
+
+-- a table after all entries of an interior node
+unfoldable pub insertE : (List ℕ → Bool) → List ℕ → List Entry → List Row → List Row
+insertE ok X [] t = t
+insertE ok X (e ∷ es) t = insertE ok X es (withEntry (decides ok X e es) X e t)
+
+-- the rows rise, and no message among the entries says anything of them
+pub record Untold (X : List ℕ) (es : List Entry) (t : List Row) : Type 0 where
+  pub rises : rising t ≡ true
+  pub quiet : everyKey (λ q. holdsNoMessage (newestE es (drop (length X) q))) t ≡ true
+
+-- m rows stand in the area, and there is room for those of t
+pub record Room (area : List ℕ) (m : ℕ) (t : List Row) : Type 0 where
+  pub fit : RowsFit m area
+  pub room : 128 * (m + length t) ≤ length area
+  pub bound : length area ≤ 2000000
+
+-- the rows of t stand in the area after the first m, r in all
+pub record Added (m : ℕ) (area area′ : List ℕ) (r : ℕ) (t : List Row) : Type 0 where
+  pub fit : RowsFit r area′
+  pub rows : rowsOf r area′ 0 ≡ rowsOf m area 0 ++ t
+  pub count : r ≡ m + length t
+  pub size : length area′ ≡ length area
+
+-- the entries es of a node with prefix X are to come in among the rows from `first` up to m
+pub record Open (area : List ℕ) (first m : ℕ) (ok : List ℕ → Bool) (X : List ℕ) (es : List Entry) : Type 0 where
+  pub fit : RowsFit m area
+  pub ahead : first ≤ m
+  pub untold : Untold X es (rowsOf (m - first) area first)
+  pub values : valuesFitE es ≡ true
+  pub room : 128 * (first + length (insertE ok X es (rowsOf (m - first) area first))) ≤ length area
+  pub bound : length area ≤ 2000000
+
+-- the rows from `first` on are the table t, those before it are as they were
+pub record Placed (first : ℕ) (area area′ : List ℕ) (r : ℕ) (t : List Row) : Type 0 where
+  pub fit : RowsFit r area′
+  pub ahead : first ≤ r
+  pub front : rowsOf first area′ 0 ≡ rowsOf first area 0
+  pub rows : rowsOf (r - first) area′ first ≡ t
+  pub size : length area′ ≡ length area
+
+-- children, from the one in hand on, of a sound node that lifts X; hi is its high pivot without X, low its low one
+pub record SoundKids (s : List ℕ) (level : ℕ) (X hi : List ℕ) (ks : List Kid) : Type 0 where
+  pub low : List ℕ
+  pub kids : soundForest (forestOf (λ j. treeAt level s j) ks) X low (X ++ hi) ≡ true
+
+-- all m rows of the table stand in the area after the dump
+pub record Dumped (s area area′ : List ℕ) (m : ℕ) : Type 0 where
+  pub fit : RowsFit m area′
+  pub table : rowsOf m area′ 0 ≡ tableOf s
+  pub count : m ≡ length (tableOf s)
+  pub size : length area′ ≡ length area

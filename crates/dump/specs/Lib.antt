@@ -1,0 +1,6 @@
+pub mod Dump
+pub mod AppendSteps
+pub mod InsertSteps
+pub mod TreeLaws
+pub mod NodeSteps
+pub mod RootSteps

@@ -1,0 +1,276 @@
+-- The steps of the walk's two functions that call each other: what each call asks, and what each exit owes.
+-- Relies on TreeLaws and on the steps of the append and of the insertion.
+use Prim.Native.Nat.{ℕ, _+_, _-_, _*_, _<_, _≤_}
+use mathlib.Core.Path.{_≡_, refl, sym, ap, ap₂, subst, _∙_}
+use mathlib.Core.List.{List, [], _∷_, _++_, append-nil, append-assoc}
+use mathlib.Core.Bool.{Bool, true, _&&_}
+use native.Mathlib.Omega.{arith}
+use lib.ListN.{length, take, drop, length-append}
+use Rattle.image.specs.Bytes.{u16, shared}
+use Rattle.image.specs.Entry.{Entry}
+use Rattle.image.specs.Table.{Row, underPrefix}
+use Rattle.image.specs.Image.{Tree, Kid, Forest, nodesOf, forestOf, treeAt}
+use Rattle.image.specs.Meaning.{highOf, rows, rowsIn}
+use Rattle.image.specs.Sound.{soundTree, soundForest}
+use Rattle.octets.specs.Order.{shared-append}
+use Rattle.laws.specs.LookupTable.{parts}
+use Rattle.laws.specs.Filter.{keep, keep-append}
+use Rattle.reading.specs.Relative.{lifts}
+use Rattle.reading.specs.SeekHere.{high-split}
+use Rattle.node.specs.Places.{part}
+use Rattle.node.specs.Entries.{listed}
+use Rattle.node.specs.declared.Place.{Place}
+use Rattle.node.specs.declared.Cursor.{Cursor}
+use Rattle.search.specs.Hear.{newestE}
+use Rattle.search.specs.Own.{kid, kidsE}
+use Rattle.lookup.specs.Look.{listing, part-rest}
+use Rattle.rows.specs.Area.{rowsOf}
+use Rattle.rows.specs.Steps.{rows-length}
+use Rattle.insertion.specs.Slots.{rows-split}
+use Rattle.live.specs.Live.{holdsNoMessage}
+use Rattle.live.specs.PathBuffers.{pathIn}
+use Rattle.live.specs.PathSteps.{path-length}
+use Rattle.live.specs.declared.path_buffer.PathBuffer.{PathBuffer}
+use Rattle.live.specs.declared.Trail.{Trail}
+use Rattle.live.specs.Walk.{passing, Deeper, NextChild, Ready}
+use Rattle.live.specs.Steps.{passes-short}
+use Rattle.live.specs.WalkLaws.{shared-take}
+use Rattle.dump.specs.Dump.{pairsE, valuesFitE, insertE, Untold, Room, Added, Open, Placed, SoundKids}
+use Rattle.dump.specs.AppendSteps.{added-none, added-as, added-more, room-first, room-rest}
+use Rattle.dump.specs.InsertSteps.{insert-grows, rows-parts}
+use Rattle.dump.specs.TreeLaws.{leaf-is, leaf-fits, kids-sound, interior-fits, has-kids, interior-is, interior-untold, long-none}
+
+-- A NODE: its pivots are lo and hi, the prefix and the trail are those of its parent's children.
+module _ (s : List ℕ) (level num : ℕ) (p : PathBuffer) (t : Trail) (ready : Ready s level num p t) (lo hi : List ℕ)
+    (sound : soundTree (treeAt level s num) (pathIn p ++ lo) (pathIn p ++ hi) ≡ true) (area : List ℕ) (m : ℕ) where
+  abbrev low : List ℕ
+  low = pathIn p ++ lo
+
+  abbrev high : List ℕ
+  high = pathIn p ++ hi
+
+  abbrev Whole : List Row
+  Whole = keep (passing s t) (rows (treeAt level s num) low high)
+
+  module _ (room : Room area m Whole) where
+    -- what the node lifts is too long for any path
+    pub node-long : (k : ℕ) → k ≡ length (shared lo hi) → p .len ≤ length (p .bytes) → 64 < p .len + k → Added m area area m Whole
+    node-long k e h l =
+        let a : length (shared low high) ≡ p .len + length (shared lo hi)
+        = ap length (shared-append (pathIn p) lo hi) ∙ length-append (pathIn p) (shared lo hi) ∙ ap (λ n. n + length (shared lo hi)) (path-length p h) in
+        added-none m area Whole (long-none (passing s t) (treeAt level s num) low high (passes-short s t) (omega arith) sound) (room .fit)
+
+    -- here is the prefix of the node's own entries
+    module _ (k : ℕ) (ek : k ≡ length (shared lo hi)) (here : PathBuffer) (eh : pathIn here ≡ pathIn p ++ take (k - 0) (drop 0 lo)) (len : ℕ) (el : len ≡ u16 s (num * 1024)) where
+      abbrev own : List Entry
+      own = listed s (num * 1024 + 8) (num * 1024 + 8 + len)
+
+      own-is : listing s num ≡ own
+      own-is = ap (λ n. listed s (num * 1024 + 8) (num * 1024 + 8 + n)) (sym el)
+
+      here-is : shared low high ≡ pathIn here
+      here-is =
+          let z : k - 0 ≡ length (shared lo hi) = omega arith in
+          shared-append (pathIn p) lo hi ∙ sym (eh ∙ ap (λ l. pathIn p ++ l) (ap (λ n. take n lo) z ∙ shared-take lo hi))
+
+      -- a leaf
+      leaf-whole : level ≤ 1 → keep (passing s t) (underPrefix (pathIn here) (pairsE own)) ≡ Whole
+      leaf-whole l =
+          ap₂ (λ X es. keep (passing s t) (underPrefix X (pairsE es))) (sym here-is) (sym own-is) ∙ ap (keep (passing s t)) (leaf-is s num level (ready .reads) low high sound l)
+
+      pub leaf-values : level ≤ 1 → valuesFitE own ≡ true
+      leaf-values l = ap (λ es. valuesFitE es) (sym own-is) ∙ leaf-fits s num level (ready .reads) low high sound l
+
+      pub leaf-room : level ≤ 1 → Room area m (keep (passing s t) (underPrefix (pathIn here) (pairsE own)))
+      leaf-room l = subst (λ w. Room area m w) (sym (leaf-whole l)) room
+
+      pub leaf-added : level ≤ 1 → (area′ : List ℕ) (r : ℕ) → Added m area area′ r (keep (passing s t) (underPrefix (pathIn here) (pairsE own))) → Added m area area′ r Whole
+      leaf-added l area′ r x = added-as m r area area′ (keep (passing s t) (underPrefix (pathIn here) (pairsE own))) Whole (leaf-whole l) x
+
+      -- an interior node
+      module _ (two : 2 ≤ level) where
+        pub node-bare : kidsE own ≡ [] → Added m area area m Whole
+        node-bare q = absurd (has-kids s num level (ready .reads) two low high sound (ap (λ es. kidsE es) own-is ∙ q))
+
+        module _ (first : ℕ) (pivot : Place) (next : Cursor) (nc : NextChild s (num * 1024 + 8) (num * 1024 + 8 + len) first pivot next) where
+          abbrev kids : List Kid
+          kids = kid first (part s pivot) ∷ kidsE (listed s (next .at) (next .end))
+
+          abbrev rest : List ℕ
+          rest = take (length hi - k) (drop k hi)
+
+          kids-are : kidsE (listing s num) ≡ kids
+          kids-are = ap (λ es. kidsE es) own-is ∙ nc .lists
+
+          high-is : high ≡ pathIn here ++ rest
+          high-is =
+              ap (λ l. pathIn p ++ l) (sym (high-split lo hi)) ∙ sym (append-assoc (pathIn p) (shared lo hi) (drop (lifts lo hi) hi))
+              ∙ ap₂ (λ a b. a ++ b) (sym (shared-append (pathIn p) lo hi) ∙ here-is) (sym (part-rest k hi ∙ dropped))
+            where
+              dropped : drop k hi ≡ drop (lifts lo hi) hi
+              dropped = unfold lifts in ap (λ n. drop n hi) ek
+
+          pub sound-kids : SoundKids s (level - 1) (pathIn here) rest kids
+          sound-kids =
+              record {
+                low = low;
+                kids = sym (ap₂ (λ X ks. soundForest (forestOf (λ j. treeAt (level - 1) s j) ks) X low high) here-is kids-are
+                    ∙ ap (λ h. soundForest (forestOf (λ j. treeAt (level - 1) s j) kids) (pathIn here) low h) high-is)
+                    ∙ kids-sound s num level (ready .reads) two low high sound;
+              }
+
+          module _ (above : Trail) (deeper : Deeper s num (here .len) t above) (w : here .len ≤ length (here .bytes)) where
+            abbrev Kids : List Row
+            Kids = keep (passing s above) (rowsIn (forestOf (λ j. treeAt (level - 1) s j) kids) (pathIn here) (pathIn here ++ rest))
+
+            kept-kids : keep (passing s above) (rowsIn (forestOf (λ j. treeAt (level - 1) s j) (kidsE (listing s num))) (shared low high) high) ≡ Kids
+            kept-kids =
+                ap₂ (λ X ks. keep (passing s above) (rowsIn (forestOf (λ j. treeAt (level - 1) s j) ks) X high)) here-is kids-are
+                ∙ ap (λ h. keep (passing s above) (rowsIn (forestOf (λ j. treeAt (level - 1) s j) kids) (pathIn here) h)) high-is
+
+            test : (q : List ℕ) → passing s above q ≡ passing s t q && holdsNoMessage (newestE (listing s num) (drop (length (shared low high)) q))
+            test q =
+                deeper .test q
+                ∙ ap (λ n. passing s t q && holdsNoMessage (newestE (listing s num) (drop n q))) (sym (ap length here-is ∙ path-length here w))
+
+            inner-whole : insertE (passing s t) (pathIn here) own Kids ≡ Whole
+            inner-whole =
+                sym (interior-is s num level (ready .reads) two low high sound (passing s t) (passing s above) test
+                ∙ ap₂ (λ X es. insertE (passing s t) X es (keep (passing s above) (rowsIn (forestOf (λ j. treeAt (level - 1) s j) (kidsE (listing s num))) (shared low high) high))) here-is own-is
+                ∙ ap (λ l. insertE (passing s t) (pathIn here) own l) kept-kids)
+
+            untold : Untold (pathIn here) own Kids
+            untold =
+                subst (λ l. Untold (pathIn here) own l) kept-kids
+                (subst (λ X. Untold X own (keep (passing s above) (rowsIn (forestOf (λ j. treeAt (level - 1) s j) (kidsE (listing s num))) (shared low high) high))) here-is
+                (subst (λ es. Untold (shared low high) es (keep (passing s above) (rowsIn (forestOf (λ j. treeAt (level - 1) s j) (kidsE (listing s num))) (shared low high) high))) own-is
+                (interior-untold s num level (ready .reads) two low high sound (passing s t) (passing s above) test)))
+
+            pub kids-room : Room area m Kids
+            kids-room =
+                let g = insert-grows (passing s t) (pathIn here) own Kids untold in
+                let e : length (insertE (passing s t) (pathIn here) own Kids) ≡ length Whole = ap length inner-whole in
+                let r = room .room in
+                record { fit = room .fit; room = omega arith; bound = room .bound }
+
+            -- the children's rows stand in the area, and the node's puts are to come in
+            module _ (area₁ : List ℕ) (n : ℕ) (x : Added m area area₁ n Kids) where
+              cut : (rowsOf m area₁ 0 ≡ rowsOf m area 0) × (rowsOf (n - m) area₁ m ≡ Kids)
+              cut = let c = x .count in rows-parts m n area area₁ Kids (omega arith) (x .rows)
+
+              pub puts-open : Open area₁ m n (passing s t) (pathIn here) own
+              puts-open =
+                  let c = x .count in
+                  let e : length (insertE (passing s t) (pathIn here) own (rowsOf (n - m) area₁ m)) ≡ length Whole
+                  = ap (λ l. length (insertE (passing s t) (pathIn here) own l)) (cut .1) ∙ ap length inner-whole in
+                  let r = room .room in
+                  let z = x .size in
+                  let b = room .bound in
+                  record {
+                    fit = x .fit;
+                    ahead = omega arith;
+                    untold = subst (λ l. Untold (pathIn here) own l) (sym (cut .1)) untold;
+                    values = ap (λ es. valuesFitE es) (sym own-is) ∙ interior-fits s num level (ready .reads) two low high sound;
+                    room = omega arith;
+                    bound = omega arith;
+                  }
+
+              pub node-inner : (area₂ : List ℕ) (r : ℕ) → Placed m area₁ area₂ r (insertE (passing s t) (pathIn here) own (rowsOf (n - m) area₁ m)) → Added m area area₂ r Whole
+              node-inner area₂ r y =
+                  let h = y .ahead in
+                  let e : rowsOf (r - m) area₂ m ≡ Whole = y .rows ∙ ap (λ l. insertE (passing s t) (pathIn here) own l) (cut .1) ∙ inner-whole in
+                  let z : r ≡ m + (r - m) = omega arith in
+                  let o : 0 + m ≡ m = omega arith in
+                  let l : r - m ≡ length Whole = sym (rows-length (r - m) area₂ m) ∙ ap length e in
+                  record {
+                    fit = y .fit;
+                    rows = ap (λ j. rowsOf j area₂ 0) z ∙ rows-split m (r - m) area₂ 0 ∙ ap (λ j. rowsOf m area₂ 0 ++ rowsOf (r - m) area₂ j) o
+                        ∙ ap₂ (λ a b. a ++ b) (y .front ∙ cut .0) e;
+                    count = omega arith;
+                    size = y .size ∙ x .size;
+                  }
+
+-- THE CHILDREN: the child in hand, and those that follow
+module _ (s : List ℕ) (level : ℕ) (X hi : List ℕ) (ok : List ℕ → Bool) where
+  abbrev forest : List Kid → Forest
+  forest ks = forestOf (λ j. treeAt level s j) ks
+
+  abbrev below : List Kid → List Row
+  below ks = keep ok (rowsIn (forest ks) X (X ++ hi))
+
+  -- the rows so far, and those of the children from the one in hand on, make all
+  pub record Descending (first : ℕ) (area₀ area : List ℕ) (m : ℕ) (ks : List Kid) (all : List Row) : Type 0 where
+    pub done : List Row
+    pub so-far : Added first area₀ area m done
+    pub room : Room area m (below ks)
+    pub whole : all ≡ done ++ below ks
+    pub sound : SoundKids s level X hi ks
+
+  pub descend-first : (first : ℕ) (area : List ℕ) (ks : List Kid) → Room area first (below ks) → SoundKids s level X hi ks → Descending first area area first ks (below ks)
+  descend-first first area ks r k = record { done = []; so-far = added-none first area [] refl (r .fit); room = r; whole = refl; sound = k }
+
+  module _ (num : ℕ) (low : List ℕ) where
+    abbrev rowsUnder : List ℕ → List Row
+    rowsUnder high = keep ok (rows (treeAt level s num) (X ++ low) (X ++ high))
+
+    below-last : below (kid num low ∷ []) ≡ rowsUnder hi
+    unfolding rowsIn forestOf highOf
+    below-last = ap (keep ok) (append-nil (rows (treeAt level s num) (X ++ low) (X ++ hi)))
+
+    below-more : (k : ℕ) (p : List ℕ) (us : List Kid) → below (kid num low ∷ kid k p ∷ us) ≡ rowsUnder p ++ below (kid k p ∷ us)
+    unfolding rowsIn forestOf highOf
+    below-more k p us = keep-append ok (rows (treeAt level s num) (X ++ low) (X ++ p)) (rowsIn (forest (kid k p ∷ us)) X (X ++ hi))
+
+    sound-last : (lo : List ℕ) → soundForest (forest (kid num low ∷ [])) X lo (X ++ hi) ≡ true → soundTree (treeAt level s num) (X ++ low) (X ++ hi) ≡ true
+    unfolding forestOf highOf
+    sound-last lo e = parts low (treeAt level s num) (forest []) X lo (X ++ hi) e .first
+
+    sound-more : (lo : List ℕ) (k : ℕ) (p : List ℕ) (us : List Kid) → soundForest (forest (kid num low ∷ kid k p ∷ us)) X lo (X ++ hi) ≡ true
+        → soundTree (treeAt level s num) (X ++ low) (X ++ p) ≡ true
+    unfolding forestOf highOf
+    sound-more lo k p us e = parts low (treeAt level s num) (forest (kid k p ∷ us)) X lo (X ++ hi) e .first
+
+    sound-rest : (lo : List ℕ) (us : List Kid) → soundForest (forest (kid num low ∷ us)) X lo (X ++ hi) ≡ true → soundForest (forest us) X lo (X ++ hi) ≡ true
+    unfolding forestOf
+    sound-rest lo us e = parts low (treeAt level s num) (forest us) X lo (X ++ hi) e .later
+
+    module _ (first : ℕ) (area₀ area : List ℕ) (m : ℕ) (ks : List Kid) (all : List Row) (a : Descending first area₀ area m (kid num low ∷ ks) all) where
+      -- the last child
+      module _ (q : ks ≡ []) where
+        last-is : below (kid num low ∷ ks) ≡ rowsUnder hi
+        last-is = ap (λ us. below (kid num low ∷ us)) q ∙ below-last
+
+        pub last-sound : soundTree (treeAt level s num) (X ++ low) (X ++ hi) ≡ true
+        last-sound =
+            sound-last (a .sound .low) (ap (λ us. soundForest (forest (kid num low ∷ us)) X (a .sound .low) (X ++ hi)) (sym q) ∙ a .sound .kids)
+
+        pub last-room : Room area m (rowsUnder hi)
+        last-room = subst (λ t. Room area m t) last-is (a .room)
+
+        pub last-added : (area′ : List ℕ) (r : ℕ) → Added m area area′ r (rowsUnder hi) → Added first area₀ area′ r all
+        last-added area′ r x =
+            added-more first m r area₀ area area′ (a .done) (rowsUnder hi) all (a .whole ∙ ap (λ t. a .done ++ t) last-is) (a .so-far) x
+
+      -- a child with others behind it
+      module _ (k : ℕ) (p : List ℕ) (us : List Kid) (q : ks ≡ kid k p ∷ us) where
+        more-is : below (kid num low ∷ ks) ≡ rowsUnder p ++ below (kid k p ∷ us)
+        more-is = ap (λ vs. below (kid num low ∷ vs)) q ∙ below-more k p us
+
+        forest-sound : soundForest (forest (kid num low ∷ kid k p ∷ us)) X (a .sound .low) (X ++ hi) ≡ true
+        forest-sound = ap (λ vs. soundForest (forest (kid num low ∷ vs)) X (a .sound .low) (X ++ hi)) (sym q) ∙ a .sound .kids
+
+        pub more-sound : soundTree (treeAt level s num) (X ++ low) (X ++ p) ≡ true
+        more-sound = sound-more (a .sound .low) k p us forest-sound
+
+        pub more-room : Room area m (rowsUnder p)
+        more-room = room-first area m (rowsUnder p) (below (kid k p ∷ us)) (below (kid num low ∷ ks)) more-is (a .room)
+
+        pub descend-next : (area′ : List ℕ) (r : ℕ) → Added m area area′ r (rowsUnder p) → Descending first area₀ area′ r (kid k p ∷ us) all
+        descend-next area′ r x =
+            record {
+              done = a .done ++ rowsUnder p;
+              so-far = added-more first m r area₀ area area′ (a .done) (rowsUnder p) (a .done ++ rowsUnder p) refl (a .so-far) x;
+              room = room-rest area area′ m r (rowsUnder p) (below (kid k p ∷ us)) (below (kid num low ∷ ks)) more-is (a .room) x;
+              whole = a .whole ∙ ap (λ t. a .done ++ t) more-is ∙ sym (append-assoc (a .done) (rowsUnder p) (below (kid k p ∷ us)));
+              sound = record { low = a .sound .low; kids = sound-rest (a .sound .low) (kid k p ∷ us) forest-sound };
+            }

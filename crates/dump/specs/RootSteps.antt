@@ -1,0 +1,83 @@
+-- The steps of the dump from the root: what the first call asks, and that its rows are the table of the store.
+-- Relies on what a sound image is (laws: ButLive) and on the steps of the count from the root (live: RootSteps).
+use Prim.Native.Nat.{ℕ, _+_, _*_, _≤_}
+use mathlib.Core.Path.{_≡_, refl, sym, ap, ap₂, subst, _∙_}
+use mathlib.Core.List.{List, [], _∷_, _++_}
+use mathlib.Core.Bool.{Bool, true}
+use native.Mathlib.Omega.{arith}
+use lib.ListN.{length}
+use lib.Dec.{eqb}
+use borrow.Author.Tests.{eqb-true}
+use Rattle.image.specs.Bytes.{u16}
+use Rattle.image.specs.Table.{Row}
+use Rattle.image.specs.Image.{Tree, nodesOf, headerOf, treeAt, treeOf}
+use Rattle.image.specs.Meaning.{rows}
+use Rattle.image.specs.Sound.{sound, soundTree, lowest, highest, tableOf}
+use Rattle.octets.specs.Order.{and-right}
+use Rattle.laws.specs.Filter.{keep, keep-all}
+use Rattle.laws.specs.ButLive.{soundButLive, sound-live, sound-but-live, parts-of}
+use Rattle.build.specs.BuiltLaws.{no-rows-fit}
+use Rattle.rows.specs.Area.{rowsOf}
+use Rattle.live.specs.Live.{short}
+use Rattle.live.specs.LiveLaws.{all-short}
+use Rattle.live.specs.PathBuffers.{pathIn}
+use Rattle.live.specs.declared.path_buffer.PathBuffer.{PathBuffer}
+use Rattle.live.specs.declared.Trail.{Trail}
+use Rattle.live.specs.Walk.{passing, Ready, Countable}
+use Rattle.live.specs.RootSteps.{one-node, tree-is, root-ready, empty-prefix, no-trail}
+use Rattle.dump.specs.Dump.{Room, Added, Dumped}
+
+-- a sound store has at most as many rows as nodes
+pub table-few : (s : List ℕ) → sound s ≡ true → length (tableOf s) ≤ nodesOf (length s)
+table-few s h =
+    let a = parts-of s (sound-but-live s h) .liveHigh in
+    let b = eqb-true (headerOf s .live) (length (tableOf s)) (and-right (soundButLive s) _ (sym (sound-live s) ∙ h)) in
+    omega arith
+
+module _ (s : List ℕ) (h : sound s ≡ true) where
+  countable : Countable s
+  countable = let p = parts-of s (sound-but-live s h) in record { tree = p .tree; range = p .range; levels = p .levelsHigh }
+
+  pub dump-long : 1024 ≤ length s
+  dump-long = one-node s countable
+
+  -- the root, with an empty prefix and an empty trail
+  module _ (root levels : ℕ) (a : root ≡ u16 s 6) (b : levels ≡ u16 s 8) (p : PathBuffer) (e : p .len ≡ 0) where
+    pub dump-ready : (t : Trail) → t .depth ≡ 0 → Ready s levels root p t
+    dump-ready t f = root-ready s countable root levels a b p t e f
+
+    module _ (lo hi : List ℕ) (g : lo ≡ []) (k : hi ≡ highest) where
+      low-is : pathIn p ++ lo ≡ lowest
+      low-is = ap₂ (λ x y. x ++ y) (empty-prefix s countable root levels a b p e) g
+
+      high-is : pathIn p ++ hi ≡ highest
+      high-is = ap₂ (λ x y. x ++ y) (empty-prefix s countable root levels a b p e) k
+
+      pub dump-sound : soundTree (treeAt levels s root) (pathIn p ++ lo) (pathIn p ++ hi) ≡ true
+      dump-sound =
+          ap₂ (λ x y. soundTree (treeAt levels s root) x y) low-is high-is ∙ ap (λ x. soundTree x lowest highest) (tree-is s countable root levels a b)
+          ∙ countable .tree
+
+      module _ (t : Trail) (f : t .depth ≡ 0) where
+        abbrev Rows : List Row
+        Rows = keep (passing s t) (rows (treeAt levels s root) (pathIn p ++ lo) (pathIn p ++ hi))
+
+        whole-table : Rows ≡ tableOf s
+        unfolding tableOf
+        whole-table =
+            ap₂ (λ x y. keep (passing s t) (rows (treeAt levels s root) x y)) low-is high-is
+            ∙ ap₂ (λ x y. keep y (rows x lowest highest)) (tree-is s countable root levels a b) (λ i q. no-trail s countable root levels a b t f q i)
+            ∙ keep-all short (rows (treeOf s) lowest highest) (all-short (treeOf s) lowest highest (countable .tree))
+
+        pub dump-room : (area : List ℕ) → 128 * nodesOf (length s) ≤ length area → length area ≤ 2000000 → Room area 0 Rows
+        dump-room area l m =
+            let n = table-few s h in
+            let w : length Rows ≡ length (tableOf s) = ap length whole-table in
+            record { fit = no-rows-fit area; room = omega arith; bound = m }
+
+        pub dump-done : (area area′ : List ℕ) (r : ℕ) → Added 0 area area′ r Rows → Dumped s area area′ r
+        unfolding rowsOf
+        dump-done area area′ r x =
+            let w : length Rows ≡ length (tableOf s) = ap length whole-table in
+            let c = x .count in
+            record { fit = x .fit; table = x .rows ∙ whole-table; count = omega arith; size = x .size }

@@ -1,0 +1,63 @@
+// A row put at its place among rows of the work area that rise: the place by halving, then one move of the rows behind it.
+// Relies on the layout of a row (`rows`) and on the writer of one row (`build`).
+ghost use mathlib.Core.Path.{_≡_};
+ghost use mathlib.Core.Bool.{true};
+ghost use mathlib.Core.Option.{none};
+ghost use Prim.Native.Nat.{_+_, _*_, _-_, _<_, _≤_};
+ghost use lib.ListN.{length, take, drop};
+ghost use Rattle.image.specs.Bytes.{before};
+ghost use Rattle.image.specs.Table.{Row, rising, find};
+ghost use Rattle.octets.specs.Put.{put};
+ghost use Rattle.rows.specs.Area.{RowsFit, rowAt, rowsOf};
+ghost use Rattle.insertion.specs.Insertion.{rank, Inserted};
+
+// Whether the path of row `i` comes before a path.
+fn row_precedes(area: &[u8], m: usize, i: usize, path: &[u8]) -> bool
+    requires { ⌜ RowsFit m (now area) × (i < m) × (length (now area) ≤ 2000000) ⌝ }
+    ensures { λ r. ⌜ r ≡ before (rowAt (now (area .entry)) i .key) (now (path .entry)) ⌝ }
+{
+    let from = i * 128 + 4;
+    let to = from + octets::wide(area[i * 128]);
+    octets::precedes(&area[from..to], path)
+}
+
+// The first of the rows from `from` up to `m`, which rise, that does not come before a path; `m` if there is none.
+pub fn place_of(area: &[u8], from: usize, m: usize, path: &[u8]) -> usize
+    requires { ⌜ RowsFit m (now area) × (from ≤ m) × (length (now area) ≤ 2000000) × (rising (rowsOf (m - from) (now area) from) ≡ true) ⌝ }
+    ensures { λ r. ⌜ (r ≡ from + rank (now (path .entry)) (rowsOf (m - from) (now (area .entry)) from)) × (from ≤ r) × (r ≤ m) ⌝ }
+{
+    let mut low = from;
+    let mut high = m;
+    while low < high {
+        let middle = low + (high - low) / 2;
+        if row_precedes(area, m, middle, path) {
+            low = middle + 1;
+        } else {
+            high = middle;
+        }
+    }
+    low
+}
+
+// The rows from `i` up to `m` one place up, byte by byte from the last.
+pub fn move_rows(area: &mut [u8], i: usize, m: usize)
+    requires { ⌜ (i ≤ m) × (m * 128 + 128 ≤ length (now area)) × (length (now area) ≤ 2000000) ⌝ }
+    ensures { λ _. ⌜ now (area .exit) ≡ put (now (area .entry)) (i * 128 + 128) (take ((m - i) * 128) (drop (i * 128) (now (area .entry)))) ⌝ }
+{
+    let start = i * 128;
+    let mut at = m * 128;
+    while start < at {
+        at = at - 1;
+        area[at + 128] = area[at];
+    }
+}
+
+// The path and its value as a row at its place among the rows from `from` up to `m`, which rise and do not have the path.
+pub fn insert_row(area: &mut [u8], from: usize, m: usize, path: &[u8], value: &[u8])
+    requires { ⌜ RowsFit m (now area) × (from ≤ m) × (m * 128 + 128 ≤ length (now area)) × (length (now path) ≤ 64) × (length (now value) ≤ 60) × (length (now area) ≤ 2000000) × (rising (rowsOf (m - from) (now area) from) ≡ true) × (find (now path) (rowsOf (m - from) (now area) from) ≡ none) ⌝ }
+    ensures { λ _. ⌜ Inserted from m (now (area .entry)) (now (area .exit)) (now (path .entry)) (now (value .entry)) ⌝ }
+{
+    let i = place_of(area, from, m, path);
+    move_rows(area, i, m);
+    build::put_row(area, i, path, value);
+}

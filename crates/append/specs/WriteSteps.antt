@@ -15,6 +15,7 @@ use Rattle.octets.specs.Put.{put, put-put, put-size}
 use Rattle.laws.specs.Encode.{restOf, kindOf, bytesOf, bytesOfAll}
 use Rattle.upkeep.specs.Size.{sizeOf, size-cons, size-nil, child-size}
 use Rattle.upkeep.specs.Size as sizes
+use Rattle.laws.specs.Page.{page}
 use Rattle.upkeep.specs.Page.{pageOf}
 use Rattle.node.specs.Whole.{Whole, whole-parts}
 use Rattle.laws.specs.ButLive.{soundButLive, SoundParts, parts-of}
@@ -108,7 +109,7 @@ child-bytes old = refl
 
 page-bytes : (level old : ℕ) (m : Message) (n : ℕ) → n ≡ sizeOf (child old [] ∷ message m ∷ [])
     → (rootHead n level old ++ bytesOf (message m)) ++ replicate (1016 - n) 0 ≡ rootPage level old m
-unfolding rootHead rootPage pageOf bytesOfAll
+unfolding rootHead rootPage pageOf page bytesOfAll sizeOf
 page-bytes level old m n e =
     let S : ℕ = sizeOf (child old [] ∷ message m ∷ []) in
     ap (λ k. (rootHead k level old ++ bytesOf (message m)) ++ replicate (1016 - k) 0) e

@@ -19,8 +19,8 @@ use Rattle.laws.specs.Encode.{bytesOf, allowed, allAllowed}
 use Rattle.laws.specs.Frame.{Keeps, tree-stays}
 use Rattle.laws.specs.Rising.{both}
 use Rattle.packed.specs.Tidy.{zero-out, zerosOf, drop-zeros}
-use Rattle.upkeep.specs.Merge.{numberOf}
-use Rattle.upkeep.specs.Size.{sizeOf, kidsFor, messagesFor, size-cons, size-nil, child-size}
+use Rattle.laws.specs.Page.{numberOf, childEntries}
+use Rattle.upkeep.specs.Size.{sizeOf, messageEntries, size-cons, size-nil, child-size}
 use Rattle.upkeep.specs.Page.{pageOf, page-length, none-left, one-more, inner-reads}
 use Rattle.upkeep.specs.Reading.{number-at}
 use Rattle.laws.specs.ButLive.{soundButLive, SoundParts, parts-of, of-parts}
@@ -59,8 +59,8 @@ pub put-blank : (n : ℕ) (bs : List ℕ) → put (replicate n 0) 0 bs ≡ bs ++
 unfolding put zerosOf
 put-blank n bs = let z : n - (0 + length bs) ≡ n - length bs = omega arith in ap (λ l. bs ++ l) (drop-zeros (0 + length bs) n ∙ ap (λ k. replicate k 0) z)
 
-root-entries : (t : Tree) (m : Message) → kidsFor (tree [] t end) ++ messagesFor (m ∷ []) ≡ child (numberOf t) [] ∷ message m ∷ []
-unfolding kidsFor messagesFor
+root-entries : (t : Tree) (m : Message) → childEntries (tree [] t end) ++ messageEntries (m ∷ []) ≡ child (numberOf t) [] ∷ message m ∷ []
+unfolding childEntries messageEntries
 root-entries t m = refl
 
 root-allowed : (old : ℕ) (m : Message) → allAllowed (child old [] ∷ message m ∷ []) ≡ true
@@ -71,7 +71,7 @@ root-reads : (l : ℕ) (s′ : List ℕ) (i old : ℕ) (t : Tree) (m : Message) 
     → numberOf t ≡ old → treeAt (suc l) s′ old ≡ t → treeAt (suc (suc l)) s′ i ≡ interior i (tree [] t end) (m ∷ [])
 unfolding rootPage
 root-reads l s′ i old t m e h n r =
-    let es : kidsFor (tree [] t end) ++ messagesFor (m ∷ []) ≡ child old [] ∷ message m ∷ [] = root-entries t m ∙ ap (λ k. child k [] ∷ message m ∷ []) n in
+    let es : childEntries (tree [] t end) ++ messageEntries (m ∷ []) ≡ child old [] ∷ message m ∷ [] = root-entries t m ∙ ap (λ k. child k [] ∷ message m ∷ []) n in
     let z = root-size old m in
     inner-reads l s′ i (tree [] t end) (m ∷ []) (e ∙ ap (pageOf 0x0002 (suc (suc l))) (sym es))
     (subst (λ x. sizeOf x ≤ 1016) (sym es) (omega arith))

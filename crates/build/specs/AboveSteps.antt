@@ -9,7 +9,7 @@ use Rattle.packed.specs.Chunk.{groups}
 use Rattle.packed.specs.Packed.{Item, Built, childWeight, raised, climb, topOf}
 use Rattle.packed.specs.Numbered.{raised-length}
 use Rattle.packed.specs.Tower.{room, Level, level-above, few-raised, some-raised}
-use Rattle.packed.specs.Pages.{numberOf}
+use Rattle.laws.specs.Page.{numberOf}
 use Rattle.packed.specs.Tidy.{Page, writeAll}
 use Rattle.packed.specs.Sweep.{ownPages, climbPages}
 use Rattle.packed.specs.Marks.{kidOf, kidWeight, pivotOf, mapped, mapGroup, groups-mapped, mapped-length, firstKids, nodePages, raised-kids, raised-pages, topNumber}

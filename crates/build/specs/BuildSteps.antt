@@ -8,7 +8,7 @@ use native.Mathlib.Omega.{arith}
 use lib.ListN.{length, drop, getD}
 use Rattle.image.specs.Bytes.{u16}
 use Rattle.image.specs.Table.{Row}
-use Rattle.image.specs.Image.{nodesOf, leaf}
+use Rattle.image.specs.Image.{nodesOf}
 use Rattle.image.specs.Sound.{inRange}
 use Rattle.laws.specs.Encode.{bytesOfAll}
 use Rattle.laws.specs.WriteNode.{writeNode}
@@ -17,7 +17,7 @@ use Rattle.packed.specs.Packed.{pairWeight, leaves, leafLevel, climb, packed}
 use Rattle.packed.specs.Leaves.{Tabled, tabled}
 use Rattle.packed.specs.Numbered.{leafLevel-length}
 use Rattle.packed.specs.Tower.{room, room-7, Level, leaf-level, few-leaves}
-use Rattle.packed.specs.Pages.{page, pairsFrom, numberOf}
+use Rattle.laws.specs.Page.{page, pairEntries, numberOf}
 use Rattle.packed.specs.Stored.{headPage}
 use Rattle.packed.specs.Tidy.{writeAll, imageOf}
 use Rattle.packed.specs.Sweep.{ownPage, ownPages, climbPages, orderPages}
@@ -255,7 +255,7 @@ module _ (store area : List ℕ) (m : ℕ) (given : List ℕ) (a : Asks store ar
       rows-none = ap (λ k. rowsOf k area 0) z ∙ no-rows
 
       empty-image : (nn : List ℕ) → writeNode (writeNode store (getD nn 0 0) (page 1 1 [])) 0 (headPage (nodesOf (length store)) (getD nn 0 0) 1 0) ≡ orderImage store nn (nodesOf (length store)) []
-      empty-image nn = unfold orderImage orderPages leaves ownPages ownPage climbPages writeAll packed climb numberOf pairsFrom bytesOfAll in refl
+      empty-image nn = unfold orderImage orderPages leaves ownPages ownPage climbPages writeAll packed climb numberOf pairEntries bytesOfAll in refl
 
       order-is : writeNode (writeNode store num (page 1 1 [])) 0 (headPage (nodesOf (length store)) num 1 0) ≡ builtImage store area m given
       order-is =

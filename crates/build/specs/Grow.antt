@@ -1,17 +1,14 @@
 -- One turn of a pass over the rows: the marks of the rows behind row i and before row j go, row i gets the mark of its new node.
 -- The same law serves the leaves, whose rows may carry any marks before, and the levels above. Relies on area/specs/Remark.
-use Prim.Native.Nat.{ℕ, zero, suc, _+_, _*_, _-_, _≤_, _<_}
-use mathlib.Core.Path.{_≡_, refl, sym, ap, ap₂, _∙_}
+use Prim.Native.Nat.{ℕ, zero, suc, _+_, _-_, _≤_, _<_}
+use mathlib.Core.Path.{_≡_, refl, ap, ap₂, _∙_}
 use mathlib.Core.Logic.{_⊎_, inl, inr}
 use mathlib.Core.List.{List, [], _∷_, _++_}
 use mathlib.Core.Bool.{Bool, true, false}
 use native.Mathlib.Omega.{arith}
-use lib.ListN.{length, getD}
 use lib.Dec.{ltb}
 use borrow.Author.Tests.{ltb-true, ltb-false}
-use Rattle.image.specs.Table.{Row}
-use Rattle.image.specs.Image.{Kid}
-use Rattle.rows.specs.Area.{rowAt, rowsOf, RowsFit}
+use Rattle.rows.specs.Area.{rowsOf, RowsFit}
 use Rattle.rows.specs.Kids.{markAt, lowOfRow, kidsOf, kids-take}
 use Rattle.rows.specs.Puts.{putMark, mark-same, mark-other}
 use Rattle.rows.specs.Remark.{clearMarks, clear-before, clear-after, clear-in, clear-stays, Stays, stays-trans, stays-fit, put-stays, kids-agree, kids-none, kids-split, low-same}

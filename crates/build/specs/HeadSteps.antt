@@ -1,12 +1,12 @@
 -- Node 0 and the empty leaf, as the puts that make them on a page of zeros.
 -- Rely on emit/specs/Put.
-use Prim.Native.Nat.{ℕ, zero, suc, _+_, _*_, _-_, _/_, _%_, _≤_, _<_}
+use Prim.Native.Nat.{ℕ, _-_, _≤_}
 use mathlib.Core.Path.{_≡_, refl, sym, ap, ap₂, _∙_}
 use mathlib.Core.List.{List, [], _∷_, _++_}
 use native.Mathlib.Omega.{arith}
-use lib.ListN.{length, take, drop, replicate, take-append-drop}
+use lib.ListN.{replicate, take-append-drop}
 use Rattle.image.specs.Bytes.{u16Bytes}
-use Rattle.packed.specs.Pages.{page}
+use Rattle.laws.specs.Page.{page}
 use Rattle.packed.specs.Stored.{headPage}
 use Rattle.packed.specs.Tidy.{zerosOf, drop-zeros, take-zeros}
 use Rattle.octets.specs.Put.{put}

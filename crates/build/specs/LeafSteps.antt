@@ -14,7 +14,7 @@ use Rattle.image.specs.Sound.{inRange, highest}
 use Rattle.laws.specs.WriteNode.{writeNode}
 use Rattle.packed.specs.Chunk.{groups, groups-flat, more}
 use Rattle.packed.specs.Packed.{pairWeight, leafFrom, leafLevel, first, keyOf, shortRows}
-use Rattle.packed.specs.Pages.{page, pairsFrom, numberOf}
+use Rattle.laws.specs.Page.{page, pairEntries, numberOf}
 use Rattle.packed.specs.Tidy.{Page, writeAll}
 use Rattle.packed.specs.Marks.{mapped}
 use Rattle.rows.specs.Area.{rowAt, rowsOf, RowsFit, row-weight, leafEnd}
@@ -92,7 +92,7 @@ page-same m a b s i j h k =
   where
     shown : leafPage m b i (lowOfRow a i) j ≡ leafPage m a i (lowOfRow a i) j
     shown = unfold leafPage highAt in
-        ap₂ (λ x y. page 0x0001 1 (bytesOfAll (pairsFrom (shortRows (length (shared (lowOfRow a i) (first keyOf highest x))) y))))
+        ap₂ (λ x y. page 0x0001 1 (bytesOfAll (pairEntries (shortRows (length (shared (lowOfRow a i) (first keyOf highest x))) y))))
         (rows-same m a b s (m - j) j (omega arith)) (rows-same m a b s (j - i) i (omega arith))
 
 pub leaf-first : (m : ℕ) (numbers area store : List ℕ) → RowsFit m area → LeafTurns m numbers area area store store 0 0

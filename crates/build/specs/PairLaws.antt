@@ -15,7 +15,8 @@ use Rattle.image.specs.Sound.{highest}
 use Rattle.laws.specs.Encode.{restOf, kindOf, bytesOf, bytesOfAll}
 use Rattle.packed.specs.Chunk.{All, total, Fits, groups, groups-fit}
 use Rattle.packed.specs.Packed.{keyOf, first, pairWeight, shortRows}
-use Rattle.packed.specs.Pages.{pairsFrom, pairs-length}
+use Rattle.laws.specs.Page.{pairEntries}
+use Rattle.packed.specs.Pages.{pairs-length}
 use Rattle.packed.specs.Neat.{short-weight}
 use Rattle.rows.specs.Area.{rowAt, rowsOf, RowsFit, rows-step, row-weight, leafEnd}
 use Rattle.rows.specs.Kids.{lowOfRow}
@@ -29,17 +30,17 @@ pair-size s v = let n = length-append s v in omega arith
 
 -- one row and on
 pub pair-one : (k : ℕ) (area : List ℕ) (i : ℕ) → pairBytes k 1 area i ≡ bytesOf (pair (drop k (rowAt area i .key)) (rowAt area i .value))
-unfolding pairBytes rowsOf shortRows pairsFrom bytesOfAll
+unfolding pairBytes rowsOf shortRows pairEntries bytesOfAll
 pair-one k area i = append-nil (bytesOf (pair (drop k (rowAt area i .key)) (rowAt area i .value)))
 
 pub pairs-step : (k to : ℕ) (area : List ℕ) (i : ℕ) → i < to → pairBytes k (to - i) area i ≡ pairBytes k 1 area i ++ pairBytes k (to - (i + 1)) area (i + 1)
 pairs-step k to area i h = opened ∙ ap (λ x. x ++ pairBytes k (to - (i + 1)) area (i + 1)) (sym (pair-one k area i))
   where
     opened : pairBytes k (to - i) area i ≡ bytesOf (pair (drop k (rowAt area i .key)) (rowAt area i .value)) ++ pairBytes k (to - (i + 1)) area (i + 1)
-    opened = unfold pairBytes in (ap (λ rs. bytesOfAll (pairsFrom (shortRows k rs))) (rows-step to area i h) ∙ (unfold shortRows pairsFrom bytesOfAll in refl))
+    opened = unfold pairBytes in (ap (λ rs. bytesOfAll (pairEntries (shortRows k rs))) (rows-step to area i h) ∙ (unfold shortRows pairEntries bytesOfAll in refl))
 
 pub pairs-done : (k to : ℕ) (area : List ℕ) (i : ℕ) → to ≤ i → pairBytes k (to - i) area i ≡ []
-unfolding pairBytes rowsOf shortRows pairsFrom bytesOfAll
+unfolding pairBytes rowsOf shortRows pairEntries bytesOfAll
 pairs-done k to area i h = let z : to - i ≡ 0 = omega arith in rw z refl
 
 -- where a row's path and value stand

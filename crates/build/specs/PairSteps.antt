@@ -9,7 +9,7 @@ use Rattle.image.specs.Entry.{pair}
 use Rattle.image.specs.Bytes.{u16Bytes}
 use Rattle.laws.specs.Encode.{restOf, kindOf, bytesOf, bytesOfAll}
 use Rattle.packed.specs.Packed.{shortRows}
-use Rattle.packed.specs.Pages.{page, pairsFrom}
+use Rattle.laws.specs.Page.{page, pairEntries}
 use Rattle.packed.specs.Tidy.{zerosOf}
 use Rattle.rows.specs.Area.{rowsOf}
 use Rattle.rows.specs.Kids.{lowOfRow}
@@ -96,4 +96,4 @@ leaf-page-is m area i j k kk h p₁ p₂ p₃ p₄ e a b c d f =
     sized = unfold leafBytes in ap (λ x. length (pairBytes x (j - i) area i)) (sym kk)
 
     shown : page 1 1 (pairBytes k (j - i) area i) ≡ leafPage m area i (lowOfRow area i) j
-    shown = unfold leafPage pairBytes leafLifts in ap (λ x. page 1 1 (bytesOfAll (pairsFrom (shortRows x (rowsOf (j - i) area i))))) kk
+    shown = unfold leafPage pairBytes leafLifts in ap (λ x. page 1 1 (bytesOfAll (pairEntries (shortRows x (rowsOf (j - i) area i))))) kk

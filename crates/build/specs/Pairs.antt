@@ -1,6 +1,6 @@
 -- The pairs of the rows from i up to j, as the bytes of a leaf, without the first k bytes of each path.
 -- These name what the leaf writer's contracts cite; the page itself is `leafPage` of area/specs/Steps.
-use Prim.Native.Nat.{ℕ, _+_, _*_, _-_, _≤_, _<_}
+use Prim.Native.Nat.{ℕ, _+_, _*_, _-_}
 use mathlib.Core.List.{List}
 use mathlib.Core.Bool.{cond}
 use lib.ListN.{length, getD}
@@ -8,14 +8,14 @@ use lib.Dec.{ltb}
 use Rattle.image.specs.Bytes.{shared}
 use Rattle.laws.specs.Encode.{bytesOfAll}
 use Rattle.packed.specs.Packed.{shortRows}
-use Rattle.packed.specs.Pages.{pairsFrom}
+use Rattle.laws.specs.Page.{pairEntries}
 use Rattle.rows.specs.Area.{rowsOf}
 use Rattle.rows.specs.Kids.{lowOfRow}
 use Rattle.rows.specs.Steps.{highAt}
 
 -- n rows from row i on
 unfoldable pub pairBytes : ℕ → ℕ → List ℕ → ℕ → List ℕ
-pairBytes k n area i = bytesOfAll (pairsFrom (shortRows k (rowsOf n area i)))
+pairBytes k n area i = bytesOfAll (pairEntries (shortRows k (rowsOf n area i)))
 
 -- where the path of row i starts without its first k bytes
 unfoldable pub pathFrom : ℕ → List ℕ → ℕ → ℕ

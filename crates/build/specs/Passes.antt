@@ -6,8 +6,8 @@ use mathlib.Core.List.{List, []}
 use lib.ListN.{length}
 use Rattle.image.specs.Image.{Kid}
 use Rattle.packed.specs.Chunk.{groups}
-use Rattle.packed.specs.Packed.{pairWeight, leafLevel, leaves, first, Item, Built, climb}
-use Rattle.packed.specs.Pages.{numberOf}
+use Rattle.packed.specs.Packed.{pairWeight, leafLevel, leaves, Item, Built, climb}
+use Rattle.laws.specs.Page.{numberOf}
 use Rattle.packed.specs.Tidy.{Page, writeAll}
 use Rattle.packed.specs.Sweep.{climbPages}
 use Rattle.packed.specs.Marks.{kidOf, mapped}

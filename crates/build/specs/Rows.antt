@@ -1,10 +1,9 @@
 -- What a caller is told who puts the rows into the area.
 -- A row is path length, value length, u16 mark, 64 bytes for the path, 60 for the value (area/specs/Area).
-use Prim.Native.Nat.{ℕ, _+_, _*_, _≤_, _<_}
+use Prim.Native.Nat.{ℕ, _+_, _*_}
 use mathlib.Core.Path.{_≡_}
 use mathlib.Core.List.{List, [], _∷_, _++_}
-use lib.ListN.{length, take, drop}
-use Rattle.image.specs.Table.{Row}
+use lib.ListN.{drop}
 use Rattle.rows.specs.Area.{rowsOf, RowsFit}
 
 -- row i is (path, value), the rows before it and the bytes behind it are as before

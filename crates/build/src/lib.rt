@@ -10,7 +10,7 @@ ghost use Rattle.laws.specs.Encode.{bytesOf};
 ghost use Rattle.image.specs.Sound.{inRange};
 ghost use Rattle.laws.specs.WriteNode.{writeNode};
 ghost use Rattle.packed.specs.Packed.{numbersFrom};
-ghost use Rattle.packed.specs.Pages.{page};
+ghost use Rattle.laws.specs.Page.{page};
 ghost use Rattle.packed.specs.Stored.{headPage};
 ghost use Rattle.packed.specs.Tidy.{writeAll, zerosOf};
 ghost use Rattle.rows.specs.Area.{RowsFit};

@@ -11,11 +11,11 @@ use lib.Seq.{take-append-seam, drop-append-seam}
 use borrow.Author.Tests.{not-true, not-false}
 use Rattle.image.specs.Path.{valueFits}
 use Rattle.image.specs.Entry as defined
-use Rattle.image.specs.Table.{Row, find, withRow, everyKey, rising}
+use Rattle.image.specs.Table.{Row, find, withRow, everyKey}
 use Rattle.image.specs.Meaning.{Said, nothing, says, newer}
 use Rattle.octets.specs.Order.{and-false, same-refl}
 use Rattle.laws.specs.Tables.{find-fails}
-use Rattle.laws.specs.Rising.{both, rising-with}
+use Rattle.laws.specs.Rising.{rising-with}
 use Rattle.laws.specs.Filter.{every-imp}
 use Rattle.node.specs.Places.{part, messageIn, entryIn}
 use Rattle.node.specs.declared.Place.{Place}
@@ -29,11 +29,10 @@ use Rattle.insertion.specs.Slots.{rows-split}
 use Rattle.live.specs.Live.{holdsNoMessage}
 use Rattle.live.specs.KeepLaws.{with-length, every-with, quiet-put}
 use Rattle.live.specs.PathBuffers.{pathIn}
-use Rattle.live.specs.PathSteps.{path-length}
 use Rattle.live.specs.declared.path_buffer.PathBuffer.{PathBuffer}
 use Rattle.live.specs.Walk.{decides}
 use Rattle.live.specs.Steps.{as-path}
-use Rattle.dump.specs.Dump.{valueFitsE, valuesFitE, withEntry, insertE, Untold, Open, Placed}
+use Rattle.dump.specs.Dump.{valueFitsE, withEntry, insertE, Untold, Open, Placed}
 use Rattle.dump.specs.AppendSteps.{values-first, values-later}
 
 -- ROWS THAT NO ENTRY SAYS ANYTHING OF

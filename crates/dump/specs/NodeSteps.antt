@@ -9,7 +9,7 @@ use lib.ListN.{length, take, drop, length-append}
 use Rattle.image.specs.Bytes.{u16, shared}
 use Rattle.image.specs.Entry.{Entry}
 use Rattle.image.specs.Table.{Row, underPrefix}
-use Rattle.image.specs.Image.{Tree, Kid, Forest, nodesOf, forestOf, treeAt}
+use Rattle.image.specs.Image.{Kid, Forest, forestOf, treeAt}
 use Rattle.image.specs.Meaning.{highOf, rows, rowsIn}
 use Rattle.image.specs.Sound.{soundTree, soundForest}
 use Rattle.octets.specs.Order.{shared-append}

@@ -1,16 +1,15 @@
 -- The steps of the dump from the root: what the first call asks, and that its rows are the table of the store.
 -- Relies on what a sound image is (laws: ButLive) and on the steps of the count from the root (live: RootSteps).
-use Prim.Native.Nat.{ℕ, _+_, _*_, _≤_}
-use mathlib.Core.Path.{_≡_, refl, sym, ap, ap₂, subst, _∙_}
-use mathlib.Core.List.{List, [], _∷_, _++_}
-use mathlib.Core.Bool.{Bool, true}
+use Prim.Native.Nat.{ℕ, _*_, _≤_}
+use mathlib.Core.Path.{_≡_, sym, ap, ap₂, _∙_}
+use mathlib.Core.List.{List, [], _++_}
+use mathlib.Core.Bool.{true}
 use native.Mathlib.Omega.{arith}
 use lib.ListN.{length}
-use lib.Dec.{eqb}
 use borrow.Author.Tests.{eqb-true}
 use Rattle.image.specs.Bytes.{u16}
 use Rattle.image.specs.Table.{Row}
-use Rattle.image.specs.Image.{Tree, nodesOf, headerOf, treeAt, treeOf}
+use Rattle.image.specs.Image.{nodesOf, headerOf, treeAt, treeOf}
 use Rattle.image.specs.Meaning.{rows}
 use Rattle.image.specs.Sound.{sound, soundTree, lowest, highest, tableOf}
 use Rattle.octets.specs.Order.{and-right}

@@ -1,8 +1,8 @@
 -- What the walk writes of a node's entries is what the tree under the node means: a leaf's pairs are its rows, and an interior node's rows
 -- are those of its children that no message of it says anything of, with its puts that decide their paths put in.
 -- Relies on the laws that join the bytes of a node to its tree (lookup: Look), on KeepLaws of `live` and on the laws of sound trees.
-use Prim.Native.Nat.{ℕ, _+_, _-_, _<_, _≤_}
-use mathlib.Core.Path.{_≡_, refl, sym, ap, ap₂, _∙_}
+use Prim.Native.Nat.{ℕ, _-_, _<_, _≤_}
+use mathlib.Core.Path.{_≡_, refl, sym, ap, _∙_}
 use mathlib.Core.List.{List, [], _∷_, _++_}
 use mathlib.Core.Bool.{Bool, true, false, _&&_, not, cond, false≢true, and-comm}
 use mathlib.Core.Option.{Option, none, some}
@@ -13,12 +13,12 @@ use Rattle.image.specs.Bytes.{begins, shared}
 use Rattle.image.specs.Path.{wellFormed, owns, valueFits}
 use Rattle.image.specs.Entry as defined
 use Rattle.image.specs.Table.{Row, underPrefix, everyKey, withRow, rising}
-use Rattle.image.specs.Image.{Tree, leaf, interior, Forest, end, tree, Kid, Inside, nodesOf, pairThen, pairsOf, messageThen, messagesOf, noKids, kidThen, insideOf, forestOf, treeAt}
-use Rattle.image.specs.Meaning.{Said, newest, applyAll, rows, rowsIn}
+use Rattle.image.specs.Image.{Tree, leaf, interior, Forest, tree, Kid, Inside, nodesOf, pairThen, pairsOf, messageThen, messagesOf, noKids, kidThen, insideOf, forestOf, treeAt}
+use Rattle.image.specs.Meaning.{newest, applyAll, rows, rowsIn}
 use Rattle.image.specs.Sound.{soundTree, soundForest, soundMessage, soundMessages, firstPivot, valuesFit}
 use Rattle.octets.specs.Order.{and-left, and-right, begins-split}
 use Rattle.laws.specs.Rising.{both}
-use Rattle.laws.specs.RowsRising.{every-key, leaf-rises, rows-rise-in}
+use Rattle.laws.specs.RowsRising.{every-key, rows-rise-in}
 use Rattle.laws.specs.LookupTable.{inner, outside, outside-in}
 use Rattle.laws.specs.Filter.{keep, keep-none, keep-passes, keep-rises, every-imp, owned-begins}
 use Rattle.reading.specs.Relative.{usable}

@@ -1,22 +1,22 @@
 -- A change carried out: what each step leaves, and the contract of put, drop and clear from it.
-use Prim.Native.Nat.{ℕ, zero, suc, _+_, _*_, _-_, _/_, _<_, _≤_}
-use mathlib.Core.Path.{_≡_, refl, sym, ap, ap₂, subst, _∙_}
-use mathlib.Core.List.{List, [], _∷_, _++_}
-use mathlib.Core.Bool.{Bool, true, false, _&&_, _||_, not, cond, false≢true}
-use mathlib.Core.Option.{Option, none, some}
+use Prim.Native.Nat.{ℕ, _+_, _*_, _/_, _<_, _≤_}
+use mathlib.Core.Path.{_≡_, refl, sym, ap, subst, _∙_}
+use mathlib.Core.List.{List, [], _++_}
+use mathlib.Core.Bool.{Bool, true, false, _||_, false≢true}
+use mathlib.Core.Option.{none, some}
 use native.Mathlib.Omega.{arith}
-use lib.ListN.{length, take, drop, replicate}
-use lib.Dec.{leb, ltb, eqb}
-use borrow.Author.Tests.{le-leb, lt-leb, lt-ltb, eqb-true}
+use lib.ListN.{length, drop, replicate}
+use lib.Dec.{ltb, eqb}
+use borrow.Author.Tests.{le-leb, lt-leb, eqb-true}
 use Rattle.image.specs.Bytes.{u16}
 use Rattle.image.specs.Path.{wellFormed, valueLimit, valueFits}
-use Rattle.image.specs.Entry.{Message, puts, drops, clears, message}
-use Rattle.image.specs.Table.{Row, find, isSome, withRow, without, withoutBelow, rising}
+use Rattle.image.specs.Entry.{Message, puts, drops, clears}
+use Rattle.image.specs.Table.{find, isSome}
 use Rattle.image.specs.Image.{nodesOf, wholeNodes, headerOf}
 use Rattle.image.specs.Meaning.{apply}
 use Rattle.image.specs.Sound.{sound, valueIn, tableOf}
 use Rattle.image.specs.Calls as calls
-use Rattle.image.specs.Calls.{Call, acts, Act, ask, firstNo, workPerNode, questions, actQuestions, tableAfter, actTable}
+use Rattle.image.specs.Calls.{acts, Act, firstNo, workPerNode, questions, actQuestions, tableAfter, actTable}
 use Rattle.image.specs.Contract.{nodeQuestions, firstNoOn, Besides, Meets}
 use Rattle.image.specs.Answers.{refusalNumber, outcomeAnswer}
 use Rattle.image.specs.declared.Refusal.{Refusal}
@@ -24,7 +24,6 @@ use Rattle.image.specs.declared.Outcome.{Outcome}
 use Rattle.octets.specs.Order.{and-right}
 use Rattle.laws.specs.ButLive.{soundButLive, sound-live, sound-but-live}
 use Rattle.laws.specs.LookupTable.{means-table}
-use Rattle.laws.specs.Encode.{bytesOf}
 use Rattle.packed.specs.Tidy.{zerosOf}
 use Rattle.node.specs.Whole.{Whole, whole-parts}
 use Rattle.node.specs.declared.Place.{Place}
@@ -40,10 +39,10 @@ use Rattle.append.specs.Callers as code
 use Rattle.laws.specs.Follow.{table-rises}
 use Rattle.dump.specs.RootSteps.{table-few}
 use Rattle.rebuild.specs.Rebuild.{cleared}
-use Rattle.rebuild.specs.Callers.{Lent, to-act, laterNo, later-number, act-meets, act-refused}
+use Rattle.rebuild.specs.Callers.{to-act, laterNo, later-number, act-meets, act-refused}
 use Rattle.edit.specs.declared.Change.{Change}
 use Rattle.edit.specs.declared.Spot.{Spot}
-use Rattle.edit.specs.Change.{messageOf, sizeOf, message-size, Allowed, message-sound, size-small, few-after}
+use Rattle.edit.specs.Change.{messageOf, sizeOf, Allowed, message-sound, size-small, few-after}
 use Rattle.edit.specs.Room.{Free, SpotFits, Roomy}
 
 -- the live count right and the work area zeroed

@@ -1,30 +1,28 @@
 -- Room for a message at the root: what each step of the code leaves, and that after a rebuild there always is room.
-use Prim.Native.Nat.{ℕ, zero, suc, _+_, _*_, _-_, _/_, _<_, _≤_}
-use mathlib.Core.Path.{_≡_, refl, sym, ap, subst, _∙_}
-use mathlib.Core.List.{List, [], _∷_, _++_, append-nil}
-use mathlib.Core.Bool.{Bool, true, false, _&&_, not, cond, false≢true}
+use Prim.Native.Nat.{ℕ, suc, _*_, _/_, _<_, _≤_}
+use mathlib.Core.Path.{_≡_, refl, sym, ap, _∙_}
+use mathlib.Core.List.{List, [], _∷_}
+use mathlib.Core.Bool.{Bool, true, false, not, false≢true}
 use native.Mathlib.Omega.{arith}
 use lib.ListN.{length, drop, getD, replicate, length-append, length-drop, length-replicate}
 use lib.Seq.{drop-at}
-use lib.Dec.{leb, eqb}
+use lib.Dec.{eqb}
 use borrow.Author.Tests.{leb-true, eqb-true, not-true}
 use Rattle.image.specs.Bytes.{u16}
 use Rattle.image.specs.Entry.{Message}
 use Rattle.image.specs.Image.{Tree, unread, leaf, interior, nodesOf, wholeNodes, headerOf, treeOf}
-use Rattle.image.specs.Meaning.{apply}
 use Rattle.image.specs.Sound.{sound, tableOf, isIn, numbers, lowest, highest}
 use Rattle.image.specs.Upkeep.{settled, tidied, used, every, holdsNoMessage, reachable, reachableNodes, noMessage}
 use Rattle.image.specs.Calls.{workPerNode}
 use Rattle.octets.specs.Order.{and-left, and-right}
-use Rattle.laws.specs.ButLive.{soundButLive, sound-live, sound-but-live, SoundParts, parts-of}
+use Rattle.laws.specs.ButLive.{sound-but-live}
 use Rattle.node.specs.Whole.{Whole, whole-parts}
 use Rattle.tree_check.specs.declared.Checked.{Checked}
 use Rattle.tree_check.specs.declared.Tally.{Tally}
 use Rattle.tree_check.specs.Whole.{Verified}
 use Rattle.tree_check.specs.Callers.{Holds, verified-yes, verified-no}
 use Rattle.append_laws.specs.Append.{roomAtRoot, header-levels}
-use Rattle.append_laws.specs.SetLive.{withLive, live-right, live-length, live-table}
-use Rattle.rebuild.specs.Rebuild.{Rebuilt, cleared}
+use Rattle.rebuild.specs.Rebuild.{Rebuilt}
 use Rattle.edit.specs.Free.{FirstFree, all-in}
 use Rattle.edit.specs.declared.Spot.{Spot}
 

@@ -1,11 +1,11 @@
 -- Document 01, "Questions before a call acts": the calls with their arguments, the questions that each is asked, in order, and the
 -- answers. (make and same stand apart, in Contract: demand 3's lists are calls on one store.)
-use Prim.Native.Nat.{ℕ, zero, suc, _+_, _*_}
+use Prim.Native.Nat.{ℕ, zero, suc, _*_}
 use mathlib.Core.List.{List, [], _∷_, _++_}
 use mathlib.Core.Bool.{Bool, true, false, _&&_, _||_, not}
 use mathlib.Core.Option.{Option, none, some}
 use lib.ListN.{length, drop}
-use lib.Dec.{ltb, leb, eqb}
+use lib.Dec.{ltb, leb}
 use Rattle.image.specs.Bytes.{same}
 use Rattle.image.specs.Path.{wellFormed, properBeginning, valueFits, valueLimit, pathLimit}
 use Rattle.image.specs.Table.{Row, find, isSome, withRow, without, rowsBelow, withoutBelow, moved, leastAfter, everyKey}

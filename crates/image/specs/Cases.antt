@@ -1,19 +1,19 @@
 -- Document 01, "Proved on the definitions, as one table".
-use Prim.Native.Nat.{ℕ, zero, suc, _+_, _*_}
+use Prim.Native.Nat.{ℕ, zero, suc, _*_}
 use mathlib.Core.Path.{_≡_, refl}
 use mathlib.Core.List.{List, [], _∷_, _++_}
-use mathlib.Core.Bool.{Bool, true, false, _&&_, _||_, not}
-use mathlib.Core.Option.{Option, none, some}
-use lib.ListN.{length, drop, replicate}
+use mathlib.Core.Bool.{true, false}
+use mathlib.Core.Option.{none, some}
+use lib.ListN.{length, replicate}
 use Rattle.image.specs.Bytes.{same, before, begins, shared}
 use Rattle.image.specs.Path.{letter, readsOn, wellFormed, below, properBeginning, owns, valueLimit, valueFits, pathLimit}
-use Rattle.image.specs.Entry.{Message, puts, drops, clears}
+use Rattle.image.specs.Entry.{puts, clears}
 use Rattle.image.specs.Table.{Row, find, isSome, withRow, without, rowsBelow, withoutBelow, renamed, putAll, moved, rowsAfter, firstKey, leastAfter, everyKey, underPrefix}
-use Rattle.image.specs.Image.{Tree, leaf, interior, Forest, end, tree, nodesOf, wholeNodes}
-use Rattle.image.specs.Meaning.{Said, nothing, says, saysOf, newer, newest, decide, highOf, lookup, apply, applyAll, rows}
+use Rattle.image.specs.Image.{Tree, leaf, interior, end, tree, nodesOf, wholeNodes}
+use Rattle.image.specs.Meaning.{saysOf, newer, newest, decide, highOf, lookup, apply, applyAll, rows}
 use Rattle.image.specs.Sound.{lowest, highest}
-use Rattle.image.specs.Calls.{Call, acts, keeps, asks, Act, put, drops as drop-act, clear, move, Query, get, next, Answer, number, filled, Question, ask, firstNo, workLong, isEmpty, actQuestions, queryQuestions, questions, actTable, tableAfter, foundBy, fill, accepted, refused, answerAt, tableAt}
-use Rattle.image.specs.PlainMap.{plainFirstNo, tableOn, answersOn, reported}
+use Rattle.image.specs.Calls.{acts, asks, Act, put, drops as drop-act, clear, move, get, next, firstNo, workLong, isEmpty, actQuestions, queryQuestions, questions, actTable, tableAfter, tableAt}
+use Rattle.image.specs.PlainMap.{plainFirstNo}
 use Rattle.image.specs.Contract.{makeNo}
 
 -- a component of k bytes, with its 00

@@ -1,18 +1,17 @@
 -- The contract of each call: what holds of the store before, the call, its answer, and the store and the work area after it; and lists
 -- of calls. Every public function's promise is one of the records Meets, MakeMeets and SameMeets.
-use Prim.Native.Nat.{ℕ, zero, suc, _+_, _*_, _-_, _≤_}
+use Prim.Native.Nat.{ℕ, zero, suc, _+_, _*_, _≤_}
 use mathlib.Core.Path.{_≡_}
 use mathlib.Core.List.{List, [], _∷_, _++_}
-use mathlib.Core.Bool.{Bool, true, false, _&&_, _||_, not, cond}
+use mathlib.Core.Bool.{Bool, true, false, _&&_, cond}
 use mathlib.Core.Option.{Option, none, some}
 use lib.ListN.{length, drop, replicate}
-use lib.Dec.{leb}
 use Rattle.image.specs.Bytes.{same}
 use Rattle.image.specs.Table.{Row}
 use Rattle.image.specs.Image.{Forest, end, tree, nodesOf, wholeNodes, headerOf}
 use Rattle.image.specs.Sound.{sound, tableOf}
 use Rattle.image.specs.Upkeep.{Reachable, reachableNodes, reachableAt, settled, flushed, healed, tidied, freeNodes, changed}
-use Rattle.image.specs.Calls.{Call, acts, keeps, asks, Act, put, drops, clear, move, settle, tidy, Upkeep, flush, heal, Answer, Question, ask, firstNo, workLong, workPerNode, questions, answerAt, tableAt}
+use Rattle.image.specs.Calls.{Call, acts, keeps, asks, put, drops, clear, move, settle, tidy, Upkeep, flush, heal, Answer, Question, ask, firstNo, workLong, workPerNode, questions, answerAt, tableAt}
 
 -- make is asked question 1 alone, of the length of its store: the number of its answer
 unfoldable pub makeNo : ℕ → ℕ

@@ -1,16 +1,16 @@
 -- Examples beyond the paper's thirteen, for rules that those do not touch: the ends of a range, a whole image with its live count, upkeep.
 -- They hold by computation. Images of several levels, made and read by the second program, are in crate samples.
-use Prim.Native.Nat.{ℕ, zero, suc, _+_, _*_, _-_}
+use Prim.Native.Nat.{ℕ, _*_}
 use mathlib.Core.Path.{_≡_, refl}
 use mathlib.Core.List.{List, [], _∷_, _++_}
-use mathlib.Core.Bool.{Bool, true, false}
-use mathlib.Core.Option.{Option, none, some}
-use lib.ListN.{length, replicate}
+use mathlib.Core.Bool.{true, false}
+use mathlib.Core.Option.{some}
+use lib.ListN.{replicate}
 use Rattle.image.specs.Bytes.{same, before, begins, shared, zeros, u16}
 use Rattle.image.specs.Path.{letter, readsOn, wellFormed, owns, valueLimit, valueFits, pathLimit}
-use Rattle.image.specs.Entry.{Message, puts, drops, clears, keyed, pointer, entryOf, entryThen, readAll, entriesOf}
+use Rattle.image.specs.Entry.{drops, clears, keyed, pointer, entryOf, entryThen, readAll, entriesOf}
 use Rattle.image.specs.Table.{Row, find, withRow, without, withoutBelow, everyKey, leads, rising, underPrefix}
-use Rattle.image.specs.Image.{Tree, leaf, interior, Forest, end, tree, nodesOf, wholeNodes, nodeBytes, header, headerOf, headerLaidOut, laidOut, entryBytes, nodeEntries, pairThen, pairsOf, leafOf, orNone, treeAt, treeOf}
+use Rattle.image.specs.Image.{Tree, leaf, interior, end, tree, nodesOf, wholeNodes, nodeBytes, header, headerOf, headerLaidOut, laidOut, entryBytes, nodeEntries, pairThen, pairsOf, leafOf, orNone, treeAt, treeOf}
 use Rattle.image.specs.Meaning.{saysOf, newer, newest, decide, highOf, lookup, apply, applyAll, rows}
 use Rattle.image.specs.Sound.{lowest, highest, valuesFit, soundTree, soundMessages, firstPivot, numbers, isIn, once, inRange, soundHeader, soundRoot, sound, valueIn, tableOf}
 use Rattle.image.specs.Upkeep.{sameMessage, isSublist}

@@ -1,9 +1,9 @@
 -- Document 01, "Paths and values": which strings are paths, what is below a path, what a range owns, which values fit.
-use Prim.Native.Nat.{ℕ, zero, suc, _+_, _*_}
-use mathlib.Core.List.{List, [], _∷_, _++_}
-use mathlib.Core.Bool.{Bool, true, false, _&&_, _||_, not, cond}
+use Prim.Native.Nat.{ℕ, suc}
+use mathlib.Core.List.{List, [], _∷_}
+use mathlib.Core.Bool.{Bool, _&&_, not, cond}
 use lib.ListN.{length}
-use lib.Dec.{ltb, leb, eqb}
+use lib.Dec.{leb, eqb}
 use Rattle.image.specs.Bytes.{same, before, begins}
 
 -- a path, a suffix, a pivot and a value are lists of bytes

@@ -1,11 +1,11 @@
 -- Document 01, "The map and the calls" and "The plain path map": a table of paths with their values, each path at most once. The paper
 -- leaves its order free; here the paths rise, so that two tables that hold the same are equal lists.
-use Prim.Native.Nat.{ℕ, zero, suc}
+use Prim.Native.Nat.{ℕ}
 use mathlib.Core.List.{List, [], _∷_, _++_}
-use mathlib.Core.Bool.{Bool, true, false, _&&_, _||_, not, cond}
+use mathlib.Core.Bool.{Bool, true, false, _&&_, cond}
 use mathlib.Core.Option.{Option, none, some}
 use lib.ListN.{length, drop}
-use Rattle.image.specs.Bytes.{same, before, begins}
+use Rattle.image.specs.Bytes.{same, before}
 use Rattle.image.specs.Path.{below}
 
 -- a path, or a suffix of one, with its value

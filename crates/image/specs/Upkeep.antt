@@ -1,10 +1,10 @@
 -- Document 01, "Upkeep": what flush, heal, settle and tidy leave; and the counts that demand 3's bound speaks of.
-use Prim.Native.Nat.{ℕ, zero, suc, _+_, _*_, _-_, _/_}
+use Prim.Native.Nat.{ℕ, zero, suc, _+_, _-_, _/_}
 use mathlib.Core.List.{List, [], _∷_, _++_}
 use mathlib.Core.Bool.{Bool, true, false, _&&_, _||_, not, cond}
 use mathlib.Core.Option.{Option, none, some}
 use lib.ListN.{length, drop}
-use lib.Dec.{ltb, leb, eqb}
+use lib.Dec.{leb, eqb}
 use Rattle.image.specs.Bytes.{same, before, shared}
 use Rattle.image.specs.Entry.{Message, puts, drops, clears, pivotLimit}
 use Rattle.image.specs.Table.{Row}

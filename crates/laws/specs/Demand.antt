@@ -1,10 +1,9 @@
 -- Demand 3, from the contracts of the calls: for every list of calls on a store just made, the answers are the plain map's, and the image
 -- at the end means what the map then holds.
 use Prim.Native.Nat.{ℕ, zero, suc, _+_, _*_, _≤_}
-use mathlib.Core.Path.{_≡_, refl, sym, ap, subst, _∙_}
-use mathlib.Core.List.{List, [], _∷_, _++_}
-use mathlib.Core.Bool.{Bool, true, false, _&&_}
-use mathlib.Core.Option.{Option, none, some}
+use mathlib.Core.Path.{_≡_, refl, sym, ap, _∙_}
+use mathlib.Core.List.{List, [], _∷_}
+use mathlib.Core.Bool.{Bool, true, false}
 use lib.ListN.{length}
 use Rattle.image.specs.Table.{Row, find}
 use Rattle.image.specs.Image.{nodesOf, wholeNodes, headerOf}

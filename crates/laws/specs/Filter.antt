@@ -1,16 +1,16 @@
 -- The rows of a table that pass a test; and rows without, and with, a common beginning of their keys.
-use Prim.Native.Nat.{ℕ, zero, suc}
+use Prim.Native.Nat.{ℕ}
 use mathlib.Core.Path.{_≡_, refl, sym, ap, ap₂, _∙_}
-use mathlib.Core.List.{List, [], _∷_, _++_, append-nil}
-use mathlib.Core.Bool.{Bool, true, false, _&&_, not, cond, false≢true}
+use mathlib.Core.List.{List, [], _∷_, _++_}
+use mathlib.Core.Bool.{Bool, true, false, _&&_, not, cond}
 use lib.ListN.{length, drop}
-use Rattle.image.specs.Bytes.{same, before, begins, shared}
+use Rattle.image.specs.Bytes.{before, begins, shared}
 use Rattle.image.specs.Path.{wellFormed, owns, valueFits}
 use Rattle.image.specs.Table.{Row, everyKey, underPrefix, leads, rising}
-use Rattle.image.specs.Image.{Tree, unread, leaf, interior}
+use Rattle.image.specs.Image.{leaf}
 use Rattle.image.specs.Meaning.{rows}
 use Rattle.image.specs.Sound.{soundTree, valuesFit}
-use Rattle.octets.specs.Order.{and-left, and-right, not-so, not-true, not-false, before-append, before-trans, before-le, before-asym, begins-split, between-begins}
+use Rattle.octets.specs.Order.{and-left, and-right, not-so, not-true, not-false, before-append, before-trans, begins-split, between-begins}
 use Rattle.laws.specs.Rising.{both}
 use Rattle.laws.specs.LookupTable.{not-low, under-high, does-own}
 

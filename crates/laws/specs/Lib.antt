@@ -16,3 +16,4 @@ pub mod LiveCount
 pub mod Demand
 pub mod ValuesFit
 pub mod ButLive
+pub mod Page

@@ -1,18 +1,18 @@
 -- The table of a sound tree holds just what lookup finds.
-use Prim.Native.Nat.{ℕ, zero, suc}
+use Prim.Native.Nat.{ℕ}
 use mathlib.Core.Path.{_≡_, refl, sym, ap, _∙_}
 use mathlib.Core.List.{List, [], _∷_, _++_}
-use mathlib.Core.Bool.{Bool, true, false, _&&_, not, false≢true}
-use mathlib.Core.Option.{Option, none, some}
+use mathlib.Core.Bool.{Bool, true, false, _&&_, not}
+use mathlib.Core.Option.{Option, none}
 use lib.ListN.{length, drop}
 use Rattle.image.specs.Bytes.{same, before, begins, shared}
-use Rattle.image.specs.Path.{wellFormed, owns, valueFits}
+use Rattle.image.specs.Path.{wellFormed, owns}
 use Rattle.image.specs.Entry.{Message, puts, drops, clears}
 use Rattle.image.specs.Table.{Row, find, withRow, without, withoutBelow, underPrefix, everyKey}
 use Rattle.image.specs.Image.{Tree, unread, leaf, interior, Forest, end, tree, headerOf, headerLaidOut, nodeBytes, nodesOf, treeOf}
 use Rattle.image.specs.Meaning.{Said, nothing, says, saysOf, newer, newest, decide, highOf, lookup, lookupIn, apply, applyAll, rows, rowsIn}
-use Rattle.image.specs.Sound.{soundMessage, soundMessages, soundTree, soundForest, firstPivot, valuesFit, lowest, highest, soundHeader, soundRoot, sound, valueIn, tableOf, once, inRange, numbers}
-use Rattle.octets.specs.Order.{and-left, and-right, not-so, not-true, not-false, same-refl, same-eq, same-false, same-turn, before-le, before-trans, before-irrefl, between-begins, begins-split, same-append, begins-append}
+use Rattle.image.specs.Sound.{soundMessage, soundMessages, soundTree, soundForest, firstPivot, highest, soundHeader, soundRoot, sound, valueIn, tableOf}
+use Rattle.octets.specs.Order.{and-left, and-right, not-so, not-true, same-eq, same-false, same-turn, before-le, before-trans, between-begins, begins-split, same-append, begins-append}
 use Rattle.laws.specs.Tables.{find-nil, find-with, find-with-other, find-without, find-without-other, find-cleared, find-spared, find-append-none, find-append-some, find-under, find-fails}
 
 -- one message: what is found in the table after it

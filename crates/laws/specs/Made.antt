@@ -1,19 +1,16 @@
 -- A store just made: one image of it, for every n that make takes, is sound and means the empty map.
-use Prim.Native.Nat.{ℕ, zero, suc, _+_, _*_, _-_, _/_, _%_, _≤_, _<_}
-use mathlib.Core.Path.{_≡_, refl, sym, ap, _∙_}
+use Prim.Native.Nat.{ℕ, _+_, _*_, _-_, _/_, _%_, _≤_}
+use mathlib.Core.Path.{_≡_, refl, ap, _∙_}
 use mathlib.Core.List.{List, [], _∷_, _++_}
-use mathlib.Core.Bool.{Bool, true, false, _&&_, _||_, not, cond}
-use mathlib.Core.Option.{Option, none, some}
+use mathlib.Core.Bool.{true}
 use native.Mathlib.Omega.{arith}
-use native.Mathlib.Nat.{div-add-mod'}
-use lib.ListN.{length, take, drop, replicate, length-append, length-replicate}
-use lib.Dec.{ltb, leb, eqb}
+use lib.ListN.{length, replicate, length-append, length-replicate}
 use borrow.Author.Tests.{lt-ltb, le-leb, eq-eqb}
 use Rattle.image.specs.Bytes.{shared, zeros, u16}
 use Rattle.image.specs.Path.{}
 use Rattle.image.specs.Entry.{readAll, entriesOf}
-use Rattle.image.specs.Table.{Row, everyKey, underPrefix, rising}
-use Rattle.image.specs.Image.{Tree, leaf, Header, header, nodeBytes, nodesOf, wholeNodes, headerOf, headerLaidOut, laidOut, entryBytes, nodeEntries, pairsOf, leafOf, orNone, treeAt, treeOf}
+use Rattle.image.specs.Table.{everyKey, underPrefix, rising}
+use Rattle.image.specs.Image.{leaf, header, nodeBytes, nodesOf, wholeNodes, headerOf, headerLaidOut, laidOut, entryBytes, nodeEntries, pairsOf, leafOf, orNone, treeAt, treeOf}
 use Rattle.image.specs.Meaning.{rows}
 use Rattle.image.specs.Sound.{valuesFit, soundTree, numbers, isIn, once, inRange, soundHeader, soundRoot, sound, tableOf}
 use Rattle.image.specs.Contract.{Made}

@@ -1,14 +1,14 @@
 -- Next, told by what is present: the least path below p and greater than q.
-use Prim.Native.Nat.{ℕ, zero, suc}
+use Prim.Native.Nat.{ℕ}
 use mathlib.Core.Path.{_≡_, refl, sym, ap, _∙_}
-use mathlib.Core.List.{List, [], _∷_, _++_}
-use mathlib.Core.Bool.{Bool, true, false, _&&_, not, cond, false≢true, true≢false}
-use mathlib.Core.Option.{Option, none, some}
+use mathlib.Core.List.{List, [], _∷_}
+use mathlib.Core.Bool.{Bool, true, false, false≢true}
+use mathlib.Core.Option.{none, some}
 use Rattle.image.specs.Bytes.{same, before, begins}
 use Rattle.image.specs.Path.{below}
 use Rattle.image.specs.Table.{Row, find, isSome, rowsBelow, rowsAfter, firstKey, leastAfter, leads, rising}
-use Rattle.octets.specs.Order.{and-left, and-right, not-so, same-refl, same-eq, same-false, before-trans}
-use Rattle.laws.specs.Tables.{find-nil, find-yes, find-no}
+use Rattle.octets.specs.Order.{and-left, and-right, not-so, same-refl, same-eq, before-trans}
+use Rattle.laws.specs.Tables.{find-yes, find-no}
 
 -- a path that is present, below p and greater than q
 pub record Fits (p q : List ℕ) (t : List Row) (k : List ℕ) : Type 0 where

@@ -1,20 +1,17 @@
 -- Trees side by side, with full pivots: the pieces of which a node is made, and that a cut leaves.
 use Prim.Native.Nat.{ℕ, zero, suc}
-use mathlib.Core.Path.{_≡_, refl, sym, ap, ap₂, subst, _∙_}
+use mathlib.Core.Path.{_≡_, refl, sym, ap, ap₂, _∙_}
 use mathlib.Core.List.{List, [], _∷_, _++_, append-nil, append-assoc}
-use mathlib.Core.Bool.{Bool, true, false, _&&_, not, cond, false≢true}
+use mathlib.Core.Bool.{Bool, true, false, _&&_, false≢true}
 use lib.ListN.{length, drop}
 use lib.Dec.{eqb}
-use Rattle.image.specs.Bytes.{same, before, begins, shared}
-use Rattle.image.specs.Path.{owns}
-use Rattle.image.specs.Entry.{Message}
-use Rattle.image.specs.Table.{Row}
+use Rattle.image.specs.Bytes.{before, shared}
 use Rattle.image.specs.Image.{Tree, unread, leaf, interior, Forest, end, tree}
 use Rattle.image.specs.Meaning.{highOf, applyAll, rows, rowsIn}
 use Rattle.image.specs.Sound.{soundTree, soundForest, soundMessages, firstPivot}
 use Rattle.octets.specs.Order.{and-left, and-right, not-so, before-irrefl, before-le, before-trans, before-asym, begins-split, same-eq, same-refl}
 use Rattle.laws.specs.Rising.{both}
-use Rattle.laws.specs.LookupTable.{Parts, parts, Inner, inner, does-own}
+use Rattle.laws.specs.LookupTable.{parts, inner, does-own}
 use Rattle.laws.specs.Filter.{owned-begins}
 
 -- no messages below

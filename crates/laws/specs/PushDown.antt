@@ -1,19 +1,18 @@
 -- Pushing a node's oldest message down to its children leaves the table of the node as it was.
-use Prim.Native.Nat.{ℕ, zero, suc}
+use Prim.Native.Nat.{ℕ}
 use mathlib.Core.Path.{_≡_, refl, sym, ap, ap₂, _∙_}
-use mathlib.Core.List.{List, [], _∷_, _++_, append-assoc, append-nil}
-use mathlib.Core.Bool.{Bool, true, false, _&&_, _||_, not, cond, false≢true, true≢false}
-use mathlib.Core.Option.{Option, none, some}
+use mathlib.Core.List.{List, [], _∷_, _++_, append-nil}
+use mathlib.Core.Bool.{Bool, true, false, _||_, not, cond, false≢true}
 use lib.ListN.{length, drop}
 use Rattle.image.specs.Bytes.{same, before, begins, shared}
 use Rattle.image.specs.Path.{below, owns, wellFormed}
 use Rattle.image.specs.Entry.{Message, puts, drops, clears}
-use Rattle.image.specs.Table.{Row, find, withRow, without, withoutBelow, everyKey, underPrefix}
+use Rattle.image.specs.Table.{Row, withRow, without, withoutBelow, everyKey, underPrefix}
 use Rattle.image.specs.Image.{Tree, unread, leaf, interior, Forest, end, tree}
 use Rattle.image.specs.Meaning.{highOf, apply, applyAll, rows, rowsIn}
 use Rattle.image.specs.Sound.{soundTree, soundForest, soundMessage, soundMessages, firstPivot}
-use Rattle.octets.specs.Order.{and-left, and-right, not-so, not-true, not-false, same-eq, same-false, same-refl, same-turn, before-le, before-irrefl, before-not-same, begins-split, between-begins, before-asym, before-trans, begins-trans, begins-either, drop-beyond}
-use Rattle.laws.specs.LookupTable.{Parts, parts, Inner, inner, outside, later-none, not-low, under-high, does-own, too-low}
+use Rattle.octets.specs.Order.{and-left, and-right, not-so, not-true, not-false, same-eq, same-false, same-turn, before-le, before-not-same, begins-split, between-begins, before-asym, before-trans, begins-trans, begins-either, drop-beyond}
+use Rattle.laws.specs.LookupTable.{parts, inner, outside, later-none, not-low, under-high, does-own, too-low}
 use Rattle.laws.specs.RowsRising.{every-key, not-before}
 use Rattle.laws.specs.Rising.{one-key}
 use Rattle.laws.specs.Shift.{under-apply}

@@ -1,13 +1,13 @@
 -- Tables whose keys strictly rise: every change keeps that, and two such tables that hold the same are equal.
-use Prim.Native.Nat.{ℕ, zero, suc}
-use mathlib.Core.Path.{_≡_, refl, sym, ap, ap₂, _∙_}
-use mathlib.Core.List.{List, [], _∷_, _++_}
-use mathlib.Core.Bool.{Bool, true, false, _&&_, not, cond, false≢true}
-use mathlib.Core.Option.{Option, none, some, Option·some-injective, Option·none-ne-some}
-use Rattle.image.specs.Bytes.{same, before, begins}
+use Prim.Native.Nat.{ℕ}
+use mathlib.Core.Path.{_≡_, refl, sym, ap₂, _∙_}
+use mathlib.Core.List.{List, [], _∷_}
+use mathlib.Core.Bool.{Bool, true, false, _&&_}
+use mathlib.Core.Option.{Option, none, Option·some-injective, Option·none-ne-some}
+use Rattle.image.specs.Bytes.{same, before}
 use Rattle.image.specs.Path.{below}
-use Rattle.image.specs.Table.{Row, find, withRow, without, withoutBelow, underPrefix, everyKey, leads, rising}
-use Rattle.octets.specs.Order.{and-left, and-right, not-so, same-refl, same-eq, same-false, same-turn, before-irrefl, before-trans, before-not-same, before-total, before-append}
+use Rattle.image.specs.Table.{Row, find, withRow, without, withoutBelow, leads, rising}
+use Rattle.octets.specs.Order.{and-left, and-right, not-so, same-refl, same-eq, same-turn, before-trans, before-not-same, before-total}
 use Rattle.laws.specs.Tables.{find-nil, find-yes, find-no}
 
 pub both : {a b : Bool} → a ≡ true → b ≡ true → a && b ≡ true

@@ -1,20 +1,20 @@
 -- The table of a sound tree strictly rises: so it is one list for one map.
-use Prim.Native.Nat.{ℕ, zero, suc}
-use mathlib.Core.Path.{_≡_, refl, sym, ap, _∙_}
+use Prim.Native.Nat.{ℕ}
+use mathlib.Core.Path.{_≡_, refl, sym, _∙_}
 use mathlib.Core.List.{List, [], _∷_, _++_}
-use mathlib.Core.Bool.{Bool, true, false, _&&_, not, false≢true}
-use mathlib.Core.Option.{Option, none, some, Option·none-ne-some}
+use mathlib.Core.Bool.{Bool, true, false, _&&_, not}
+use mathlib.Core.Option.{Option, none, Option·none-ne-some}
 use Rattle.image.specs.Bytes.{same, before, shared}
 use Rattle.image.specs.Path.{owns, wellFormed}
 use Rattle.image.specs.Entry.{Message, puts, drops, clears}
 use Rattle.image.specs.Table.{Row, find, everyKey, underPrefix, leads, rising}
 use Rattle.image.specs.Image.{Tree, unread, leaf, interior, Forest, end, tree}
 use Rattle.image.specs.Meaning.{highOf, apply, applyAll, rows, rowsIn}
-use Rattle.image.specs.Sound.{soundTree, soundForest, valuesFit}
-use Rattle.octets.specs.Order.{and-left, and-right, not-so, not-false, not-true, same-refl, same-false, before-append, before-le, before-irrefl}
-use Rattle.laws.specs.Tables.{find-nil, find-yes, find-no}
+use Rattle.image.specs.Sound.{soundTree, soundForest}
+use Rattle.octets.specs.Order.{and-left, and-right, not-true, same-refl, before-append, before-le}
+use Rattle.laws.specs.Tables.{find-yes, find-no}
 use Rattle.laws.specs.Rising.{both, rising-with, rising-without, rising-cleared}
-use Rattle.laws.specs.LookupTable.{Parts, parts, Inner, inner, outside, later-none, too-low, under-high}
+use Rattle.laws.specs.LookupTable.{parts, inner, outside, later-none}
 
 -- what is found passes a test: so each key does
 pub every-key : (test : List ℕ → Bool) (t : List Row) → ((q : List ℕ) → test q ≡ false → find q t ≡ none) → everyKey test t ≡ true

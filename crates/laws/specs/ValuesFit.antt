@@ -1,24 +1,24 @@
 -- Every value of a sound tree's table fits: so what a lookup finds fits a buffer of that size.
-use Prim.Native.Nat.{ℕ, zero, suc, _≤_}
+use Prim.Native.Nat.{ℕ, _≤_}
 use mathlib.Core.Path.{_≡_, refl, sym, ap, _∙_}
 use mathlib.Core.List.{List, [], _∷_, _++_}
-use mathlib.Core.Bool.{Bool, true, false, _&&_, not, cond}
-use mathlib.Core.Option.{Option, none, some}
+use mathlib.Core.Bool.{Bool, true, false, _&&_}
+use mathlib.Core.Option.{some}
 use native.Mathlib.Omega.{arith}
 use lib.ListN.{length}
 use lib.Dec.{leb}
 use borrow.Author.Tests.{leb-true}
-use Rattle.image.specs.Bytes.{same, before, begins, shared}
+use Rattle.image.specs.Bytes.{same, before, shared}
 use Rattle.image.specs.Path.{wellFormed, below, owns, valueLimit, valueFits}
 use Rattle.image.specs.Entry.{Message, puts, drops, clears}
 use Rattle.image.specs.Table.{Row, find, withRow, without, withoutBelow, everyKey, rising, underPrefix}
 use Rattle.image.specs.Image.{Tree, unread, leaf, interior, Forest, end, tree, treeOf, nodesOf, headerOf, headerLaidOut, nodeBytes}
 use Rattle.image.specs.Meaning.{highOf, apply, applyAll, rows, rowsIn}
-use Rattle.image.specs.Sound.{valuesFit, soundMessage, soundMessages, firstPivot, soundTree, soundForest, soundHeader, soundRoot, sound, tableOf, lowest, highest, numbers, once, inRange}
+use Rattle.image.specs.Sound.{valuesFit, soundMessage, soundMessages, soundTree, soundForest, soundHeader, soundRoot, sound, tableOf, lowest, highest, numbers, once, inRange}
 use Rattle.octets.specs.Order.{and-left, and-right}
 use Rattle.laws.specs.Rising.{both}
 use Rattle.laws.specs.Filter.{fit-under}
-use Rattle.laws.specs.LookupTable.{Parts, parts, Inner, inner}
+use Rattle.laws.specs.LookupTable.{parts, inner}
 
 fit-append : (t u : List Row) → valuesFit t ≡ true → valuesFit u ≡ true → valuesFit (t ++ u) ≡ true
 unfolding valuesFit

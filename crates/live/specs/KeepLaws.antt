@@ -1,13 +1,12 @@
 -- The rows that pass a test, of a table that messages have changed: a put comes in if its path passes, and of the other rows those stay that
 -- no message says anything of. Relies on the laws of tables (laws: Tables, Rising, RowsRising, LookupTable, Filter).
-use Prim.Native.Nat.{ℕ, suc, _+_}
+use Prim.Native.Nat.{ℕ, suc}
 use mathlib.Core.Path.{_≡_, refl, sym, ap, ap₂, _∙_}
 use mathlib.Core.List.{List, [], _∷_, _++_}
 use mathlib.Core.Bool.{Bool, true, false, _&&_, not, cond, true≢false, and-true}
 use mathlib.Core.Option.{none, some}
 use native.Mathlib.Omega.{arith}
 use lib.ListN.{length, drop}
-use lib.Seq.{drop-append-seam}
 use Rattle.image.specs.Bytes.{same, before, begins, shared}
 use Rattle.image.specs.Path.{owns, below}
 use Rattle.image.specs.Entry.{Message, puts, drops, clears}

@@ -1,9 +1,9 @@
 -- The entries that decide a path are as many as the rows of a sound tree's table.
 -- Relies on the laws of tables and of sound trees (laws: RowsRising, LookupTable, Filter; reading: Seek, SeekHere) and on KeepLaws.
 use Prim.Native.Nat.{ℕ, _+_, _<_}
-use mathlib.Core.Path.{_≡_, refl, sym, ap, ap₂, _∙_}
+use mathlib.Core.Path.{_≡_, refl, sym, ap, _∙_}
 use mathlib.Core.List.{List, [], _∷_, _++_}
-use mathlib.Core.Bool.{Bool, true, false, _&&_, not, cond, false≢true, and-true}
+use mathlib.Core.Bool.{Bool, true, false, _&&_, cond, false≢true, and-true}
 use mathlib.Core.Option.{Option, none, some}
 use native.Mathlib.Omega.{arith}
 use lib.ListN.{length, drop, length-append}

@@ -2,25 +2,24 @@
 use Prim.Native.Nat.{ℕ, zero, suc, _+_, _-_, _*_, _/_, _<_, _≤_}
 use mathlib.Core.Path.{_≡_, refl, sym, ap, ap₂, subst, _∙_}
 use mathlib.Core.List.{List, [], _∷_, _++_}
-use mathlib.Core.Bool.{Bool, true, false, _&&_, cond, false≢true}
+use mathlib.Core.Bool.{Bool, true, false, false≢true}
 use mathlib.Core.Option.{Option, none, some}
 use native.Mathlib.Omega.{arith}
 use native.Mathlib.Nat.{mul-div-le}
-use native.Mathlib.Numerals.{sub-one}
 use lib.ListN.{length, take, drop, length-append, length-drop}
 use lib.Seq.{take-all}
-use lib.Dec.{ltb, leb, eqb}
+use lib.Dec.{ltb}
 use borrow.Author.Tests.{ltb-true, leb-true}
-use Rattle.image.specs.Bytes.{u16, shared, zeros}
+use Rattle.image.specs.Bytes.{u16, shared}
 use Rattle.image.specs.Path.{owns}
 use Rattle.image.specs.Entry as defined
 use Rattle.image.specs.Table.{Row, find}
-use Rattle.image.specs.Image.{Tree, unread, leaf, interior, Forest, end, tree, Kid, Inside, nodeBytes, nodesOf, laidOut, entryBytes, nodeEntries, pairThen, pairsOf, messageThen, messagesOf, noKids, kidThen, insideOf, orNone, forestOf, leafOf, interiorOf, treeAt}
-use Rattle.image.specs.Meaning.{Said, nothing, says, saysOf, newer, newest, decide}
-use Rattle.octets.specs.Order.{and-left, and-right, not-so}
+use Rattle.image.specs.Image.{Tree, unread, leaf, interior, Forest, tree, Kid, Inside, nodeBytes, nodesOf, laidOut, entryBytes, nodeEntries, pairThen, pairsOf, messageThen, messagesOf, noKids, kidThen, insideOf, orNone, forestOf, leafOf, interiorOf, treeAt}
+use Rattle.image.specs.Meaning.{Said, nothing, says, newer, newest, decide}
+use Rattle.octets.specs.Order.{and-left, and-right}
 use Rattle.laws.specs.LookupTable.{split}
 use Rattle.reading.specs.Relative.{lifts, fromHere, fromKids, kidHigh, high-at, usable, usableIn}
-use Rattle.node.specs.Cut.{cut, cut-drop, cut-take, cut-length, cut-u16}
+use Rattle.node.specs.Cut.{cut, cut-drop, cut-take, cut-u16}
 use Rattle.node.specs.Entries.{listed, listOf, all-listed}
 use Rattle.node.specs.Places.{part, Within}
 use Rattle.node.specs.declared.Place.{Place}

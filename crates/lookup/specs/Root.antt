@@ -1,20 +1,18 @@
 -- The lookup from the root of a sound image.
-use Prim.Native.Nat.{ℕ, zero, suc, _+_, _-_, _*_, _/_, _<_, _≤_}
-use mathlib.Core.Path.{_≡_, refl, sym, ap, ap₂, subst, _∙_}
-use mathlib.Core.List.{List, [], _∷_, _++_}
-use mathlib.Core.Bool.{Bool, true, false, _&&_}
-use mathlib.Core.Option.{Option, none, some}
+use Prim.Native.Nat.{ℕ, _+_, _*_, _<_, _≤_}
+use mathlib.Core.Path.{_≡_, refl, sym, ap, ap₂, _∙_}
+use mathlib.Core.List.{List, []}
+use mathlib.Core.Bool.{true, _&&_}
 use native.Mathlib.Omega.{arith}
-use lib.ListN.{length, take, drop}
+use lib.ListN.{length}
 use lib.Dec.{ltb, leb, eqb}
 use Rattle.image.specs.Bytes.{u16, shared}
-use Rattle.image.specs.Table.{Row}
 use Rattle.image.specs.Image.{Tree, nodeBytes, nodesOf, Header, header, headerOf, headerLaidOut, treeAt, treeOf}
-use Rattle.image.specs.Meaning.{lookup, rows}
+use Rattle.image.specs.Meaning.{lookup}
 use Rattle.image.specs.Sound.{sound, soundTree, soundHeader, soundRoot, once, inRange, numbers, valueIn, lowest, highest}
 use Rattle.octets.specs.Order.{and-left, and-right}
 use Rattle.reading.specs.Relative.{lifts, fromHere, relative, usable, sound-usable}
-use Rattle.node.specs.Cut.{cut, cut-u16}
+use Rattle.node.specs.Cut.{cut-u16}
 use Rattle.lookup.specs.Look.{below-length, node-is}
 
 -- the parts of a sound image that a reader starts from

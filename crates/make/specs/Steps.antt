@@ -1,15 +1,15 @@
 -- The bytes that make writes, one number after another, are those of `made-image`; and its two ways out meet the contract.
-use Prim.Native.Nat.{ℕ, zero, suc, _+_, _*_, _-_, _/_, _≤_, _<_}
+use Prim.Native.Nat.{ℕ, zero, suc, _+_, _*_, _-_, _/_, _≤_}
 use mathlib.Core.Path.{_≡_, refl, sym, ap, subst, _∙_}
-use mathlib.Core.List.{List, [], _∷_, _++_, append-nil}
+use mathlib.Core.List.{List, _∷_, _++_, append-nil}
 use mathlib.Core.Bool.{Bool, true, false}
 use native.Mathlib.Omega.{arith}
-use lib.ListN.{length, take, drop, replicate, length-replicate, drop-of-length-le}
+use lib.ListN.{length, replicate, length-replicate, drop-of-length-le}
 use Rattle.image.specs.Bytes.{u16Bytes}
 use Rattle.image.specs.Image.{nodesOf, wholeNodes}
 use Rattle.image.specs.Calls.{firstNo}
 use Rattle.image.specs.Contract.{makeNo, Made, MakeMeets}
-use Rattle.octets.specs.Put.{put, put-size}
+use Rattle.octets.specs.Put.{put}
 use Rattle.laws.specs.Made.{made-image, head-bytes, leaf-bytes, made, made-length}
 use Rattle.node.specs.Whole.{Whole, whole-parts}
 use Rattle.image.specs.Answers.{outcomeNumber, refusalNumber}

@@ -1,16 +1,16 @@
 -- The free nodes, rising: a supply that a move may use.
 use Prim.Native.Nat.{ℕ, zero, suc, _+_, _*_, _-_, _≤_, _<_}
-use mathlib.Core.Path.{_≡_, refl, sym, ap, ap₂, _∙_}
-use mathlib.Core.List.{List, [], _∷_, _++_}
-use mathlib.Core.Bool.{Bool, true, false, _&&_, _||_, not, cond, false≢true, true≢false}
+use mathlib.Core.Path.{_≡_, refl, ap, _∙_}
+use mathlib.Core.List.{List, [], _∷_}
+use mathlib.Core.Bool.{Bool, true, false, _||_, cond, false≢true}
 use native.Mathlib.Omega.{arith}
 use lib.ListN.{length}
-use lib.Dec.{eqb, leb, ltb}
-use borrow.Author.Tests.{eqb-true, ne-eqb, eq-eqb, le-leb, lt-ltb}
+use lib.Dec.{eqb}
+use borrow.Author.Tests.{eqb-true, ne-eqb, le-leb, lt-ltb}
 use Rattle.image.specs.Image.{nodesOf, headerOf, treeOf}
-use Rattle.image.specs.Sound.{sound, numbers, isIn, once, inRange}
+use Rattle.image.specs.Sound.{numbers, isIn, once, inRange}
 use Rattle.image.specs.Upkeep.{used, freeNodes}
-use Rattle.octets.specs.Order.{and-left, and-right, not-so, not-false}
+use Rattle.octets.specs.Order.{not-false}
 use Rattle.laws.specs.Rising.{both}
 use Rattle.slicing.specs.SliceNumbers.{one, hits}
 use Rattle.slicing.specs.SliceWrite.{in-hits}

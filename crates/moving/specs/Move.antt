@@ -1,9 +1,9 @@
 -- The move: a settled tree cut at the ends of two ranges, and a new root over the parts. Cuts go from the right to the left, each on what lies left of the one before.
-use Prim.Native.Nat.{ℕ, zero, suc, _+_, _*_, _≤_}
-use mathlib.Core.List.{List, [], _∷_, _++_}
-use mathlib.Core.Bool.{Bool, true, false, cond}
+use Prim.Native.Nat.{ℕ, _*_}
+use mathlib.Core.List.{List, []}
+use mathlib.Core.Bool.{true, cond}
 use Rattle.image.specs.Bytes.{before}
-use Rattle.image.specs.Image.{Tree, Forest, end, tree}
+use Rattle.image.specs.Image.{Tree, Forest, tree}
 use Rattle.image.specs.Sound.{highest}
 use Rattle.laws.specs.Pieces.{joined, node}
 use Rattle.slicing.specs.Slice.{leftOf, rightOf}

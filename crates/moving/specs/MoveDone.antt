@@ -1,29 +1,29 @@
 -- The move on a store: the image that movedImage gives, with node 0 written last.
-use Prim.Native.Nat.{ℕ, zero, suc, _+_, _*_, _-_, _/_, _%_, _≤_, _<_}
-use mathlib.Core.Path.{_≡_, refl, sym, ap, ap₂, subst, _∙_}
+use Prim.Native.Nat.{ℕ, zero, suc, _+_, _*_, _≤_, _<_}
+use mathlib.Core.Path.{_≡_, refl, sym, ap, _∙_}
 use mathlib.Core.List.{List, [], _∷_, _++_}
-use mathlib.Core.Bool.{Bool, true, false, _&&_, _||_, not, cond, false≢true}
+use mathlib.Core.Bool.{Bool, true, false, _&&_, false≢true}
 use native.Mathlib.Omega.{arith}
-use lib.ListN.{length, drop, getD, replicate, length-append, length-replicate}
+use lib.ListN.{length, getD, replicate}
 use lib.Dec.{eqb, leb, ltb}
-use borrow.Author.Tests.{eqb-true, leb-true, ltb-true, ltb-false}
+use borrow.Author.Tests.{eqb-true, leb-true, ltb-true}
 use Rattle.image.specs.Bytes.{begins, u16, zeros, u16Bytes}
 use Rattle.image.specs.Path.{wellFormed}
-use Rattle.image.specs.Table.{Row, everyKey, moved}
-use Rattle.image.specs.Image.{Tree, unread, leaf, interior, Header, header, nodeBytes, nodesOf, wholeNodes, headerOf, headerLaidOut, treeAt, treeOf}
-use Rattle.image.specs.Sound.{sound, tableOf, lowest, highest, numbers, isIn, once, inRange}
+use Rattle.image.specs.Table.{everyKey, moved}
+use Rattle.image.specs.Image.{Tree, unread, leaf, interior, header, nodeBytes, nodesOf, wholeNodes, headerOf, headerLaidOut, treeAt, treeOf}
+use Rattle.image.specs.Sound.{sound, tableOf, highest, numbers, isIn, inRange}
 use Rattle.image.specs.Upkeep.{settled, changed}
-use Rattle.octets.specs.Order.{and-left, and-right, not-so}
+use Rattle.octets.specs.Order.{and-left, and-right}
 use Rattle.laws.specs.WriteNode.{writeNode, write-length, write-same, write-other}
 use Rattle.laws.specs.Pieces.{levelled, Good}
-use Rattle.slicing.specs.SliceNumbers.{one, hits, hits-met, met, spent}
+use Rattle.slicing.specs.SliceNumbers.{hits, hits-met, met, spent}
 use Rattle.slicing.specs.SliceFits.{fits}
-use Rattle.slicing.specs.SliceWrite.{one-other, one-same, stays, number-read, Only}
-use Rattle.slicing.specs.ReadBack.{numberOf}
+use Rattle.slicing.specs.SliceWrite.{one-other, stays, number-read}
+use Rattle.laws.specs.Page.{numberOf}
 use Rattle.moving.specs.Move.{movedTree}
 use Rattle.moving.specs.MoveLaws.{Well, move-well}
 use Rattle.moving.specs.MoveWrite.{movedImage, Holds, image-holds}
-use Rattle.moving.specs.MoveImage.{from-list, Free, Written, Roots, roots, hit-in, hits-once, range-hit, spent-list, move-sound, move-table, move-changed, move-settled}
+use Rattle.moving.specs.MoveImage.{from-list, Free, Written, roots, hit-in, hits-once, range-hit, spent-list, move-sound, move-table, move-changed, move-settled}
 use Rattle.slicing.specs.FromImage.{image-good, image-fits}
 
 -- node 0

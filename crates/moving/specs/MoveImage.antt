@@ -1,25 +1,24 @@
 -- The move on images: an image that holds the moved tree in free nodes is sound, means the moved table, and differs in at most 10 × L + 2 nodes.
-use Prim.Native.Nat.{ℕ, zero, suc, _+_, _*_, _-_, _≤_, _<_}
-use mathlib.Core.Path.{_≡_, refl, sym, ap, ap₂, subst, _∙_}
-use mathlib.Core.List.{List, [], _∷_, _++_}
-use mathlib.Core.Bool.{Bool, true, false, _&&_, _||_, not, cond, false≢true}
+use Prim.Native.Nat.{ℕ, zero, suc, _+_, _*_, _≤_, _<_}
+use mathlib.Core.Path.{_≡_, refl, sym, ap, _∙_}
+use mathlib.Core.List.{List, [], _∷_}
+use mathlib.Core.Bool.{Bool, true, false, _&&_, not, cond, false≢true}
 use native.Mathlib.Omega.{arith}
-use lib.ListN.{length, drop, getD, length-append}
+use lib.ListN.{length, drop, getD}
 use lib.Seq.{drop-cons}
 use lib.Dec.{eqb, leb, ltb}
-use borrow.Author.Tests.{eqb-true, eqb-false, ne-eqb, eq-eqb, le-leb, leb-true, lt-ltb, ltb-true}
+use borrow.Author.Tests.{eqb-true, ne-eqb, eq-eqb, le-leb, leb-true, lt-ltb, ltb-true}
 use Rattle.image.specs.Bytes.{same, before, begins}
 use Rattle.image.specs.Path.{wellFormed, below}
 use Rattle.image.specs.Table.{Row, everyKey, withRow, rowsBelow, withoutBelow, renamed, putAll, moved}
-use Rattle.image.specs.Image.{Tree, Header, nodeBytes, nodesOf, headerOf, headerLaidOut, treeAt, treeOf}
+use Rattle.image.specs.Image.{Tree, nodeBytes, nodesOf, headerOf, headerLaidOut, treeAt, treeOf}
 use Rattle.image.specs.Meaning.{rows}
 use Rattle.image.specs.Sound.{soundTree, soundHeader, soundRoot, sound, tableOf, lowest, highest, numbers, isIn, once, inRange}
 use Rattle.image.specs.Upkeep.{settled, reachableNodes, changed}
 use Rattle.laws.specs.LiveCount.{pairCount, pairs-live, still-quiet}
-use Rattle.octets.specs.Order.{and-left, and-right, not-so, not-true, not-false, same-refl}
+use Rattle.octets.specs.Order.{and-left, and-right, not-true, same-refl}
 use Rattle.laws.specs.Rising.{both}
-use Rattle.laws.specs.Pieces.{Good}
-use Rattle.slicing.specs.SliceNumbers.{one, hits, hits-met, met, spent, once-of}
+use Rattle.slicing.specs.SliceNumbers.{one, hits, hits-met, spent, once-of}
 use Rattle.moving.specs.Move.{movedTree}
 use Rattle.moving.specs.MoveLaws.{Well, move-well}
 use Rattle.slicing.specs.FromImage.{image-good, image-fits}

@@ -1,27 +1,26 @@
 -- The move is right: a sound root of one level more, whose table is the moved table; every node fits; and no number stands in it oftener than in the old tree and among 10 × h + 1 new ones.
 use Prim.Native.Nat.{ℕ, zero, suc, _+_, _*_, _-_, _≤_}
 use mathlib.Core.Path.{_≡_, refl, sym, ap, ap₂, subst, _∙_}
-use mathlib.Core.List.{List, [], _∷_, _++_, append-nil, append-assoc}
-use mathlib.Core.Bool.{Bool, true, false, _&&_, _||_, not, cond, false≢true}
+use mathlib.Core.List.{List, [], _∷_, _++_, append-nil}
+use mathlib.Core.Bool.{Bool, true, false, false≢true}
 use native.Mathlib.Omega.{arith}
 use lib.ListN.{length, length-append}
-use lib.Dec.{leb, eqb}
 use borrow.Author.Tests.{le-leb, eq-eqb}
 use Rattle.image.specs.Bytes.{same, before, begins, shared}
 use Rattle.image.specs.Path.{owns, wellFormed}
-use Rattle.image.specs.Entry.{Message, pivotLimit}
+use Rattle.image.specs.Entry.{pivotLimit}
 use Rattle.image.specs.Table.{Row, everyKey, rising, rowsBelow, renamed, moved}
-use Rattle.image.specs.Image.{Tree, unread, leaf, interior, Forest, end, tree, entriesLimit}
+use Rattle.image.specs.Image.{Tree, unread, leaf, interior, tree, entriesLimit}
 use Rattle.image.specs.Meaning.{highOf, rows, rowsIn}
-use Rattle.image.specs.Sound.{soundTree, highest, numbers, once}
-use Rattle.octets.specs.Order.{and-left, and-right, not-so, before-trans, before-total, same-eq, same-false}
+use Rattle.image.specs.Sound.{highest}
+use Rattle.octets.specs.Order.{not-so, before-trans, before-total, same-false}
 use Rattle.laws.specs.Rising.{both}
 use Rattle.laws.specs.RowsRising.{rows-rise}
 use Rattle.laws.specs.Filter.{keep, upTo, since}
-use Rattle.laws.specs.Pieces.{still, levelled, Good, Run, done, more, run-high, run-join, rows-join, joined, node, node-good, node-rows}
+use Rattle.laws.specs.Pieces.{levelled, Good, Run, more, run-high, run-join, rows-join, joined, node-good, node-rows}
 use Rattle.slicing.specs.Slice.{leftOf, rightOf, after}
 use Rattle.slicing.specs.SliceLaws.{Cut, cut-tree, keys-owned}
-use Rattle.slicing.specs.SliceNumbers.{one, met, metIn, met-node, met-joined, spent, taken, cut-numbers, left-numbers, hits, hits-met, once-of}
+use Rattle.slicing.specs.SliceNumbers.{one, met, metIn, met-node, met-joined, spent, taken, cut-numbers, left-numbers}
 use Rattle.slicing.specs.SliceFits.{fits, fitsIn, sizeAt, shortAt, count, short-size, node-fits, cut-fits, right-count, right-short, count-joined, short-joined, fits-joined, begins-refl}
 use Rattle.slicing.specs.Swing.{swing-rows, swing-good, rows-formed}
 use Rattle.slicing.specs.Tail.{tailOf, gapOf, tail-good, tail-rows, tail-met, tail-fits, gap-good, gap-rows, gap-fits, gap-met}

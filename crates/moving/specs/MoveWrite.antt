@@ -1,29 +1,29 @@
 -- The move written into an image: eight slices into free nodes, one after another, then the new root. What is read back is the moved tree.
-use Prim.Native.Nat.{ℕ, zero, suc, _+_, _*_, _-_, _≤_, _<_}
-use mathlib.Core.Path.{_≡_, refl, sym, ap, ap₂, subst, _∙_}
-use mathlib.Core.List.{List, [], _∷_, _++_}
-use mathlib.Core.Bool.{Bool, true, false, _&&_, _||_, not, cond, false≢true}
+use Prim.Native.Nat.{ℕ, zero, suc, _+_, _*_, _-_, _≤_}
+use mathlib.Core.Path.{_≡_, refl, sym, ap, subst, _∙_}
+use mathlib.Core.List.{List, []}
+use mathlib.Core.Bool.{Bool, true, false, cond, false≢true}
 use native.Mathlib.Omega.{arith}
 use lib.ListN.{length}
 use Rattle.image.specs.Entry.{pivotLimit}
-use Rattle.image.specs.Bytes.{same, before, begins, shared}
-use Rattle.image.specs.Table.{Row}
-use Rattle.image.specs.Image.{Tree, unread, leaf, interior, Forest, end, tree, nodeBytes, treeAt}
+use Rattle.image.specs.Bytes.{same, before, begins}
+use Rattle.image.specs.Image.{Tree, leaf, Forest, end, tree, treeAt}
 use Rattle.image.specs.Sound.{soundTree, highest}
-use Rattle.octets.specs.Order.{and-left, and-right, not-so, same-false, before-total}
-use Rattle.laws.specs.WriteNode.{writeNode, write-length, write-same, write-other}
-use Rattle.laws.specs.Pieces.{levelled, Good, joined, node}
+use Rattle.octets.specs.Order.{not-so, same-false, before-total}
+use Rattle.laws.specs.WriteNode.{writeNode}
+use Rattle.laws.specs.Pieces.{levelled, Good, node}
 use Rattle.slicing.specs.Slice.{leftOf, rightOf}
-use Rattle.slicing.specs.SliceNumbers.{one, met, metIn, met-node, met-joined, spent, taken, left-numbers, right-numbers}
-use Rattle.slicing.specs.SliceFits.{fits, fitsIn, begins-refl}
-use Rattle.slicing.specs.ReadBack.{numberOf, ReadsIn}
-use Rattle.slicing.specs.SliceWrite.{pageOf, pageOf-full, stays, stays-in, node-done, leaf-done, one-same, one-other, Only, only-none, only-more, leftWrite, number-left, LeftDone, left-written}
+use Rattle.slicing.specs.SliceNumbers.{one, met, metIn, met-node, spent, taken, left-numbers, right-numbers}
+use Rattle.slicing.specs.SliceFits.{fits, begins-refl}
+use Rattle.laws.specs.Page.{numberOf}
+use Rattle.slicing.specs.ReadBack.{ReadsIn}
+use Rattle.slicing.specs.SliceWrite.{pageOf, pageOf-full, stays, stays-in, node-done, leaf-done, one-same, Only, only-none, only-more, leftWrite, number-left, LeftDone, left-written}
 use Rattle.slicing.specs.RightWrite.{rightWrite, RightDone, right-written, reads-joined}
 use Rattle.slicing.specs.Tail.{firstOf, tailOf, gapOf, tail-good, tail-met, gap-fits, gap-met}
 use Rattle.image.specs.Path.{wellFormed}
 use Rattle.slicing.specs.Range.{past, before-past, before-aside, formed-inside}
 use Rattle.moving.specs.Move.{leftPastR, rightPastR, leftR, midR, leftPastP, rightPastP, leftP, midP, unmergeable, rootOver, movedTree}
-use Rattle.moving.specs.MoveLaws.{spent-split, taken-two, taken-one, begins-past, short-of, b-past-p, b-r, b-past-r, cut-1, cut-2, cut-3, cut-4, fit-1, fit-2, fit-3, fit-4, root-fits, short-past, Well}
+use Rattle.moving.specs.MoveLaws.{spent-split, taken-two, taken-one, begins-past, short-of, b-past-p, b-r, b-past-r, cut-1, cut-2, cut-3, fit-1, fit-2, fit-3, short-past, Well}
 
 -- blocks of numbers
 spent-mono : (fresh : ℕ → ℕ) (j a b at : ℕ) → a ≤ b → spent fresh j a at ≤ spent fresh j b at

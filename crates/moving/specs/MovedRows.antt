@@ -1,9 +1,9 @@
 -- A move on a table, part by part: the parts that two ranges leave, with the moved rows in their new place.
-use Prim.Native.Nat.{ℕ, zero, suc}
+use Prim.Native.Nat.{ℕ}
 use mathlib.Core.Path.{_≡_, refl, sym, ap, ap₂, _∙_}
 use mathlib.Core.List.{List, [], _∷_, _++_, append-nil, append-assoc}
-use mathlib.Core.Bool.{Bool, true, false, _&&_, _||_, not, cond, false≢true}
-use Rattle.image.specs.Bytes.{same, before, begins, shared}
+use mathlib.Core.Bool.{Bool, true, false, _&&_, not, cond}
+use Rattle.image.specs.Bytes.{same, before, begins}
 use Rattle.image.specs.Path.{below, owns, wellFormed}
 use Rattle.image.specs.Table.{Row, everyKey, leads, rising, withRow, rowsBelow, withoutBelow, renamed, putAll, moved}
 use Rattle.octets.specs.Order.{and-left, and-right, not-so, not-true, not-false, same-eq, before-trans, before-le, before-asym, before-not-same, same-turn}
@@ -11,7 +11,7 @@ use Rattle.laws.specs.Rising.{both}
 use Rattle.laws.specs.LookupTable.{not-low, under-high, does-own}
 use Rattle.laws.specs.Filter.{keep, upTo, since, keep-append, keep-all, keep-none, keep-passes, keep-rises, cut-whole, every-imp}
 use Rattle.slicing.specs.Swing.{every-append}
-use Rattle.slicing.specs.Range.{past, before-past, begins-not-before, begins-under, lowBytes, formed-low, range-below}
+use Rattle.slicing.specs.Range.{past, before-past, begins-not-before, begins-under, formed-low, range-below}
 
 -- clear and the rows below a path, as tests
 keep-below : (p : List ℕ) (t : List Row) → rowsBelow p t ≡ keep (λ q. begins p q) t

@@ -1,15 +1,15 @@
 -- The entries from a place up to another, one at a time.
-use Prim.Native.Nat.{ℕ, zero, suc, _+_, _-_, _*_, _<_, _≤_}
+use Prim.Native.Nat.{ℕ, zero, suc, _+_, _-_, _<_, _≤_}
 use mathlib.Core.Path.{_≡_, refl, sym, ap, ap₂, _∙_}
-use mathlib.Core.List.{List, [], _∷_, _++_}
+use mathlib.Core.List.{List, [], _∷_}
 use mathlib.Core.Bool.{Bool, true, false, _&&_, cond}
 use mathlib.Core.Option.{Option, none, some}
 use native.Mathlib.Omega.{arith}
-use lib.ListN.{length, take, drop, getD, length-drop}
-use lib.Dec.{ltb, leb, eqb}
+use lib.ListN.{length, take, drop, length-drop}
+use lib.Dec.{leb}
 use borrow.Author.Tests.{le-leb, lt-leb, ne-eqb}
 use Rattle.image.specs.Bytes.{u16}
-use Rattle.image.specs.Entry.{Message, puts, drops, clears, Entry, pair, child, message, keyed, pointer, entryOf, entryThen, readAll, entriesOf}
+use Rattle.image.specs.Entry.{puts, drops, clears, Entry, pair, child, message, keyed, pointer, entryOf, entryThen, readAll, entriesOf}
 use Rattle.laws.specs.Encode.{fuel}
 use Rattle.node.specs.Cut.{cut, cut-drop, cut-take, cut-length, cut-u16, cut-nil}
 

@@ -1,7 +1,7 @@
 -- What the places that a reader answers hold, and what each reader promises.
-use Prim.Native.Nat.{ℕ, zero, suc, _+_, _-_, _*_, _<_, _≤_}
-use mathlib.Core.Path.{_≡_, refl, sym, ap, subst, _∙_}
-use mathlib.Core.List.{List, [], _∷_, _++_}
+use Prim.Native.Nat.{ℕ, _+_, _<_, _≤_}
+use mathlib.Core.Path.{_≡_, sym, ap, subst, _∙_}
+use mathlib.Core.List.{List, [], _∷_}
 use mathlib.Core.Option.{Option, none, some}
 use native.Mathlib.Omega.{arith}
 use Rattle.image.specs.Entry as defined
@@ -151,3 +151,7 @@ cons-bad x o y h e = h ∙ rw e
 pub cons-good : (x : List defined.Entry) (o : Option defined.Entry) (y : List defined.Entry) (e : defined.Entry) → x ≡ consThen o y → o ≡ some e → x ≡ e ∷ y
 unfolding consThen
 cons-good x o y e h q = h ∙ rw q
+
+-- what was got of a kind, told of the number that it is
+pub got-as : (s : List ℕ) (k l a b : ℕ) (r : Got) → k ≡ l → GotAs s l a b r → GotAs s k a b r
+got-as s k l a b r e h = subst (λ j. GotAs s j a b r) (sym e) h

@@ -74,6 +74,25 @@ pub fn parted(s: &[u8], start: usize, stop: usize) -> Split
     Split::At(body + n)
 }
 
+// A child: its number and its pivot, which is at most 65 bytes.
+fn child_at(s: &[u8], start: usize, stop: usize) -> Got
+    requires { ⌜ (start ≤ stop) × (stop ≤ length (now s)) ⌝ }
+    ensures { λ r. ⌜ GotAs (now (s .entry)) 16 start stop r ⌝ }
+{
+    if stop - start < 2 {
+        return Got::Bad;
+    }
+    if 67 < stop - start {
+        return Got::Bad;
+    }
+    let n = octets::u16_at(s, start);
+    let pivot = Place {
+        start: start + 2,
+        stop,
+    };
+    Got::Good(Entry::Child(n, pivot))
+}
+
 // The entry of a kind whose rest is the part from start to stop.
 pub fn entry_at(s: &[u8], kind: usize, start: usize, stop: usize) -> Got
     requires { ⌜ (start ≤ stop) × (stop ≤ length (now s)) ⌝ }
@@ -86,20 +105,7 @@ pub fn entry_at(s: &[u8], kind: usize, start: usize, stop: usize) -> Got
         return Got::Good(Entry::Message(Message::Clear(Place { start, stop })));
     }
     if kind == 16 {
-        if stop - start < 2 {
-            return Got::Bad;
-        }
-        if 67 < stop - start {
-            return Got::Bad;
-        }
-        let n = octets::u16_at(s, start);
-        return Got::Good(Entry::Child(
-            n,
-            Place {
-                start: start + 2,
-                stop,
-            },
-        ));
+        return child_at(s, start, stop);
     }
     if kind == 1 {
         let Split::At(m) = parted(s, start, stop) else {

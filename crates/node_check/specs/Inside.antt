@@ -1,17 +1,17 @@
 -- A sound interior node, entry by entry: what check_children does.
-use Prim.Native.Nat.{ℕ, zero, suc, _+_, _-_, _*_, _<_, _≤_}
-use mathlib.Core.Path.{_≡_, refl, sym, ap, ap₂, subst, _∙_}
-use mathlib.Core.List.{List, [], _∷_, _++_}
-use mathlib.Core.Bool.{Bool, true, false, _&&_, not, cond}
+use Prim.Native.Nat.{ℕ}
+use mathlib.Core.Path.{_≡_, refl, ap, subst, _∙_}
+use mathlib.Core.List.{List, [], _∷_}
+use mathlib.Core.Bool.{Bool, true, false, _&&_, cond}
 use mathlib.Core.Option.{Option, none, some}
 use native.Mathlib.Omega.{arith}
-use lib.ListN.{length, drop}
+use lib.ListN.{drop}
 use Rattle.image.specs.Bytes.{before, shared}
 use Rattle.image.specs.Path.{owns}
 use Rattle.image.specs.Entry as defined
-use Rattle.image.specs.Image.{Tree, Forest, end, tree, Kid, Inside, messageThen, messagesOf, noKids, kidThen, insideOf, forestOf}
+use Rattle.image.specs.Image.{Tree, Forest, tree, Kid, Inside, messageThen, messagesOf, noKids, kidThen, insideOf, forestOf}
 use Rattle.image.specs.Meaning.{highOf}
-use Rattle.reading.specs.Relative.{lifts, kidHigh, high-at}
+use Rattle.reading.specs.Relative.{lifts}
 use Rattle.path.specs.Shape.{Shape, feed}
 use Rattle.reading.specs.SoundHere.{messageHere, messagesHere}
 use Rattle.reading.specs.Visit.{onward, visit, visitKids}
@@ -105,7 +105,7 @@ onward-last true none M = refl
 onward-last true (some s) M = refl
 onward-last false W M = refl
 
-onward-some : (o : Option (List ℕ)) → o ≡ onward o (λ a. cond true (some a) none)
+pub onward-some : (o : Option (List ℕ)) → o ≡ onward o (λ a. cond true (some a) none)
 unfolding onward
 onward-some none = refl
 onward-some (some s) = refl

@@ -1,23 +1,22 @@
 -- A sound leaf, pair by pair.
-use Prim.Native.Nat.{ℕ, zero, suc, _+_, _-_, _*_, _<_, _≤_}
+use Prim.Native.Nat.{ℕ, _-_, _<_, _≤_}
 use mathlib.Core.Path.{_≡_, refl, sym, ap, ap₂, subst, _∙_}
-use mathlib.Core.List.{List, [], _∷_, _++_}
-use mathlib.Core.Bool.{Bool, true, false, _&&_, not, cond}
+use mathlib.Core.List.{List, [], _∷_}
+use mathlib.Core.Bool.{Bool, true, false, _&&_}
 use mathlib.Core.Option.{Option, none, some}
 use native.Mathlib.Omega.{arith}
 use lib.ListN.{length}
-use lib.Dec.{ltb, leb, eqb}
-use borrow.Author.Tests.{le-leb, lt-leb, not-true, not-false}
+use borrow.Author.Tests.{le-leb, lt-leb}
 use Rattle.image.specs.Bytes.{before}
 use Rattle.image.specs.Path.{owns, valueFits, valueLimit}
 use Rattle.image.specs.Entry as defined
 use Rattle.image.specs.Table.{Row, everyKey, leads, rising}
-use Rattle.image.specs.Image.{Tree, unread, leaf, pairThen, pairsOf, orNone, leafOf}
+use Rattle.image.specs.Image.{unread, leaf, pairThen, pairsOf, orNone, leafOf}
 use Rattle.image.specs.Sound.{valuesFit}
 use Rattle.path.specs.Shape as machine
 use Rattle.reading.specs.SoundHere as inside
-use Rattle.node.specs.Cut.{cut, cut-length}
-use Rattle.node.specs.Places.{part, entryIn, Within, EntryWithin}
+use Rattle.node.specs.Cut.{cut-length}
+use Rattle.node.specs.Places.{part, entryIn, Within}
 use Rattle.node.specs.declared.Place.{Place}
 use Rattle.node.specs.declared.Entry.{Entry}
 use Rattle.search.specs.declared.Pair.{Pair}

@@ -1,19 +1,18 @@
 -- A sound message, and the walk over those that a node holds.
-use Prim.Native.Nat.{ℕ, zero, suc, _+_, _-_, _*_, _<_, _≤_}
-use mathlib.Core.Path.{_≡_, refl, sym, ap, ap₂, subst, _∙_}
-use mathlib.Core.List.{List, [], _∷_, _++_}
-use mathlib.Core.Bool.{Bool, true, false, _&&_, _||_, not, cond}
+use Prim.Native.Nat.{ℕ, _-_, _<_, _≤_}
+use mathlib.Core.Path.{_≡_, refl, sym, ap, subst, _∙_}
+use mathlib.Core.List.{List, [], _∷_}
+use mathlib.Core.Bool.{Bool, true, false, _&&_}
 use mathlib.Core.Option.{Option, none, some}
 use native.Mathlib.Omega.{arith}
 use lib.ListN.{length}
-use lib.Dec.{ltb, leb, eqb}
 use borrow.Author.Tests.{le-leb, lt-leb}
 use Rattle.image.specs.Bytes.{same}
 use Rattle.image.specs.Path.{owns, valueFits, valueLimit}
 use Rattle.image.specs.Entry as defined
 use Rattle.path.specs.Shape.{Shape, goesOn}
 use Rattle.reading.specs.SoundHere.{messageHere}
-use Rattle.node.specs.Cut.{cut, cut-length, cut-nil}
+use Rattle.node.specs.Cut.{cut-length, cut-nil}
 use Rattle.node.specs.Places.{part, messageIn, entryIn, Within, MessageWithin, EntryWithin}
 use Rattle.node.specs.declared.Place.{Place}
 use Rattle.node.specs.declared.Message.{Message}

@@ -1,15 +1,12 @@
 -- Lists whose low pivots (or keys) strictly rise, up to a high one.
-use Prim.Native.Nat.{ℕ, zero, suc, _+_, _-_, _≤_, _<_}
-use mathlib.Core.Path.{_≡_, refl, sym, ap, ap₂, subst, _∙_}
-use mathlib.Core.List.{List, [], _∷_, _++_, append-assoc}
-use mathlib.Core.Bool.{Bool, true, false, _&&_, not, cond, false≢true, true≢false}
-use native.Mathlib.Omega.{arith}
-use lib.ListN.{length, take, drop, length-append}
-use lib.Dec.{ltb, leb, eqb}
-use borrow.Author.Tests.{leb-true, leb-false, le-leb, lt-leb}
-use Rattle.image.specs.Bytes.{same, before, begins, shared}
+use Prim.Native.Nat.{ℕ}
+use mathlib.Core.Path.{_≡_, refl, subst}
+use mathlib.Core.List.{List, [], _∷_, _++_}
+use mathlib.Core.Bool.{Bool, true, false}
+use lib.ListN.{length, drop}
+use Rattle.image.specs.Bytes.{before, shared}
 use Rattle.image.specs.Path.{owns}
-use Rattle.octets.specs.Order.{and-left, and-right, not-so, before-trans, before-irrefl, before-le, before-asym, begins-split, between-begins}
+use Rattle.octets.specs.Order.{not-so, before-trans, before-le, before-asym}
 use Rattle.laws.specs.LookupTable.{does-own, split}
 use Rattle.packed.specs.Chunk.{All, all-map, Group, members, flat}
 use Rattle.packed.specs.Packed.{first}

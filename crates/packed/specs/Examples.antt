@@ -1,15 +1,14 @@
 -- The definitions compute.
-use Prim.Native.Nat.{ℕ, zero, suc, _+_, _*_, _-_}
+use Prim.Native.Nat.{ℕ, zero, suc}
 use mathlib.Core.Path.{_≡_, refl}
-use mathlib.Core.List.{List, [], _∷_, _++_}
-use mathlib.Core.Bool.{Bool, true, false}
-use lib.ListN.{length, replicate, drop}
+use mathlib.Core.List.{List, [], _∷_}
+use lib.ListN.{length, replicate}
 use Rattle.image.specs.Bytes.{shared}
 use Rattle.image.specs.Table.{Row}
 use Rattle.image.specs.Image.{Tree, unread, leaf, interior, Forest, end, tree}
 use Rattle.image.specs.Sound.{numbers}
-use Rattle.packed.specs.Chunk.{flat, total, cut, groups}
-use Rattle.packed.specs.Packed.{first, shortRows, kids, leafFrom, nodeFrom, leafLevel, nodeLevel, leaves, raised, topOf, climb, packed, numbersFrom}
+use Rattle.packed.specs.Chunk.{flat, cut, groups}
+use Rattle.packed.specs.Packed.{first, kids, leafFrom, nodeFrom, leafLevel, nodeLevel, leaves, raised, climb, packed, numbersFrom}
 
 -- k rows of 64 and 32 bytes, 102 bytes each, the first bytes from a up
 rowsFrom : ℕ → ℕ → List Row

@@ -1,19 +1,19 @@
 -- The leaf level: its nodes are sound, and hold the rows of the table in order.
-use Prim.Native.Nat.{ℕ, zero, suc, _+_, _-_, _≤_, _<_}
-use mathlib.Core.Path.{_≡_, refl, sym, ap, ap₂, subst, _∙_}
-use mathlib.Core.List.{List, [], _∷_, _++_, append-assoc, append-nil}
-use mathlib.Core.Bool.{Bool, true, false, _&&_, not, cond, false≢true, true≢false}
+use Prim.Native.Nat.{ℕ, _≤_}
+use mathlib.Core.Path.{_≡_, refl, sym, ap₂, subst, _∙_}
+use mathlib.Core.List.{List, [], _∷_, _++_}
+use mathlib.Core.Bool.{Bool, true, false, _&&_, cond}
 use native.Mathlib.Omega.{arith}
-use lib.ListN.{length, take, drop, getD, length-append}
-use lib.Dec.{ltb, leb, eqb}
-use borrow.Author.Tests.{leb-true, leb-false, le-leb, lt-leb, lt-ltb, eqb-true}
-use Rattle.image.specs.Bytes.{same, before, begins, shared}
+use lib.ListN.{length, drop, getD}
+use lib.Dec.{leb, eqb}
+use borrow.Author.Tests.{leb-true, lt-ltb, eqb-true}
+use Rattle.image.specs.Bytes.{before, shared}
 use Rattle.image.specs.Path.{owns, wellFormed, readsOn, letter, pathLimit, valueFits, valueLimit}
 use Rattle.image.specs.Table.{Row, everyKey, underPrefix, leads, rising}
-use Rattle.image.specs.Image.{Tree, unread, leaf, interior, Forest, end, tree}
+use Rattle.image.specs.Image.{leaf}
 use Rattle.image.specs.Meaning.{rows}
-use Rattle.image.specs.Sound.{soundTree, valuesFit, lowest, highest}
-use Rattle.octets.specs.Order.{and-left, and-right, not-so, before-trans, before-append, before-asym, before-irrefl}
+use Rattle.image.specs.Sound.{soundTree, valuesFit, highest}
+use Rattle.octets.specs.Order.{and-left, and-right, before-append, before-irrefl}
 use Rattle.laws.specs.Rising.{both}
 use Rattle.packed.specs.Chunk.{All, all-left, all-right, all-map, Group, members, flat, groups, groups-flat}
 use Rattle.packed.specs.Packed.{Item, keyOf, lowOf, pairWeight, first, shortRows, leafFrom, leafLevel, leaves}

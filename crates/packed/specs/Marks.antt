@@ -1,23 +1,23 @@
 -- The way of the code: rows with a mark "a node starts here, numbered x" (0: none), one sweep over them for each level. A level is known by its
 -- marks alone: the numbers and the low pivots of its nodes. No tree is looked at.
-use Prim.Native.Nat.{ℕ, zero, suc, _+_, _*_, _-_, _≤_, _<_}
+use Prim.Native.Nat.{ℕ, zero, suc, _+_, _≤_, _<_}
 use mathlib.Core.Path.{_≡_, refl, sym, ap, ap₂, subst, _∙_}
 use mathlib.Core.List.{List, [], _∷_, _++_}
-use mathlib.Core.Bool.{Bool, true, false, _&&_, _||_, not, cond, false≢true, true≢false}
+use mathlib.Core.Bool.{Bool, true, false, cond}
 use native.Mathlib.Omega.{arith}
-use lib.ListN.{length, take, drop, getD}
-use lib.Dec.{ltb, leb, eqb}
-use borrow.Author.Tests.{leb-true, leb-false, le-leb, lt-leb, ne-eqb, eq-eqb}
+use lib.ListN.{length, drop, getD}
+use lib.Dec.{leb, eqb}
+use borrow.Author.Tests.{le-leb, lt-leb, ne-eqb}
 use Rattle.image.specs.Bytes.{shared}
-use Rattle.image.specs.Entry.{Entry, pair, child, message}
+use Rattle.image.specs.Entry.{Entry, child}
 use Rattle.image.specs.Table.{Row}
-use Rattle.image.specs.Image.{Tree, unread, leaf, interior, Forest, end, tree, Kid}
-use Rattle.image.specs.Sound.{lowest, highest}
+use Rattle.image.specs.Image.{Kid}
+use Rattle.image.specs.Sound.{highest}
 use Rattle.laws.specs.Encode.{bytesOfAll}
-use Rattle.packed.specs.Chunk.{All, Group, Cut, members, flat, joins, opens, cut, cut-joins, cut-opens, cut-cases, groups, groups-flat}
-use Rattle.packed.specs.Packed.{Item, Built, keyOf, lowOf, pairWeight, childWeight, first, kids, leafFrom, nodeFrom, leafLevel, nodeLevel, leaves, raised, topOf, climb, packed}
-use Rattle.packed.specs.Numbered.{raised-length, nodeLevel-length, leafLevel-length}
-use Rattle.packed.specs.Pages.{page, kidsFrom, numberOf}
+use Rattle.packed.specs.Chunk.{All, Group, Cut, members, flat, opens, cut, cut-opens, cut-cases, groups}
+use Rattle.packed.specs.Packed.{Item, Built, keyOf, lowOf, pairWeight, childWeight, first, kids, leafFrom, nodeFrom, leafLevel, nodeLevel, leaves, raised, topOf, climb}
+use Rattle.packed.specs.Numbered.{raised-length, leafLevel-length}
+use Rattle.laws.specs.Page.{page, childEntries, numberOf}
 use Rattle.packed.specs.Tidy.{Page}
 use Rattle.packed.specs.Sweep.{ownPage, ownPages, climbPages}
 
@@ -238,21 +238,21 @@ sweep-rows used nums b [] = refl
 sweep-rows used nums b (x ∷ xs) = ap (λ l. x .row ∷ l) (sweep-rows _ _ false xs)
 
 -- the pages of a level above, by numbers and pivots alone
-unfoldable pub childEntries : ℕ → List Kid → List Entry
-childEntries k [] = []
-childEntries k (x ∷ xs) = child (x .number) (drop k (x .pivot)) ∷ childEntries k xs
+unfoldable pub kidEntries : ℕ → List Kid → List Entry
+kidEntries k [] = []
+kidEntries k (x ∷ xs) = child (x .number) (drop k (x .pivot)) ∷ kidEntries k xs
 
 unfoldable pub nodePages : ℕ → List ℕ → List (Group Kid) → List Page
 nodePages l nums [] = []
 nodePages l nums (g ∷ gs) =
     record {
       number = getD nums 0 0;
-      bytes = page 0x0002 l (bytesOfAll (childEntries (length (shared (g .head .pivot) (first pivotOf highest (flat gs)))) (members g)));
+      bytes = page 0x0002 l (bytesOfAll (kidEntries (length (shared (g .head .pivot) (first pivotOf highest (flat gs)))) (members g)));
     }
     ∷ nodePages l (drop 1 nums) gs
 
-kids-entries : (k : ℕ) (xs : List Item) → kidsFrom (kids k xs) ≡ childEntries k (mapped kidOf xs)
-unfolding kidsFrom kids childEntries mapped
+kids-entries : (k : ℕ) (xs : List Item) → childEntries (kids k xs) ≡ kidEntries k (mapped kidOf xs)
+unfolding childEntries kids kidEntries mapped
 kids-entries k [] = refl
 kids-entries k (x ∷ xs) = ap (λ es. child (numberOf (x .node)) (drop k (x .low)) ∷ es) (kids-entries k xs)
 
@@ -266,7 +266,7 @@ unfolding nodePages ownPages ownPage nodeLevel nodeFrom mapped numberOf
 nodeLevel-pages l nums [] = refl
 nodeLevel-pages l nums (g ∷ gs) =
     ap₂ (λ es ps. record { number = getD nums 0 0; bytes = page 0x0002 l (bytesOfAll es) } ∷ ps)
-    (ap (λ h. childEntries (length (shared (g .head .low) h)) (mapped kidOf (members g))) (first-flat gs)
+    (ap (λ h. kidEntries (length (shared (g .head .low) h)) (mapped kidOf (members g))) (first-flat gs)
     ∙ sym (kids-entries (length (shared (g .head .low) (first lowOf highest (flat gs)))) (members g)))
     (nodeLevel-pages l (drop 1 nums) gs)
 

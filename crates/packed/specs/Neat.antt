@@ -1,18 +1,16 @@
 -- Neat: all leaves at the same depth, no message, every node's entries at most 1,016 bytes, every stored pivot at most 65.
-use Prim.Native.Nat.{ℕ, zero, suc, _+_, _*_, _-_, _≤_, _<_}
-use mathlib.Core.Path.{_≡_, refl, sym, ap, ap₂, subst, _∙_}
-use mathlib.Core.List.{List, [], _∷_, _++_, append-assoc, append-nil}
-use mathlib.Core.Bool.{Bool, true, false, _&&_, not, cond, false≢true, true≢false}
+use Prim.Native.Nat.{ℕ, zero, suc, _+_, _-_, _≤_}
+use mathlib.Core.Path.{_≡_, refl}
+use mathlib.Core.List.{List, [], _∷_, _++_}
+use mathlib.Core.Bool.{Bool, true}
 use native.Mathlib.Omega.{arith}
-use lib.ListN.{length, take, drop, getD, length-append, length-drop}
-use lib.Dec.{ltb, leb, eqb}
+use lib.ListN.{length, drop, getD, length-drop}
 use Rattle.image.specs.Bytes.{shared}
-use Rattle.image.specs.Path.{wellFormed, valueFits}
 use Rattle.image.specs.Entry.{Message}
 use Rattle.image.specs.Table.{Row}
 use Rattle.image.specs.Image.{Tree, unread, leaf, interior, Forest, end, tree}
 use Rattle.image.specs.Meaning.{highOf}
-use Rattle.image.specs.Sound.{lowest, highest}
+use Rattle.image.specs.Sound.{highest}
 use Rattle.image.specs.Upkeep.{Reachable, reachable, reachableIn, holdsNoMessage, every}
 use Rattle.octets.specs.Order.{and-left, and-right}
 use Rattle.laws.specs.Rising.{both}

@@ -1,17 +1,17 @@
 -- The numbers of the nodes: each number that is handed in is used once.
-use Prim.Native.Nat.{ℕ, zero, suc, _+_, _*_, _-_, _≤_, _<_}
-use mathlib.Core.Path.{_≡_, refl, sym, ap, ap₂, subst, _∙_}
-use mathlib.Core.List.{List, [], _∷_, _++_, append-assoc, append-nil}
-use mathlib.Core.Bool.{Bool, true, false, _&&_, _||_, not, cond, false≢true, true≢false}
+use Prim.Native.Nat.{ℕ, zero, suc, _+_, _≤_, _<_}
+use mathlib.Core.Path.{_≡_, refl, sym, ap, ap₂, _∙_}
+use mathlib.Core.List.{List, [], _∷_, _++_, append-assoc}
+use mathlib.Core.Bool.{Bool, true, false, _&&_, _||_, not, cond, true≢false}
 use native.Mathlib.Omega.{arith}
-use lib.ListN.{length, take, drop, getD, length-append, length-drop}
+use lib.ListN.{length, take, drop, getD, length-append}
 use lib.Dec.{ltb, leb, eqb}
 use borrow.Author.Tests.{le-leb, lt-ltb, leb-true, ltb-true, eq-eqb, eqb-true}
 use Rattle.image.specs.Bytes.{shared}
 use Rattle.image.specs.Table.{Row}
-use Rattle.image.specs.Image.{Tree, unread, leaf, interior, Forest, end, tree}
+use Rattle.image.specs.Image.{leaf}
 use Rattle.image.specs.Sound.{numbers, numbersIn, isIn, once, inRange, highest}
-use Rattle.octets.specs.Order.{and-left, and-right, not-true, not-false, not-so}
+use Rattle.octets.specs.Order.{and-left, and-right, not-true, not-false}
 use Rattle.laws.specs.Rising.{both}
 use Rattle.packed.specs.Chunk.{Group, members, flat, groups, groups-flat}
 use Rattle.packed.specs.Packed.{Item, keyOf, lowOf, pairWeight, childWeight, first, kids, leafFrom, nodeFrom, leafLevel, nodeLevel, leaves, raised}

@@ -1,24 +1,24 @@
 -- The image written level by level is the packed image; and a battery pulled while it is written loses nothing (request S-12).
-use Prim.Native.Nat.{ℕ, zero, suc, _+_, _*_, _-_, _/_, _%_, _≤_, _<_}
+use Prim.Native.Nat.{ℕ, zero, suc, _+_, _*_, _/_, _≤_, _<_}
 use mathlib.Core.Logic.{_⊎_, inl, inr}
-use mathlib.Core.Path.{_≡_, refl, sym, ap, ap₂, subst, _∙_}
-use mathlib.Core.List.{List, [], _∷_, _++_}
-use mathlib.Core.Bool.{Bool, true, false, _&&_, _||_, not, cond, false≢true, true≢false}
+use mathlib.Core.Path.{_≡_, refl, sym, _∙_}
+use mathlib.Core.List.{List}
+use mathlib.Core.Bool.{Bool, true, false}
 use native.Mathlib.Omega.{arith}
-use lib.ListN.{length, take, drop}
-use lib.Dec.{ltb, leb, eqb}
+use lib.ListN.{length}
 use Rattle.image.specs.Table.{Row}
-use Rattle.image.specs.Image.{Tree, Header, nodeBytes, nodesOf, headerOf, header, treeAt, treeOf}
+use Rattle.image.specs.Image.{nodeBytes, headerOf, header, treeOf}
 use Rattle.image.specs.Sound.{numbers, isIn, once, inRange, sound, tableOf}
 use Rattle.laws.specs.Frame.{Keeps, tree-stays}
 use Rattle.octets.specs.Order.{not-so}
 use Rattle.laws.specs.WriteNode.{writeNode, write-length, write-same, write-other}
-use Rattle.packed.specs.Chunk.{All, all-map}
-use Rattle.packed.specs.Packed.{Built, packed, numbersFrom}
+use Rattle.packed.specs.Chunk.{All}
+use Rattle.packed.specs.Packed.{Built, packed}
 use Rattle.packed.specs.Leaves.{tabled}
 use Rattle.packed.specs.Neat.{Neat}
 use Rattle.packed.specs.Numbered.{times, times-in, in-times, times-once, once-times, range-times, times-range}
-use Rattle.packed.specs.Pages.{numberOf, Written}
+use Rattle.laws.specs.Page.{numberOf}
+use Rattle.packed.specs.Pages.{Written}
 use Rattle.packed.specs.Stored.{written-stays, headPage, head-length, Holds}
 use Rattle.packed.specs.Tidy.{Page, pageNumbers, writeAll, Ready, In, all-length, all-other, all-same, range-ready, zero-out, same-in, nodes-ext, pages, pages-numbers, written-pages, imageOf, Table, built-holds, built-other, built-packs, root-parts}
 use Rattle.packed.specs.Sweep.{orderPages, Ordered, ordered}

@@ -1,7 +1,6 @@
 -- The packed form of a table (request S-10): a tree that a rising table decides, given the numbers of the nodes in the order in which they are used.
 use Prim.Native.Nat.{ℕ, zero, suc, _+_}
-use mathlib.Core.List.{List, [], _∷_, _++_}
-use mathlib.Core.Bool.{Bool, true, false}
+use mathlib.Core.List.{List, [], _∷_}
 use lib.ListN.{length, getD, drop}
 use Rattle.image.specs.Bytes.{shared}
 use Rattle.image.specs.Table.{Row}

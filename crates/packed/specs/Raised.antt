@@ -1,22 +1,18 @@
 -- A level above: its nodes are sound, and hold the same rows.
-use Prim.Native.Nat.{ℕ, zero, suc, _+_, _-_, _≤_, _<_}
+use Prim.Native.Nat.{ℕ}
 use mathlib.Core.Path.{_≡_, refl, sym, ap, ap₂, subst, _∙_}
-use mathlib.Core.List.{List, [], _∷_, _++_, append-assoc, append-nil}
-use mathlib.Core.Bool.{Bool, true, false, _&&_, not, cond, false≢true, true≢false}
-use native.Mathlib.Omega.{arith}
-use lib.ListN.{length, take, drop, getD, length-append}
-use lib.Dec.{ltb, leb, eqb}
-use Rattle.image.specs.Bytes.{same, before, begins, shared}
-use Rattle.image.specs.Path.{owns}
-use Rattle.image.specs.Table.{Row}
-use Rattle.image.specs.Image.{Tree, unread, leaf, interior, Forest, end, tree}
+use mathlib.Core.List.{List, [], _∷_, _++_, append-assoc}
+use mathlib.Core.Bool.{true}
+use lib.ListN.{length, drop, getD}
+use Rattle.image.specs.Bytes.{before, shared}
+use Rattle.image.specs.Image.{interior}
 use Rattle.image.specs.Meaning.{highOf, rows, rowsIn, applyAll}
-use Rattle.image.specs.Sound.{soundTree, soundForest, soundMessages, firstPivot, lowest, highest}
-use Rattle.octets.specs.Order.{and-left, and-right, not-so, same-refl, before-trans, before-append, before-asym, before-irrefl}
+use Rattle.image.specs.Sound.{soundTree, soundForest, soundMessages, firstPivot, highest}
+use Rattle.octets.specs.Order.{same-refl, before-irrefl}
 use Rattle.laws.specs.Rising.{both}
-use Rattle.packed.specs.Chunk.{All, all-left, all-right, all-map, Group, members, flat, groups, groups-flat}
+use Rattle.packed.specs.Chunk.{All, Group, members, flat, groups, groups-flat}
 use Rattle.packed.specs.Packed.{Item, lowOf, childWeight, first, kids, nodeFrom, nodeLevel, raised}
-use Rattle.packed.specs.Climbs.{le-before, Climbs, climbs-under, Between, climbs-between, Splits, between-splits, climbs-group, climbs-later, first-append}
+use Rattle.packed.specs.Climbs.{Climbs, climbs-under, Between, climbs-between, Splits, between-splits, first-append}
 use Rattle.packed.specs.Leaves.{Stands, levelRows}
 
 -- a level's order alone

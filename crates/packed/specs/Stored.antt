@@ -1,31 +1,24 @@
 -- An image that holds the packed tree is sound, means the table, and is tidied.
-use Prim.Native.Nat.{ℕ, zero, suc, _+_, _*_, _-_, _/_, _%_, _≤_, _<_}
-use mathlib.Core.Path.{_≡_, refl, sym, ap, ap₂, subst, _∙_}
-use mathlib.Core.List.{List, [], _∷_, _++_, append-assoc, append-nil}
-use mathlib.Core.Bool.{Bool, true, false, _&&_, _||_, not, cond, false≢true, true≢false}
-use mathlib.Core.Option.{Option, none, some}
+use Prim.Native.Nat.{ℕ, zero, suc, _+_, _*_, _/_, _%_, _≤_, _<_}
+use mathlib.Core.Path.{_≡_, refl, _∙_}
+use mathlib.Core.List.{List, [], _∷_, _++_}
+use mathlib.Core.Bool.{true}
 use native.Mathlib.Omega.{arith}
-use lib.ListN.{length, take, drop, getD, replicate, length-append, length-replicate, length-drop}
-use lib.Seq.{take-add, length-take-le, drop-append-add, take-append-seam, drop-append-seam}
-use lib.Dec.{ltb, leb, eqb}
-use borrow.Author.Tests.{le-leb, lt-ltb, leb-true, ltb-true, eq-eqb, ne-eqb, eqb-true}
-use Rattle.image.specs.Bytes.{u16, zeros, u16Bytes}
-use Rattle.image.specs.Entry.{Message}
+use lib.ListN.{length, replicate}
+use borrow.Author.Tests.{le-leb, lt-ltb, eq-eqb}
+use Rattle.image.specs.Bytes.{u16, u16Bytes}
 use Rattle.image.specs.Table.{Row}
-use Rattle.image.specs.Image.{Tree, unread, leaf, interior, Forest, end, tree, Header, header, nodeBytes, nodesOf, headerOf, headerLaidOut, treeAt, treeOf}
-use Rattle.image.specs.Meaning.{rows}
-use Rattle.image.specs.Sound.{numbers, numbersIn, isIn, once, inRange, lowest, highest, soundHeader, soundRoot, sound, tableOf}
-use Rattle.image.specs.Upkeep.{reachable, reachableNodes, holdsNoMessage, every, settled, used, tidied}
-use Rattle.laws.specs.Encode.{bytesOfAll}
+use Rattle.image.specs.Image.{Tree, unread, leaf, interior, Forest, end, tree, header, nodeBytes, nodesOf, headerOf, headerLaidOut, treeOf}
+use Rattle.image.specs.Sound.{numbers, numbersIn, once, inRange, soundHeader, sound, tableOf}
+use Rattle.image.specs.Upkeep.{reachableNodes, settled, used, tidied}
 use Rattle.laws.specs.Frame.{Keeps, keeps-left, keeps-right, keeps-head, keeps-tail}
-use Rattle.octets.specs.Order.{and-left, and-right}
 use Rattle.laws.specs.Rising.{both}
-use Rattle.packed.specs.Chunk.{total}
 use Rattle.packed.specs.Packed.{Built, packed}
-use Rattle.packed.specs.Neat.{Neat, NeatIn}
+use Rattle.packed.specs.Neat.{Neat}
 use Rattle.packed.specs.Numbered.{times, range-times}
 use Rattle.packed.specs.Tower.{Packs, packed-root, packed-settled}
-use Rattle.packed.specs.Pages.{page, pairsFrom, kidsFrom, numberOf, Written, WrittenIn, reads-back, zeros-replicate}
+use Rattle.laws.specs.Page.{numberOf, zeros-replicate}
+use Rattle.packed.specs.Pages.{Written, WrittenIn, reads-back}
 
 -- the frame: where the bytes of its nodes stay, a tree stays written
 mutual

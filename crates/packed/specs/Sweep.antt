@@ -1,32 +1,30 @@
 -- The same image written level by level, in the order of the numbers: the way of the code.
-use Prim.Native.Nat.{ℕ, zero, suc, _+_, _*_, _-_, _/_, _%_, _≤_, _<_}
-use mathlib.Core.Path.{_≡_, refl, sym, ap, ap₂, subst, _∙_}
-use mathlib.Core.List.{List, [], _∷_, _++_, append-assoc, append-nil}
-use mathlib.Core.Bool.{Bool, true, false, _&&_, _||_, not, cond, false≢true, true≢false}
+use Prim.Native.Nat.{ℕ, zero, suc, _+_, _*_, _/_, _≤_}
+use mathlib.Core.Path.{_≡_, refl, sym, ap, ap₂, _∙_}
+use mathlib.Core.List.{List, [], _∷_, _++_, append-nil}
 use native.Mathlib.Omega.{arith}
-use lib.ListN.{length, take, drop, getD, length-append, length-drop}
+use lib.ListN.{length, take, drop, length-append, length-drop}
 use lib.Seq.{take-add}
-use lib.Dec.{ltb, leb, eqb}
 use Rattle.image.specs.Bytes.{shared}
-use Rattle.image.specs.Entry.{Message}
 use Rattle.image.specs.Table.{Row}
-use Rattle.image.specs.Image.{Tree, unread, leaf, interior, Forest, end, tree, nodeBytes}
-use Rattle.image.specs.Sound.{numbers, numbersIn, isIn, once, inRange, highest}
+use Rattle.image.specs.Image.{Tree, unread, leaf, interior, nodeBytes}
+use Rattle.image.specs.Sound.{numbers, highest}
 use Rattle.laws.specs.Encode.{bytesOfAll}
-use Rattle.packed.specs.Chunk.{All, all-append, all-left, all-right, all-map, Group, members, flat, groups, groups-flat}
-use Rattle.packed.specs.Packed.{Item, Built, keyOf, lowOf, pairWeight, childWeight, first, kids, leafFrom, nodeFrom, leafLevel, nodeLevel, leaves, raised, topOf, climb, packed}
+use Rattle.packed.specs.Chunk.{All, all-append, all-left, all-right, Group, members, flat, groups, groups-flat}
+use Rattle.packed.specs.Packed.{Item, Built, lowOf, childWeight, first, kids, nodeFrom, nodeLevel, leaves, raised, topOf, climb, packed}
 use Rattle.packed.specs.Leaves.{Tabled}
-use Rattle.packed.specs.Neat.{Neat, NeatIn, Trim, pivotBytes}
-use Rattle.packed.specs.Numbered.{times, times-append, levelNumbers, leafLevel-length, nodeLevel-length, raised-length, raised-times, leaves-numbers}
+use Rattle.packed.specs.Neat.{Neat, Trim}
+use Rattle.packed.specs.Numbered.{times, times-append, levelNumbers, raised-length, raised-times, leaves-numbers}
 use Rattle.packed.specs.Tower.{Level, level-above, few-raised, some-raised, few-leaves, leaf-level, room, room-7}
-use Rattle.packed.specs.Pages.{page, page-length, pairsFrom, kidsFrom, pairs-length, kids-length, numberOf, Written, WrittenIn}
+use Rattle.laws.specs.Page.{page, page-length, pairEntries, childEntries, numberOf}
+use Rattle.packed.specs.Pages.{pairs-length, kids-length, Written, WrittenIn}
 use Rattle.packed.specs.Tidy.{Page, pageNumbers, page-numbers-append, In}
 
 -- the page of a tree's top node
 unfoldable pub ownPage : ℕ → Tree → List ℕ
 ownPage l (unread i) = []
-ownPage l (leaf i rs) = page 0x0001 l (bytesOfAll (pairsFrom rs))
-ownPage l (interior i f ms) = page 0x0002 l (bytesOfAll (kidsFrom f))
+ownPage l (leaf i rs) = page 0x0001 l (bytesOfAll (pairEntries rs))
+ownPage l (interior i f ms) = page 0x0002 l (bytesOfAll (childEntries f))
 
 -- the pages of one level, from left to right
 unfoldable pub ownPages : ℕ → List Item → List Page
@@ -110,9 +108,9 @@ own-full l (x ∷ xs) h = (full (x .node) l (h .0 .0), own-full l xs (h .1))
   where
     full : (t : Tree) (k : ℕ) → Neat t k → length (ownPage k t) ≡ 1024
     full (unread i) k n = unfold Neat in absurd n
-    full (leaf i rs) k n = unfold ownPage Neat in page-length 0x0001 k (bytesOfAll (pairsFrom rs)) (rw (pairs-length rs) (n .1))
+    full (leaf i rs) k n = unfold ownPage Neat in page-length 0x0001 k (bytesOfAll (pairEntries rs)) (rw (pairs-length rs) (n .1))
     full (interior i f ms) zero n = unfold Neat in absurd n
-    full (interior i f ms) (suc k) n = unfold ownPage Neat in page-length 0x0002 (suc k) (bytesOfAll (kidsFrom f)) (rw (kids-length f) (n .2))
+    full (interior i f ms) (suc k) n = unfold ownPage Neat in page-length 0x0002 (suc k) (bytesOfAll (childEntries f)) (rw (kids-length f) (n .2))
 
 kids-written : (k l : ℕ) (image : List ℕ) (xs : List Item) → All (λ x. Written (x .node) l image) xs → WrittenIn (kids k xs) l image
 unfolding WrittenIn kids

@@ -1,32 +1,30 @@
 -- The image of request S-10: node 0, the pages of the packed tree, zeros elsewhere. It is one image for one map.
-use Prim.Native.Nat.{ℕ, zero, suc, _+_, _*_, _-_, _/_, _%_, _≤_, _<_}
+use Prim.Native.Nat.{ℕ, zero, suc, _+_, _*_, _-_, _/_, _≤_, _<_}
 use mathlib.Core.Logic.{_↔_}
-use mathlib.Core.Path.{_≡_, refl, sym, ap, ap₂, subst, _∙_}
-use mathlib.Core.List.{List, [], _∷_, _++_, append-assoc, append-nil}
-use mathlib.Core.Bool.{Bool, true, false, _&&_, _||_, not, cond, false≢true, true≢false}
+use mathlib.Core.Path.{_≡_, refl, sym, ap, ap₂, _∙_}
+use mathlib.Core.List.{List, [], _∷_, _++_}
+use mathlib.Core.Bool.{Bool, true, false, _&&_, _||_, not, false≢true, true≢false}
 use native.Mathlib.Omega.{arith}
-use lib.ListN.{length, take, drop, getD, replicate, length-append, length-replicate, length-drop, take-append-drop}
-use lib.Seq.{drop-drop, take-append-seam, drop-append-seam}
+use lib.ListN.{length, take, drop, replicate, length-replicate, length-drop, take-append-drop}
+use lib.Seq.{drop-drop}
 use lib.Dec.{ltb, leb, eqb}
-use borrow.Author.Tests.{le-leb, lt-ltb, leb-true, ltb-true, eq-eqb, ne-eqb, eqb-true}
+use borrow.Author.Tests.{leb-true, ltb-true, eq-eqb, ne-eqb, eqb-true}
 use Rattle.image.specs.Path.{wellFormed}
-use Rattle.image.specs.Entry.{Message}
 use Rattle.image.specs.Table.{Row, rising, everyKey}
 use Rattle.image.specs.Image.{Tree, unread, leaf, interior, Forest, end, tree, nodeBytes, treeOf}
 use Rattle.image.specs.Sound.{numbers, numbersIn, isIn, once, inRange, valuesFit, sound, tableOf}
 use Rattle.image.specs.Upkeep.{tidied}
 use Rattle.laws.specs.Encode.{bytesOfAll}
-use Rattle.octets.specs.Order.{and-left, and-right, not-true, not-false, not-so}
-use Rattle.laws.specs.Rising.{both}
+use Rattle.octets.specs.Order.{and-left, and-right, not-true, not-so}
 use Rattle.laws.specs.Frame.{Keeps}
 use Rattle.laws.specs.WriteNode.{writeNode, write-length, write-same, write-other}
-use Rattle.packed.specs.Chunk.{All, all-append, all-left, all-right, all-map, total}
-use Rattle.packed.specs.Packed.{Built, packed, pairWeight, numbersFrom}
-use Rattle.packed.specs.Leaves.{Tabled, tabled}
-use Rattle.packed.specs.Neat.{Neat, NeatIn, pivotBytes}
-use Rattle.packed.specs.Numbered.{times, times-once, once-times, range-times, times-range}
-use Rattle.packed.specs.Tower.{Packs, packs, packed-root, once-and-range, from-range, from-once, from-length}
-use Rattle.packed.specs.Pages.{page, page-length, pairsFrom, kidsFrom, pairs-length, kids-length, numberOf, Written, WrittenIn}
+use Rattle.packed.specs.Chunk.{All, all-append, all-left, all-right}
+use Rattle.packed.specs.Packed.{Built, packed, numbersFrom}
+use Rattle.packed.specs.Leaves.{tabled}
+use Rattle.packed.specs.Neat.{Neat, NeatIn}
+use Rattle.packed.specs.Tower.{Packs, packs, once-and-range, from-range, from-once, from-length}
+use Rattle.laws.specs.Page.{page, page-length, pairEntries, childEntries, numberOf}
+use Rattle.packed.specs.Pages.{pairs-length, kids-length, Written, WrittenIn}
 use Rattle.packed.specs.Stored.{written-stays, headPage, head-length, Holds, image-tree, image-table, image-sound, image-tidied}
 
 -- a node's number and its 1,024 bytes
@@ -37,9 +35,9 @@ pub record Page : Type 0 where
 unfoldable mutual
   pub pages : Tree → ℕ → List Page
   pages (unread i) l = []
-  pages (leaf i rs) l = record { number = i; bytes = page 0x0001 l (bytesOfAll (pairsFrom rs)) } ∷ []
+  pages (leaf i rs) l = record { number = i; bytes = page 0x0001 l (bytesOfAll (pairEntries rs)) } ∷ []
   pages (interior i f ms) zero = []
-  pages (interior i f ms) (suc l) = record { number = i; bytes = page 0x0002 (suc l) (bytesOfAll (kidsFrom f)) } ∷ pagesIn f l
+  pages (interior i f ms) (suc l) = record { number = i; bytes = page 0x0002 (suc l) (bytesOfAll (childEntries f)) } ∷ pagesIn f l
 
   pub pagesIn : Forest → ℕ → List Page
   pagesIn end l = []
@@ -142,10 +140,10 @@ mutual
 
   pub pages-full : (t : Tree) (l : ℕ) → Neat t l → All (λ p. length (p .bytes) ≡ 1024) (pages t l)
   pages-full (unread i) l h = absurd h
-  pages-full (leaf i rs) l h = (page-length 0x0001 l (bytesOfAll (pairsFrom rs)) (rw (pairs-length rs) (h .1)), tt)
+  pages-full (leaf i rs) l h = (page-length 0x0001 l (bytesOfAll (pairEntries rs)) (rw (pairs-length rs) (h .1)), tt)
   pages-full (interior i f ms) zero h = absurd h
   pages-full (interior i f ms) (suc l) h =
-      (page-length 0x0002 (suc l) (bytesOfAll (kidsFrom f)) (rw (kids-length f) (h .2)), pages-full-in f l (h .3))
+      (page-length 0x0002 (suc l) (bytesOfAll (childEntries f)) (rw (kids-length f) (h .2)), pages-full-in f l (h .3))
 
   pub pages-full-in : (f : Forest) (l : ℕ) → NeatIn f l → All (λ p. length (p .bytes) ≡ 1024) (pagesIn f l)
   pages-full-in end l h = tt

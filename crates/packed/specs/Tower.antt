@@ -1,24 +1,21 @@
 -- Level by level: what the whole packed tree keeps.
 use Prim.Native.Nat.{ℕ, zero, suc, _+_, _*_, _-_, _/_, _≤_, _<_}
-use mathlib.Core.Path.{_≡_, refl, sym, ap, ap₂, subst, _∙_}
-use mathlib.Core.List.{List, [], _∷_, _++_, append-assoc, append-nil}
-use mathlib.Core.Bool.{Bool, true, false, _&&_, _||_, not, cond, false≢true, true≢false}
+use mathlib.Core.Path.{_≡_, refl, sym, ap, subst, _∙_}
+use mathlib.Core.List.{List, [], _∷_, append-nil}
+use mathlib.Core.Bool.{true, false}
 use native.Mathlib.Omega.{arith}
-use lib.ListN.{length, take, drop, getD, length-append, length-drop}
+use lib.ListN.{length, take, drop, length-drop}
 use lib.Seq.{take-add, length-take-le}
-use lib.Dec.{ltb, leb, eqb}
-use borrow.Author.Tests.{le-leb, lt-ltb, leb-true, ltb-true, eq-eqb, ne-eqb, eqb-true}
-use Rattle.image.specs.Path.{wellFormed}
-use Rattle.image.specs.Table.{Row, rising, everyKey}
-use Rattle.image.specs.Image.{Tree, unread, leaf, interior, Forest, end, tree}
+use borrow.Author.Tests.{le-leb, lt-ltb, eq-eqb, ne-eqb}
+use Rattle.image.specs.Table.{Row}
 use Rattle.image.specs.Meaning.{rows}
-use Rattle.image.specs.Sound.{soundTree, valuesFit, numbers, numbersIn, isIn, once, inRange, lowest, highest, soundRoot}
+use Rattle.image.specs.Sound.{soundTree, numbers, isIn, once, inRange, lowest, highest, soundRoot}
 use Rattle.image.specs.Upkeep.{reachable, holdsNoMessage, every}
-use Rattle.octets.specs.Order.{and-left, and-right, not-true, not-false, not-so}
+use Rattle.octets.specs.Order.{not-false}
 use Rattle.laws.specs.Rising.{both}
-use Rattle.packed.specs.Chunk.{All, Group, members, flat, groups, groups-flat, groups-count, groups-some}
-use Rattle.packed.specs.Packed.{Item, keyOf, lowOf, pairWeight, childWeight, first, kids, leafLevel, nodeLevel, nodeFrom, leafFrom, leaves, raised, Built, topOf, climb, packed, numbersFrom}
-use Rattle.packed.specs.Leaves.{Good, Tabled, tabled, Stands, levelRows, leaves-stand, leaves-rows}
+use Rattle.packed.specs.Chunk.{All, groups, groups-count, groups-some}
+use Rattle.packed.specs.Packed.{Item, lowOf, pairWeight, childWeight, first, leafLevel, leafFrom, leaves, raised, Built, topOf, climb, packed, numbersFrom}
+use Rattle.packed.specs.Leaves.{Tabled, Stands, levelRows, leaves-stand, leaves-rows}
 use Rattle.packed.specs.Raised.{raised-stand, raised-rows, raised-first}
 use Rattle.packed.specs.Neat.{Neat, Trim, leaves-trim, raised-trim, child-weights, pair-weights, neat-quiet}
 use Rattle.packed.specs.Numbered.{times, times-append, levelNumbers, leaves-numbers, leafLevel-length, raised-length, raised-times, raised-size, once-times, times-once, range-times, times-range, times-take}

@@ -1,6 +1,6 @@
 -- Child entries put into a page.
-use Prim.Native.Nat.{ℕ, zero, suc, _+_, _*_, _-_, _/_, _%_, _≤_, _<_}
-use mathlib.Core.Path.{_≡_, refl, sym, ap, ap₂, subst, _∙_}
+use Prim.Native.Nat.{ℕ, zero, suc, _+_, _*_, _-_, _≤_, _<_}
+use mathlib.Core.Path.{_≡_, refl, sym, ap, ap₂, _∙_}
 use mathlib.Core.List.{List, [], _∷_, _++_, append-assoc, append-nil}
 use mathlib.Core.Bool.{Bool, true, false, cond}
 use native.Mathlib.Omega.{arith}
@@ -9,13 +9,13 @@ use lib.Dec.{eqb, ltb}
 use borrow.Author.Tests.{eq-eqb, ne-eqb, eqb-true, eqb-false, lt-ltb, le-ltb, ltb-true, ltb-false}
 use lib.ListN.{length, take, drop, getD, length-append, length-drop, drop-of-length-le}
 use lib.Seq.{length-take-le, drop-drop, take-nil}
-use Rattle.image.specs.Entry.{Entry, pair, child, message}
+use Rattle.image.specs.Entry.{child}
 use Rattle.image.specs.Image.{Kid}
 use Rattle.image.specs.Bytes.{u16Bytes}
 use Rattle.laws.specs.Encode.{restOf, kindOf, bytesOf, bytesOfAll}
-use Rattle.packed.specs.Marks.{childEntries}
+use Rattle.packed.specs.Marks.{kidEntries}
 use Rattle.rows.specs.Area.{rowAt, RowsFit}
-use Rattle.rows.specs.Kids.{markAt, lowOfRow, kidAt, kidsOf, kids-take, kids-pass}
+use Rattle.rows.specs.Kids.{markAt, lowOfRow, kidsOf, kids-take, kids-pass}
 use Rattle.rows.specs.Remark.{kids-split}
 use Rattle.octets.specs.Put.{put, put-put, put-nil, put-size}
 
@@ -38,37 +38,37 @@ child-size num s = omega arith
 
 -- the bytes of the marked ones of n rows from row i
 unfoldable pub kidBytes : ℕ → ℕ → List ℕ → ℕ → List ℕ
-kidBytes k n area i = bytesOfAll (childEntries k (kidsOf n area i))
+kidBytes k n area i = bytesOfAll (kidEntries k (kidsOf n area i))
 
-entries-append : (k : ℕ) (xs ys : List Kid) → bytesOfAll (childEntries k (xs ++ ys)) ≡ bytesOfAll (childEntries k xs) ++ bytesOfAll (childEntries k ys)
-unfolding childEntries bytesOfAll
+entries-append : (k : ℕ) (xs ys : List Kid) → bytesOfAll (kidEntries k (xs ++ ys)) ≡ bytesOfAll (kidEntries k xs) ++ bytesOfAll (kidEntries k ys)
+unfolding kidEntries bytesOfAll
 entries-append k [] ys = refl
 entries-append k (x ∷ xs) ys =
     ap (λ l. bytesOf (child (x .number) (drop k (x .pivot))) ++ l) (entries-append k xs ys)
-    ∙ sym (append-assoc (bytesOf (child (x .number) (drop k (x .pivot)))) (bytesOfAll (childEntries k xs)) (bytesOfAll (childEntries k ys)))
+    ∙ sym (append-assoc (bytesOf (child (x .number) (drop k (x .pivot)))) (bytesOfAll (kidEntries k xs)) (bytesOfAll (kidEntries k ys)))
 
 pub bytes-step : (k to : ℕ) (area : List ℕ) (i : ℕ) → i < to → kidBytes k (to - i) area i ≡ kidBytes k 1 area i ++ kidBytes k (to - (i + 1)) area (i + 1)
 unfolding kidBytes
 bytes-step k to area i h =
     let z : to - i ≡ 1 + (to - (i + 1)) = omega arith in
-    ap (λ n. bytesOfAll (childEntries k (kidsOf n area i))) z
-    ∙ ap (λ ks. bytesOfAll (childEntries k ks)) (kids-split 1 (to - (i + 1)) area i)
+    ap (λ n. bytesOfAll (kidEntries k (kidsOf n area i))) z
+    ∙ ap (λ ks. bytesOfAll (kidEntries k ks)) (kids-split 1 (to - (i + 1)) area i)
     ∙ entries-append k (kidsOf 1 area i) (kidsOf (to - (i + 1)) area (i + 1))
 
 pub bytes-done : (k to : ℕ) (area : List ℕ) (i : ℕ) → to ≤ i → kidBytes k (to - i) area i ≡ []
-unfolding kidBytes kidsOf childEntries bytesOfAll
+unfolding kidBytes kidsOf kidEntries bytesOfAll
 bytes-done k to area i h = let z : to - i ≡ 0 = omega arith in rw z refl
 
 -- one row
 pub bytes-none : (k : ℕ) (area : List ℕ) (i : ℕ) → markAt area i ≡ 0 → kidBytes k 1 area i ≡ []
-bytes-none k area i h = unfold kidBytes in (ap (λ ks. bytesOfAll (childEntries k ks)) (kids-pass 0 area i h) ∙ (unfold kidsOf childEntries bytesOfAll in refl))
+bytes-none k area i h = unfold kidBytes in (ap (λ ks. bytesOfAll (kidEntries k ks)) (kids-pass 0 area i h) ∙ (unfold kidsOf kidEntries bytesOfAll in refl))
 
 pub bytes-some : (k : ℕ) (area : List ℕ) (i : ℕ) → (markAt area i ≡ 0 → ⊥) → kidBytes k 1 area i ≡ bytesOf (child (markAt area i) (drop k (lowOfRow area i)))
 bytes-some k area i h = go (markAt area i) refl
   where
     one : 1 ≤ markAt area i → kidBytes k 1 area i ≡ bytesOf (child (markAt area i) (drop k (lowOfRow area i)))
-    one o = unfold kidBytes kidsOf childEntries bytesOfAll in
-        (ap (λ ks. bytesOfAll (childEntries k ks)) (kids-take 0 area i o) ∙ append-nil (bytesOf (child (markAt area i) (drop k (lowOfRow area i)))))
+    one o = unfold kidBytes kidsOf kidEntries bytesOfAll in
+        (ap (λ ks. bytesOfAll (kidEntries k ks)) (kids-take 0 area i o) ∙ append-nil (bytesOf (child (markAt area i) (drop k (lowOfRow area i)))))
 
     go : (v : ℕ) → markAt area i ≡ v → kidBytes k 1 area i ≡ bytesOf (child (markAt area i) (drop k (lowOfRow area i)))
     go zero e = absurd (h e)

@@ -1,12 +1,10 @@
 -- The lifted prefix, and a whole interior page.
-use Prim.Native.Nat.{ℕ, zero, suc, _+_, _*_, _-_, _/_, _%_, _≤_, _<_}
-use mathlib.Core.Path.{_≡_, refl, sym, ap, ap₂, subst, _∙_}
-use mathlib.Core.List.{List, [], _∷_, _++_, append-assoc, append-nil}
-use mathlib.Core.Bool.{Bool, true, false, cond}
+use Prim.Native.Nat.{ℕ, suc, _+_, _*_, _-_, _≤_, _<_}
+use mathlib.Core.Path.{_≡_, refl, sym, ap, ap₂, _∙_}
+use mathlib.Core.List.{List, [], _∷_, _++_}
 use native.Mathlib.Omega.{arith}
-use lib.ListN.{length, take, drop, getD, replicate, length-append, length-drop, length-replicate, drop-of-length-le}
+use lib.ListN.{length, take, drop, getD, replicate, drop-of-length-le}
 use lib.Seq.{drop-cons}
-use lib.Dec.{eqb}
 use borrow.Author.Tests.{eq-eqb, ne-eqb}
 use Rattle.image.specs.Bytes.{shared}
 use Rattle.image.specs.Sound.{highest}
@@ -14,12 +12,11 @@ use Rattle.image.specs.Bytes.{u16Bytes}
 use Rattle.laws.specs.Encode.{bytesOfAll}
 use Rattle.laws.specs.WriteNode.{writeNode}
 use Rattle.packed.specs.Packed.{first}
-use Rattle.packed.specs.Pages.{page}
-use Rattle.packed.specs.Marks.{pivotOf, childEntries}
+use Rattle.laws.specs.Page.{page}
+use Rattle.packed.specs.Marks.{pivotOf, kidEntries}
 use Rattle.packed.specs.Tidy.{zerosOf, drop-zeros, take-zeros}
-use Rattle.rows.specs.Area.{RowsFit}
 use Rattle.rows.specs.Kids.{markAt, lowOfRow, kidsOf, kids-take, highOfRow, nodePage}
-use Rattle.octets.specs.Put.{put, put-size}
+use Rattle.octets.specs.Put.{put}
 use Rattle.pages.specs.Entries.{kidBytes}
 
 -- a loop from the front
@@ -118,7 +115,7 @@ node-page-is level m area i j k kk h p₁ p₂ p₃ p₄ e a b c d f =
     ∙ shown
   where
     shown : page 2 level (kidBytes k (j - i) area i) ≡ nodePage level m area i j
-    shown = unfold nodePage kidBytes in ap (λ x. page 2 level (bytesOfAll (childEntries x (kidsOf (j - i) area i)))) kk
+    shown = unfold nodePage kidBytes in ap (λ x. page 2 level (bytesOfAll (kidEntries x (kidsOf (j - i) area i)))) kk
 
 pub node-written : (store page′ : List ℕ) (num : ℕ) (store′ : List ℕ) → length page′ ≡ 1024 → store′ ≡ put store (num * 1024) page′ → store′ ≡ writeNode store num page′
 node-written store page′ num store′ e q = q ∙ put-node store num page′ e

@@ -1,36 +1,35 @@
 -- One level above, marks and pages.
-use Prim.Native.Nat.{ℕ, zero, suc, _+_, _*_, _-_, _/_, _%_, _≤_, _<_}
+use Prim.Native.Nat.{ℕ, zero, suc, _+_, _*_, _-_, _≤_, _<_}
 use mathlib.Core.Path.{_≡_, refl, sym, ap, ap₂, subst, _∙_}
-use mathlib.Core.List.{List, [], _∷_, _++_}
-use mathlib.Core.Bool.{Bool, true, false, cond}
+use mathlib.Core.List.{List, [], _∷_}
 use native.Mathlib.Omega.{arith}
-use lib.ListN.{length, take, drop, getD, length-append, length-drop}
+use lib.ListN.{length, drop, length-append, length-drop}
 use Rattle.image.specs.Bytes.{shared}
 use Rattle.image.specs.Entry.{child}
 use Rattle.image.specs.Image.{Kid}
 use Rattle.image.specs.Sound.{highest}
 use Rattle.laws.specs.Encode.{bytesOf, bytesOfAll}
-use Rattle.laws.specs.WriteNode.{writeNode, write-length}
+use Rattle.laws.specs.WriteNode.{writeNode}
 use Rattle.packed.specs.Chunk.{All, Group, members, flat, total, Fits, groups, groups-flat, groups-fit}
 use Rattle.packed.specs.Packed.{Item, childWeight, raised, first, numbersFrom}
 use Rattle.packed.specs.Numbered.{raised-length}
 use Rattle.packed.specs.Sweep.{ownPages}
-use Rattle.packed.specs.Pages.{page}
+use Rattle.laws.specs.Page.{page}
 use Rattle.packed.specs.Tidy.{Page, writeAll}
-use Rattle.packed.specs.Marks.{pivotOf, kidOf, kidWeight, childEntries, nodePages, mapped, mapGroup, groups-mapped, mapped-length, raised-pages}
+use Rattle.packed.specs.Marks.{pivotOf, kidOf, kidWeight, kidEntries, nodePages, mapped, mapGroup, groups-mapped, mapped-length, raised-pages}
 use Rattle.rows.specs.Area.{RowsFit}
-use Rattle.rows.specs.Kids.{markAt, lowOfRow, kidAt, kidsOf, kids-take, kids-pass, low-length, nodeEnd, node-in, node-next, groups-are, kids-join, highOfRow, nodePage}
+use Rattle.rows.specs.Kids.{markAt, lowOfRow, kidAt, kidsOf, kids-take, kids-pass, low-length, nodeEnd, node-next, groups-are, kids-join, highOfRow, nodePage}
 use Rattle.rows.specs.Puts.{putMark}
 use Rattle.rows.specs.Remark.{clearMarks, startWeight, later-kids, Raised, Turns, turn-first, turn-next, turn-last}
 use Rattle.pages.specs.Entries.{kidBytes, child-size}
 use Rattle.pages.specs.Nodes.{nodeBytesOf}
 
 -- a node fits
-entries-weight : (k : ℕ) (xs : List Kid) → length (bytesOfAll (childEntries k xs)) ≤ total kidWeight xs
-unfolding bytesOfAll childEntries total
+entries-weight : (k : ℕ) (xs : List Kid) → length (bytesOfAll (kidEntries k xs)) ≤ total kidWeight xs
+unfolding bytesOfAll kidEntries total
 entries-weight k [] = omega arith
 entries-weight k (x ∷ xs) =
-    let a = length-append (bytesOf (child (x .number) (drop k (x .pivot)))) (bytesOfAll (childEntries k xs)) in
+    let a = length-append (bytesOf (child (x .number) (drop k (x .pivot)))) (bytesOfAll (kidEntries k xs)) in
     let b = child-size (x .number) (drop k (x .pivot)) in
     let c = length-drop k (x .pivot) in
     let d = entries-weight k xs in
@@ -54,7 +53,7 @@ countPages l s [] = []
 countPages l s (g ∷ gs) =
     record {
       number = s;
-      bytes = page 0x0002 l (bytesOfAll (childEntries (length (shared (g .head .pivot) (first pivotOf highest (flat gs)))) (members g)));
+      bytes = page 0x0002 l (bytesOfAll (kidEntries (length (shared (g .head .pivot) (first pivotOf highest (flat gs)))) (members g)));
     }
     ∷ countPages l (s + 1) gs
 
@@ -67,7 +66,7 @@ count-pages l s (suc k) (g ∷ gs) h =
     ap
     (λ ps. record {
       number = s;
-      bytes = page 0x0002 l (bytesOfAll (childEntries (length (shared (g .head .pivot) (first pivotOf highest (flat gs)))) (members g)));
+      bytes = page 0x0002 l (bytesOfAll (kidEntries (length (shared (g .head .pivot) (first pivotOf highest (flat gs)))) (members g)));
     }
     ∷ ps)
     (ap (λ x. countPages l x gs) e ∙ count-pages l (suc s) k gs (omega arith))

@@ -1,13 +1,13 @@
 -- The shape of a path as a small state machine that is fed bytes, slice by slice: so a suffix is judged after its prefix without joining
 -- them. Each counter stays within the limit that a path has for it, so that code cannot overflow. `shape-is`: it is the definition.
-use Prim.Native.Nat.{ℕ, zero, suc, _+_, _-_, _<_, _≤_}
+use Prim.Native.Nat.{ℕ, suc, _+_, _<_, _≤_}
 use mathlib.Core.Path.{_≡_, refl, sym, ap, _∙_}
 use mathlib.Core.List.{List, [], _∷_, _++_}
-use mathlib.Core.Bool.{Bool, true, false, _&&_, not, cond}
+use mathlib.Core.Bool.{Bool, true, false, _&&_, cond}
 use native.Mathlib.Omega.{arith}
 use lib.ListN.{length}
 use lib.Dec.{ltb, leb, eqb}
-use borrow.Author.Tests.{eq-eqb, ne-eqb, lt-leb, le-leb, ltb-false}
+use borrow.Author.Tests.{ne-eqb, lt-leb, le-leb, ltb-false}
 use Rattle.image.specs.Path.{letter, readsOn, pathLimit, wellFormed}
 
 -- after some bytes: no path begins so, or it has whole components, bytes of the next, and bytes in all

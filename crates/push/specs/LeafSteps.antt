@@ -15,7 +15,7 @@ use Rattle.laws.specs.Encode.{restOf, kindOf, bytesOf, bytesOfAll}
 use Rattle.laws.specs.PushDown.{touches}
 use Rattle.laws.specs.RowsRising.{is-true}
 use Rattle.laws.specs.WriteNode.{writeNode}
-use Rattle.packed.specs.Pages.{page, page-length}
+use Rattle.laws.specs.Page.{page, page-length}
 use Rattle.packed.specs.Tidy.{zerosOf}
 use Rattle.pages.specs.Nodes.{page-is, node-written}
 use Rattle.upkeep.specs.Size.{bytes-append}
@@ -34,7 +34,7 @@ use Rattle.push_laws.specs.LeafRoom.{after-fits, one-taken}
 use Rattle.push.specs.Kinds.{keyedEntry}
 use Rattle.push.specs.WriteSteps.{keyed-length}
 use Rattle.push.specs.Sides.{staysOn, keptBytes}
-use Rattle.push.specs.declared.Side.{Side}
+use Rattle.push.specs.declared.leaf.Side.{Side}
 
 -- WHICH PAIRS STAY
 module _ (side : Side) (key own : List ℕ) (b : Bool) where

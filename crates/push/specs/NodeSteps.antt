@@ -16,7 +16,7 @@ use Rattle.image.specs.Contract.{hasChildren, isInterior}
 use Rattle.octets.specs.Order.{not-true}
 use Rattle.octets.specs.Put.{put}
 use Rattle.laws.specs.RowsRising.{is-true}
-use Rattle.packed.specs.Pages.{page, page-length}
+use Rattle.laws.specs.Page.{page, page-length}
 use Rattle.packed.specs.Tidy.{zerosOf, drop-zeros}
 use Rattle.pages.specs.Nodes.{page-is, node-written}
 use Rattle.node.specs.Cut.{cut, cut-drop, cut-take, cut-length}

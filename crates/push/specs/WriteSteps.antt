@@ -19,7 +19,7 @@ use Rattle.node.specs.declared.Message.{Message}
 use Rattle.image.specs.Image.{Kid}
 use Rattle.octets.specs.Order.{and-left, and-right}
 use Rattle.laws.specs.WriteNode.{writeNode}
-use Rattle.packed.specs.Pages.{page, page-length}
+use Rattle.laws.specs.Page.{page, page-length}
 use Rattle.packed.specs.Tidy.{zerosOf}
 use Rattle.upkeep.specs.Size as size
 use Rattle.pages.specs.Nodes.{page-is, node-written}

@@ -1,6 +1,6 @@
 -- What arrives at the children, told from inside the node, is what upkeep's flush sends them: `each-under`.
 -- Relies on Flush and Room of upkeep, where pivots and messages are full; here the node's lifted prefix is left away.
-use Prim.Native.Nat.{ℕ, _+_}
+use Prim.Native.Nat.{ℕ}
 use mathlib.Core.Path.{_≡_, refl, sym, ap, ap₂, _∙_}
 use mathlib.Core.List.{List, [], _∷_, _++_, append-assoc, append-nil}
 use mathlib.Core.Bool.{Bool, true, false, _||_, cond}
@@ -15,7 +15,7 @@ use Rattle.image.specs.Meaning.{highOf, apply, applyAll}
 use Rattle.octets.specs.Order.{before-append, begins-append, shared-append}
 use Rattle.laws.specs.Encode.{bytesOf, bytesOfAll}
 use Rattle.laws.specs.PushDown.{taken, touches, lowered, sent, raised}
-use Rattle.upkeep.specs.Size.{messagesFor}
+use Rattle.upkeep.specs.Size.{messageEntries}
 use Rattle.upkeep.specs.Room.{sentAll, sentEach}
 use Rattle.reading.specs.Relative.{kidHigh}
 use Rattle.push_laws.specs.Arriving.{waiting, loweredBy, arriving, brought, broughtAll}
@@ -97,15 +97,15 @@ each-under ms under (k ∷ ks) l h =
     (each-under ms under ks l h)
 
 -- THE BYTES
-pub brought-is : (es : List Entry) (lo hi : List ℕ) → broughtAll es lo hi ≡ bytesOfAll (messagesFor (arriving (waiting es) lo hi))
-unfolding broughtAll waiting arriving messagesFor bytesOfAll brought
+pub brought-is : (es : List Entry) (lo hi : List ℕ) → broughtAll es lo hi ≡ bytesOfAll (messageEntries (arriving (waiting es) lo hi))
+unfolding broughtAll waiting arriving messageEntries bytesOfAll brought
 brought-is [] lo hi = refl
 brought-is (pair k v ∷ es) lo hi = brought-is es lo hi
 brought-is (child i k ∷ es) lo hi = brought-is es lo hi
 brought-is (message m ∷ es) lo hi = go (touches m lo hi) refl (brought-is es lo hi)
   where
-    go : (x : Bool) → touches m lo hi ≡ x → broughtAll es lo hi ≡ bytesOfAll (messagesFor (arriving (waiting es) lo hi))
+    go : (x : Bool) → touches m lo hi ≡ x → broughtAll es lo hi ≡ bytesOfAll (messageEntries (arriving (waiting es) lo hi))
         → cond (touches m lo hi) (bytesOf (message (loweredBy (length (shared lo hi)) m))) [] ++ broughtAll es lo hi
-        ≡ bytesOfAll (messagesFor (cond (touches m lo hi) (loweredBy (length (shared lo hi)) m ∷ arriving (waiting es) lo hi) (arriving (waiting es) lo hi)))
+        ≡ bytesOfAll (messageEntries (cond (touches m lo hi) (loweredBy (length (shared lo hi)) m ∷ arriving (waiting es) lo hi) (arriving (waiting es) lo hi)))
     go true e ih = rw e (ap (λ l. bytesOf (message (loweredBy (length (shared lo hi)) m)) ++ l) ih)
     go false e ih = rw e ih

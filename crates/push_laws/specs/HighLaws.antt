@@ -1,6 +1,6 @@
 -- The high pivot that is found from the root down is that of the reachable node of this number, without what the node lifts.
 -- Relies on `place-append` (upkeep: Healed).
-use Prim.Native.Nat.{ℕ, _+_, _-_}
+use Prim.Native.Nat.{ℕ, _-_}
 use mathlib.Core.Path.{_≡_, refl, sym, ap, ap₂, _∙_}
 use mathlib.Core.List.{List, [], _++_, append-assoc}
 use mathlib.Core.Bool.{Bool, true, false, cond, false≢true}

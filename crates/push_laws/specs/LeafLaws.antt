@@ -1,6 +1,6 @@
 -- A leaf that took messages reads as the leaf whose pairs are those after the messages: `leaf-takes`.
 -- Relies on LeafRoom for sizes and on ReadBack for pages.
-use Prim.Native.Nat.{ℕ, _+_, _*_, _-_, _≤_}
+use Prim.Native.Nat.{ℕ, _+_, _*_, _≤_}
 use mathlib.Core.Path.{_≡_, refl, sym, ap, subst, _∙_}
 use mathlib.Core.List.{List, [], _∷_, _++_}
 use mathlib.Core.Bool.{Bool, true, false, not, cond, false≢true}
@@ -18,9 +18,8 @@ use Rattle.laws.specs.Encode.{bytesOf, bytesOfAll, all-back}
 use Rattle.laws.specs.Rising.{both}
 use Rattle.laws.specs.RowsRising.{rising-apply}
 use Rattle.laws.specs.PushDown.{touches}
-use Rattle.packed.specs.Pages.{page}
+use Rattle.laws.specs.Page.{page, pairEntries, pairs-back, pairs-allowed}
 use Rattle.upkeep.specs.Merge.{tall}
-use Rattle.upkeep.specs.Size.{pairsFor, pairs-back, pairs-allowed}
 use Rattle.node.specs.Entries.{listed, listOf, all-listed}
 use Rattle.lookup.specs.Look.{listing, count-is, bytes-is}
 use Rattle.push_laws.specs.Arriving.{waiting, loweredBy, arriving}
@@ -44,13 +43,13 @@ leads-all k (r ∷ t) a e =
     let first : before k (r .key) ≡ true = unfold leads in a in
     both first (leads-all k t (leads-later k r t first (and-left _ _ e)) (and-right (leads (r .key) t) _ e))
 
-kept-all : (test : List ℕ → Bool) (t : List Row) → everyKey test t ≡ true → kept test (pairsFor t) ≡ pairsFor t
-unfolding kept pairsFor everyKey
+kept-all : (test : List ℕ → Bool) (t : List Row) → everyKey test t ≡ true → kept test (pairEntries t) ≡ pairEntries t
+unfolding kept pairEntries everyKey
 kept-all test [] e = refl
 kept-all test (r ∷ t) e = rw (and-left (test (r .key)) _ e) (ap (λ l. pair (r .key) (r .value) ∷ l) (kept-all test t (and-right (test (r .key)) _ e)))
 
-kept-none : (test : List ℕ → Bool) (t : List Row) → everyKey (λ q. not (test q)) t ≡ true → kept test (pairsFor t) ≡ []
-unfolding kept pairsFor everyKey
+kept-none : (test : List ℕ → Bool) (t : List Row) → everyKey (λ q. not (test q)) t ≡ true → kept test (pairEntries t) ≡ []
+unfolding kept pairEntries everyKey
 kept-none test [] e = refl
 kept-none test (r ∷ t) e = rw (not-true (test (r .key)) (and-left _ _ e)) (kept-none test t (and-right (not (test (r .key))) _ e))
 
@@ -61,8 +60,8 @@ not-back k (r ∷ t) e =
     both (not-false (before (r .key) k) (before-asym k (r .key) (and-left (before k (r .key)) _ e))) (not-back k t (and-right (before k (r .key)) _ e))
 
 with-pairs : (p v : List ℕ) (t : List Row) → rising t ≡ true
-    → kept (λ q. before q p) (pairsFor t) ++ pair p v ∷ kept (λ q. before p q) (pairsFor t) ≡ pairsFor (withRow p v t)
-unfolding withRow kept pairsFor rising
+    → kept (λ q. before q p) (pairEntries t) ++ pair p v ∷ kept (λ q. before p q) (pairEntries t) ≡ pairEntries (withRow p v t)
+unfolding withRow kept pairEntries rising
 with-pairs p v [] e = refl
 with-pairs p v (r ∷ t) e = go (before (r .key) p) refl (same p (r .key)) refl (with-pairs p v t (and-right (leads (r .key) t) _ e))
   where
@@ -70,10 +69,10 @@ with-pairs p v (r ∷ t) e = go (before (r .key) p) refl (same p (r .key)) refl 
     after = leads-all (r .key) t (and-left _ _ e) (and-right (leads (r .key) t) _ e)
 
     go : (a : Bool) → before (r .key) p ≡ a → (b : Bool) → same p (r .key) ≡ b
-        → kept (λ q. before q p) (pairsFor t) ++ pair p v ∷ kept (λ q. before p q) (pairsFor t) ≡ pairsFor (withRow p v t)
-        → cond (before (r .key) p) (pair (r .key) (r .value) ∷ kept (λ q. before q p) (pairsFor t)) (kept (λ q. before q p) (pairsFor t))
-        ++ pair p v ∷ cond (before p (r .key)) (pair (r .key) (r .value) ∷ kept (λ q. before p q) (pairsFor t)) (kept (λ q. before p q) (pairsFor t))
-        ≡ pairsFor (cond (before (r .key) p) (r ∷ withRow p v t)
+        → kept (λ q. before q p) (pairEntries t) ++ pair p v ∷ kept (λ q. before p q) (pairEntries t) ≡ pairEntries (withRow p v t)
+        → cond (before (r .key) p) (pair (r .key) (r .value) ∷ kept (λ q. before q p) (pairEntries t)) (kept (λ q. before q p) (pairEntries t))
+        ++ pair p v ∷ cond (before p (r .key)) (pair (r .key) (r .value) ∷ kept (λ q. before p q) (pairEntries t)) (kept (λ q. before p q) (pairEntries t))
+        ≡ pairEntries (cond (before (r .key) p) (r ∷ withRow p v t)
         (cond (same p (r .key)) (record { key = p; value = v } ∷ t) (record { key = p; value = v } ∷ r ∷ t)))
     go true f b g ih = rw (f, before-asym (r .key) p f) (ap (λ l. pair (r .key) (r .value) ∷ l) ih)
     go false f true g ih =
@@ -86,29 +85,29 @@ with-pairs p v (r ∷ t) e = go (before (r .key) p) refl (same p (r .key)) refl 
         let all : everyKey (λ q. before p q) t ≡ true = leads-all p t (leads-later p r t here (and-left _ _ e)) (and-right (leads (r .key) t) _ e) in
         rw (f, g, here, kept-none (λ q. before q p) t (not-back p t all), kept-all (λ q. before p q) t all)
 
-without-pairs : (p : List ℕ) (t : List Row) → kept (λ q. not (same p q)) (pairsFor t) ≡ pairsFor (without p t)
-unfolding without kept pairsFor
+without-pairs : (p : List ℕ) (t : List Row) → kept (λ q. not (same p q)) (pairEntries t) ≡ pairEntries (without p t)
+unfolding without kept pairEntries
 without-pairs p [] = refl
 without-pairs p (r ∷ t) = go (same p (r .key)) refl (without-pairs p t)
   where
-    go : (a : Bool) → same p (r .key) ≡ a → kept (λ q. not (same p q)) (pairsFor t) ≡ pairsFor (without p t)
-        → cond (not (same p (r .key))) (pair (r .key) (r .value) ∷ kept (λ q. not (same p q)) (pairsFor t)) (kept (λ q. not (same p q)) (pairsFor t))
-        ≡ pairsFor (cond (same p (r .key)) (without p t) (r ∷ without p t))
+    go : (a : Bool) → same p (r .key) ≡ a → kept (λ q. not (same p q)) (pairEntries t) ≡ pairEntries (without p t)
+        → cond (not (same p (r .key))) (pair (r .key) (r .value) ∷ kept (λ q. not (same p q)) (pairEntries t)) (kept (λ q. not (same p q)) (pairEntries t))
+        ≡ pairEntries (cond (same p (r .key)) (without p t) (r ∷ without p t))
     go true f ih = rw f ih
     go false f ih = rw f (ap (λ l. pair (r .key) (r .value) ∷ l) ih)
 
-cleared-pairs : (p : List ℕ) (t : List Row) → kept (λ q. not (begins p q)) (pairsFor t) ≡ pairsFor (withoutBelow p t)
-unfolding withoutBelow kept pairsFor below
+cleared-pairs : (p : List ℕ) (t : List Row) → kept (λ q. not (begins p q)) (pairEntries t) ≡ pairEntries (withoutBelow p t)
+unfolding withoutBelow kept pairEntries below
 cleared-pairs p [] = refl
 cleared-pairs p (r ∷ t) = go (begins p (r .key)) refl (cleared-pairs p t)
   where
-    go : (a : Bool) → begins p (r .key) ≡ a → kept (λ q. not (begins p q)) (pairsFor t) ≡ pairsFor (withoutBelow p t)
-        → cond (not (begins p (r .key))) (pair (r .key) (r .value) ∷ kept (λ q. not (begins p q)) (pairsFor t)) (kept (λ q. not (begins p q)) (pairsFor t))
-        ≡ pairsFor (cond (begins p (r .key)) (withoutBelow p t) (r ∷ withoutBelow p t))
+    go : (a : Bool) → begins p (r .key) ≡ a → kept (λ q. not (begins p q)) (pairEntries t) ≡ pairEntries (withoutBelow p t)
+        → cond (not (begins p (r .key))) (pair (r .key) (r .value) ∷ kept (λ q. not (begins p q)) (pairEntries t)) (kept (λ q. not (begins p q)) (pairEntries t))
+        ≡ pairEntries (cond (begins p (r .key)) (withoutBelow p t) (r ∷ withoutBelow p t))
     go true f ih = rw f ih
     go false f ih = rw f (ap (λ l. pair (r .key) (r .value) ∷ l) ih)
 
-after-apply : (m : Message) (t : List Row) → rising t ≡ true → pairsAfter m (pairsFor t) ≡ pairsFor (apply [] m t)
+after-apply : (m : Message) (t : List Row) → rising t ≡ true → pairsAfter m (pairEntries t) ≡ pairEntries (apply [] m t)
 unfolding pairsAfter apply
 after-apply (puts p v) t e = with-pairs p v t e
 after-apply (drops p) t e = without-pairs p t
@@ -123,15 +122,15 @@ listing-is kind level s i es inside e =
     ap (λ b. listOf b) (sym (bytes-is s i inside short)) ∙ all-listed (entryBytes (nodeBytes s i)) es (w .reads)
 
 one-reads : (m : Message) (i : ℕ) (s : List ℕ) (rs : List Row) → i * 1024 + 1024 ≤ length s → u16 s (i * 1024) + length (bytesOf (message m)) ≤ 1016
-    → nodeEntries 0x0001 1 (nodeBytes s i) ≡ some (pairsFor rs) → rising rs ≡ true → nodeEntries 0x0001 1 (nodeBytes (applied m i s) i) ≡ some (pairsFor (apply [] m rs))
+    → nodeEntries 0x0001 1 (nodeBytes s i) ≡ some (pairEntries rs) → rising rs ≡ true → nodeEntries 0x0001 1 (nodeBytes (applied m i s) i) ≡ some (pairEntries (apply [] m rs))
 one-reads m i s rs inside fits e up =
-    let new : pairsAfter m (listing s i) ≡ pairsFor (apply [] m rs) = ap (pairsAfter m) (listing-is 0x0001 1 s i (pairsFor rs) inside e) ∙ after-apply m rs up in
+    let new : pairsAfter m (listing s i) ≡ pairEntries (apply [] m rs) = ap (pairsAfter m) (listing-is 0x0001 1 s i (pairEntries rs) inside e) ∙ after-apply m rs up in
     ap (nodeEntries 0x0001 1) (applied-same m i s inside fits)
-    ∙ page-reads 1 1 (bytesOfAll (pairsAfter m (listing s i))) (pairsFor (apply [] m rs)) (omega (arith, after-fits m i s inside fits))
-    (ap (λ l. entriesOf (bytesOfAll l)) new ∙ all-back (pairsFor (apply [] m rs)) (pairs-allowed (apply [] m rs)))
+    ∙ page-reads 1 1 (bytesOfAll (pairsAfter m (listing s i))) (pairEntries (apply [] m rs)) (omega (arith, after-fits m i s inside fits))
+    (ap (λ l. entriesOf (bytesOfAll l)) new ∙ all-back (pairEntries (apply [] m rs)) (pairs-allowed (apply [] m rs)))
 
-leaf-reads : (es : List Entry) (i : ℕ) (lo hi s : List ℕ) (rs : List Row) → hasRoom es i lo hi s ≡ true → nodeEntries 0x0001 1 (nodeBytes s i) ≡ some (pairsFor rs) → rising rs ≡ true
-    → nodeEntries 0x0001 1 (nodeBytes (leafTakes es i lo hi s) i) ≡ some (pairsFor (applyAll [] (arriving (waiting es) lo hi) rs))
+leaf-reads : (es : List Entry) (i : ℕ) (lo hi s : List ℕ) (rs : List Row) → hasRoom es i lo hi s ≡ true → nodeEntries 0x0001 1 (nodeBytes s i) ≡ some (pairEntries rs) → rising rs ≡ true
+    → nodeEntries 0x0001 1 (nodeBytes (leafTakes es i lo hi s) i) ≡ some (pairEntries (applyAll [] (arriving (waiting es) lo hi) rs))
 unfolding leafTakes waiting arriving applyAll leafTakesOne
 leaf-reads [] i lo hi s rs r e up = e
 leaf-reads (pair k v ∷ es) i lo hi s rs r e up = leaf-reads es i lo hi s rs (one-taken (pair k v) es i lo hi s r .left) e up
@@ -145,22 +144,22 @@ leaf-reads (message m ∷ es) i lo hi s rs r e up = go (touches m lo hi) refl (�
     left = one-taken (message m) es i lo hi s r .left
 
     go : (x : Bool) → touches m lo hi ≡ x
-        → ((q : List ℕ) (ts : List Row) → hasRoom es i lo hi q ≡ true → nodeEntries 0x0001 1 (nodeBytes q i) ≡ some (pairsFor ts) → rising ts ≡ true
-        → nodeEntries 0x0001 1 (nodeBytes (leafTakes es i lo hi q) i) ≡ some (pairsFor (applyAll [] (arriving (waiting es) lo hi) ts)))
+        → ((q : List ℕ) (ts : List Row) → hasRoom es i lo hi q ≡ true → nodeEntries 0x0001 1 (nodeBytes q i) ≡ some (pairEntries ts) → rising ts ≡ true
+        → nodeEntries 0x0001 1 (nodeBytes (leafTakes es i lo hi q) i) ≡ some (pairEntries (applyAll [] (arriving (waiting es) lo hi) ts)))
         → nodeEntries 0x0001 1 (nodeBytes (leafTakes es i lo hi (cond (touches m lo hi) (applied n i s) s)) i)
-        ≡ some (pairsFor (applyAll [] (cond (touches m lo hi) (n ∷ arriving (waiting es) lo hi) (arriving (waiting es) lo hi)) rs))
+        ≡ some (pairEntries (applyAll [] (cond (touches m lo hi) (n ∷ arriving (waiting es) lo hi) (arriving (waiting es) lo hi)) rs))
     go true t ih =
         let fits = one-fits m es i lo hi s r t in
         let inside = room-inside (message m ∷ es) i lo hi s r in
         let l : hasRoom es i lo hi (applied n i s) ≡ true = subst (λ x. hasRoom es i lo hi (cond x (applied n i s) s) ≡ true) t left in
         ap (λ x. nodeEntries 0x0001 1 (nodeBytes (leafTakes es i lo hi (cond x (applied n i s) s)) i)) t
         ∙ ih (applied n i s) (apply [] n rs) l (one-reads n i s rs inside (omega arith) e up) (rising-apply [] n rs up)
-        ∙ sym (ap (λ x. some (pairsFor (applyAll [] (cond x (n ∷ arriving (waiting es) lo hi) (arriving (waiting es) lo hi)) rs))) t)
+        ∙ sym (ap (λ x. some (pairEntries (applyAll [] (cond x (n ∷ arriving (waiting es) lo hi) (arriving (waiting es) lo hi)) rs))) t)
     go false t ih =
         let l : hasRoom es i lo hi s ≡ true = subst (λ x. hasRoom es i lo hi (cond x (applied n i s) s) ≡ true) t left in
         ap (λ x. nodeEntries 0x0001 1 (nodeBytes (leafTakes es i lo hi (cond x (applied n i s) s)) i)) t
         ∙ ih s rs l e up
-        ∙ sym (ap (λ x. some (pairsFor (applyAll [] (cond x (n ∷ arriving (waiting es) lo hi) (arriving (waiting es) lo hi)) rs))) t)
+        ∙ sym (ap (λ x. some (pairEntries (applyAll [] (cond x (n ∷ arriving (waiting es) lo hi) (arriving (waiting es) lo hi)) rs))) t)
 
 -- THE TREE OF THE LEAF
 -- a leaf's pairs rise
@@ -169,17 +168,17 @@ sorted (unread i) = true
 sorted (leaf i rs) = rising rs
 sorted (interior i f ms) = true
 
-pairs-then : (e : Entry) (es : List Entry) (o : Option (List Row)) (rs : List Row) → pairThen e o ≡ some rs → ((ts : List Row) → o ≡ some ts → es ≡ pairsFor ts) → e ∷ es ≡ pairsFor rs
-unfolding pairThen pairsFor
+pairs-then : (e : Entry) (es : List Entry) (o : Option (List Row)) (rs : List Row) → pairThen e o ≡ some rs → ((ts : List Row) → o ≡ some ts → es ≡ pairEntries ts) → e ∷ es ≡ pairEntries rs
+unfolding pairThen pairEntries
 pairs-then (pair k v) es none rs p f = absurd (Option·none-ne-some rs p)
 pairs-then (pair k v) es (some ts) rs p f =
-    ap (λ l. pair k v ∷ l) (f ts refl) ∙ ap pairsFor (Option·some-injective (record { key = k; value = v } ∷ ts) rs p)
+    ap (λ l. pair k v ∷ l) (f ts refl) ∙ ap pairEntries (Option·some-injective (record { key = k; value = v } ∷ ts) rs p)
 pairs-then (child i k) es o rs p f = absurd (Option·none-ne-some rs p)
 pairs-then (message m) es o rs p f = absurd (Option·none-ne-some rs p)
 
-pub pairs-entries : (es : List Entry) (rs : List Row) → pairsOf es ≡ some rs → es ≡ pairsFor rs
+pub pairs-entries : (es : List Entry) (rs : List Row) → pairsOf es ≡ some rs → es ≡ pairEntries rs
 unfolding pairsOf
-pairs-entries [] rs p = unfold pairsFor in ap pairsFor (Option·some-injective [] rs p)
+pairs-entries [] rs p = unfold pairEntries in ap pairEntries (Option·some-injective [] rs p)
 pairs-entries (e ∷ es) rs p = pairs-then e es (pairsOf es) rs p (λ ts q. pairs-entries es ts q)
 
 module _ (es : List Entry) (i : ℕ) (lo hi s s′ : List ℕ) (room : hasRoom es i lo hi s ≡ true) (own : nodeBytes s′ i ≡ nodeBytes (leafTakes es i lo hi s) i) where
@@ -192,7 +191,7 @@ module _ (es : List Entry) (i : ℕ) (lo hi s s′ : List ℕ) (room : hasRoom e
   unfolding treeAt leafOf orNone sorted
   by-pairs fs e none q h up = absurd (not-tall h)
   by-pairs fs e (some rs) q h up =
-      let r : nodeEntries 0x0001 1 (nodeBytes s′ i) ≡ some (pairsFor (applyAll [] (arriving (waiting es) lo hi) rs)) =
+      let r : nodeEntries 0x0001 1 (nodeBytes s′ i) ≡ some (pairEntries (applyAll [] (arriving (waiting es) lo hi) rs)) =
       ap (nodeEntries 0x0001 1) own ∙ leaf-reads es i lo hi s rs room (e ∙ ap some (pairs-entries fs rs q)) up in
       rw (r, pairs-back (applyAll [] (arriving (waiting es) lo hi) rs)) (sym (leaf-taken (arriving (waiting es) lo hi) i rs))
 

@@ -18,7 +18,7 @@ use Rattle.laws.specs.Encode.{bytesOf, bytesOfAll}
 use Rattle.laws.specs.Rising.{both}
 use Rattle.laws.specs.PushDown.{touches}
 use Rattle.laws.specs.WriteNode.{write-length, write-same, write-other}
-use Rattle.packed.specs.Pages.{page, page-length, page-0}
+use Rattle.laws.specs.Page.{page, page-length, page-0}
 use Rattle.reading.specs.Relative.{kidHigh}
 use Rattle.upkeep.specs.Size.{sizeOf, size-cons, size-nil, size-append, pair-size, put-size}
 use Rattle.upkeep.specs.Reading.{entry-good}

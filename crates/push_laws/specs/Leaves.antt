@@ -1,6 +1,6 @@
 -- A leaf that takes messages: its pairs after each, and the store with its page written anew. Definitions only.
 -- A put keeps the pairs before its key and those after it, with its own between them; LeafLaws joins this to `apply`.
-use Prim.Native.Nat.{ℕ, _+_}
+use Prim.Native.Nat.{ℕ}
 use mathlib.Core.List.{List, [], _∷_, _++_}
 use mathlib.Core.Bool.{Bool, not, cond}
 use lib.ListN.{length}
@@ -9,7 +9,7 @@ use Rattle.image.specs.Entry.{Message, puts, drops, clears, Entry, pair, child,
 use Rattle.laws.specs.Encode.{bytesOfAll}
 use Rattle.laws.specs.PushDown.{touches}
 use Rattle.laws.specs.WriteNode.{writeNode}
-use Rattle.packed.specs.Pages.{page}
+use Rattle.laws.specs.Page.{page}
 use Rattle.lookup.specs.Look.{listing}
 use Rattle.push_laws.specs.Arriving.{loweredBy}
 

@@ -15,7 +15,7 @@ use Rattle.image.specs.Sound.{isIn, once}
 use Rattle.octets.specs.Order.{and-left, and-right, not-true}
 use Rattle.laws.specs.Rising.{both}
 use Rattle.laws.specs.WriteNode.{write-length, write-same, write-other}
-use Rattle.packed.specs.Pages.{page, page-length}
+use Rattle.laws.specs.Page.{page, page-length}
 use Rattle.reading.specs.Relative.{kidHigh}
 use Rattle.upkeep.specs.Alter.{or-false-left, or-false-right}
 use Rattle.lookup.specs.Look.{below-length, count-is}

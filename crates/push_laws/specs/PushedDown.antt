@@ -21,11 +21,11 @@ use Rattle.laws.specs.Encode.{bytesOfAll, allAllowed, all-back}
 use Rattle.laws.specs.Rising.{both}
 use Rattle.laws.specs.Frame.{Keeps, or-left, or-right}
 use Rattle.laws.specs.WriteNode.{write-length, write-same, write-other}
-use Rattle.packed.specs.Pages.{page, page-length}
+use Rattle.laws.specs.Page.{page, page-length}
 use Rattle.reading.specs.Relative.{kidHigh, shared-right}
 use Rattle.upkeep.specs.Sublists.{Sub, once-sub, sub-in}
 use Rattle.upkeep.specs.Merge.{tall, tallIn}
-use Rattle.upkeep.specs.Size.{messagesFor, sizeOf, size-append}
+use Rattle.upkeep.specs.Size.{messageEntries, sizeOf, size-append}
 use Rattle.upkeep.specs.Join.{heads}
 use Rattle.upkeep.specs.Alter.{or-false-left, or-false-right}
 use Rattle.upkeep.specs.Healed.{place-test, goodPlace, places-good}
@@ -83,8 +83,8 @@ node-is l s n f ms e = go (nodeEntries 0x0002 (suc (suc l)) (nodeBytes s n)) ref
     go (some es) p r = inner es p (insideOf es) refl (unfold orNone in r)
 
 -- the messages among the entries
-waiting-messages : (ms : List Message) → waiting (messagesFor ms) ≡ ms
-unfolding waiting messagesFor
+waiting-messages : (ms : List Message) → waiting (messageEntries ms) ≡ ms
+unfolding waiting messageEntries
 waiting-messages [] = refl
 waiting-messages (m ∷ ms) = ap (λ l. m ∷ l) (waiting-messages ms)
 
@@ -94,7 +94,7 @@ waiting-kids [] es = refl
 waiting-kids (k ∷ ks) es = waiting-kids ks es
 
 pub waiting-inside : (es : List Entry) (y : Inside) → insideOf es ≡ some y → waiting es ≡ y .messages
-waiting-inside es y e = ap waiting (inside-entries es y e) ∙ waiting-kids (y .kids) (messagesFor (y .messages)) ∙ waiting-messages (y .messages)
+waiting-inside es y e = ap waiting (inside-entries es y e) ∙ waiting-kids (y .kids) (messageEntries (y .messages)) ∙ waiting-messages (y .messages)
 
 -- the numbers of the children
 kid-heads : (l : ℕ) (s : List ℕ) (ks : List Kid) → heads (forestOf (λ j. treeAt l s j) ks) ≡ kidNumbers ks
@@ -242,8 +242,8 @@ module _ (s : List ℕ) (n : ℕ) (x : Reachable) (e : sound s ≡ true) (p : re
   pub kids-once : once (kidNumbers (kidsE (listing s n))) ≡ true
   kids-once = ap once (sym heads-are) ∙ once-sub (heads-sub (x .children)) kids-apart
 
-  own-entries : node .es ≡ kidEntries (kidsE (listing s n)) ++ messagesFor (node .y .messages)
-  own-entries = inside-entries (node .es) (node .y) (node .splits) ∙ ap (λ ks. kidEntries ks ++ messagesFor (node .y .messages)) (sym kids-are)
+  own-entries : node .es ≡ kidEntries (kidsE (listing s n)) ++ messageEntries (node .y .messages)
+  own-entries = inside-entries (node .es) (node .y) (node .splits) ∙ ap (λ ks. kidEntries ks ++ messageEntries (node .y .messages)) (sym kids-are)
 
   good-entries : (sizeOf (node .es) ≤ 1016) × (allAllowed (node .es) ≡ true)
   good-entries = node-good 0x0002 (suc (suc l)) (nodeBytes s n) (node .es) (node .entries)
@@ -251,8 +251,8 @@ module _ (s : List ℕ) (n : ℕ) (x : Reachable) (e : sound s ≡ true) (p : re
   pub children-fit : length (childBytes (kidsE (listing s n))) ≤ 1016
   unfolding sizeOf
   children-fit =
-      let a = size-append (kidEntries (kidsE (listing s n))) (messagesFor (node .y .messages)) in
-      let b : sizeOf (node .es) ≡ sizeOf (kidEntries (kidsE (listing s n)) ++ messagesFor (node .y .messages)) = ap sizeOf own-entries in
+      let a = size-append (kidEntries (kidsE (listing s n))) (messageEntries (node .y .messages)) in
+      let b : sizeOf (node .es) ≡ sizeOf (kidEntries (kidsE (listing s n)) ++ messageEntries (node .y .messages)) = ap sizeOf own-entries in
       let d : length (childBytes (kidsE (listing s n))) ≡ length (bytesOfAll (kidEntries (kidsE (listing s n)))) = ap length (child-bytes (kidsE (listing s n))) in
       omega (arith, good-entries .0)
 
@@ -261,7 +261,7 @@ module _ (s : List ℕ) (n : ℕ) (x : Reachable) (e : sound s ≡ true) (p : re
       page-reads 2 (suc (suc l)) (childBytes (kidsE (listing s n))) (kidEntries (kidsE (listing s n))) children-fit
       (ap entriesOf (child-bytes (kidsE (listing s n)))
       ∙ all-back (kidEntries (kidsE (listing s n)))
-      (allowed-left (kidEntries (kidsE (listing s n))) (messagesFor (node .y .messages)) (ap allAllowed (sym own-entries) ∙ good-entries .1)))
+      (allowed-left (kidEntries (kidsE (listing s n))) (messageEntries (node .y .messages)) (ap allAllowed (sym own-entries) ∙ good-entries .1)))
 
   -- ANY STORE s′ in which the node alone is changed, to what flush makes of it
   module _ (s′ : List ℕ) (len : length s′ ≡ length s) (z : nodeBytes s′ 0 ≡ nodeBytes s 0)
@@ -370,7 +370,7 @@ module _ (s : List ℕ) (n : ℕ) (x : Reachable) (e : sound s ≡ true) (p : re
     new-node = rw (top, children-read, empty-inside K)
       where
         empty-inside : (ks : List Kid) → insideOf (kidEntries ks) ≡ some (record { kids = ks; messages = [] })
-        empty-inside ks = ap insideOf (sym (append-nil (kidEntries ks))) ∙ (unfold messagesFor in inside-back ks [])
+        empty-inside ks = ap insideOf (sym (append-nil (kidEntries ks))) ∙ (unfold messageEntries in inside-back ks [])
 
     changed-node : treeAt (x .level) s₂ n ≡ flushedNode (treeAt (x .level) s n) (x .low) (x .high)
     unfolding flushedNode

@@ -16,8 +16,8 @@ use Rattle.image.specs.Image.{Kid, Inside, laidOut, entryBytes, nodeEntries, me
 use Rattle.octets.specs.Order.{and-left, and-right}
 use Rattle.laws.specs.Encode.{bytesOf, bytesOfAll, allAllowed, all-back, fuel}
 use Rattle.laws.specs.Rising.{both}
-use Rattle.packed.specs.Pages.{page, page-laid, page-entries}
-use Rattle.upkeep.specs.Size.{messagesFor}
+use Rattle.laws.specs.Page.{page, page-laid, page-entries}
+use Rattle.upkeep.specs.Size.{messageEntries}
 use Rattle.upkeep.specs.Reading.{kidEntries, inside-entries}
 use Rattle.push_laws.specs.Written.{childBytes}
 
@@ -107,17 +107,17 @@ laid kind level node es h = go (laidOut kind level node) refl
     go false e = let q : none ≡ some es = rw e at h in absurd (Option·none-ne-some es q)
 
 -- CHILDREN AND MESSAGES READ BACK
-messages-back : (ms : List Message) → messagesOf (messagesFor ms) ≡ some ms
-unfolding messagesOf messagesFor messageThen
+messages-back : (ms : List Message) → messagesOf (messageEntries ms) ≡ some ms
+unfolding messagesOf messageEntries messageThen
 messages-back [] = refl
 messages-back (m ∷ ms) = rw (messages-back ms)
 
-pub inside-back : (ks : List Kid) (ms : List Message) → insideOf (kidEntries ks ++ messagesFor ms) ≡ some (record { kids = ks; messages = ms })
-unfolding insideOf kidEntries kidThen messagesFor
+pub inside-back : (ks : List Kid) (ms : List Message) → insideOf (kidEntries ks ++ messageEntries ms) ≡ some (record { kids = ks; messages = ms })
+unfolding insideOf kidEntries kidThen messageEntries
 inside-back [] [] = refl
 inside-back [] (m ∷ ms) = go (m ∷ ms)
   where
-    go : (ns : List Message) → noKids (messagesOf (messagesFor ns)) ≡ some (record { kids = []; messages = ns })
+    go : (ns : List Message) → noKids (messagesOf (messageEntries ns)) ≡ some (record { kids = []; messages = ns })
     go ns = ap noKids (messages-back ns) ∙ (unfold noKids in refl)
 inside-back (k ∷ ks) ms = rw (inside-back ks ms)
 
@@ -126,17 +126,17 @@ unfolding childBytes kidEntries bytesOfAll
 child-bytes [] = refl
 child-bytes (k ∷ ks) = ap (λ l. bytesOf (child (k .number) (k .pivot)) ++ l) (child-bytes ks)
 
-messages-more : (ms ns : List Message) → messagesFor (ms ++ ns) ≡ messagesFor ms ++ messagesFor ns
-unfolding messagesFor
+messages-more : (ms ns : List Message) → messageEntries (ms ++ ns) ≡ messageEntries ms ++ messageEntries ns
+unfolding messageEntries
 messages-more [] ns = refl
 messages-more (m ∷ ms) ns = ap (λ l. message m ∷ l) (messages-more ms ns)
 
 -- more messages after the entries of an interior node
 pub inside-more : (es : List Entry) (y : Inside) (ns : List Message) → insideOf es ≡ some y
-    → insideOf (es ++ messagesFor ns) ≡ some (record { kids = y .kids; messages = y .messages ++ ns })
+    → insideOf (es ++ messageEntries ns) ≡ some (record { kids = y .kids; messages = y .messages ++ ns })
 inside-more es y ns e =
-    let a : es ≡ kidEntries (y .kids) ++ messagesFor (y .messages) = inside-entries es y e in
-    let b : es ++ messagesFor ns ≡ kidEntries (y .kids) ++ messagesFor (y .messages ++ ns) =
-    ap (λ l. l ++ messagesFor ns) a ∙ append-assoc (kidEntries (y .kids)) (messagesFor (y .messages)) (messagesFor ns)
+    let a : es ≡ kidEntries (y .kids) ++ messageEntries (y .messages) = inside-entries es y e in
+    let b : es ++ messageEntries ns ≡ kidEntries (y .kids) ++ messageEntries (y .messages ++ ns) =
+    ap (λ l. l ++ messageEntries ns) a ∙ append-assoc (kidEntries (y .kids)) (messageEntries (y .messages)) (messageEntries ns)
     ∙ ap (λ l. kidEntries (y .kids) ++ l) (sym (messages-more (y .messages) ns)) in
     ap insideOf b ∙ inside-back (y .kids) (y .messages ++ ns)

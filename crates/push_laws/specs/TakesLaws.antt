@@ -1,6 +1,6 @@
 -- The children after each took what its parent brings: their trees are those that took what arrives.
 -- Relies on Only for the bytes of the others, and on ReadBack for those of the child that is written.
-use Prim.Native.Nat.{ℕ, zero, suc, _+_, _*_, _-_, _≤_}
+use Prim.Native.Nat.{ℕ, zero, suc, _+_, _*_, _≤_}
 use mathlib.Core.Path.{_≡_, refl, sym, ap, ap₂, subst, _∙_}
 use mathlib.Core.List.{List, [], _∷_, _++_}
 use mathlib.Core.Bool.{Bool, true, false, _&&_, _||_, cond, false≢true}
@@ -20,11 +20,11 @@ use Rattle.laws.specs.RowsRising.{leaf-rises}
 use Rattle.laws.specs.LookupTable.{parts}
 use Rattle.laws.specs.Encode.{bytesOfAll}
 use Rattle.laws.specs.Frame.{Keeps, forest-stays, tree-stays, keeps-left, keeps-right, or-left, or-right}
-use Rattle.packed.specs.Pages.{page}
+use Rattle.laws.specs.Page.{page}
 use Rattle.reading.specs.Relative.{kidHigh}
 use Rattle.upkeep.specs.Merge.{tall, tallIn}
 use Rattle.upkeep.specs.Mends.{tall-first, tall-later}
-use Rattle.upkeep.specs.Size.{messagesFor, messages-allowed}
+use Rattle.upkeep.specs.Size.{messageEntries, messages-allowed}
 use Rattle.upkeep.specs.FlushImage.{numbersUnder, deepIn}
 use Rattle.node.specs.Cut.{cut-u16}
 use Rattle.lookup.specs.Look.{node-is, count-is, bytes-is}
@@ -72,17 +72,17 @@ module _ (l : ℕ) (es : List Entry) (i : ℕ) (lo hi s s′ : List ℕ) (room :
 
   -- the entries that the child has then
   more-entries : (fs : List Entry) → nodeEntries 0x0002 (suc (suc l)) (nodeBytes s i) ≡ some fs
-      → nodeEntries 0x0002 (suc (suc l)) (nodeBytes s′ i) ≡ some (fs ++ messagesFor (arriving (waiting es) lo hi))
+      → nodeEntries 0x0002 (suc (suc l)) (nodeBytes s′ i) ≡ some (fs ++ messageEntries (arriving (waiting es) lo hi))
   more-entries fs e =
       let w : Laid 0x0002 (suc (suc l)) (nodeBytes s i) fs = laid 0x0002 (suc (suc l)) (nodeBytes s i) fs e in
       let level : u16 s (i * 1024 + 4) ≡ suc (suc l) = sym (level-at s i inside) ∙ w .level-is in
       let short : u16 s (i * 1024) ≤ 1016 = omega (arith, count-is s i inside, w .size) in
-      let body : bodyOf s i ++ broughtAll es lo hi ≡ entryBytes (nodeBytes s i) ++ bytesOfAll (messagesFor (arriving (waiting es) lo hi)) =
+      let body : bodyOf s i ++ broughtAll es lo hi ≡ entryBytes (nodeBytes s i) ++ bytesOfAll (messageEntries (arriving (waiting es) lo hi)) =
       ap₂ (λ a b. a ++ b) (sym (bytes-is s i inside short)) (brought-is es lo hi) in
-      let reads : nodeEntries 0x0002 (suc (suc l)) (page 2 (suc (suc l)) (bodyOf s i ++ broughtAll es lo hi)) ≡ some (fs ++ messagesFor (arriving (waiting es) lo hi)) =
-      page-reads 2 (suc (suc l)) (bodyOf s i ++ broughtAll es lo hi) (fs ++ messagesFor (arriving (waiting es) lo hi)) (body-fits es i lo hi s room)
+      let reads : nodeEntries 0x0002 (suc (suc l)) (page 2 (suc (suc l)) (bodyOf s i ++ broughtAll es lo hi)) ≡ some (fs ++ messageEntries (arriving (waiting es) lo hi)) =
+      page-reads 2 (suc (suc l)) (bodyOf s i ++ broughtAll es lo hi) (fs ++ messageEntries (arriving (waiting es) lo hi)) (body-fits es i lo hi s room)
       (ap (λ b. entriesOf b) body
-      ∙ entries-append (entryBytes (nodeBytes s i)) fs (messagesFor (arriving (waiting es) lo hi)) (messages-allowed (arriving (waiting es) lo hi)) (w .reads)) in
+      ∙ entries-append (entryBytes (nodeBytes s i)) fs (messageEntries (arriving (waiting es) lo hi)) (messages-allowed (arriving (waiting es) lo hi)) (w .reads)) in
       ap (nodeEntries 0x0002 (suc (suc l))) (same ∙ ap (λ v. page 2 v (bodyOf s i ++ broughtAll es lo hi)) level) ∙ reads
 
   not-tall : (level : ℕ) → tall (unread i) level ≡ true → ⊥

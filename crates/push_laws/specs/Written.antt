@@ -9,7 +9,7 @@ use Rattle.image.specs.Entry.{Entry, child}
 use Rattle.image.specs.Image.{Kid, nodesOf}
 use Rattle.laws.specs.Encode.{bytesOf}
 use Rattle.laws.specs.WriteNode.{writeNode}
-use Rattle.packed.specs.Pages.{page}
+use Rattle.laws.specs.Page.{page}
 use Rattle.reading.specs.Relative.{kidHigh}
 use Rattle.node.specs.Cut.{cut}
 use Rattle.push_laws.specs.Arriving.{broughtAll}

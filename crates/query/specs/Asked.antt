@@ -1,19 +1,19 @@
 -- get and next, question by question: what each way out of the code answers is what the contract says. One law for both, over the query.
-use Prim.Native.Nat.{ℕ, zero, suc, _+_, _-_, _<_, _≤_}
-use mathlib.Core.Path.{_≡_, refl, sym, ap, ap₂, _∙_}
-use mathlib.Core.List.{List, [], _∷_, _++_}
+use Prim.Native.Nat.{ℕ, zero, suc, _+_, _<_, _≤_}
+use mathlib.Core.Path.{_≡_, refl, sym, ap₂, _∙_}
+use mathlib.Core.List.{List, [], _∷_}
 use mathlib.Core.Bool.{Bool, true, false, _&&_, _||_}
-use mathlib.Core.Option.{Option, none, some}
+use mathlib.Core.Option.{none, some}
 use native.Mathlib.Omega.{arith}
-use lib.ListN.{length, take, drop}
+use lib.ListN.{length}
 use lib.Dec.{leb}
 use borrow.Author.Tests.{le-leb, lt-leb}
 use Rattle.image.specs.Bytes.{same}
 use Rattle.image.specs.Path.{wellFormed, valueLimit, pathLimit}
-use Rattle.image.specs.Table.{Row, find, isSome, leastAfter}
+use Rattle.image.specs.Table.{Row, isSome}
 use Rattle.image.specs.Image.{nodesOf, wholeNodes}
 use Rattle.image.specs.Sound.{sound, tableOf}
-use Rattle.image.specs.Calls.{Call, asks, Query, get, next, Answer, filled, ask, firstNo, workLong, questions, queryQuestions, foundBy, fill, accepted, refused, answerAt, tableAt, tableAfter}
+use Rattle.image.specs.Calls.{asks, Query, get, next, Answer, filled, ask, firstNo, workLong, questions, queryQuestions, foundBy, fill, accepted, refused, answerAt, tableAt, tableAfter}
 use Rattle.image.specs.Contract.{nodeQuestions, firstNoOn, Besides, workAt, Meets}
 use Rattle.image.specs.Answers.{refusalNumber, foundAnswer}
 use Rattle.image.specs.declared.Refusal.{Refusal}

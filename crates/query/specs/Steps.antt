@@ -1,9 +1,9 @@
 -- What the readers hand to get and next, in the words of the questions.
-use Prim.Native.Nat.{ℕ, zero, suc, _+_, _-_, _<_, _≤_}
+use Prim.Native.Nat.{ℕ, _-_, _<_, _≤_}
 use mathlib.Core.Path.{_≡_, refl, sym, ap, subst, _∙_}
-use mathlib.Core.List.{List, [], _∷_, _++_}
-use mathlib.Core.Bool.{Bool, true, false, _&&_, _||_}
-use mathlib.Core.Option.{Option, none, some}
+use mathlib.Core.List.{List, [], _∷_}
+use mathlib.Core.Bool.{Bool, true, false}
+use mathlib.Core.Option.{none, some}
 use native.Mathlib.Omega.{arith}
 use lib.ListN.{length, take, drop, length-drop}
 use lib.Seq.{length-take-le}
@@ -11,7 +11,7 @@ use Rattle.image.specs.Bytes.{same}
 use Rattle.image.specs.Path.{wellFormed, valueLimit, pathLimit}
 use Rattle.image.specs.Table.{find, leastAfter}
 use Rattle.image.specs.Sound.{sound, valueIn, tableOf}
-use Rattle.image.specs.Calls.{Query, get, next, foundBy}
+use Rattle.image.specs.Calls.{get, next, foundBy}
 use Rattle.laws.specs.LookupTable.{means-table}
 use Rattle.laws.specs.ValuesFit.{table-fits, found-fits}
 use Rattle.node.specs.declared.Place.{Place}

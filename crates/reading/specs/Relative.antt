@@ -2,21 +2,19 @@
 use Prim.Native.Nat.{ℕ, zero, suc}
 use mathlib.Core.Path.{_≡_, refl, sym, ap, _∙_}
 use mathlib.Core.List.{List, [], _∷_, _++_, append-nil}
-use mathlib.Core.Bool.{Bool, true, false, _&&_, cond, false≢true}
+use mathlib.Core.Bool.{Bool, true, false, _&&_, cond}
 use mathlib.Core.Option.{Option, none, some}
 use lib.ListN.{length, drop}
 use lib.Dec.{ltb, leb, eqb}
-use borrow.Author.Tests.{eq-eqb, eqb-true}
 use Rattle.image.specs.Bytes.{begins, shared}
 use Rattle.image.specs.Path.{owns}
-use Rattle.image.specs.Entry.{Message}
 use Rattle.image.specs.Table.{Row, find}
 use Rattle.image.specs.Image.{Tree, unread, leaf, interior, Forest, end, tree, Kid, Inside, nodeBytes, nodeEntries, pairsOf, insideOf, orNone, forestOf, leafOf, interiorOf, treeAt}
 use Rattle.image.specs.Meaning.{highOf, newest, decide, lookup, lookupIn}
 use Rattle.image.specs.Sound.{numbers, numbersIn, inRange, soundTree, soundForest}
 use Rattle.octets.specs.Order.{begins-split, and-left, and-right, not-so}
 use Rattle.laws.specs.Rising.{both}
-use Rattle.laws.specs.LookupTable.{split, Parts, parts, Inner, inner}
+use Rattle.laws.specs.LookupTable.{split, parts, inner}
 use Rattle.laws.specs.Shift.{lookup-shift-in}
 
 -- how many bytes a child with these pivots lifts beyond its parent

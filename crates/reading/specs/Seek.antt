@@ -1,26 +1,25 @@
 -- Next as one walk over a tree: it carries the best path so far, and takes a pair's or a put's path if it is below P, after Q, before the
 -- best, and present. A child may be skipped if no path that it can hold is wanted.
-use Prim.Native.Nat.{ℕ, zero, suc}
-use mathlib.Core.Path.{_≡_, refl, sym, ap, ap₂, _∙_}
+use Prim.Native.Nat.{ℕ}
+use mathlib.Core.Path.{_≡_, refl, sym, ap, _∙_}
 use mathlib.Core.List.{List, [], _∷_, _++_}
 use mathlib.Core.Logic.{_⊎_, inl, inr}
 use mathlib.Core.Bool.{Bool, true, false, _&&_, _||_, not, cond, false≢true, true≢false}
-use mathlib.Core.Option.{Option, none, some, Option·none-ne-some}
-use lib.ListN.{length, drop}
+use mathlib.Core.Option.{Option, none, some}
 use Rattle.image.specs.Bytes.{same, before, begins, shared}
 use Rattle.image.specs.Path.{wellFormed, owns, valueFits}
 use Rattle.image.specs.Entry.{Message, puts, drops, clears}
-use Rattle.image.specs.Table.{Row, find, isSome, withRow, without, withoutBelow, underPrefix, everyKey, rising, leastAfter}
+use Rattle.image.specs.Table.{Row, find, isSome, without, withoutBelow, underPrefix, everyKey, rising, leastAfter}
 use Rattle.image.specs.Image.{Tree, unread, leaf, interior, Forest, end, tree}
 use Rattle.image.specs.Meaning.{highOf, apply, applyAll, rows, rowsIn, lookup}
-use Rattle.image.specs.Sound.{soundTree, soundForest, soundMessage, soundMessages, valuesFit}
-use Rattle.octets.specs.Order.{and-left, and-right, and-false, not-so, not-true, same-refl, same-eq, same-false, before-trans, before-irrefl, before-asym, before-le, between-begins}
-use Rattle.laws.specs.Tables.{find-nil, find-yes, find-no, find-with-other, find-without, find-without-other, find-cleared, find-spared, find-append-none}
+use Rattle.image.specs.Sound.{soundTree, soundForest, soundMessage, soundMessages}
+use Rattle.octets.specs.Order.{and-left, and-right, not-so, not-true, same-eq, before-trans, before-irrefl, before-asym, before-le, between-begins}
+use Rattle.laws.specs.Tables.{find-nil, find-no, find-with-other, find-without, find-without-other, find-cleared, find-spared, find-append-none}
 use Rattle.laws.specs.Rising.{both, one-key}
 use native.Mathlib.Omega.{arith}
-use lib.Dec.{eqb, ltb}
+use lib.Dec.{eqb}
 use borrow.Author.Tests.{eqb-true, eq-eqb, le-ltb}
-use Rattle.laws.specs.LookupTable.{Parts, parts, Inner, inner, not-low, under-high, does-own, lookup-find}
+use Rattle.laws.specs.LookupTable.{parts, inner, not-low, under-high, does-own, lookup-find}
 use Rattle.laws.specs.RowsRising.{rows-rise}
 use Rattle.laws.specs.Next.{Fits, least-is, least-none}
 

@@ -1,9 +1,9 @@
 -- The keys of a tree told from inside a node, and the walk over them: what the code of next carries down is the lifted prefix.
-use Prim.Native.Nat.{ℕ, zero, suc}
+use Prim.Native.Nat.{ℕ}
 use mathlib.Core.Path.{_≡_, refl, sym, ap, ap₂, _∙_}
-use mathlib.Core.List.{List, [], _∷_, _++_, append-nil, append-assoc}
-use mathlib.Core.Bool.{Bool, true, false, _&&_, not, cond}
-use mathlib.Core.Option.{Option, none, some}
+use mathlib.Core.List.{List, [], _∷_, _++_, append-assoc}
+use mathlib.Core.Bool.{Bool, true, not}
+use mathlib.Core.Option.{Option, none}
 use lib.ListN.{length, drop, length-append}
 use lib.Seq.{drop-append-add}
 use Rattle.image.specs.Bytes.{shared}
@@ -15,7 +15,7 @@ use Rattle.image.specs.Sound.{soundTree}
 use Rattle.octets.specs.Order.{shared-append, begins-split}
 use Rattle.laws.specs.RowsRising.{rows-rise}
 use Rattle.reading.specs.Relative.{lifts, shared-right}
-use Rattle.reading.specs.Seek.{keysOf, putsOf, keys, keysIn, try, walk, every-impl, holds, keys-hold, wanted, walk-none, farFrom, far-fair, present, walk-least, stands}
+use Rattle.reading.specs.Seek.{keysOf, putsOf, keys, keysIn, walk, every-impl, holds, keys-hold, wanted, walk-none, farFrom, far-fair, present, walk-least, stands}
 
 unfoldable pub under : List ℕ → List (List ℕ) → List (List ℕ)
 under X [] = []

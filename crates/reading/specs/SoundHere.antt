@@ -1,23 +1,22 @@
 -- Soundness told from inside a node: pivots and suffixes are without the lifted bytes, which are there only as a path shape.
 -- `sound-here`: it is the definition of soundness, as an equation without hypotheses.
-use Prim.Native.Nat.{ℕ, zero, suc, _+_, _-_, _<_, _≤_}
+use Prim.Native.Nat.{ℕ}
 use mathlib.Core.Path.{_≡_, refl, sym, ap, ap₂, _∙_}
-use mathlib.Core.List.{List, [], _∷_, _++_, append-nil, append-assoc}
-use mathlib.Core.Bool.{Bool, true, false, _&&_, _||_, not, cond}
-use native.Mathlib.Omega.{arith}
+use mathlib.Core.List.{List, [], _∷_, _++_}
+use mathlib.Core.Bool.{Bool, true, false, _&&_, _||_}
 use lib.ListN.{length, drop, length-append}
-use lib.Dec.{ltb, leb, eqb}
-use borrow.Author.Tests.{eq-eqb, ne-eqb, lt-leb, le-leb, ltb-false}
+use lib.Dec.{eqb}
+use borrow.Author.Tests.{eq-eqb}
 use lib.Seq.{drop-append-add}
 use Rattle.image.specs.Bytes.{same, before, begins, shared}
-use Rattle.image.specs.Path.{letter, readsOn, pathLimit, wellFormed, owns, valueFits}
+use Rattle.image.specs.Path.{wellFormed, owns, valueFits}
 use Rattle.image.specs.Entry.{Message, puts, drops, clears}
 use Rattle.image.specs.Table.{Row, everyKey, rising, underPrefix}
 use Rattle.image.specs.Image.{Tree, unread, leaf, interior, Forest, end, tree}
 use Rattle.image.specs.Meaning.{highOf}
 use Rattle.image.specs.Sound.{valuesFit, soundMessage, soundMessages, firstPivot, soundTree, soundForest}
 use Rattle.octets.specs.Order.{same-append, before-append, shared-append, begins-split}
-use Rattle.path.specs.Shape.{Shape, dead, partway, fed, feed, closed, goesOn, feed-append, fresh, shape-is}
+use Rattle.path.specs.Shape.{Shape, feed, goesOn, feed-append, fresh, shape-is}
 use Rattle.reading.specs.Relative.{lifts, shared-right}
 
 -- Soundness from inside a node: its pivots and suffixes are without what it lifts, and that is there only by its shape.

@@ -12,7 +12,7 @@ use borrow.Author.Tests.{le-leb, lt-leb}
 use Rattle.image.specs.Table.{Row}
 use Rattle.image.specs.Image.{nodesOf, wholeNodes}
 use Rattle.image.specs.Sound.{sound, tableOf}
-use Rattle.image.specs.Calls.{Call, acts, keeps, asks, Act, settle, tidy, Upkeep, number, firstNo, workPerNode, workLong, actQuestions, questions, actTable, tableAfter, accepted, refused, answerAt, tableAt}
+use Rattle.image.specs.Calls.{Call, acts, keeps, Act, settle, tidy, Upkeep, number, firstNo, workPerNode, workLong, actQuestions, questions, actTable, tableAfter, accepted, refused, answerAt, tableAt}
 use Rattle.image.specs.Contract.{nodeQuestions, firstNoOn, Besides, workAt, Meets}
 use Rattle.image.specs.Answers.{refusalNumber, outcomeNumber, outcomeAnswer}
 use Rattle.image.specs.declared.Refusal.{Refusal}

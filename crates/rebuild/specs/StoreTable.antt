@@ -1,21 +1,18 @@
 -- The table of a sound store is one that the packed form can hold: few rows, rising, paths well formed, values short.
 -- Relies on seek/specs/Present (present paths are well formed) and on upkeep/specs/Flush (values after a message).
-use Prim.Native.Nat.{ℕ, _≤_}
+use Prim.Native.Nat.{ℕ}
 use mathlib.Core.Path.{_≡_, refl, sym, ap, _∙_}
 use mathlib.Core.List.{List, [], _∷_, _++_}
-use mathlib.Core.Bool.{true, false, _&&_}
+use mathlib.Core.Bool.{true, false}
 use mathlib.Core.Option.{Option, none, some}
-use native.Mathlib.Omega.{arith}
 use lib.ListN.{length}
-use lib.Dec.{leb, ltb, eqb}
-use borrow.Author.Tests.{leb-true, eqb-true}
 use Rattle.image.specs.Bytes.{shared}
 use Rattle.image.specs.Path.{wellFormed}
 use Rattle.image.specs.Entry.{Message}
 use Rattle.image.specs.Table.{Row, find, isSome, everyKey}
-use Rattle.image.specs.Image.{Tree, unread, leaf, interior, Forest, end, tree, Header, headerOf, headerLaidOut, nodeBytes, nodesOf, treeOf}
+use Rattle.image.specs.Image.{Tree, unread, leaf, interior, Forest, end, tree, nodesOf, treeOf}
 use Rattle.image.specs.Meaning.{highOf, apply, applyAll, rows, rowsIn}
-use Rattle.image.specs.Sound.{sound, soundHeader, soundRoot, soundTree, soundForest, soundMessage, soundMessages, valuesFit, valueIn, tableOf, lowest, highest, once, inRange, numbers, levelsLimit}
+use Rattle.image.specs.Sound.{sound, soundTree, soundForest, soundMessage, soundMessages, valuesFit, valueIn, tableOf, lowest, highest}
 use Rattle.octets.specs.Order.{and-left, and-right, not-so}
 use Rattle.laws.specs.LookupTable.{parts, inner, means-table}
 use Rattle.laws.specs.RowsRising.{every-key}

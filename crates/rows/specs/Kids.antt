@@ -1,23 +1,22 @@
 -- The level that the marks of an area say, and one node of the level above.
 use Prim.Native.Nat.{ℕ, zero, suc, _+_, _*_, _-_, _≤_, _<_}
 use mathlib.Core.Path.{_≡_, refl, sym, ap, ap₂, subst, _∙_}
-use mathlib.Core.List.{List, [], _∷_, _++_}
+use mathlib.Core.List.{List, [], _∷_}
 use mathlib.Core.Bool.{Bool, true, false, cond}
 use native.Mathlib.Omega.{arith}
-use lib.ListN.{length, take, drop, getD, length-drop}
+use lib.ListN.{length, drop, getD, length-drop}
 use lib.Seq.{length-take-le}
 use lib.Dec.{leb, eqb}
-use borrow.Author.Tests.{le-leb, lt-leb, leb-true, leb-false, eq-eqb, ne-eqb, eqb-true}
+use borrow.Author.Tests.{le-leb, lt-leb, leb-true, leb-false, eq-eqb, ne-eqb}
 use Rattle.image.specs.Bytes.{shared, u16}
-use Rattle.image.specs.Table.{Row}
 use Rattle.image.specs.Image.{Kid}
 use Rattle.image.specs.Sound.{highest}
 use Rattle.laws.specs.Encode.{bytesOfAll}
-use Rattle.packed.specs.Chunk.{Group, Cut, members, flat, cut, cut-joins, cut-opens, groups, groups-flat}
+use Rattle.packed.specs.Chunk.{Cut, cut, cut-joins, cut-opens, groups, groups-flat}
 use Rattle.packed.specs.Packed.{first}
-use Rattle.packed.specs.Pages.{page}
+use Rattle.laws.specs.Page.{page}
 use Rattle.packed.specs.Tidy.{Page}
-use Rattle.packed.specs.Marks.{pivotOf, kidWeight, firstKids, childEntries, nodePages, groups-cut}
+use Rattle.packed.specs.Marks.{pivotOf, kidWeight, firstKids, kidEntries, nodePages}
 use Rattle.rows.specs.Area.{rowAt, RowsFit}
 
 unfoldable pub markAt : List ℕ → ℕ → ℕ
@@ -171,7 +170,7 @@ unfoldable pub highOfRow : ℕ → List ℕ → ℕ → List ℕ
 highOfRow m area j = first pivotOf highest (kidsOf (m - j) area j)
 
 unfoldable pub nodePage : ℕ → ℕ → List ℕ → ℕ → ℕ → List ℕ
-nodePage l m area i j = page 0x0002 l (bytesOfAll (childEntries (length (shared (lowOfRow area i) (highOfRow m area j))) (kidsOf (j - i) area i)))
+nodePage l m area i j = page 0x0002 l (bytesOfAll (kidEntries (length (shared (lowOfRow area i) (highOfRow m area j))) (kidsOf (j - i) area i)))
 
 pub above-done : (m : ℕ) (area : List ℕ) (i : ℕ) (nums : List ℕ) → m ≤ i → aboveFrom m area i nums ≡ []
 unfolding aboveFrom kidsOf groups firstKids

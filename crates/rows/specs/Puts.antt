@@ -1,19 +1,17 @@
 -- A mark written: the rows stay, the other marks stay.
-use Prim.Native.Nat.{ℕ, zero, suc, _+_, _*_, _-_, _/_, _%_, _≤_, _<_}
-use mathlib.Core.Path.{_≡_, refl, sym, ap, ap₂, subst, _∙_}
+use Prim.Native.Nat.{ℕ, _+_, _*_, _-_, _/_, _%_, _≤_, _<_}
+use mathlib.Core.Path.{_≡_, refl, ap, ap₂, _∙_}
 use mathlib.Core.Logic.{_⊎_, inl, inr}
-use mathlib.Core.List.{List, [], _∷_, _++_}
-use mathlib.Core.Bool.{Bool, true, false, cond}
+use mathlib.Core.List.{List}
+use mathlib.Core.Bool.{Bool, true, false}
 use native.Mathlib.Omega.{arith}
 use lib.ListN.{length, take, drop, getD, set, length-set}
 use lib.Seq.{getD-set-same, getD-set-other, drop-set-lt, drop-set-add, take-set-le}
-use lib.Dec.{leb, ltb, eqb}
-use borrow.Author.Tests.{ltb-true, ltb-false, eq-eqb, ne-eqb}
+use lib.Dec.{ltb}
+use borrow.Author.Tests.{ltb-true, ltb-false}
 use Rattle.image.specs.Bytes.{u16}
-use Rattle.image.specs.Table.{Row}
-use Rattle.image.specs.Image.{Kid}
-use Rattle.rows.specs.Area.{rowAt, RowsFit}
-use Rattle.rows.specs.Kids.{markAt, lowOfRow, kidAt, kidsOf, kids-take, kids-pass}
+use Rattle.rows.specs.Area.{rowAt}
+use Rattle.rows.specs.Kids.{markAt}
 
 -- a part that a store does not touch
 part-set : (l : List ℕ) (a n p v : ℕ) → (p < a) ⊎ (a + n ≤ p) → take n (drop a (set l p v)) ≡ take n (drop a l)

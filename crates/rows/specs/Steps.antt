@@ -1,23 +1,21 @@
 -- What the loop over the rows needs of the definitions: one leaf, and on.
-use Prim.Native.Nat.{ℕ, zero, suc, _+_, _*_, _-_, _≤_, _<_}
-use mathlib.Core.Path.{_≡_, refl, sym, ap, ap₂, subst, _∙_}
-use mathlib.Core.List.{List, [], _∷_, _++_}
+use Prim.Native.Nat.{ℕ, zero, suc, _+_, _-_, _≤_, _<_}
+use mathlib.Core.Path.{_≡_, refl, sym, ap, ap₂, _∙_}
+use mathlib.Core.List.{List, [], _∷_}
 use mathlib.Core.Bool.{Bool, true, false, cond}
 use native.Mathlib.Omega.{arith}
-use lib.ListN.{length, take, drop, getD}
+use lib.ListN.{length, take, drop}
 use lib.Dec.{leb}
 use Rattle.image.specs.Bytes.{shared}
 use Rattle.image.specs.Table.{Row}
 use Rattle.image.specs.Sound.{highest}
-use Rattle.image.specs.Image.{leaf}
 use Rattle.laws.specs.Encode.{bytesOfAll}
-use Rattle.laws.specs.WriteNode.{writeNode}
-use Rattle.packed.specs.Chunk.{Group, members, flat, more, groups, groups-flat, groups-step}
-use Rattle.packed.specs.Packed.{Item, keyOf, pairWeight, first, shortRows, leafFrom, leafLevel, leaves}
-use Rattle.packed.specs.Pages.{page, pairsFrom, numberOf}
-use Rattle.packed.specs.Tidy.{Page, writeAll}
+use Rattle.packed.specs.Chunk.{more, groups, groups-flat, groups-step}
+use Rattle.packed.specs.Packed.{keyOf, pairWeight, first, shortRows, leafFrom, leafLevel}
+use Rattle.laws.specs.Page.{page, pairEntries, numberOf}
+use Rattle.packed.specs.Tidy.{Page}
 use Rattle.packed.specs.Sweep.{ownPage, ownPages}
-use Rattle.rows.specs.Area.{rowAt, rowsOf, rows-step, RowsFit, row-weight, leafEnd}
+use Rattle.rows.specs.Area.{rowAt, rowsOf, rows-step, leafEnd}
 
 more-le : {A : Type 0} (weight : A → ℕ) (used : ℕ) (xs : List A) → more weight used xs ≤ length xs
 unfolding more
@@ -61,7 +59,7 @@ leafPagesFrom m area i lo nums = ownPages 1 (leafLevel nums lo (groups pairWeigh
 
 -- the page of the leaf that holds the rows from i up to j
 unfoldable pub leafPage : ℕ → List ℕ → ℕ → List ℕ → ℕ → List ℕ
-leafPage m area i lo j = page 0x0001 1 (bytesOfAll (pairsFrom (shortRows (length (shared lo (highAt m area j))) (rowsOf (j - i) area i))))
+leafPage m area i lo j = page 0x0001 1 (bytesOfAll (pairEntries (shortRows (length (shared lo (highAt m area j))) (rowsOf (j - i) area i))))
 
 pub leaf-pages-done : (m : ℕ) (area : List ℕ) (i : ℕ) (lo nums : List ℕ) → m ≤ i → leafPagesFrom m area i lo nums ≡ []
 unfolding leafPagesFrom rowsOf groups leafLevel ownPages

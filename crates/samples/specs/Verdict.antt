@@ -1,6 +1,6 @@
 -- What an image is, as one record: by the definitions (`verdictOf`), and as the second program prints it in Data.
 use Prim.Native.Nat.{ℕ, _-_}
-use mathlib.Core.List.{List, [], _∷_, _++_}
+use mathlib.Core.List.{List, [], _++_}
 use mathlib.Core.Bool.{Bool, true, false, cond}
 use lib.ListN.{length, replicate}
 use Rattle.image.specs.Table.{Row}

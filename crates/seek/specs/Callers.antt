@@ -5,7 +5,7 @@ use mathlib.Core.Path.{_≡_, sym, _∙_}
 use mathlib.Core.List.{List}
 use mathlib.Core.Bool.{true}
 use mathlib.Core.Option.{none, some}
-use lib.ListN.{length, take}
+use lib.ListN.{take}
 use Rattle.image.specs.Table.{leastAfter}
 use Rattle.image.specs.Sound.{sound, tableOf}
 use Rattle.seek.specs.declared.PathBuffer.{PathBuffer}

@@ -1,6 +1,6 @@
 -- The steps of the functions that try a path, an entry, and a list of entries: one law for each return.
 -- Relies on: Walk, WalkLaws, BufferSteps, and that present paths are short (Present).
-use Prim.Native.Nat.{ℕ, _+_, _-_, _<_, _≤_}
+use Prim.Native.Nat.{ℕ, _-_, _<_, _≤_}
 use mathlib.Core.Path.{_≡_, refl, sym, ap, subst, _∙_}
 use mathlib.Core.List.{List, [], _∷_, _++_}
 use mathlib.Core.Bool.{Bool, true, false, not}

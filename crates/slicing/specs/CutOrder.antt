@@ -1,16 +1,15 @@
 -- Why cuts go from the right to the left: a right part cut once more can leave a pivot of more than 65 bytes, where a left part cannot.
-use Prim.Native.Nat.{ℕ, zero, suc, _+_, _-_}
+use Prim.Native.Nat.{ℕ, _+_}
 use mathlib.Core.Path.{_≡_, refl}
 use mathlib.Core.List.{List, [], _∷_, _++_}
-use mathlib.Core.Bool.{Bool, true, false, _&&_, not, cond}
-use lib.ListN.{length, drop, replicate}
-use lib.Dec.{leb, ltb, eqb}
+use mathlib.Core.Bool.{true, false, _&&_}
+use lib.ListN.{replicate}
 use Rattle.image.specs.Bytes.{same, before, shared}
-use Rattle.image.specs.Path.{owns, wellFormed}
-use Rattle.image.specs.Table.{Row, everyKey, underPrefix, rising}
-use Rattle.image.specs.Image.{Tree, unread, leaf, interior, Forest, end, tree}
+use Rattle.image.specs.Path.{owns}
+use Rattle.image.specs.Table.{everyKey, underPrefix, rising}
+use Rattle.image.specs.Image.{Tree, leaf, interior, end, tree}
 use Rattle.image.specs.Meaning.{highOf}
-use Rattle.image.specs.Sound.{soundTree, soundForest, soundMessages, firstPivot, valuesFit, highest}
+use Rattle.image.specs.Sound.{soundTree, soundMessages, firstPivot, valuesFit, highest}
 use Rattle.laws.specs.Filter.{keep, lowerRows}
 use Rattle.laws.specs.Pieces.{joined, raise, lower, node, over, still, levelled}
 use Rattle.slicing.specs.Slice.{restIn, packed, after, leftOf, rightOf}

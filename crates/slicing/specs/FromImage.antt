@@ -1,22 +1,22 @@
 -- The tree of a sound, settled image is of the level that node 0 gives, holds no message, and each of its nodes fits.
-use Prim.Native.Nat.{ℕ, zero, suc, _+_, _*_, _-_, _≤_, _<_}
-use mathlib.Core.Path.{_≡_, refl, sym, ap, ap₂, subst, _∙_}
+use Prim.Native.Nat.{ℕ, zero, suc, _+_, _-_, _≤_}
+use mathlib.Core.Path.{_≡_, refl, sym, ap, _∙_}
 use mathlib.Core.List.{List, [], _∷_, _++_}
-use mathlib.Core.Bool.{Bool, true, false, _&&_, _||_, not, cond, false≢true}
+use mathlib.Core.Bool.{Bool, true, false, _&&_, cond, false≢true}
 use mathlib.Core.Option.{Option, none, some, Option·some-injective, Option·none-ne-some}
 use native.Mathlib.Omega.{arith}
 use lib.ListN.{length, take, drop, length-append, length-drop, length-take}
-use lib.Dec.{leb, eqb, ltb}
-use borrow.Author.Tests.{le-leb, leb-true, eq-eqb, eqb-true}
-use Rattle.image.specs.Bytes.{u16, zeros, shared, u16Bytes}
-use Rattle.octets.specs.Order.{and-left, and-right, not-so}
+use lib.Dec.{leb, eqb}
+use borrow.Author.Tests.{le-leb, leb-true, eqb-true}
+use Rattle.image.specs.Bytes.{u16, shared}
+use Rattle.octets.specs.Order.{and-left, and-right}
 use Rattle.laws.specs.Rising.{both}
-use Rattle.image.specs.Entry.{Message, puts, drops, clears, Entry, pair, child, message, keyed, pointer, entryOf, entryThen, readAll, entriesOf, pivotLimit}
+use Rattle.image.specs.Entry.{Message, puts, drops, clears, Entry, pair, child, message, keyed, pointer, entryOf, entryThen, readAll, entriesOf}
 use Rattle.image.specs.Table.{Row}
-use Rattle.image.specs.Image.{Tree, unread, leaf, interior, Forest, end, tree, Kid, Inside, nodeBytes, laidOut, entryBytes, nodeEntries, pairThen, pairsOf, messagesOf, messageThen, noKids, kidThen, insideOf, forestOf, leafOf, interiorOf, orNone, treeAt, headerOf, headerLaidOut, nodesOf, treeOf}
-use Rattle.image.specs.Meaning.{highOf, rows}
-use Rattle.image.specs.Sound.{soundTree, soundForest, sound, soundRoot, soundHeader, lowest, highest, numbers, once, inRange}
-use Rattle.laws.specs.LookupTable.{Parts, parts, Inner, inner}
+use Rattle.image.specs.Image.{Tree, unread, leaf, interior, Forest, end, tree, Kid, Inside, nodeBytes, laidOut, entryBytes, nodeEntries, pairThen, pairsOf, messagesOf, noKids, kidThen, insideOf, forestOf, leafOf, interiorOf, orNone, treeAt, headerOf, headerLaidOut, nodesOf, treeOf}
+use Rattle.image.specs.Meaning.{highOf}
+use Rattle.image.specs.Sound.{soundTree, soundForest, sound, soundRoot, soundHeader, lowest, highest}
+use Rattle.laws.specs.LookupTable.{Parts, parts, inner}
 use Rattle.image.specs.Upkeep.{Reachable, reachable, reachableIn, reachableNodes, holdsNoMessage, every, settled}
 use Rattle.laws.specs.Encode.{restOf, allowed, allAllowed}
 use Rattle.laws.specs.Pieces.{still, stillIn, levelled, levelledIn, Good}

@@ -1,18 +1,18 @@
 -- The range of a path: from it up to it followed by FF.
-use Prim.Native.Nat.{ℕ, zero, suc, _+_, _≤_, _<_}
+use Prim.Native.Nat.{ℕ, suc, _≤_}
 use mathlib.Core.Path.{_≡_, refl, sym, ap, _∙_}
 use mathlib.Core.List.{List, [], _∷_, _++_, append-nil}
-use mathlib.Core.Bool.{Bool, true, false, _&&_, _||_, not, cond, false≢true, true≢false}
+use mathlib.Core.Bool.{Bool, true, false, _&&_, _||_, false≢true, true≢false}
 use native.Mathlib.Omega.{arith}
 use lib.ListN.{length, length-append}
 use lib.Dec.{eqb, leb, ltb}
-use borrow.Author.Tests.{eqb-true, eqb-false, leb-true, le-leb, lt-ltb, ltb-true, eq-eqb, ltb-false, ne-eqb, le-ltb}
-use Rattle.image.specs.Bytes.{same, before, begins, shared}
+use borrow.Author.Tests.{eqb-true, leb-true, lt-ltb, eq-eqb, le-ltb}
+use Rattle.image.specs.Bytes.{before, begins, shared}
 use Rattle.image.specs.Path.{letter, readsOn, pathLimit, wellFormed, owns}
 use Rattle.image.specs.Sound.{highest}
-use Rattle.octets.specs.Order.{and-left, and-right, not-so, not-true, same-eq, same-refl, before-irrefl, before-append, before-total, between-begins, shared-append}
+use Rattle.octets.specs.Order.{and-left, and-right, not-so, between-begins, shared-append}
 use Rattle.laws.specs.Rising.{both}
-use Rattle.laws.specs.LookupTable.{not-low, under-high, does-own}
+use Rattle.laws.specs.LookupTable.{not-low, under-high}
 
 -- the end of the range
 abbrev pub past : List ℕ → List ℕ

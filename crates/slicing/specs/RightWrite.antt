@@ -1,11 +1,11 @@
 -- The right parts and tails written into an image.
-use Prim.Native.Nat.{ℕ, zero, suc, _+_, _*_, _-_, _≤_, _<_}
-use mathlib.Core.Path.{_≡_, refl, sym, ap, ap₂, subst, _∙_}
+use Prim.Native.Nat.{ℕ, zero, suc, _+_, _*_, _≤_}
+use mathlib.Core.Path.{_≡_, refl, sym, ap, subst, _∙_}
 use mathlib.Core.List.{List, [], _∷_, _++_}
-use mathlib.Core.Bool.{Bool, true, false, _&&_, _||_, not, cond, false≢true}
+use mathlib.Core.Bool.{Bool, true, false, _&&_, _||_, cond, false≢true}
 use native.Mathlib.Omega.{arith}
 use lib.ListN.{length}
-use lib.Dec.{leb, eqb}
+use lib.Dec.{leb}
 use borrow.Author.Tests.{eqb-true}
 use Rattle.image.specs.Bytes.{before, begins, shared}
 use Rattle.image.specs.Entry.{Message, pivotLimit}
@@ -13,16 +13,17 @@ use Rattle.image.specs.Table.{Row, underPrefix}
 use Rattle.image.specs.Image.{Tree, unread, leaf, interior, Forest, end, tree, nodeBytes, treeAt, entriesLimit}
 use Rattle.image.specs.Meaning.{highOf}
 use Rattle.image.specs.Sound.{soundTree}
-use Rattle.octets.specs.Order.{and-left, and-right, not-so}
+use Rattle.octets.specs.Order.{and-left, and-right}
 use Rattle.laws.specs.Rising.{both}
-use Rattle.laws.specs.WriteNode.{writeNode, write-length, write-same, write-other}
-use Rattle.laws.specs.Filter.{keep, upTo, since, lowerRows}
-use Rattle.laws.specs.Pieces.{still, levelled, Good, Kids, kid-first, kid-later, inner-kids, raise, lower, node, over, joined}
-use Rattle.slicing.specs.Slice.{restIn, packed, after, leftOf, leftIn, rightOf, edgeIn}
-use Rattle.slicing.specs.SliceNumbers.{one, met, metIn, met-raise, met-joined, met-over, spent, taken, cut-numbers-in, right-numbers-in}
+use Rattle.laws.specs.WriteNode.{writeNode, write-length, write-other}
+use Rattle.laws.specs.Filter.{keep, since, lowerRows}
+use Rattle.laws.specs.Pieces.{still, levelled, Good, Kids, kid-first, kid-later, inner-kids, raise, node, over, joined}
+use Rattle.slicing.specs.Slice.{restIn, packed, after, rightOf, edgeIn}
+use Rattle.slicing.specs.SliceNumbers.{one, met, metIn, met-joined, met-over, spent, taken, right-numbers-in}
 use Rattle.slicing.specs.SliceFits.{kidsSize, shortIn, fits, fitsIn, cut-fits, narrow-high}
-use Rattle.slicing.specs.ReadBack.{numberOf, ReadsIn}
-use Rattle.slicing.specs.SliceWrite.{pageOf, pageOf-full, stays, stays-in, kids-read, node-done, leaf-done, no-inner, one-other, one-same, Only, only-none, only-more, less-met, first-met, later-met}
+use Rattle.laws.specs.Page.{numberOf}
+use Rattle.slicing.specs.ReadBack.{ReadsIn}
+use Rattle.slicing.specs.SliceWrite.{pageOf, pageOf-full, stays-in, kids-read, node-done, leaf-done, no-inner, one-other, one-same, Only, only-none, only-more, first-met, later-met}
 
 reads-raise : (under : ℕ → Tree) (l : List ℕ) (f : Forest) → ReadsIn under f → ReadsIn under (raise l f)
 unfolding ReadsIn raise

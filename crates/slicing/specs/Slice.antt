@@ -1,13 +1,13 @@
 -- The slices of a settled tree at a cut k strictly inside its range. New nodes take their numbers from `fresh`, the list of free nodes, from place `at` on.
-use Prim.Native.Nat.{ℕ, zero, suc}
-use mathlib.Core.List.{List, [], _∷_, _++_}
-use mathlib.Core.Bool.{Bool, true, false, not, cond}
+use Prim.Native.Nat.{ℕ, suc}
+use mathlib.Core.List.{List, [], _++_}
+use mathlib.Core.Bool.{Bool, true, false, cond}
 use Rattle.image.specs.Bytes.{before, shared}
-use Rattle.image.specs.Table.{Row, underPrefix}
+use Rattle.image.specs.Table.{underPrefix}
 use Rattle.image.specs.Image.{Tree, unread, leaf, interior, Forest, end, tree}
 use Rattle.image.specs.Meaning.{highOf}
 use Rattle.laws.specs.Filter.{keep, upTo, since, lowerRows}
-use Rattle.laws.specs.Pieces.{joined, raise, lower, node, over}
+use Rattle.laws.specs.Pieces.{joined, raise, node, over}
 
 -- Of the children f of a node that lifts `lifted` and ends at hi, with full pivots: those from k on, but for the child that holds k strictly inside.
 unfoldable pub restIn : Forest → List ℕ → List ℕ → List ℕ → Forest

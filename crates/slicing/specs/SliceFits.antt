@@ -1,24 +1,23 @@
 -- The nodes of the two parts of a cut fit, where those of the whole do.
-use Prim.Native.Nat.{ℕ, zero, suc, _+_, _*_, _-_, _≤_, _<_}
-use mathlib.Core.Path.{_≡_, refl, sym, ap, ap₂, subst, _∙_}
+use Prim.Native.Nat.{ℕ, zero, suc, _+_, _*_, _-_, _≤_}
+use mathlib.Core.Path.{_≡_, refl, sym, _∙_}
 use mathlib.Core.List.{List, [], _∷_, _++_}
-use mathlib.Core.Bool.{Bool, true, false, _&&_, _||_, not, cond, false≢true, true≢false}
+use mathlib.Core.Bool.{Bool, true, false, _&&_, _||_, false≢true}
 use native.Mathlib.Omega.{arith}
-use lib.ListN.{length, drop, length-append, length-drop}
-use lib.Dec.{eqb, leb, ltb}
+use lib.ListN.{length, length-append, length-drop}
+use lib.Dec.{eqb, leb}
 use borrow.Author.Tests.{eqb-true, eq-eqb, leb-true, le-leb}
-use Rattle.image.specs.Bytes.{same, before, begins, shared}
-use Rattle.image.specs.Path.{owns}
-use Rattle.image.specs.Entry.{Message, pivotLimit}
+use Rattle.image.specs.Bytes.{before, begins, shared}
+use Rattle.image.specs.Entry.{pivotLimit}
 use Rattle.image.specs.Table.{Row, underPrefix}
 use Rattle.image.specs.Image.{Tree, unread, leaf, interior, Forest, end, tree, entriesLimit}
 use Rattle.image.specs.Meaning.{highOf, rowsIn}
 use Rattle.image.specs.Sound.{soundTree}
-use Rattle.octets.specs.Order.{and-left, and-right, not-so, before-irrefl, before-le, before-asym, between-begins, begins-trans}
+use Rattle.octets.specs.Order.{and-left, and-right, before-le, before-asym, between-begins, begins-trans}
 use Rattle.laws.specs.Rising.{both}
-use Rattle.laws.specs.LookupTable.{Parts, parts, under-high}
+use Rattle.laws.specs.LookupTable.{parts, under-high}
 use Rattle.laws.specs.Filter.{keep, upTo, since, lowerRows}
-use Rattle.laws.specs.Pieces.{still, levelled, Good, Run, done, more, joined, raise, lower, node, over, run-high, run-le, high-raise, Kids, kid-first, kid-later, inner-kids, inner-first}
+use Rattle.laws.specs.Pieces.{still, levelled, Good, Run, done, more, joined, raise, lower, node, over, run-le, high-raise, Kids, kid-first, kid-later, inner-kids}
 use Rattle.slicing.specs.Slice.{restIn, packed, after, leftOf, leftIn, rightOf, edgeIn}
 use Rattle.slicing.specs.SliceLaws.{Cuts, inner-cuts}
 

@@ -1,23 +1,21 @@
 -- A cut parts a settled sound tree: both parts are sound for their own ranges, of the same level, and hold the rows of their ranges.
 use Prim.Native.Nat.{ℕ, zero, suc}
 use mathlib.Core.Path.{_≡_, refl, sym, ap, ap₂, subst, _∙_}
-use mathlib.Core.List.{List, [], _∷_, _++_, append-nil, append-assoc}
-use mathlib.Core.Bool.{Bool, true, false, _&&_, not, cond, false≢true}
-use lib.ListN.{length, drop}
-use lib.Dec.{eqb}
-use Rattle.image.specs.Bytes.{same, before, begins, shared}
+use mathlib.Core.List.{List, [], _∷_, _++_, append-nil}
+use mathlib.Core.Bool.{Bool, true, false, not, false≢true}
+use Rattle.image.specs.Bytes.{before, shared}
 use Rattle.image.specs.Path.{owns}
 use Rattle.image.specs.Entry.{Message}
 use Rattle.image.specs.Table.{Row, everyKey, underPrefix}
 use Rattle.image.specs.Image.{Tree, unread, leaf, interior, Forest, end, tree}
 use Rattle.image.specs.Meaning.{highOf, applyAll, rows, rowsIn}
 use Rattle.image.specs.Sound.{soundTree, soundForest}
-use Rattle.octets.specs.Order.{and-left, and-right, not-so, not-true, not-false, before-irrefl, before-le, before-trans, before-asym}
-use Rattle.laws.specs.Rising.{both, one-key}
-use Rattle.laws.specs.LookupTable.{Parts, parts, outside, later-none, not-low, under-high, does-own}
-use Rattle.laws.specs.RowsRising.{every-key, not-before, is-true}
-use Rattle.laws.specs.Filter.{keep, upTo, since, keep-append, keep-all, keep-none, every-imp, lowerRows, Rowed, leaf-rowed, leaf-rows, leaf-sound, rowed-low, rowed-high}
-use Rattle.laws.specs.Pieces.{still, levelled, Good, Run, done, more, joined, raise, lower, node, over, run-high, run-le, run-join, rows-join, high-raise, rows-raise, Kids, kid-first, kid-later, kids-run, node-good, node-rows, over-run, over-rows, inner-kids, inner-first}
+use Rattle.octets.specs.Order.{not-so, before-le, before-asym}
+use Rattle.laws.specs.Rising.{one-key}
+use Rattle.laws.specs.LookupTable.{parts, outside, later-none, under-high}
+use Rattle.laws.specs.RowsRising.{every-key, is-true}
+use Rattle.laws.specs.Filter.{keep, upTo, since, keep-append, keep-all, keep-none, every-imp, Rowed, leaf-rowed, leaf-rows, leaf-sound, rowed-low, rowed-high}
+use Rattle.laws.specs.Pieces.{still, levelled, Good, Run, done, more, joined, raise, run-high, run-join, rows-join, high-raise, rows-raise, Kids, kid-first, kid-later, kids-run, node-good, node-rows, over-run, over-rows, inner-kids, inner-first}
 use Rattle.slicing.specs.Slice.{restIn, packed, after, leftOf, leftIn, rightOf, edgeIn}
 
 -- keys of a tree, and of children, against a cut

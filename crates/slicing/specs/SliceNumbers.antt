@@ -1,19 +1,18 @@
 -- The node numbers of the two parts of a cut: each number stands in them at most as often as in the whole and among the new ones.
-use Prim.Native.Nat.{ℕ, zero, suc, _+_, _≤_, _<_}
-use mathlib.Core.Path.{_≡_, refl, sym, ap, ap₂, subst, _∙_}
+use Prim.Native.Nat.{ℕ, zero, suc, _+_, _≤_}
+use mathlib.Core.Path.{_≡_, refl, ap, ap₂, _∙_}
 use mathlib.Core.List.{List, [], _∷_, _++_}
-use mathlib.Core.Bool.{Bool, true, false, _&&_, _||_, not, cond, false≢true}
+use mathlib.Core.Bool.{Bool, true, false, _||_, cond, false≢true}
 use native.Mathlib.Omega.{arith}
-use lib.ListN.{length}
-use lib.Dec.{eqb, leb, ltb}
-use borrow.Author.Tests.{eqb-true, eqb-false, ne-eqb, eq-eqb}
+use lib.Dec.{eqb}
+use borrow.Author.Tests.{eqb-true, ne-eqb, eq-eqb}
 use Rattle.image.specs.Bytes.{before, shared}
 use Rattle.image.specs.Entry.{Message}
 use Rattle.image.specs.Table.{Row}
 use Rattle.image.specs.Image.{Tree, unread, leaf, interior, Forest, end, tree}
 use Rattle.image.specs.Meaning.{highOf}
-use Rattle.image.specs.Sound.{numbers, numbersIn, isIn, once, inRange}
-use Rattle.octets.specs.Order.{and-left, and-right, not-so, not-false}
+use Rattle.image.specs.Sound.{numbers, numbersIn, isIn, once}
+use Rattle.octets.specs.Order.{and-left, and-right, not-false}
 use Rattle.laws.specs.Rising.{both}
 use Rattle.laws.specs.Pieces.{levelled, levelledIn, joined, raise, lower, node, over}
 use Rattle.slicing.specs.Slice.{restIn, packed, after, leftOf, leftIn, rightOf, edgeIn}

@@ -1,18 +1,17 @@
 -- What code does: at each node the pivots and the cut are what is left after the lifted bytes, so that the node itself lifts nothing.
-use Prim.Native.Nat.{ℕ, zero, suc}
-use mathlib.Core.Path.{_≡_, refl, sym, ap, ap₂, subst, _∙_}
-use mathlib.Core.List.{List, [], _∷_, _++_, append-nil}
-use mathlib.Core.Bool.{Bool, true, false, not, cond}
+use Prim.Native.Nat.{ℕ, suc}
+use mathlib.Core.Path.{_≡_, refl, sym, ap, _∙_}
+use mathlib.Core.List.{List, [], _∷_, _++_}
+use mathlib.Core.Bool.{Bool, true, false}
 use lib.ListN.{length, drop}
 use lib.Dec.{eqb}
-use Rattle.image.specs.Bytes.{before, begins, shared}
+use Rattle.image.specs.Bytes.{before, shared}
 use Rattle.image.specs.Table.{Row, underPrefix}
-use Rattle.image.specs.Image.{Tree, unread, leaf, interior, Forest, end, tree}
+use Rattle.image.specs.Image.{Tree, leaf, interior, Forest, end, tree}
 use Rattle.image.specs.Entry.{Message}
-use Rattle.image.specs.Meaning.{highOf}
-use Rattle.octets.specs.Order.{before-asym, between-begins, begins-split, shared-append}
+use Rattle.octets.specs.Order.{before-asym, between-begins, begins-split}
 use Rattle.laws.specs.Filter.{keep, upTo, since, lowerRows}
-use Rattle.laws.specs.Pieces.{raise, lower, node}
+use Rattle.laws.specs.Pieces.{raise, node}
 use Rattle.slicing.specs.Slice.{restIn, packed, after, leftOf, leftIn, rightOf, edgeIn}
 use Rattle.slicing.specs.SliceFits.{shared-left, shared-right}
 use Rattle.slicing.specs.SliceShift.{left-shift, right-shift}

@@ -1,29 +1,30 @@
 -- Slices written into an image: page by page into free nodes, the deepest first. What is read back is the slice.
-use Prim.Native.Nat.{ℕ, zero, suc, _+_, _*_, _-_, _≤_, _<_}
-use mathlib.Core.Path.{_≡_, refl, sym, ap, ap₂, subst, _∙_}
+use Prim.Native.Nat.{ℕ, zero, suc, _+_, _*_, _-_, _≤_}
+use mathlib.Core.Path.{_≡_, refl, sym, ap, subst, _∙_}
 use mathlib.Core.List.{List, [], _∷_, _++_}
-use mathlib.Core.Bool.{Bool, true, false, _&&_, _||_, not, cond, false≢true}
+use mathlib.Core.Bool.{Bool, true, false, _&&_, cond, false≢true}
 use mathlib.Core.Option.{Option, none, some}
 use native.Mathlib.Omega.{arith}
 use lib.ListN.{length, replicate, length-append, length-replicate}
-use lib.Dec.{leb, eqb, ltb}
-use borrow.Author.Tests.{leb-true, eqb-true, eq-eqb, eqb-false}
-use Rattle.image.specs.Bytes.{before, begins, shared}
-use Rattle.image.specs.Entry.{Message, Entry, pivotLimit}
+use lib.Dec.{leb, eqb}
+use borrow.Author.Tests.{leb-true, eqb-true, eq-eqb}
+use Rattle.image.specs.Bytes.{before, shared}
+use Rattle.image.specs.Entry.{Message, pivotLimit}
 use Rattle.image.specs.Table.{Row, underPrefix}
 use Rattle.image.specs.Image.{Tree, unread, leaf, interior, Forest, end, tree, Kid, Inside, nodeBytes, nodeEntries, pairsOf, insideOf, forestOf, leafOf, interiorOf, orNone, treeAt, entriesLimit}
 use Rattle.image.specs.Meaning.{highOf}
-use Rattle.image.specs.Sound.{soundTree, numbers, numbersIn, isIn}
-use Rattle.octets.specs.Order.{and-left, and-right, not-so, before-asym}
+use Rattle.image.specs.Sound.{soundTree, numbers, isIn}
+use Rattle.octets.specs.Order.{and-left, and-right}
 use Rattle.laws.specs.Frame.{Keeps, tree-stays}
 use Rattle.laws.specs.WriteNode.{writeNode, write-length, write-same, write-other}
 use Rattle.laws.specs.Encode.{bytesOfAll}
-use Rattle.laws.specs.Filter.{keep, upTo, since, lowerRows}
-use Rattle.laws.specs.Pieces.{still, levelled, Good, Kids, kid-first, kid-later, inner-kids, raise, lower, node, over, joined}
-use Rattle.slicing.specs.Slice.{restIn, packed, after, leftOf, leftIn, rightOf, edgeIn}
-use Rattle.slicing.specs.SliceNumbers.{one, hits, met, metIn, hits-met, spent, taken, cut-numbers, cut-numbers-in, left-numbers, left-numbers-in, right-numbers-in}
+use Rattle.laws.specs.Filter.{keep, upTo, lowerRows}
+use Rattle.laws.specs.Pieces.{still, levelled, Good, Kids, kid-first, kid-later, inner-kids, lower, node}
+use Rattle.slicing.specs.Slice.{leftOf, leftIn}
+use Rattle.slicing.specs.SliceNumbers.{one, hits, met, metIn, hits-met, spent, left-numbers-in}
 use Rattle.slicing.specs.SliceFits.{pairsSize, kidsSize, shortIn, fits, fitsIn, cut-fits}
-use Rattle.slicing.specs.ReadBack.{page, numberOf, pairEntries, childEntries, ReadsIn, pairs-size, kids-size, leaf-read, node-read}
+use Rattle.laws.specs.Page.{page, numberOf, pairEntries, childEntries}
+use Rattle.slicing.specs.ReadBack.{ReadsIn, pairs-size, kids-size, leaf-read, node-read}
 
 -- the page of a settled node
 unfoldable pub pageOf : ℕ → Tree → List ℕ

@@ -1,26 +1,20 @@
 -- The swing: a settled tree under other bytes is sound there, when its paths are well formed there. And the middle of a move as one tree.
-use Prim.Native.Nat.{ℕ, zero, suc, _+_, _≤_}
-use mathlib.Core.Path.{_≡_, refl, sym, ap, ap₂, subst, _∙_}
-use mathlib.Core.List.{List, [], _∷_, _++_, append-nil, append-assoc}
-use mathlib.Core.Bool.{Bool, true, false, _&&_, _||_, not, cond, false≢true}
-use native.Mathlib.Omega.{arith}
-use lib.ListN.{length, drop}
+use Prim.Native.Nat.{ℕ}
+use mathlib.Core.Path.{_≡_, refl, sym, ap, _∙_}
+use mathlib.Core.List.{List, [], _∷_, _++_, append-assoc}
+use mathlib.Core.Bool.{Bool, true, false, _&&_, false≢true}
 use lib.Seq.{drop-append-seam}
-use Rattle.image.specs.Bytes.{same, before, begins, shared}
+use Rattle.image.specs.Bytes.{before, shared}
 use Rattle.image.specs.Path.{owns, wellFormed}
-use Rattle.image.specs.Entry.{Message}
 use Rattle.image.specs.Table.{Row, everyKey, rising, underPrefix, renamed}
 use Rattle.image.specs.Image.{Tree, unread, leaf, interior, Forest, end, tree}
 use Rattle.image.specs.Meaning.{highOf, applyAll, rows, rowsIn}
-use Rattle.image.specs.Sound.{soundTree, soundForest, soundMessages, firstPivot, valuesFit}
-use Rattle.octets.specs.Order.{and-left, and-right, not-so, same-append, before-append, shared-append, before-irrefl}
+use Rattle.image.specs.Sound.{soundTree, soundForest, soundMessages, firstPivot}
+use Rattle.octets.specs.Order.{and-left, and-right, same-append, before-append, shared-append}
 use Rattle.laws.specs.Rising.{both}
-use Rattle.laws.specs.LookupTable.{Parts, parts, Inner, inner}
+use Rattle.laws.specs.LookupTable.{Parts, parts, inner}
 use Rattle.laws.specs.Shift.{under-under, high-shift, owns-shift, rows-shift}
-use Rattle.laws.specs.Filter.{keep, since}
-use Rattle.laws.specs.Pieces.{still, stillIn, levelled, Good, Run, done, more, joined, node, over}
-use Rattle.slicing.specs.Slice.{restIn, packed, after, rightOf, edgeIn}
-use Rattle.slicing.specs.SliceLaws.{Cut, cut-tree}
+use Rattle.laws.specs.Pieces.{still, stillIn, Good}
 
 pub every-left : (a : List ℕ → Bool) (t u : List Row) → everyKey a (t ++ u) ≡ true → everyKey a t ≡ true
 unfolding everyKey

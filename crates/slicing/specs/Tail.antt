@@ -1,26 +1,24 @@
 -- The middle of a move, one node a level, as one tree; and the empty trees that close the gap.
-use Prim.Native.Nat.{ℕ, zero, suc, _+_, _-_, _≤_}
-use mathlib.Core.Path.{_≡_, refl, sym, ap, ap₂, subst, _∙_}
-use mathlib.Core.List.{List, [], _∷_, _++_, append-nil}
-use mathlib.Core.Bool.{Bool, true, false, _&&_, _||_, not, cond, false≢true}
+use Prim.Native.Nat.{ℕ, zero, suc, _-_, _≤_}
+use mathlib.Core.Path.{_≡_, refl, sym, _∙_}
+use mathlib.Core.List.{List, [], append-nil}
+use mathlib.Core.Bool.{true, false}
 use native.Mathlib.Omega.{arith}
-use lib.ListN.{length, drop}
-use lib.Dec.{leb}
+use lib.ListN.{length}
 use borrow.Author.Tests.{le-leb}
 use Rattle.image.specs.Bytes.{before, begins, shared}
-use Rattle.image.specs.Path.{owns, wellFormed}
-use Rattle.image.specs.Entry.{Message, pivotLimit}
-use Rattle.image.specs.Table.{Row, everyKey, rising, underPrefix}
+use Rattle.image.specs.Entry.{pivotLimit}
+use Rattle.image.specs.Table.{everyKey, rising, underPrefix}
 use Rattle.image.specs.Image.{Tree, unread, leaf, interior, Forest, end, tree}
 use Rattle.image.specs.Meaning.{highOf, rows, rowsIn}
 use Rattle.image.specs.Sound.{soundTree, valuesFit}
-use Rattle.octets.specs.Order.{and-left, and-right, not-so, before-irrefl}
+use Rattle.octets.specs.Order.{and-left, not-so, before-irrefl}
 use Rattle.laws.specs.Rising.{both}
 use Rattle.laws.specs.Filter.{keep, since}
-use Rattle.laws.specs.Pieces.{still, levelled, Good, Run, done, more, run-high, joined, node, over, node-good, node-rows}
+use Rattle.laws.specs.Pieces.{still, levelled, Good, Run, done, more, joined, node, node-good, node-rows}
 use Rattle.slicing.specs.Slice.{rightOf, packed, edgeIn, restIn, after}
-use Rattle.slicing.specs.SliceLaws.{Cut, cut-tree}
-use Rattle.slicing.specs.SliceNumbers.{one, met, metIn, met-node, spent}
+use Rattle.slicing.specs.SliceLaws.{cut-tree}
+use Rattle.slicing.specs.SliceNumbers.{met, metIn, met-node, spent}
 use Rattle.slicing.specs.SliceFits.{fits, fitsIn, sizeAt, shortAt, pairsSize, count, node-fits, over-count, cut-fits}
 
 -- the first of some pieces

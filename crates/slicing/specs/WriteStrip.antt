@@ -1,18 +1,17 @@
 -- The written slices, too, do not depend on the lifted bytes: the contracts of the code that slices are equations with these.
 use Prim.Native.Nat.{ℕ, zero, suc}
 use mathlib.Core.Path.{_≡_, refl, sym, ap, ap₂, _∙_}
-use mathlib.Core.List.{List, [], _∷_, _++_, append-assoc}
+use mathlib.Core.List.{List, [], _++_, append-assoc}
 use mathlib.Core.Bool.{Bool, true, false, cond}
 use lib.ListN.{length, drop}
 use Rattle.image.specs.Bytes.{before, shared}
-use Rattle.image.specs.Entry.{Message}
 use Rattle.image.specs.Table.{Row}
 use Rattle.image.specs.Image.{Tree, unread, leaf, interior, Forest, end, tree}
 use Rattle.image.specs.Meaning.{highOf}
 use Rattle.octets.specs.Order.{shared-append}
 use Rattle.laws.specs.Shift.{high-shift}
 use Rattle.laws.specs.WriteNode.{writeNode}
-use Rattle.laws.specs.Pieces.{joined, raise, node}
+use Rattle.laws.specs.Pieces.{joined, raise}
 use Rattle.slicing.specs.Slice.{restIn, after, leftOf, rightOf, edgeIn}
 use Rattle.slicing.specs.SliceShift.{test-high, test-low, node-shift, high-raised, joined-raise, left-shift, rest-shift, edge-shift, right-shift}
 use Rattle.slicing.specs.Tail.{firstOf}

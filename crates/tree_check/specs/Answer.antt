@@ -1,12 +1,12 @@
 -- What an answer of the check promises: the marks that the definition's walk leaves, and the counts of the tree.
 -- Relies on Count. Each promise has a law that makes it and one that uses it, so that no proof of code unfolds it.
 use Prim.Native.Nat.{ℕ}
-use mathlib.Core.Path.{_≡_, sym, subst, _∙_}
+use mathlib.Core.Path.{_≡_, refl, sym, subst, _∙_}
 use mathlib.Core.List.{List}
 use mathlib.Core.Option.{Option, none, some}
 use Rattle.tree_check.specs.declared.Tally.{Tally}
 use Rattle.tree_check.specs.declared.Checked.{Checked}
-use Rattle.tree_check.specs.Count.{Count, capped}
+use Rattle.tree_check.specs.Count.{Count, capped, tallySum}
 
 -- the marks after a walk that found all sound; nothing after another
 unfoldable pub out : Checked → List ℕ → Option (List ℕ)
@@ -44,3 +44,23 @@ tally-is x y r t seen h e = subst (Counts y) e (h .counts)
 
 pub checks-as : (x z : Option (List ℕ)) (y w : Count) (r : Checked) (seen : List ℕ) → x ≡ z → y ≡ w → Checks x y r seen → Checks z w r seen
 checks-as x z y w r seen e f h = rw (← e, ← f) h
+
+-- what is held so far and the answer for the rest: sound where the rest is, and the tallies joined
+unfoldable pub withRest : Tally → Checked → Checked
+withRest held Checked.Unsound = Checked.Unsound
+withRest held (Checked.Sound t) = Checked.Sound (tallySum held t)
+
+pub rest-unsound : (held : Tally) (r : Checked) → r ≡ Checked.Unsound → Checked.Unsound ≡ withRest held r
+unfolding withRest
+rest-unsound held r e = rw e
+
+pub rest-joined : (held : Tally) (r : Checked) (t w : Tally) → r ≡ Checked.Sound t → w ≡ tallySum held t → Checked.Sound w ≡ withRest held r
+unfolding withRest
+rest-joined held r t w e f = rw (e, f)
+
+-- a promise on the answer with the rest, from one for each answer of the rest
+pub with-rest : (held : Tally) (P : Checked → Type 0) (r : Checked) → (r ≡ Checked.Unsound → P Checked.Unsound) → ((t : Tally) → r ≡ Checked.Sound t → P (Checked.Sound (tallySum held t)))
+    → (w : Checked) → w ≡ withRest held r → P w
+unfolding withRest
+with-rest held P Checked.Unsound stopped ended w e = subst P (sym e) (stopped refl)
+with-rest held P (Checked.Sound t) stopped ended w e = subst P (sym e) (ended t refl)

@@ -9,8 +9,7 @@ use lib.ListN.{length, getD}
 use lib.Dec.{ltb, leb, eqb}
 use borrow.Author.Tests.{eq-eqb, ne-eqb, lt-ltb, eqb-true, eqb-false, ltb-true, leb-true, leb-false}
 use Rattle.image.specs.Image.{Tree, unread, leaf, interior, Forest, end, tree, nodeBytes, nodesOf, headerOf, headerLaidOut, treeOf}
-use Rattle.image.specs.Meaning.{rows}
-use Rattle.image.specs.Sound.{sound, soundTree, soundRoot, soundHeader, once, inRange, numbers, isIn, lowest, highest, tableOf}
+use Rattle.image.specs.Sound.{sound, soundTree, soundHeader, once, inRange, numbers, isIn, lowest, highest, tableOf}
 use Rattle.image.specs.Upkeep.{reachable, reachableNodes, every, holdsNoMessage, settled, used}
 use Rattle.octets.specs.Order.{and-left, and-right, not-true}
 use Rattle.laws.specs.Rising.{both}

@@ -2,7 +2,7 @@
 -- Relies on guard's walk over an interior node's entries (Inside) and on Sequence.
 use Prim.Native.Nat.{ℕ, _-_, _<_, _≤_}
 use mathlib.Core.Path.{_≡_, refl, sym, ap, ap₂, _∙_}
-use mathlib.Core.List.{List, _∷_, _++_}
+use mathlib.Core.List.{List, [], _∷_, _++_}
 use mathlib.Core.Bool.{Bool, true, false, cond}
 use mathlib.Core.Option.{Option, none, some}
 use native.Mathlib.Omega.{arith}
@@ -26,14 +26,14 @@ use Rattle.node.specs.declared.Step.{Step}
 use Rattle.search.specs.declared.Kid.{Kid}
 use Rattle.search.specs.Own.{kidIs, kid-place, child-entry}
 use Rattle.lookup.specs.Look.{part-rest}
-use Rattle.node_check.specs.Inside.{messagesRun, childRun, kidsList, kidsRun, kids-step, kids-end}
+use Rattle.node_check.specs.Inside.{messagesRun, childRun, kidsList, kidsRun, kids-step, kids-end, onward-some}
 use Rattle.tree_check.specs.declared.Tally.{Tally}
 use Rattle.tree_check.specs.declared.Checked.{Checked}
-use Rattle.tree_check.specs.Count.{cap, Count, plus, countOf, onlyMessages, kidsCount, tallySum}
+use Rattle.tree_check.specs.Count.{cap, Count, plus, countOf, onlyMessages, lastCount, kidsCount, tallySum}
 use Rattle.tree_check.specs.CountLaws.{messages-capped, count-end, count-more}
-use Rattle.tree_check.specs.Answer.{Checks, unsound, all-sound, checks-as}
-use Rattle.tree_check.specs.Walk.{nodeRun}
-use Rattle.tree_check.specs.Sequence.{first-stops, second-stops, both-sound, Passed, one-passed}
+use Rattle.tree_check.specs.Answer.{Checks, unsound, all-sound, checks-as, withRest}
+use Rattle.tree_check.specs.Walk.{nodeRun, lastRun}
+use Rattle.tree_check.specs.Sequence.{first-stops, both-done, Passed, one-passed}
 
 -- messages
 module _ (b : Bool) (n : ℕ) where
@@ -110,11 +110,37 @@ module _ (level : ℕ) (s : List ℕ) (sh : Shape) (lo hi : List ℕ) (i : ℕ) 
   abbrev Y : Count
   Y = kidsCount (treeAt level s) i (listed s at end)
 
-  pub kids-last : end ≤ at → (r : Checked) (after : List ℕ) → Child level s sh lo hi i low hi seen r after → Checks X Y r after
-  kids-last h r after c =
-      checks-as (childRun (nodeRun level s) sh lo hi i low hi seen) X (countOf (treeAt level s i)) Y r after
-      (sym (ap (λ o. kidsRun (nodeRun level s) sh lo hi i low o seen) (entries-end s at end h) ∙ kids-end (nodeRun level s) sh lo hi i low seen))
-      (count-end (treeAt level s) i (listed s at end) (listed-end s at end h)) c
+  -- and where the child is the last one
+  abbrev L : Option (List ℕ)
+  L = lastRun (nodeRun level s) sh lo hi i low (entriesFrom s at end) seen
+
+  abbrev M : Count
+  M = lastCount (treeAt level s) i (listed s at end)
+
+  module _ (r : Checked) (after : List ℕ) (h : Child level s sh lo hi i low hi seen r after) where
+    abbrev messages : List ℕ → Option (List ℕ)
+    messages a = cond (messagesRun sh lo hi (entriesFrom s at end)) (some a) none
+
+    pub last-stops : r ≡ Checked.Unsound → (z : List ℕ) → Checks L M Checked.Unsound z
+    last-stops f z =
+        first-stops L M (childRun (nodeRun level s) sh lo hi i low hi seen) messages (countOf (treeAt level s i)) (onlyMessages (length (listed s at end))) refl refl r after h f z
+
+    pub last-done : (t : Tally) → r ≡ Checked.Sound t → (q : Checked) → ((a : List ℕ) → Checks (messages a) (onlyMessages (length (listed s at end))) q a)
+        → (w : Checked) → w ≡ withRest t q → Checks L M w after
+    last-done t et q g =
+        both-done L M (childRun (nodeRun level s) sh lo hi i low hi seen) messages (countOf (treeAt level s i)) (onlyMessages (length (listed s at end))) refl refl r after h t et q after (g after)
+
+  -- no entry follows
+  ends-here : kidsRun (nodeRun level s) sh lo hi i low (some []) seen ≡ lastRun (nodeRun level s) sh lo hi i low (some []) seen
+  unfolding messagesRun
+  ends-here = kids-end (nodeRun level s) sh lo hi i low seen ∙ onward-some (childRun (nodeRun level s) sh lo hi i low hi seen)
+
+  pub kids-last : end ≤ at → (r : Checked) (after : List ℕ) → Checks L M r after → Checks X Y r after
+  kids-last h r after =
+      let e : entriesFrom s at end ≡ some [] = entries-end s at end h in
+      checks-as L X M Y r after
+      (ap (λ o. lastRun (nodeRun level s) sh lo hi i low o seen) e ∙ sym ends-here ∙ ap (λ o. kidsRun (nodeRun level s) sh lo hi i low o seen) (sym e))
+      (count-end (treeAt level s) i (listed s at end) (listed-end s at end h))
 
   no-walk : (o : Option (List defined.Entry)) → o ≡ none → kidsRun (nodeRun level s) sh lo hi i low o seen ≡ none
   unfolding kidsRun
@@ -157,7 +183,7 @@ module _ (level : ℕ) (s : List ℕ) (sh : Shape) (lo hi : List ℕ) (i : ℕ) 
     module _ (ek : kidIs e ≡ Kid.Other) where
       ends-run : (e : Entry) (y : Option (List defined.Entry)) → kidIs e ≡ Kid.Other
           → kidsRun (nodeRun level s) sh lo hi i low (defined.entryThen (some (entryIn s e)) y) seen
-          ≡ onward (childRun (nodeRun level s) sh lo hi i low hi seen) (λ after. cond (messagesRun sh lo hi (defined.entryThen (some (entryIn s e)) y)) (some after) none)
+          ≡ lastRun (nodeRun level s) sh lo hi i low (defined.entryThen (some (entryIn s e)) y) seen
       unfolding kidIs defined.entryThen kidsRun kidsList messagesRun
       ends-run (Entry.Pair p v) none h = none-onward (childRun (nodeRun level s) sh lo hi i low hi seen)
       ends-run (Entry.Pair p v) (some es) h = none-onward (childRun (nodeRun level s) sh lo hi i low hi seen)
@@ -166,36 +192,21 @@ module _ (level : ℕ) (s : List ℕ) (sh : Shape) (lo hi : List ℕ) (i : ℕ) 
       ends-run (Entry.Message m) (some es) h = refl
 
       count-rest : (x : Entry) (es : List defined.Entry) → kidIs x ≡ Kid.Other
-          → kidsCount (treeAt level s) i (entryIn s x ∷ es) ≡ plus (countOf (treeAt level s i)) (onlyMessages (length (entryIn s x ∷ es)))
+          → kidsCount (treeAt level s) i (entryIn s x ∷ es) ≡ lastCount (treeAt level s) i (entryIn s x ∷ es)
       unfolding kidIs kidsCount
       count-rest (Entry.Pair p v) es h = refl
       count-rest (Entry.Child k p) es h = let z : _≡_ {A = ℕ} 0 1 = cc in absurd (omega arith)
       count-rest (Entry.Message m) es h = refl
 
-      last-run : X ≡ onward (childRun (nodeRun level s) sh lo hi i low hi seen) (λ after. cond (messagesRun sh lo hi (entriesFrom s at end)) (some after) none)
+      last-run : L ≡ X
       last-run =
-          ap (λ o. kidsRun (nodeRun level s) sh lo hi i low o seen) (next .first) ∙ ends-run e (entriesFrom s (c .at) (c .end)) ek
-          ∙ ap (λ o. onward (childRun (nodeRun level s) sh lo hi i low hi seen) (λ after. cond (messagesRun sh lo hi o) (some after) none)) (sym (next .first))
+          ap (λ o. lastRun (nodeRun level s) sh lo hi i low o seen) (next .first) ∙ sym (ends-run e (entriesFrom s (c .at) (c .end)) ek)
+          ∙ ap (λ o. kidsRun (nodeRun level s) sh lo hi i low o seen) (sym (next .first))
 
-      last-count : Y ≡ plus (countOf (treeAt level s i)) (onlyMessages (length (listed s at end)))
+      last-count : M ≡ Y
       last-count =
-          ap (λ l. kidsCount (treeAt level s) i l) (next .lists) ∙ count-rest e (listed s (c .at) (c .end)) ek
-          ∙ ap (λ l. plus (countOf (treeAt level s i)) (onlyMessages (length l))) (sym (next .lists))
+          ap (λ l. lastCount (treeAt level s) i l) (next .lists) ∙ sym (count-rest e (listed s (c .at) (c .end)) ek)
+          ∙ ap (λ l. kidsCount (treeAt level s) i l) (sym (next .lists))
 
-      module _ (r : Checked) (after : List ℕ) (h : Child level s sh lo hi i low hi seen r after) where
-        pub last-stops : r ≡ Checked.Unsound → (z : List ℕ) → Checks X Y Checked.Unsound z
-        last-stops f z =
-            first-stops X Y (childRun (nodeRun level s) sh lo hi i low hi seen) (λ a. cond (messagesRun sh lo hi (entriesFrom s at end)) (some a) none)
-            (countOf (treeAt level s i)) (onlyMessages (length (listed s at end))) last-run last-count r after h f z
-
-        module _ (t : Tally) (et : r ≡ Checked.Sound t) (q : Checked)
-            (g : (seen : List ℕ) → Checks (cond (messagesRun sh lo hi (entriesFrom s at end)) (some seen) none) (onlyMessages (length (listed s at end))) q seen) where
-          pub messages-stop : q ≡ Checked.Unsound → (z : List ℕ) → Checks X Y Checked.Unsound z
-          messages-stop f z =
-              second-stops X Y (childRun (nodeRun level s) sh lo hi i low hi seen) (λ a. cond (messagesRun sh lo hi (entriesFrom s at end)) (some a) none)
-              (countOf (treeAt level s i)) (onlyMessages (length (listed s at end))) last-run last-count r after h t et q after (g after) f z
-
-          pub messages-end : (u w : Tally) → q ≡ Checked.Sound u → w ≡ tallySum t u → Checks X Y (Checked.Sound w) after
-          messages-end u w eu ew =
-              both-sound X Y (childRun (nodeRun level s) sh lo hi i low hi seen) (λ a. cond (messagesRun sh lo hi (entriesFrom s at end)) (some a) none)
-              (countOf (treeAt level s i)) (onlyMessages (length (listed s at end))) last-run last-count r after h t et q after (g after) u w eu ew
+      pub kids-messages : (r : Checked) (after : List ℕ) → Checks L M r after → Checks X Y r after
+      kids-messages r after = checks-as L X M Y r after last-run last-count

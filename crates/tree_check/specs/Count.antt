@@ -49,6 +49,10 @@ onlyMessages n = record { pairs = 0; messages = n; nodes = 0 }
 abbrev pub onlyNode : Count
 onlyNode = record { pairs = 0; messages = 0; nodes = 1 }
 
+-- the child of number i, the last one, and the messages after it
+abbrev pub lastCount : (ℕ → Tree) → ℕ → List defined.Entry → Count
+lastCount below i ms = plus (countOf (below i)) (onlyMessages (length ms))
+
 -- the child of number i, and what the entries after it hold: further children, then messages
 unfoldable pub kidsCount : (ℕ → Tree) → ℕ → List defined.Entry → Count
 kidsCount below i [] = countOf (below i)

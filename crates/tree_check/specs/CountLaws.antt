@@ -15,7 +15,7 @@ use Rattle.image.specs.Image.{Tree, leaf, interior, Forest, end, tree, Inside, 
 use Rattle.image.specs.Sound.{numbers, numbersIn}
 use Rattle.laws.specs.LiveCount.{pairCount, pairCountIn}
 use Rattle.tree_check.specs.declared.Tally.{Tally}
-use Rattle.tree_check.specs.Count.{cap, messageCount, messageCountIn, Count, plus, countOf, countIn, onlyPairs, onlyMessages, onlyNode, kidsCount, capped, tallySum}
+use Rattle.tree_check.specs.Count.{cap, messageCount, messageCountIn, Count, plus, countOf, countIn, onlyPairs, onlyMessages, onlyNode, lastCount, kidsCount, capped, tallySum}
 
 pub cap-small : (x : ℕ) → x ≤ 65535 → cap x ≡ x
 unfolding cap
@@ -197,9 +197,9 @@ module _ (below : ℕ → Tree) where
   interior-holds n i q es x h =
       interior-count n (tree q (below i) (forestOf below (x .kids))) (x .messages) ∙ ap (λ k. plus onlyNode k) (sym (kids-hold es x h i q))
 
-  pub count-end : (i : ℕ) (l : List defined.Entry) → l ≡ [] → countOf (below i) ≡ kidsCount below i l
+  pub count-end : (i : ℕ) (l : List defined.Entry) → l ≡ [] → lastCount below i l ≡ kidsCount below i l
   unfolding kidsCount
-  count-end i l e = rw e
+  count-end i l e = rw e (plus-none (countOf (below i)))
 
   pub count-more : (i j : ℕ) (q : List ℕ) (l es : List defined.Entry) → l ≡ defined.child j q ∷ es → plus (countOf (below i)) (kidsCount below j es) ≡ kidsCount below i l
   unfolding kidsCount

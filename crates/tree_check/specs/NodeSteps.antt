@@ -7,7 +7,6 @@ use mathlib.Core.Bool.{true, false, cond}
 use mathlib.Core.Option.{Option, none, some}
 use native.Mathlib.Omega.{arith}
 use lib.ListN.{length, getD, set}
-use Rattle.image.specs.Entry as defined
 use Rattle.image.specs.Image.{Tree, nodeBytes, nodesOf, nodeEntries, insideOf, orNone, interiorOf, treeAt}
 use Rattle.path.specs.Shape.{Shape}
 use Rattle.reading.specs.SoundHere.{soundHere}
@@ -22,11 +21,15 @@ use Rattle.tree_check.specs.declared.Checked.{Checked}
 use Rattle.tree_check.specs.declared.First.{First}
 use Rattle.tree_check.specs.Count.{Count, plus, countOf, onlyNode, kidsCount, capped, tallySum}
 use Rattle.tree_check.specs.CountLaws.{node-capped, tally-joined}
-use Rattle.tree_check.specs.Answer.{Checks, unsound, all-sound, unsound-is, sound-is, tally-is, checks-as}
+use Rattle.tree_check.specs.Answer.{Checks, unsound, all-sound, unsound-is, sound-is, tally-is, checks-as, withRest, with-rest}
 use Rattle.tree_check.specs.Walk.{nodeRun, node-met, unmet-low, unmet-past, unmet-again, unmet-yes, leaf-walk, headless, first-walk, first-counts}
 use Rattle.tree_check.specs.Layout.{reads-listed}
 use Rattle.tree_check.specs.First.{FirstAs, Leads, first-nothing-is, first-child-is}
 use Rattle.tree_check.specs.LeafSteps.{LeafChecks}
+
+-- what an interior node holds without the trees under it and its messages
+abbrev itself : Tally
+itself = record { pairs = 0; messages = 0; nodes = 1 }
 
 module _ (s : List ℕ) (i level : ℕ) (sh : Shape) (lo hi seen : List ℕ) where
   -- what the walk over the tree leaves, and what it holds
@@ -104,17 +107,19 @@ module _ (s : List ℕ) (i level : ℕ) (sh : Shape) (lo hi seen : List ℕ) whe
               ∙ ap (λ t. visit t (nodesOf (length s)) sh lo hi seen) (sym (interior-tree level two))
 
           module _ (r : Checked) (after : List ℕ) (h : Checks K (kidsCount (treeAt (level - 1) s) j (listed s (c .at) (c .end))) r after) where
-            pub kids-stop : r ≡ Checked.Unsound → Checks X Y Checked.Unsound after
-            kids-stop e = unsound X Y after (sym walk-is ∙ unsound-is K (kidsCount (treeAt (level - 1) s) j (listed s (c .at) (c .end))) r after h e)
-
-            pub kids-sound : (t w : Tally) → r ≡ Checked.Sound t → w ≡ tallySum (record { pairs = 0; messages = 0; nodes = 1 }) t → Checks X Y (Checked.Sound w) after
-            kids-sound t w e j2 =
-                let k : K ≡ some after = sound-is K (kidsCount (treeAt (level - 1) s) j (listed s (c .at) (c .end))) r t after h e in
-                let y : plus onlyNode (kidsCount (treeAt (level - 1) s) j (listed s (c .at) (c .end))) ≡ countOf T
-                = first-counts (treeAt (level - 1) s) (nodesOf (length s)) (nodeRun (level - 1) s) alike i sh lo hi seen open-node j (part s p) (leads .pivot)
-                (nodeEntries 0x0002 level (nodeBytes s i)) (entriesFrom s (c .at) (c .end)) (listed s (c .at) (c .end)) (set seen i 1) after (leads .reads)
-                (λ es q. reads-listed s (c .at) (c .end) es q) k in
-                all-sound X Y w after (sym walk-is ∙ k)
-                (tally-joined (record { pairs = 0; messages = 0; nodes = 1 }) t w onlyNode (kidsCount (treeAt (level - 1) s) j (listed s (c .at) (c .end))) node-capped
-                (tally-is K (kidsCount (treeAt (level - 1) s) j (listed s (c .at) (c .end))) r t after h e) j2
-                ∙ ap (λ z. capped z) (y ∙ ap (λ z. countOf z) (sym (interior-tree level two))))
+            pub kids-done : (w : Checked) → w ≡ withRest itself r → Checks X Y w after
+            kids-done =
+                with-rest itself (λ w. Checks X Y w after) r
+                (λ e. unsound X Y after (sym walk-is ∙ unsound-is K (kidsCount (treeAt (level - 1) s) j (listed s (c .at) (c .end))) r after h e)) kids-sound
+              where
+                kids-sound : (t : Tally) → r ≡ Checked.Sound t → Checks X Y (Checked.Sound (tallySum itself t)) after
+                kids-sound t e =
+                    let k : K ≡ some after = sound-is K (kidsCount (treeAt (level - 1) s) j (listed s (c .at) (c .end))) r t after h e in
+                    let y : plus onlyNode (kidsCount (treeAt (level - 1) s) j (listed s (c .at) (c .end))) ≡ countOf T
+                    = first-counts (treeAt (level - 1) s) (nodesOf (length s)) (nodeRun (level - 1) s) alike i sh lo hi seen open-node j (part s p) (leads .pivot)
+                    (nodeEntries 0x0002 level (nodeBytes s i)) (entriesFrom s (c .at) (c .end)) (listed s (c .at) (c .end)) (set seen i 1) after (leads .reads)
+                    (λ es q. reads-listed s (c .at) (c .end) es q) k in
+                    all-sound X Y (tallySum itself t) after (sym walk-is ∙ k)
+                    (tally-joined itself t (tallySum itself t) onlyNode (kidsCount (treeAt (level - 1) s) j (listed s (c .at) (c .end))) node-capped
+                    (tally-is K (kidsCount (treeAt (level - 1) s) j (listed s (c .at) (c .end))) r t after h e) refl
+                    ∙ ap (λ z. capped z) (y ∙ ap (λ z. countOf z) (sym (interior-tree level two))))

@@ -10,7 +10,7 @@ use Rattle.tree_check.specs.declared.Tally.{Tally}
 use Rattle.tree_check.specs.declared.Checked.{Checked}
 use Rattle.tree_check.specs.Count.{Count, plus, capped, onlyMessages, tallySum}
 use Rattle.tree_check.specs.CountLaws.{cap-small, messages-capped, tally-joined, plus-assoc, none-plus}
-use Rattle.tree_check.specs.Answer.{Checks, unsound, all-sound, unsound-is, sound-is, tally-is}
+use Rattle.tree_check.specs.Answer.{Checks, unsound, all-sound, unsound-is, sound-is, tally-is, withRest, with-rest}
 
 stops : (x : Option (List ℕ)) (f : List ℕ → Option (List ℕ)) → x ≡ none → onward x f ≡ none
 unfolding onward
@@ -29,13 +29,11 @@ module _ (X : Option (List ℕ)) (Y : Count) (x : Option (List ℕ)) (f : List �
     then-is : X ≡ f after
     then-is = eX ∙ goes x f after (sound-is x y r t after h et)
 
-    pub second-stops : q ≡ Checked.Unsound → (seen : List ℕ) → Checks X Y Checked.Unsound seen
-    second-stops e seen = unsound X Y seen (then-is ∙ unsound-is (f after) z q last g e)
-
-    pub both-sound : (u w : Tally) → q ≡ Checked.Sound u → w ≡ tallySum t u → Checks X Y (Checked.Sound w) last
-    both-sound u w e j =
-        all-sound X Y w last (then-is ∙ sound-is (f after) z q u last g e)
-        (tally-joined t u w y z (tally-is x y r t after h et) (tally-is (f after) z q u last g e) j ∙ ap (λ c. capped c) (sym eY))
+    pub both-done : (w : Checked) → w ≡ withRest t q → Checks X Y w last
+    both-done =
+        with-rest t (λ w. Checks X Y w last) q (λ e. unsound X Y last (then-is ∙ unsound-is (f after) z q last g e))
+        (λ u e. all-sound X Y (tallySum t u) last (then-is ∙ sound-is (f after) z q u last g e)
+        (tally-joined t u (tallySum t u) y z (tally-is x y r t after h et) (tally-is (f after) z q u last g e) refl ∙ ap (λ c. capped c) (sym eY)))
 
 -- Some of the checks are done: of the whole walk X and the whole count Y, x and y are left, and the tally is of what was passed.
 pub record Passed (X : Option (List ℕ)) (Y : Count) (x : Option (List ℕ)) (y : Count) (total : Tally) : Type 0 where
@@ -53,10 +51,11 @@ module _ (X : Option (List ℕ)) (Y : Count) (x : Option (List ℕ)) (y : Count)
   pub rest-stops : Checks x y r after → r ≡ Checked.Unsound → (seen : List ℕ) → Checks X Y Checked.Unsound seen
   rest-stops h e seen = unsound X Y seen (p .walk ∙ unsound-is x y r after h e)
 
-  pub rest-sound : Checks x y r after → (u w : Tally) → r ≡ Checked.Sound u → w ≡ tallySum total u → Checks X Y (Checked.Sound w) after
-  rest-sound h u w e j =
-      all-sound X Y w after (p .walk ∙ sound-is x y r u after h e)
-      (tally-joined total u w (p .counted) y (p .tally) (tally-is x y r u after h e) j ∙ ap (λ c. capped c) (sym (p .counts)))
+  pub rest-done : Checks x y r after → (w : Checked) → w ≡ withRest total r → Checks X Y w after
+  rest-done h =
+      with-rest total (λ w. Checks X Y w after) r (λ e. rest-stops h e after)
+      (λ u e. all-sound X Y (tallySum total u) after (p .walk ∙ sound-is x y r u after h e)
+      (tally-joined total u (tallySum total u) (p .counted) y (p .tally) (tally-is x y r u after h e) refl ∙ ap (λ c. capped c) (sym (p .counts))))
 
   -- one check more is passed
   pub one-passed : (v : Option (List ℕ)) (f : List ℕ → Option (List ℕ)) (a z : Count) → x ≡ onward v f → y ≡ plus a z → Checks v a r after

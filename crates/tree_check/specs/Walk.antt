@@ -27,6 +27,10 @@ use Rattle.tree_check.specs.CountLaws.{leaf-holds, interior-holds}
 unfoldable pub nodeRun : ℕ → List ℕ → ℕ → Shape → List ℕ → List ℕ → List ℕ → Option (List ℕ)
 nodeRun level s i sh lo hi seen = visit (treeAt level s i) (nodesOf (length s)) sh lo hi seen
 
+-- the walk over the child of number i, the last one, whose high pivot is the node's, and over the messages after it
+abbrev pub lastRun : (ℕ → Shape → List ℕ → List ℕ → List ℕ → Option (List ℕ)) → Shape → List ℕ → List ℕ → ℕ → List ℕ → Option (List defined.Entry) → List ℕ → Option (List ℕ)
+lastRun node sh lo hi i low ms seen = onward (childRun node sh lo hi i low hi seen) (λ after. cond (messagesRun sh lo hi ms) (some after) none)
+
 -- the first entry is a child, and its pivot is this one
 unfoldable pub headed : List ℕ → Option (List defined.Entry) → Bool
 headed lo none = false

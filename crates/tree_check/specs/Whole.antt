@@ -3,10 +3,10 @@
 use Prim.Native.Nat.{ℕ, _<_}
 use mathlib.Core.Path.{_≡_}
 use mathlib.Core.List.{List}
-use mathlib.Core.Bool.{Bool, true, false, _&&_, cond}
+use mathlib.Core.Bool.{Bool, true, false, cond}
 use lib.ListN.{length, getD}
-use Rattle.image.specs.Image.{nodeBytes, nodesOf, headerOf, headerLaidOut, treeOf}
-use Rattle.image.specs.Sound.{soundTree, once, inRange, numbers, isIn, lowest, highest, soundHeader}
+use Rattle.image.specs.Image.{nodesOf, treeOf}
+use Rattle.image.specs.Sound.{numbers, isIn}
 use Rattle.laws.specs.ButLive.{soundButLive}
 use Rattle.tree_check.specs.declared.Checked.{Checked}
 use Rattle.tree_check.specs.Count.{countOf}

@@ -20,9 +20,9 @@ ghost use Rattle.node.specs.Entries.{entriesFrom, listed};
 ghost use Rattle.node.specs.Places.{Within, part};
 ghost use Rattle.path.specs.Fed.{shapeIs};
 ghost use Rattle.node_check.specs.Inside.{messagesRun, childRun, kidsRun};
-ghost use Rattle.tree_check.specs.Count.{cap, tallySum, countOf, onlyMessages, kidsCount};
-ghost use Rattle.tree_check.specs.Answer.{Checks};
-ghost use Rattle.tree_check.specs.Walk.{nodeRun};
+ghost use Rattle.tree_check.specs.Count.{cap, tallySum, countOf, onlyMessages, lastCount, kidsCount};
+ghost use Rattle.tree_check.specs.Answer.{Checks, withRest};
+ghost use Rattle.tree_check.specs.Walk.{nodeRun, lastRun};
 ghost use Rattle.tree_check.specs.First.{FirstAs};
 ghost use Rattle.laws.specs.ButLive.{soundHead};
 ghost use Rattle.tree_check.specs.Whole.{Verified};
@@ -68,6 +68,16 @@ pub fn joined(a: Tally, b: Tally) -> Tally
         messages,
         nodes,
     }
+}
+
+// What was found sound, with the answer for the rest.
+pub fn with_rest(held: Tally, rest: Checked) -> Checked
+    ensures { λ r. ⌜ r ≡ withRest held rest ⌝ }
+{
+    let Checked::Sound(t) = rest else {
+        return Checked::Unsound;
+    };
+    Checked::Sound(joined(held, t))
 }
 
 // How many nodes the store has room for.
@@ -231,18 +241,15 @@ pub fn check_node(
     let First::Child(child, p, next) = first_child(store, num, level, lo) else {
         return Checked::Unsound;
     };
-    let Checked::Sound(t) = check_children(store, child, p, next, level - 1, lo, hi, sh, seen)
-    else {
-        return Checked::Unsound;
-    };
-    Checked::Sound(joined(
+    let under = check_children(store, child, p, next, level - 1, lo, hi, sh, seen);
+    with_rest(
         Tally {
             pairs: 0,
             messages: 0,
             nodes: 1,
         },
-        t,
-    ))
+        under,
+    )
 }
 
 // The child `num` with the low pivot `low`, and the entries of its parent that follow it from the cursor on. A loop, so that the stack holds one frame for each level.
@@ -269,61 +276,25 @@ pub fn check_children(
         nodes: 0,
     };
     loop {
-        let at = c.at;
-        let end = c.end;
-        let a = pivot.start;
-        let b = pivot.stop;
-        if end <= at {
-            let Checked::Sound(t) = check_child(
-                store,
-                child,
-                &store[a..b],
-                hi,
-                level,
-                lo,
-                hi,
-                sh,
-                seen,
-            ) else {
-                return Checked::Unsound;
-            };
-            return Checked::Sound(joined(total, t));
+        if c.end <= c.at {
+            let last = check_last(store, child, pivot, c, level, lo, hi, sh, seen);
+            return with_rest(total, last);
         }
         let Step::Read(e, next) = c.step(store) else {
             return Checked::Unsound;
         };
         let Kid::Of(k, p) = search::kid_of(e) else {
-            let Checked::Sound(t) = check_child(
-                store,
-                child,
-                &store[a..b],
-                hi,
-                level,
-                lo,
-                hi,
-                sh,
-                seen,
-            ) else {
-                return Checked::Unsound;
-            };
-            let Checked::Sound(u) = check_messages(store, at, end, lo, hi, sh) else {
-                return Checked::Unsound;
-            };
-            return Checked::Sound(joined(total, joined(t, u)));
+            let last = check_last(store, child, pivot, c, level, lo, hi, sh, seen);
+            return with_rest(total, last);
         };
+        let a = pivot.start;
+        let b = pivot.stop;
         let x = p.start;
         let y = p.stop;
-        let Checked::Sound(t) = check_child(
-            store,
-            child,
-            &store[a..b],
-            &store[x..y],
-            level,
-            lo,
-            hi,
-            sh,
-            seen,
-        ) else {
+        let from = &store[a..b];
+        let to = &store[x..y];
+        let one = check_child(store, child, from, to, level, lo, hi, sh, seen);
+        let Checked::Sound(t) = one else {
             return Checked::Unsound;
         };
         total = joined(total, t);
@@ -331,6 +302,30 @@ pub fn check_children(
         pivot = p;
         c = next;
     }
+}
+
+// The last child, `num` with the low pivot `low`, which ends at its parent's high pivot; and the messages of the parent from the cursor on, of which there may be none.
+pub fn check_last(
+    store: &[u8],
+    num: usize,
+    low: Place,
+    rest: Cursor,
+    level: usize,
+    lo: &[u8],
+    hi: &[u8],
+    sh: Shape,
+    seen: &mut [u8],
+) -> Checked
+    requires { ⌜ (nodesOf (length (now store)) ≤ length (now seen)) × (rest .end ≤ length (now store)) × Within 0 (length (now store)) low ⌝ }
+    ensures { λ r. ⌜ Checks (lastRun (nodeRun level (now (store .entry))) (shapeIs sh) (now (lo .entry)) (now (hi .entry)) num (part (now (store .entry)) low) (entriesFrom (now (store .entry)) (rest .at) (rest .end)) (now (seen .entry))) (lastCount (treeAt level (now (store .entry))) num (listed (now (store .entry)) (rest .at) (rest .end))) r (now (seen .exit)) ⌝ }
+{
+    let a = low.start;
+    let b = low.stop;
+    let one = check_child(store, num, &store[a..b], hi, level, lo, hi, sh, seen);
+    let Checked::Sound(t) = one else {
+        return Checked::Unsound;
+    };
+    with_rest(t, check_messages(store, rest.at, rest.end, lo, hi, sh))
 }
 
 // The child `num` between two pivots of its parent, whose own pivots are `lo` and `hi`.

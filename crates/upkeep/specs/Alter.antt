@@ -1,24 +1,20 @@
 -- The node of a given number, anywhere in a tree, changed.
-use Prim.Native.Nat.{ℕ, zero, suc, _+_, _-_}
-use mathlib.Core.Path.{_≡_, refl, sym, ap, ap₂, subst, _∙_}
-use mathlib.Core.Logic.{_⊎_, inl, inr}
-use mathlib.Core.List.{List, [], _∷_, _++_, append-assoc}
-use mathlib.Core.Bool.{Bool, true, false, _&&_, _||_, not, cond, false≢true}
-use mathlib.Core.Option.{Option, none, some}
-use lib.ListN.{length, drop}
-use lib.Dec.{leb, eqb}
+use Prim.Native.Nat.{ℕ, _-_}
+use mathlib.Core.Path.{_≡_, refl, ap, ap₂}
+use mathlib.Core.Logic.{inl}
+use mathlib.Core.List.{List, [], _++_}
+use mathlib.Core.Bool.{Bool, true, false, _||_, cond}
+use lib.Dec.{eqb}
 use Rattle.image.specs.Bytes.{shared}
 use Rattle.image.specs.Entry.{Message}
-use Rattle.image.specs.Table.{Row}
 use Rattle.image.specs.Image.{Tree, unread, leaf, interior, Forest, end, tree}
 use Rattle.image.specs.Meaning.{highOf}
 use Rattle.image.specs.Sound.{soundTree, soundForest, numbers, numbersIn, isIn}
-use Rattle.image.specs.Upkeep.{Reachable, reachable, reachableIn, reachableAt}
-use Rattle.octets.specs.Order.{and-left, and-right, not-so}
-use Rattle.laws.specs.LookupTable.{Parts, parts, Inner, inner}
+use Rattle.image.specs.Upkeep.{reachable, reachableIn}
+use Rattle.octets.specs.Order.{not-so}
+use Rattle.laws.specs.LookupTable.{parts, inner}
 use Rattle.laws.specs.Frame.{in-left, in-right}
-use Rattle.upkeep.specs.Sublists.{Sub}
-use Rattle.upkeep.specs.Kept.{Stays, Kept, kept-refl, kept-append}
+use Rattle.upkeep.specs.Kept.{Kept, kept-refl, kept-append}
 use Rattle.upkeep.specs.Merge.{tall, tallIn}
 use Rattle.upkeep.specs.Mends.{Mends, MendsIn, mends-refl, mends-in-refl, mends-tree, mends-node, tall-kids, tall-first, tall-later}
 use Rattle.upkeep.specs.Join.{heads}

@@ -1,35 +1,34 @@
 -- From trees to images: where only the subtree of node n is written anew, the tree of the image is the old one with that node changed.
-use Prim.Native.Nat.{ℕ, zero, suc, _+_, _-_, _≤_, _<_}
+use Prim.Native.Nat.{ℕ, zero, suc, _-_, _≤_}
 use mathlib.Core.Path.{_≡_, refl, sym, ap, ap₂, subst, _∙_}
 use mathlib.Core.List.{List, [], _∷_, _++_, append-nil}
-use mathlib.Core.Bool.{Bool, true, false, _&&_, _||_, not, cond, false≢true, true≢false}
+use mathlib.Core.Bool.{Bool, true, false, _&&_, _||_, not, false≢true}
 use mathlib.Core.Option.{Option, none, some, Option·some-injective, Option·none-ne-some}
 use native.Mathlib.Omega.{arith}
 use lib.ListN.{length}
 use lib.Dec.{leb, eqb}
 use borrow.Author.Tests.{eqb-true, eq-eqb}
 use Rattle.image.specs.Bytes.{shared}
-use Rattle.image.specs.Entry.{Message}
 use Rattle.image.specs.Table.{Row}
-use Rattle.image.specs.Image.{Tree, unread, leaf, interior, Forest, end, tree, Kid, Inside, nodeBytes, nodeEntries, pairsOf, insideOf, forestOf, leafOf, interiorOf, orNone, treeAt}
+use Rattle.image.specs.Image.{Tree, leaf, interior, Forest, end, tree, Kid, Inside, nodeBytes, nodeEntries, pairsOf, insideOf, forestOf, leafOf, interiorOf, orNone, treeAt}
 use Rattle.image.specs.Meaning.{highOf}
 use Rattle.image.specs.Sound.{soundTree, soundForest, numbers, numbersIn, isIn, once}
 use Rattle.image.specs.Upkeep.{Reachable, reachable, reachableIn, reachableAt}
 use Rattle.octets.specs.Order.{and-left, and-right, not-so, not-true, not-false}
 use Rattle.laws.specs.Rising.{both}
-use Rattle.laws.specs.Frame.{Keeps, tree-stays, forest-stays, keeps-left, keeps-right, or-left, or-right, in-left, in-right}
-use Rattle.laws.specs.LookupTable.{Parts, parts, Inner, inner}
+use Rattle.laws.specs.Frame.{Keeps, tree-stays, forest-stays, or-right, in-left, in-right}
+use Rattle.laws.specs.LookupTable.{Parts, parts, inner}
 use Rattle.upkeep.specs.Sublists.{Sub, sub-refl, sub-append, sub-in, sub-none}
-use Rattle.upkeep.specs.Kept.{numbersOf, numbers-places, numbers-places-in}
-use Rattle.upkeep.specs.Alter.{altered, alteredIn, altered-absent, altered-absent-in, or-false-left, or-false-right}
-use Rattle.upkeep.specs.Healed.{orElse, place-append, place-number, place-test, mends-root, tree-tall}
+use Rattle.upkeep.specs.Kept.{numbersOf, numbers-places}
+use Rattle.upkeep.specs.Alter.{altered, alteredIn, altered-absent, altered-absent-in}
+use Rattle.upkeep.specs.Healed.{orElse, place-append, place-test, mends-root, tree-tall}
 use Rattle.upkeep.specs.Flushed.{places-under}
 use Rattle.upkeep.specs.Merge.{tall}
 use Rattle.upkeep.specs.Mends.{Mends}
 use Rattle.upkeep.specs.Alter.{Sane, altered-mends}
 use borrow.Author.Tests.{leb-true}
 use Rattle.image.specs.Meaning.{rows}
-use Rattle.image.specs.Image.{Header, header, headerOf, headerLaidOut, nodesOf, treeOf}
+use Rattle.image.specs.Image.{header, headerOf, headerLaidOut, nodesOf, treeOf}
 use Rattle.image.specs.Sound.{soundHeader, soundRoot, sound, tableOf, lowest, highest, inRange}
 
 -- distinct numbers of two lists

@@ -1,18 +1,16 @@
 -- The definitions on small trees, by computation.
-use Prim.Native.Nat.{ℕ, zero, suc, _+_, _-_, _*_, _/_, _%_}
+use Prim.Native.Nat.{ℕ}
 use mathlib.Core.Path.{_≡_, refl}
-use mathlib.Core.List.{List, [], _∷_, _++_}
-use mathlib.Core.Bool.{Bool, true, false, _&&_, _||_, not, cond}
-use lib.ListN.{length, drop}
-use lib.Dec.{ltb, leb, eqb}
+use mathlib.Core.List.{List, [], _∷_}
+use mathlib.Core.Bool.{true, false}
 use Rattle.image.specs.Bytes.{same, before, begins, shared}
 use Rattle.image.specs.Path.{letter, readsOn, wellFormed, below, owns, valueLimit, valueFits, pathLimit}
-use Rattle.image.specs.Entry.{Message, puts, drops, clears}
+use Rattle.image.specs.Entry.{puts, drops, clears}
 use Rattle.image.specs.Table.{Row, withRow, without, withoutBelow, everyKey, leads, rising, underPrefix}
-use Rattle.image.specs.Image.{Tree, unread, leaf, interior, Forest, end, tree}
+use Rattle.image.specs.Image.{Tree, leaf, interior, end, tree}
 use Rattle.image.specs.Meaning.{highOf, apply, applyAll, rows, rowsIn}
 use Rattle.image.specs.Sound.{valuesFit, soundMessage, soundMessages, firstPivot, soundTree, soundForest, numbers, numbersIn, lowest, highest}
-use Rattle.image.specs.Upkeep.{Reachable, reachable, reachableIn, reachableAt, holdsNoMessage, every, overlap, flushed, sameMessage, isSublist, gainsNoMessage, noneGains, pairBytes, childBytes, shortPivots, treeBytes, treeShort, noMessage, wouldFit, unmergeable, unmergeableAt, keepsRange, healed}
+use Rattle.image.specs.Upkeep.{reachable, reachableIn, reachableAt, holdsNoMessage, every, overlap, flushed, sameMessage, isSublist, gainsNoMessage, noneGains, pairBytes, childBytes, shortPivots, treeBytes, treeShort, noMessage, wouldFit, unmergeable, unmergeableAt, keepsRange, healed}
 use Rattle.laws.specs.PushDown.{taken, touches, lowered, sent, pushed, raised}
 use Rattle.upkeep.specs.Merge.{rewritten, repointed, followed, sameKind, merged}
 use Rattle.upkeep.specs.Join.{joins, joinAt, firstPair, mended, kidCount, healing}

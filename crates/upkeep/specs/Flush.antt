@@ -1,9 +1,8 @@
 -- A flush by one level: all messages of a node, oldest first, go to its children.
-use Prim.Native.Nat.{ℕ, zero, suc, _+_, _-_, _≤_}
+use Prim.Native.Nat.{ℕ, _-_}
 use mathlib.Core.Path.{_≡_, refl, sym, ap, ap₂, subst, _∙_}
-use mathlib.Core.List.{List, [], _∷_, _++_, append-assoc, append-nil}
-use mathlib.Core.Bool.{Bool, true, false, _&&_, _||_, not, cond, false≢true, true≢false}
-use native.Mathlib.Omega.{arith}
+use mathlib.Core.List.{List, [], _∷_, _++_, append-nil}
+use mathlib.Core.Bool.{Bool, true, false, _&&_, _||_, cond, false≢true}
 use lib.ListN.{length, drop}
 use lib.Dec.{leb, eqb}
 use borrow.Author.Tests.{eqb-true, eq-eqb}
@@ -17,12 +16,13 @@ use Rattle.image.specs.Sound.{soundTree, soundForest, soundMessage, soundMessag
 use Rattle.octets.specs.Order.{and-left, and-right, not-so, same-eq, begins-split, drop-beyond}
 use Rattle.laws.specs.Rising.{both}
 use Rattle.laws.specs.RowsRising.{leaf-rises, rising-apply}
-use Rattle.laws.specs.LookupTable.{Parts, parts, Inner, inner, leaf-owned}
-use Rattle.laws.specs.Frame.{or-left, or-right}
+use Rattle.laws.specs.LookupTable.{Parts, parts, inner, leaf-owned}
+use Rattle.laws.specs.Frame.{or-right}
 use Rattle.laws.specs.PushDown.{apply-nil-under, taken, touches, lowered, sent, pushed, raised, owned-begins, high-pushed, push-apply}
 use Rattle.upkeep.specs.Sublists.{Sub, sub-refl}
-use Rattle.upkeep.specs.Merge.{tall, tallIn, numberOf, first-of, inner-sound, no-messages}
-use Rattle.upkeep.specs.Mends.{Mends, tall-kids}
+use Rattle.laws.specs.Page.{numberOf}
+use Rattle.upkeep.specs.Merge.{tall, tallIn, first-of, inner-sound, no-messages}
+use Rattle.upkeep.specs.Mends.{Mends}
 use Rattle.upkeep.specs.Alter.{Sane, altered, altered-mends}
 
 -- all messages of a node, oldest first, each to the children that it touches

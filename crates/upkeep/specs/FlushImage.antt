@@ -1,15 +1,15 @@
 -- A flush by one level on an image: each child that a message touches is written anew, then the node without its messages.
-use Prim.Native.Nat.{ℕ, zero, suc, _+_, _-_, _≤_}
-use mathlib.Core.Path.{_≡_, refl, sym, ap, ap₂, subst, _∙_}
+use Prim.Native.Nat.{ℕ, zero, suc, _-_, _≤_}
+use mathlib.Core.Path.{_≡_, refl, sym, ap, subst, _∙_}
 use mathlib.Core.List.{List, [], _∷_, _++_, append-nil}
 use mathlib.Core.Bool.{Bool, true, false, _&&_, _||_, not, cond, false≢true, true≢false}
-use mathlib.Core.Option.{Option, none, some}
+use mathlib.Core.Option.{some}
 use native.Mathlib.Omega.{arith}
 use lib.ListN.{length}
 use lib.Dec.{leb, eqb}
-use borrow.Author.Tests.{eqb-true, eq-eqb, ne-eqb, leb-true, le-leb}
+use borrow.Author.Tests.{eqb-true, ne-eqb, leb-true}
 use Rattle.image.specs.Bytes.{shared}
-use Rattle.image.specs.Entry.{Message, Entry, child}
+use Rattle.image.specs.Entry.{Message, Entry}
 use Rattle.image.specs.Table.{Row}
 use Rattle.image.specs.Image.{Tree, unread, leaf, interior, Forest, end, tree, nodeBytes, treeAt, headerOf, headerLaidOut, treeOf, nodesOf}
 use Rattle.image.specs.Meaning.{highOf}
@@ -18,21 +18,22 @@ use Rattle.image.specs.Upkeep.{Reachable, reachable, reachableAt}
 use Rattle.laws.specs.Encode.{allowed, allAllowed}
 use Rattle.octets.specs.Order.{and-left, and-right, not-so, not-true}
 use Rattle.laws.specs.Rising.{both}
-use Rattle.laws.specs.Frame.{Keeps, tree-stays, or-left, or-right, in-left, in-right, keeps-left, keeps-right}
+use Rattle.laws.specs.Frame.{Keeps, or-right, in-left, in-right, keeps-left, keeps-right}
 use Rattle.laws.specs.PushDown.{taken, touches, lowered, sent, raised}
-use Rattle.upkeep.specs.Sublists.{Sub, once-sub}
-use Rattle.upkeep.specs.Merge.{tall, tallIn, numberOf}
-use Rattle.upkeep.specs.Size.{pairsFor, kidsFor, messagesFor, entriesFor, sizeOf, ownBytes, size-append, messages-allowed, all-allowed-append}
+use Rattle.upkeep.specs.Sublists.{once-sub}
+use Rattle.laws.specs.Page.{numberOf, childEntries}
+use Rattle.upkeep.specs.Merge.{tall, tallIn}
+use Rattle.upkeep.specs.Size.{messageEntries, entriesFor, sizeOf, ownBytes, size-append, messages-allowed, all-allowed-append}
 use Rattle.upkeep.specs.Mends.{tall-first, tall-later}
 use Rattle.upkeep.specs.Join.{heads}
-use Rattle.upkeep.specs.Alter.{altered, or-false-left, or-false-right}
+use Rattle.upkeep.specs.Alter.{or-false-left, or-false-right}
 use Rattle.upkeep.specs.Healed.{place-test, goodPlace, places-good}
 use Rattle.upkeep.specs.Flush.{pushedAll, flushedNode, flush-sane, flushedTree}
-use Rattle.upkeep.specs.Room.{sentAll, sentEach, pushed-each, leafAfter, leaf-after, pushFits, allFit, each-fits, kids-pushed-all, number-sent}
+use Rattle.upkeep.specs.Room.{sentAll, sentEach, pushed-each, leafAfter, leaf-after, allFit, kids-pushed-all, number-sent}
 use Rattle.upkeep.specs.Page.{pageOf, Reads, none-left, one-more, leaf-reads, inner-reads}
 use Rattle.upkeep.specs.Bridge.{once-left, once-right, once-apart, place-sub, root-sound, image-tall, image-tree, image-mends}
 use Rattle.upkeep.specs.Reading.{Node, node-of}
-use Rattle.upkeep.specs.HealImage.{pageFor, root-in, stays-one, reads-stay, leaf-level, inner-level, place-tree}
+use Rattle.upkeep.specs.HealImage.{pageFor, root-in, stays-one, reads-stay, inner-level, place-tree}
 
 -- what an interior child becomes
 unfoldable pub waitAfter : List ℕ → List Message → List Message → List ℕ → List ℕ → List Message
@@ -157,7 +158,7 @@ unfolding pageFor ownBytes entriesFor
 inner-child l s s′ i g ns lifted ms clo chi e k fits page =
     let eq : sentAll lifted ms (interior i g ns) clo chi ≡ interior i g (waitAfter lifted ms ns clo chi) = inner-shape lifted ms i g ns clo chi in
     inner-reads l s′ i g (waitAfter lifted ms ns clo chi) (page ∙ ap (pageFor (suc (suc l))) eq) (subst (λ t. sizeOf (entriesFor t) ≤ 1016) eq fits)
-    (all-allowed-append (kidsFor g) (messagesFor (waitAfter lifted ms ns clo chi)) (allowed-left (kidsFor g) (messagesFor ns) (node-of l s i g ns e .short))
+    (all-allowed-append (childEntries g) (messageEntries (waitAfter lifted ms ns clo chi)) (allowed-left (childEntries g) (messageEntries ns) (node-of l s i g ns e .short))
     (messages-allowed (waitAfter lifted ms ns clo chi)))
     (reads-stay (suc l) s s′ (node-of l s i g ns e .kids) k)
     ∙ sym eq
@@ -268,19 +269,19 @@ module _ (s s′ : List ℕ) (n : ℕ) (x : Reachable) (l : ℕ) (e : sound s �
       subst (λ g. Reads (λ j. treeAt (suc l) s′ j) g) (sym (pushed-each (x .messages) (x .children) (shared (x .low) (x .high)) (x .high)))
       (flush-reads l s s′ (x .messages) (shared (x .low) (x .high)) (x .high) (x .children) (parts-of .kids) kids-tall deep-keeps pages fit)
 
-  same-entries : kidsFor (pushedAll (x .messages) (x .children) (shared (x .low) (x .high)) (x .high)) ≡ kidsFor (x .children)
+  same-entries : childEntries (pushedAll (x .messages) (x .children) (shared (x .low) (x .high)) (x .high)) ≡ childEntries (x .children)
   same-entries = kids-pushed-all (x .messages) (x .children) (shared (x .low) (x .high)) (x .high)
 
   new-node : treeAt (suc (suc l)) s′ n ≡ interior n (pushedAll (x .messages) (x .children) (shared (x .low) (x .high)) (x .high)) []
-  unfolding pageFor messagesFor
+  unfolding pageFor messageEntries
   new-node =
       inner-reads l s′ n (pushedAll (x .messages) (x .children) (shared (x .low) (x .high)) (x .high)) []
       (top ∙ ap (λ k. pageOf 0x0002 (suc (suc l)) (k ++ [])) (sym same-entries))
       (subst (λ k. sizeOf (k ++ []) ≤ 1016) (sym same-entries)
-      (subst (λ k. sizeOf k ≤ 1016) (sym (append-nil (kidsFor (x .children))))
-      (omega (arith, parts-of .fits, size-append (kidsFor (x .children)) (messagesFor (x .messages))))))
+      (subst (λ k. sizeOf k ≤ 1016) (sym (append-nil (childEntries (x .children))))
+      (omega (arith, parts-of .fits, size-append (childEntries (x .children)) (messageEntries (x .messages))))))
       (subst (λ k. allAllowed (k ++ []) ≡ true) (sym same-entries)
-      (subst (λ k. allAllowed k ≡ true) (sym (append-nil (kidsFor (x .children)))) (allowed-left (kidsFor (x .children)) (messagesFor (x .messages)) (parts-of .short))))
+      (subst (λ k. allAllowed k ≡ true) (sym (append-nil (childEntries (x .children)))) (allowed-left (childEntries (x .children)) (messageEntries (x .messages)) (parts-of .short))))
       new-kids
 
   changed : treeAt (x .level) s′ n ≡ flushedNode (treeAt (x .level) s n) (x .low) (x .high)

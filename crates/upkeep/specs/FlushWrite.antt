@@ -1,35 +1,36 @@
 -- A flush by one level as nodes written: the children that a message touches, from the left, then the node without its messages.
-use Prim.Native.Nat.{ℕ, zero, suc, _+_, _-_, _*_, _≤_, _<_}
-use mathlib.Core.Path.{_≡_, refl, sym, ap, ap₂, subst, _∙_}
+use Prim.Native.Nat.{ℕ, suc, _+_, _-_, _*_, _≤_, _<_}
+use mathlib.Core.Path.{_≡_, refl, sym, ap, subst, _∙_}
 use mathlib.Core.List.{List, [], _∷_, _++_, append-nil}
-use mathlib.Core.Bool.{Bool, true, false, _&&_, _||_, not, cond, false≢true, true≢false}
-use mathlib.Core.Option.{Option, none, some}
+use mathlib.Core.Bool.{Bool, true, false, _&&_, _||_, not, cond, false≢true}
+use mathlib.Core.Option.{some}
 use native.Mathlib.Omega.{arith}
 use lib.ListN.{length}
-use lib.Dec.{ltb, leb, eqb}
-use borrow.Author.Tests.{eqb-true, eqb-false, eq-eqb, ne-eqb, leb-true}
+use lib.Dec.{leb, eqb}
+use borrow.Author.Tests.{eqb-false, eq-eqb, ne-eqb, leb-true}
 use Rattle.image.specs.Bytes.{shared}
 use Rattle.image.specs.Entry.{Message}
-use Rattle.image.specs.Image.{Tree, unread, leaf, interior, Forest, end, tree, nodeBytes, nodesOf, headerOf, headerLaidOut, treeOf, treeAt}
+use Rattle.image.specs.Image.{Tree, interior, Forest, end, tree, nodeBytes, nodesOf, headerOf, headerLaidOut, treeOf, treeAt}
 use Rattle.image.specs.Meaning.{highOf}
 use Rattle.image.specs.Sound.{soundHeader, soundTree, soundForest, soundRoot, sound, tableOf, numbers, numbersIn, isIn, once, inRange, lowest, highest}
 use Rattle.image.specs.Upkeep.{Reachable, reachable, reachableAt}
-use Rattle.octets.specs.Order.{and-left, and-right, not-so, not-true}
+use Rattle.octets.specs.Order.{and-left, and-right, not-true}
 use Rattle.laws.specs.Frame.{or-left, or-right}
-use Rattle.laws.specs.PushDown.{touches, lowered, sent, raised}
+use Rattle.laws.specs.PushDown.{touches, sent, raised}
 use Rattle.laws.specs.WriteNode.{writeNode, write-length, write-same, write-other}
 use Rattle.upkeep.specs.Sublists.{Sub, sub-none, sub-append, once-sub, sub-in}
-use Rattle.upkeep.specs.Merge.{tall, tallIn, numberOf}
-use Rattle.upkeep.specs.Size.{kidsFor, messagesFor, sizeOf, ownBytes, size-append}
+use Rattle.laws.specs.Page.{numberOf, childEntries}
+use Rattle.upkeep.specs.Merge.{tall, tallIn}
+use Rattle.upkeep.specs.Size.{messageEntries, sizeOf, ownBytes, size-append}
 use Rattle.upkeep.specs.Mends.{tall-first, tall-later}
 use Rattle.upkeep.specs.Join.{heads}
 use Rattle.upkeep.specs.Alter.{or-false-left, or-false-right}
 use Rattle.upkeep.specs.Healed.{place-test, goodPlace, places-good}
 use Rattle.upkeep.specs.Flush.{flushedTree, tall-sent}
 use Rattle.upkeep.specs.Room.{sentAll, sentEach, allFit}
-use Rattle.upkeep.specs.Page.{pageOf, page-length}
+use Rattle.upkeep.specs.Page.{page-length}
 use Rattle.upkeep.specs.Bridge.{place-sub, root-sound, image-tall}
-use Rattle.upkeep.specs.Reading.{Node, node-of}
+use Rattle.upkeep.specs.Reading.{node-of}
 use Rattle.upkeep.specs.HealImage.{pageFor, place-tree}
 use Rattle.upkeep.specs.HealWrite.{page-for-length, range-of, whole-fits}
 use Rattle.upkeep.specs.FlushImage.{Pages, numbersUnder, numbers-split, heads-in, flush-image, flush-keeps}
@@ -277,11 +278,11 @@ module _ (s : List ℕ) (n : ℕ) (x : Reachable) (l : ℕ) (e : sound s ≡ tru
       true-false b y d = false≢true (sym d ∙ y)
 
   full-n : length pageN ≡ 1024
-  unfolding pageFor messagesFor
+  unfolding pageFor messageEntries
   full-n =
-      page-length 0x0002 (suc (suc l)) (kidsFor (x .children) ++ [])
-      (subst (λ k. sizeOf k ≤ 1016) (sym (append-nil (kidsFor (x .children))))
-      (omega (arith, node-of l s n (x .children) (x .messages) node .fits, size-append (kidsFor (x .children)) (messagesFor (x .messages)))))
+      page-length 0x0002 (suc (suc l)) (childEntries (x .children) ++ [])
+      (subst (λ k. sizeOf k ≤ 1016) (sym (append-nil (childEntries (x .children))))
+      (omega (arith, node-of l s n (x .children) (x .messages) node .fits, size-append (childEntries (x .children)) (messageEntries (x .messages)))))
 
   first-length : length kidsBytes ≡ length s
   first-length = kids-length (suc l) (x .messages) (x .children) (shared (x .low) (x .high)) (x .high) s kids-tall fit rooms

@@ -1,26 +1,25 @@
 -- A flush by one level meets document 01's rule: no reachable node of the flushed node's level that owns any of what it owned holds a message.
-use Prim.Native.Nat.{ℕ, zero, suc, _+_, _-_, _≤_, _<_}
-use mathlib.Core.Path.{_≡_, refl, sym, ap, ap₂, subst, _∙_}
+use Prim.Native.Nat.{ℕ, _-_, _≤_}
+use mathlib.Core.Path.{_≡_, refl, sym, ap, subst, _∙_}
 use mathlib.Core.List.{List, [], _∷_, _++_}
-use mathlib.Core.Bool.{Bool, true, false, _&&_, _||_, not, cond, false≢true, true≢false}
-use mathlib.Core.Option.{Option, none, some, Option·some-injective, Option·none-ne-some}
+use mathlib.Core.Bool.{Bool, true, false, _&&_, _||_, not, cond}
+use mathlib.Core.Option.{Option, none, some, Option·some-injective}
 use native.Mathlib.Omega.{arith}
-use lib.ListN.{length}
 use lib.Dec.{leb, eqb}
-use borrow.Author.Tests.{eqb-true, eq-eqb, ne-eqb, le-leb, leb-true}
-use Rattle.image.specs.Bytes.{same, before, shared}
+use borrow.Author.Tests.{ne-eqb, le-leb, leb-true}
+use Rattle.image.specs.Bytes.{before, shared}
 use Rattle.image.specs.Entry.{Message}
 use Rattle.image.specs.Table.{Row}
 use Rattle.image.specs.Image.{Tree, unread, leaf, interior, Forest, end, tree}
 use Rattle.image.specs.Meaning.{highOf}
 use Rattle.image.specs.Sound.{soundTree, soundForest}
 use Rattle.image.specs.Upkeep.{Reachable, reachable, reachableIn, reachableAt, every, holdsNoMessage, overlap, flushed}
-use Rattle.octets.specs.Order.{and-left, and-right, and-false, not-so, not-true, not-false, before-irrefl, before-le, before-trans}
+use Rattle.octets.specs.Order.{and-left, and-right, and-false, not-so, not-true, before-irrefl, before-le, before-trans}
 use Rattle.laws.specs.Rising.{both}
 use Rattle.laws.specs.Frame.{or-left, or-right}
-use Rattle.laws.specs.LookupTable.{Parts, parts, Inner, inner, high-under}
+use Rattle.laws.specs.LookupTable.{parts, inner, high-under}
 use Rattle.upkeep.specs.Merge.{tall, tallIn, first-high, first-of}
-use Rattle.upkeep.specs.Mends.{Mends, MendsIn, tall-kids, tall-first, tall-later}
+use Rattle.upkeep.specs.Mends.{tall-kids, tall-first, tall-later}
 use Rattle.upkeep.specs.Alter.{altered, alteredIn, high-altered, altered-mends, altered-mends-in}
 use Rattle.upkeep.specs.Healed.{orElse, place-append, every-places, place-test}
 use Rattle.upkeep.specs.Flush.{pushedAll, flushedNode, flush-sane, flushedTree}

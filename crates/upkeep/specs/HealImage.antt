@@ -1,34 +1,35 @@
 -- One step of heal on an image: the left one of a pair is written with the entries of both, the node above it without the right one's entry.
-use Prim.Native.Nat.{ℕ, zero, suc, _+_, _-_, _≤_}
-use mathlib.Core.Path.{_≡_, refl, sym, ap, ap₂, subst, _∙_}
+use Prim.Native.Nat.{ℕ, zero, suc, _-_, _≤_}
+use mathlib.Core.Path.{_≡_, refl, sym, ap, subst, _∙_}
 use mathlib.Core.List.{List, [], _∷_, _++_, append-assoc}
-use mathlib.Core.Bool.{Bool, true, false, _&&_, _||_, not, cond, false≢true, true≢false}
-use mathlib.Core.Option.{Option, none, some, Option·some-injective, Option·none-ne-some}
+use mathlib.Core.Bool.{Bool, true, false, _&&_, _||_, not, false≢true, true≢false}
+use mathlib.Core.Option.{Option, none, some}
 use native.Mathlib.Omega.{arith}
 use lib.ListN.{length}
 use lib.Dec.{leb, eqb}
-use borrow.Author.Tests.{eqb-true, eqb-false, eq-eqb, ne-eqb, leb-true}
+use borrow.Author.Tests.{eqb-true, eq-eqb, ne-eqb, leb-true}
 use Rattle.image.specs.Bytes.{shared}
-use Rattle.image.specs.Entry.{Message, Entry, child}
+use Rattle.image.specs.Entry.{Message, Entry}
 use Rattle.image.specs.Table.{Row}
 use Rattle.image.specs.Image.{Tree, unread, leaf, interior, Forest, end, tree, Kid, Inside, nodeBytes, nodeEntries, pairsOf, insideOf, forestOf, leafOf, interiorOf, orNone, treeAt, headerOf, treeOf, nodesOf}
 use Rattle.image.specs.Meaning.{highOf}
 use Rattle.image.specs.Image.{headerLaidOut}
-use Rattle.image.specs.Sound.{soundHeader, soundTree, soundForest, soundRoot, sound, tableOf, numbers, numbersIn, isIn, once, inRange, lowest, highest}
-use Rattle.image.specs.Upkeep.{Reachable, reachable, reachableIn, reachableAt, every}
+use Rattle.image.specs.Sound.{soundHeader, soundTree, soundForest, soundRoot, sound, tableOf, numbers, numbersIn, isIn, once, lowest, highest}
+use Rattle.image.specs.Upkeep.{Reachable, reachable, reachableIn, reachableAt}
 use Rattle.laws.specs.Encode.{allowed, allAllowed}
 use Rattle.octets.specs.Order.{and-left, and-right, not-so, not-true}
 use Rattle.laws.specs.Rising.{both}
-use Rattle.laws.specs.Frame.{Keeps, tree-stays, or-left, or-right, in-left, in-right, keeps-left, keeps-right}
-use Rattle.laws.specs.LookupTable.{Inner, inner}
-use Rattle.upkeep.specs.Sublists.{Sub, once-sub, sub-in}
-use Rattle.upkeep.specs.Merge.{repointed, followed, merged, tall, tallIn, Pair, numberOf, merged-number}
-use Rattle.upkeep.specs.Size.{pairsFor, kidsFor, messagesFor, entriesFor, sizeOf, ownBytes}
-use Rattle.upkeep.specs.Mends.{Mends, MendsIn, tall-first, tall-later, mends-node, tall-kids}
-use Rattle.upkeep.specs.Join.{joins, joinAt, firstPair, mended, join-pair, join-mends}
+use Rattle.laws.specs.Frame.{Keeps, tree-stays, or-right, in-left, in-right, keeps-left, keeps-right}
+use Rattle.laws.specs.LookupTable.{inner}
+use Rattle.upkeep.specs.Sublists.{once-sub}
+use Rattle.laws.specs.Page.{numberOf, pairEntries, childEntries}
+use Rattle.upkeep.specs.Merge.{repointed, followed, merged, tall, tallIn, Pair, merged-number}
+use Rattle.upkeep.specs.Size.{messageEntries, entriesFor, sizeOf, ownBytes}
+use Rattle.upkeep.specs.Mends.{tall-first, tall-later, mends-node, tall-kids}
+use Rattle.upkeep.specs.Join.{joins, joinAt, firstPair, join-pair, join-mends}
 use Rattle.upkeep.specs.Steps.{stepped}
 use Rattle.upkeep.specs.Alter.{altered, onKids, Sane}
-use Rattle.upkeep.specs.Healed.{place-append, place-number, place-test, orElse, goodPlace, places-good}
+use Rattle.upkeep.specs.Healed.{place-append, place-test, orElse, goodPlace, places-good}
 use Rattle.upkeep.specs.Room.{merged-fits, merged-short, join-own}
 use Rattle.upkeep.specs.Page.{pageOf, Reads, none-left, one-more, leaf-reads, inner-reads}
 use Rattle.upkeep.specs.Bridge.{once-left, once-right, once-apart, here, place-here, place-past, place-nil, place-sub, root-sound, image-tall, image-tree, image-mends}
@@ -37,8 +38,8 @@ use Rattle.upkeep.specs.Reading.{Node, node-of}
 -- the page of a node of this level
 unfoldable pub pageFor : ℕ → Tree → List ℕ
 pageFor level (unread i) = []
-pageFor level (leaf i rs) = pageOf 0x0001 level (pairsFor rs)
-pageFor level (interior i f ms) = pageOf 0x0002 level (kidsFor f ++ messagesFor ms)
+pageFor level (leaf i rs) = pageOf 0x0001 level (pairEntries rs)
+pageFor level (interior i f ms) = pageOf 0x0002 level (childEntries f ++ messageEntries ms)
 
 -- whether children k and k + 1 join; the left one's number; the two as one
 unfoldable pub pairAt : ℕ → Forest → List ℕ → List ℕ → Bool
@@ -184,13 +185,13 @@ join-reads l s s′ (suc k) (tree p t (tree q u f)) lifted hi (one-more a r) e o
     (λ j c d. but j (in-right j (numbers t) (numbersIn (tree q u f)) c) d) new)
 
 -- THE NODE above keeps short pivots
-join-short : (k : ℕ) (f : Forest) (lifted hi : List ℕ) (es : List Entry) → allAllowed (kidsFor f ++ es) ≡ true → allAllowed (kidsFor (joinAt k f lifted hi) ++ es) ≡ true
-unfolding joinAt kidsFor allAllowed allowed
+join-short : (k : ℕ) (f : Forest) (lifted hi : List ℕ) (es : List Entry) → allAllowed (childEntries f ++ es) ≡ true → allAllowed (childEntries (joinAt k f lifted hi) ++ es) ≡ true
+unfolding joinAt childEntries allAllowed allowed
 join-short k end lifted hi es e = e
 join-short k (tree s t end) lifted hi es e = e
 join-short zero (tree s t (tree q u f)) lifted hi es e = go (joins t u (lifted ++ s) (lifted ++ q) (highOf lifted hi f)) refl
   where
-    go : (x : Bool) → joins t u (lifted ++ s) (lifted ++ q) (highOf lifted hi f) ≡ x → allAllowed (kidsFor (joinAt zero (tree s t (tree q u f)) lifted hi) ++ es) ≡ true
+    go : (x : Bool) → joins t u (lifted ++ s) (lifted ++ q) (highOf lifted hi f) ≡ x → allAllowed (childEntries (joinAt zero (tree s t (tree q u f)) lifted hi) ++ es) ≡ true
     go true a = rw a (both (and-left (leb (length s) 65) _ e) (and-right (leb (length q) 65) _ (and-right (leb (length s) 65) _ e)))
     go false a = rw a e
 join-short (suc k) (tree s t (tree q u f)) lifted hi es e =
@@ -332,7 +333,7 @@ module _ (s s′ : List ℕ) (n : ℕ) (x : Reachable) (l k : ℕ) (e : sound s 
   new-left =
       merged-at-reads l s s′ k (x .children) (shared (x .low) (x .high)) (x .high) (parts-of .kids) kids-tall joined kids-once kids-but left
 
-  new-fits : sizeOf (kidsFor (joinAt k (x .children) (shared (x .low) (x .high)) (x .high)) ++ messagesFor (x .messages)) ≤ 1016
+  new-fits : sizeOf (childEntries (joinAt k (x .children) (shared (x .low) (x .high)) (x .high)) ++ messageEntries (x .messages)) ≤ 1016
   unfolding ownBytes entriesFor
   new-fits = omega (arith, join-own n k (x .children) (x .messages) (shared (x .low) (x .high)) (x .high), parts-of .fits)
 
@@ -340,7 +341,7 @@ module _ (s s′ : List ℕ) (n : ℕ) (x : Reachable) (l k : ℕ) (e : sound s 
   unfolding pageFor
   new-node =
       inner-reads l s′ n (joinAt k (x .children) (shared (x .low) (x .high)) (x .high)) (x .messages) top new-fits
-      (join-short k (x .children) (shared (x .low) (x .high)) (x .high) (messagesFor (x .messages)) (parts-of .short))
+      (join-short k (x .children) (shared (x .low) (x .high)) (x .high) (messageEntries (x .messages)) (parts-of .short))
       (join-reads l s s′ k (x .children) (shared (x .low) (x .high)) (x .high) (parts-of .kids) joined kids-once kids-but new-left)
 
   changed : treeAt (x .level) s′ n ≡ onKids (joinAt k) (treeAt (x .level) s n) (x .low) (x .high)

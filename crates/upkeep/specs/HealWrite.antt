@@ -1,41 +1,41 @@
 -- A step of heal as two nodes written: what the code does is the tree with the pair merged, sound, and the same table.
 use Prim.Native.Nat.{ℕ, zero, suc, _+_, _-_, _*_, _≤_, _<_}
-use mathlib.Core.Path.{_≡_, refl, sym, ap, ap₂, subst, _∙_}
+use mathlib.Core.Path.{_≡_, refl, sym, ap, subst, _∙_}
 use mathlib.Core.List.{List, [], _∷_, _++_}
-use mathlib.Core.Bool.{Bool, true, false, _&&_, _||_, not, cond, false≢true}
-use mathlib.Core.Option.{Option, none, some}
+use mathlib.Core.Bool.{Bool, true, false, _&&_, _||_, false≢true}
+use mathlib.Core.Option.{some}
 use native.Mathlib.Omega.{arith}
 use lib.ListN.{length}
 use lib.Dec.{ltb, leb, eqb}
 use borrow.Author.Tests.{eqb-true, eqb-false, eq-eqb, ne-eqb, leb-true, ltb-true}
 use Rattle.image.specs.Bytes.{shared}
-use Rattle.image.specs.Entry.{Message}
 use Rattle.image.specs.Image.{Tree, unread, leaf, interior, Forest, end, tree, nodeBytes, nodesOf, headerOf, headerLaidOut, treeOf, treeAt}
 use Rattle.image.specs.Meaning.{highOf}
 use Rattle.image.specs.Sound.{soundHeader, soundTree, soundForest, soundRoot, sound, tableOf, numbers, numbersIn, isIn, once, inRange, lowest, highest}
 use Rattle.image.specs.Upkeep.{Reachable, reachable, reachableAt}
-use Rattle.octets.specs.Order.{and-left, and-right, not-so, not-true}
+use Rattle.octets.specs.Order.{and-left, and-right, not-true}
 use Rattle.laws.specs.Frame.{or-left, or-right}
 use Rattle.laws.specs.WriteNode.{writeNode, write-length, write-same, write-other}
 use Rattle.upkeep.specs.Sublists.{Sub, once-sub, sub-in}
-use Rattle.upkeep.specs.Merge.{tall, tallIn, merged, merged-tall}
-use Rattle.upkeep.specs.Size.{kidsFor, messagesFor, pairsFor, entriesFor, sizeOf, ownBytes}
+use Rattle.upkeep.specs.Merge.{tall, tallIn, merged-tall}
+use Rattle.laws.specs.Page.{childEntries, pairEntries}
+use Rattle.upkeep.specs.Size.{messageEntries, entriesFor, ownBytes}
 use Rattle.upkeep.specs.Mends.{tall-first, tall-later}
-use Rattle.upkeep.specs.Join.{joins, joinAt, firstPair, join-pair}
+use Rattle.upkeep.specs.Join.{joinAt, firstPair, join-pair}
 use Rattle.upkeep.specs.Steps.{stepped}
 use Rattle.upkeep.specs.Alter.{altered, onKids}
 use Rattle.upkeep.specs.Healed.{place-test, goodPlace, places-good}
 use Rattle.upkeep.specs.Room.{merged-fits, join-own}
-use Rattle.upkeep.specs.Page.{pageOf, page-length}
+use Rattle.upkeep.specs.Page.{page-length}
 use Rattle.upkeep.specs.Bridge.{place-sub, root-sound, image-tall}
-use Rattle.upkeep.specs.Reading.{Node, node-of}
+use Rattle.upkeep.specs.Reading.{node-of}
 use Rattle.upkeep.specs.HealImage.{pageFor, pairAt, leftAt, mergedAt, left-in, place-tree, step-image, step-keeps, step-first}
 
 pub page-for-length : (t : Tree) (level : ℕ) → tall t level ≡ true → ownBytes t ≤ 1016 → length (pageFor level t) ≡ 1024
 unfolding tall pageFor ownBytes entriesFor
 page-for-length (unread i) level h fits = absurd (false≢true h)
-page-for-length (leaf i rs) level h fits = page-length 0x0001 level (pairsFor rs) fits
-page-for-length (interior i f ms) level h fits = page-length 0x0002 level (kidsFor f ++ messagesFor ms) fits
+page-for-length (leaf i rs) level h fits = page-length 0x0001 level (pairEntries rs) fits
+page-for-length (interior i f ms) level h fits = page-length 0x0002 level (childEntries f ++ messageEntries ms) fits
 
 pub merged-at-fits : (k : ℕ) (f : Forest) (lifted hi : List ℕ) → pairAt k f lifted hi ≡ true → ownBytes (mergedAt k f lifted hi) ≤ 1016
 unfolding pairAt mergedAt
@@ -150,7 +150,7 @@ module _ (s : List ℕ) (n : ℕ) (x : Reachable) (l k : ℕ) (e : sound s ≡ t
   full-n : length pageN ≡ 1024
   unfolding pageFor ownBytes entriesFor
   full-n =
-      page-length 0x0002 (suc (suc l)) (kidsFor (joinAt k (x .children) (shared (x .low) (x .high)) (x .high)) ++ messagesFor (x .messages))
+      page-length 0x0002 (suc (suc l)) (childEntries (joinAt k (x .children) (shared (x .low) (x .high)) (x .high)) ++ messageEntries (x .messages))
       (omega (arith, join-own n k (x .children) (x .messages) (shared (x .low) (x .high)) (x .high), node-of l s n (x .children) (x .messages) node .fits))
 
   fits-a : 1024 * a + 1024 ≤ length s

@@ -1,29 +1,29 @@
 -- Heal, on the tree of an image: what document 01 asks of it.
-use Prim.Native.Nat.{ℕ, zero, suc, _+_, _-_, _≤_}
-use mathlib.Core.Path.{_≡_, refl, sym, ap, ap₂, subst, _∙_}
+use Prim.Native.Nat.{ℕ, zero, suc, _-_}
+use mathlib.Core.Path.{_≡_, refl, sym, ap, ap₂, _∙_}
 use mathlib.Core.List.{List, [], _∷_, _++_}
-use mathlib.Core.Bool.{Bool, true, false, _&&_, _||_, not, cond, false≢true, true≢false}
+use mathlib.Core.Bool.{Bool, true, false, _&&_, cond}
 use mathlib.Core.Option.{Option, none, some, Option·some-injective, Option·none-ne-some}
 use native.Mathlib.Omega.{arith}
 use lib.ListN.{length}
-use lib.Dec.{leb, eqb}
-use borrow.Author.Tests.{eqb-true, eq-eqb, le-leb}
-use Rattle.image.specs.Bytes.{same, shared}
+use lib.Dec.{eqb}
+use borrow.Author.Tests.{eqb-true, le-leb}
+use Rattle.image.specs.Bytes.{shared}
 use Rattle.image.specs.Entry.{Message}
 use Rattle.image.specs.Table.{Row}
 use Rattle.image.specs.Image.{Tree, unread, leaf, interior, Forest, end, tree, Kid, Inside, forestOf, leafOf, interiorOf, orNone, treeAt, nodeEntries, nodeBytes, pairsOf, insideOf}
-use Rattle.image.specs.Meaning.{highOf, rows}
+use Rattle.image.specs.Meaning.{highOf}
 use Rattle.image.specs.Sound.{soundTree, soundForest, soundRoot, numbers, isIn, once, inRange, lowest, highest}
-use Rattle.image.specs.Upkeep.{Reachable, reachable, reachableIn, reachableAt, every, unmergeable, unmergeableAt, keepsRange, noneGains, healed}
-use Rattle.octets.specs.Order.{and-left, and-right, not-so, same-refl}
+use Rattle.image.specs.Upkeep.{Reachable, reachable, reachableIn, reachableAt, every, unmergeableAt, keepsRange, healed}
+use Rattle.octets.specs.Order.{and-left, and-right, same-refl}
 use Rattle.laws.specs.Rising.{both}
-use Rattle.laws.specs.LookupTable.{Parts, parts, Inner, inner}
-use Rattle.upkeep.specs.Sublists.{Sub, once-sub, range-sub}
-use Rattle.upkeep.specs.Kept.{Stays, Kept, numbers-places, kept-no-gain}
+use Rattle.laws.specs.LookupTable.{Parts, parts, inner}
+use Rattle.upkeep.specs.Sublists.{once-sub, range-sub}
+use Rattle.upkeep.specs.Kept.{Kept, numbers-places, kept-no-gain}
 use Rattle.upkeep.specs.Merge.{tall, tallIn}
-use Rattle.upkeep.specs.Mends.{Mends, MendsIn, mends-node, tall-kids, tall-first, tall-later}
-use Rattle.upkeep.specs.Join.{joinAt, mended, kidCount, healing, heads}
-use Rattle.upkeep.specs.Loop.{mended-none, mended-mends, healing-spread, healing-mends, healing-kept}
+use Rattle.upkeep.specs.Mends.{Mends, mends-node, tall-kids, tall-first, tall-later}
+use Rattle.upkeep.specs.Join.{mended, kidCount, healing}
+use Rattle.upkeep.specs.Loop.{healing-spread, healing-mends, healing-kept}
 use Rattle.upkeep.specs.Alter.{altered, alteredIn, onKids, high-altered, Sane, Gentle, altered-mends, altered-kept, headsAt, node-kept}
 
 -- the children of node n merged until none of them fit

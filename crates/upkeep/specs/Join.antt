@@ -1,28 +1,25 @@
 -- Two neighbouring children merged where they would fit in one node; and that again and again until none do.
-use Prim.Native.Nat.{ℕ, zero, suc, _+_, _-_, _≤_, _<_}
-use mathlib.Core.Path.{_≡_, refl, sym, ap, ap₂, subst, _∙_}
+use Prim.Native.Nat.{ℕ, zero, suc}
+use mathlib.Core.Path.{_≡_, refl, ap, _∙_}
 use mathlib.Core.List.{List, [], _∷_, _++_, append-assoc}
-use mathlib.Core.Bool.{Bool, true, false, _&&_, _||_, not, cond, false≢true}
-use native.Mathlib.Omega.{arith}
-use lib.ListN.{length, drop}
-use lib.Dec.{leb, eqb}
-use borrow.Author.Tests.{eqb-true, leb-true, eq-eqb}
-use Rattle.image.specs.Bytes.{before, shared}
-use Rattle.image.specs.Path.{owns}
-use Rattle.image.specs.Entry.{Message}
-use Rattle.image.specs.Image.{Tree, unread, leaf, interior, Forest, end, tree}
+use mathlib.Core.Bool.{Bool, true, false, _&&_, cond}
+use lib.Dec.{eqb}
+use borrow.Author.Tests.{eq-eqb}
+use Rattle.image.specs.Bytes.{before}
+use Rattle.image.specs.Image.{Tree, Forest, end, tree}
 use Rattle.image.specs.Meaning.{highOf, rows, rowsIn}
 use Rattle.image.specs.Sound.{soundTree, soundForest, firstPivot, numbers, numbersIn, isIn}
-use Rattle.image.specs.Upkeep.{Reachable, reachable, reachableIn, wouldFit, unmergeable}
-use Rattle.octets.specs.Order.{and-left, and-right, before-trans, not-so}
+use Rattle.image.specs.Upkeep.{reachable, reachableIn, wouldFit}
+use Rattle.octets.specs.Order.{and-left, and-right, before-trans}
 use Rattle.laws.specs.Rising.{both}
 use Rattle.laws.specs.Frame.{or-left, or-right}
 use Rattle.laws.specs.LookupTable.{Parts, parts}
-use Rattle.upkeep.specs.Sublists.{Sub, sub-refl, sub-append, sub-trans, sub-in}
-use Rattle.upkeep.specs.Kept.{Kept, kept-refl, kept-append, kept-trans}
-use Rattle.upkeep.specs.Merge.{sameKind, merged, tall, tallIn, Pair, pair-of, numberOf, merged-rows, merged-sound, merged-tall, merged-number, merged-numbers, merged-kept}
+use Rattle.upkeep.specs.Sublists.{Sub, sub-refl, sub-append}
+use Rattle.upkeep.specs.Kept.{Kept, kept-refl, kept-append}
+use Rattle.laws.specs.Page.{numberOf}
+use Rattle.upkeep.specs.Merge.{sameKind, merged, tallIn, Pair, pair-of, merged-rows, merged-sound, merged-tall, merged-number, merged-numbers, merged-kept}
 use Rattle.upkeep.specs.Size.{Fits, fits}
-use Rattle.upkeep.specs.Mends.{Mends, MendsIn, mends-refl, mends-in-refl, mends-in-trans, mends-tree, tall-first, tall-later}
+use Rattle.upkeep.specs.Mends.{MendsIn, mends-refl, mends-in-refl, mends-tree, tall-first, tall-later}
 
 -- the test: of one kind, no message, and one node holds both
 unfoldable pub joins : Tree → Tree → List ℕ → List ℕ → List ℕ → Bool

@@ -1,24 +1,22 @@
 -- Reachable nodes after a heal beside those before: some are gone, the others keep number, level, low pivot and messages, and their high
 -- pivot too, but for some that hold no message.
-use Prim.Native.Nat.{ℕ, zero, suc, _+_, _-_}
+use Prim.Native.Nat.{ℕ, _-_}
 use mathlib.Core.Path.{_≡_, refl, sym, ap, ap₂, subst, _∙_}
 use mathlib.Core.Logic.{_⊎_, inl, inr}
 use mathlib.Core.List.{List, [], _∷_, _++_}
-use mathlib.Core.Bool.{Bool, true, false, _&&_, _||_, not, cond, false≢true, true≢false}
-use mathlib.Core.Option.{Option, none, some}
-use native.Mathlib.Omega.{arith}
-use lib.ListN.{length}
-use lib.Dec.{ltb, leb, eqb}
-use borrow.Author.Tests.{eqb-true, eqb-false, eq-eqb, ne-eqb}
-use Rattle.image.specs.Bytes.{same, before, begins, shared}
+use mathlib.Core.Bool.{Bool, true, false, _||_, not, false≢true}
+use mathlib.Core.Option.{some}
+use lib.Dec.{eqb}
+use borrow.Author.Tests.{eqb-false, eq-eqb, ne-eqb}
+use Rattle.image.specs.Bytes.{shared}
 use Rattle.image.specs.Entry.{Message, puts, drops, clears}
 use Rattle.image.specs.Image.{Tree, unread, leaf, interior, Forest, end, tree}
 use Rattle.image.specs.Meaning.{highOf}
 use Rattle.image.specs.Sound.{soundTree, soundForest, numbers, numbersIn, isIn, once}
-use Rattle.image.specs.Upkeep.{Reachable, reachable, reachableIn, reachableAt, holdsNoMessage, sameMessage, isSublist, gainsNoMessage, noneGains}
-use Rattle.octets.specs.Order.{and-left, and-right, not-so, not-true, not-false, same-refl}
+use Rattle.image.specs.Upkeep.{Reachable, reachable, reachableIn, reachableAt, sameMessage, isSublist, gainsNoMessage, noneGains}
+use Rattle.octets.specs.Order.{and-left, and-right, not-so, not-true, same-refl}
 use Rattle.laws.specs.Rising.{both}
-use Rattle.laws.specs.LookupTable.{Parts, parts, Inner, inner}
+use Rattle.laws.specs.LookupTable.{parts, inner}
 
 -- x before, y after; `among` has the numbers of the nodes whose high pivot may change
 pub record Stays (among : ℕ → Bool) (x y : Reachable) : Type 0 where

@@ -1,24 +1,19 @@
 -- Merging again and again until no two neighbouring children would fit in one node.
-use Prim.Native.Nat.{ℕ, zero, suc, _+_, _-_, _≤_, _<_}
-use mathlib.Core.Path.{_≡_, refl, sym, ap, ap₂, subst, _∙_}
-use mathlib.Core.List.{List, [], _∷_, _++_, append-assoc}
-use mathlib.Core.Bool.{Bool, true, false, _&&_, _||_, not, cond, false≢true, true≢false}
+use Prim.Native.Nat.{ℕ, zero, suc, _≤_}
+use mathlib.Core.Path.{_≡_, refl, ap, subst, _∙_}
+use mathlib.Core.List.{List, _++_}
+use mathlib.Core.Bool.{Bool, true, false, _&&_, not, true≢false}
 use native.Mathlib.Omega.{arith}
-use lib.ListN.{length, drop}
-use lib.Dec.{leb, eqb}
-use borrow.Author.Tests.{eqb-true, leb-true, eq-eqb}
-use Rattle.image.specs.Bytes.{before, shared}
-use Rattle.image.specs.Entry.{Message}
+use borrow.Author.Tests.{eqb-true, leb-true}
 use Rattle.image.specs.Image.{Tree, unread, leaf, interior, Forest, end, tree}
 use Rattle.image.specs.Meaning.{highOf}
-use Rattle.image.specs.Sound.{soundTree, soundForest, isIn}
-use Rattle.image.specs.Upkeep.{Reachable, reachable, reachableIn, wouldFit, unmergeable}
-use Rattle.octets.specs.Order.{and-left, and-right, and-false, not-so, not-true, not-false}
-use Rattle.laws.specs.Rising.{both}
-use Rattle.upkeep.specs.Sublists.{Sub, sub-refl, sub-trans, sub-in}
+use Rattle.image.specs.Sound.{soundForest, isIn}
+use Rattle.image.specs.Upkeep.{reachableIn, wouldFit, unmergeable}
+use Rattle.octets.specs.Order.{and-left, and-right, and-false, not-true}
+use Rattle.upkeep.specs.Sublists.{sub-in}
 use Rattle.upkeep.specs.Kept.{Kept, kept-refl, kept-trans}
-use Rattle.upkeep.specs.Merge.{sameKind, merged, tall, tallIn}
-use Rattle.upkeep.specs.Mends.{Mends, MendsIn, mends-in-refl, mends-in-trans, tall-first, tall-later}
+use Rattle.upkeep.specs.Merge.{sameKind, tall, tallIn}
+use Rattle.upkeep.specs.Mends.{MendsIn, mends-in-refl, mends-in-trans, tall-first, tall-later}
 use Rattle.upkeep.specs.Join.{joins, joinAt, firstPair, mended, kidCount, healing, join-mends, heads, join-heads, join-kept}
 
 -- nodes of one level are of one kind

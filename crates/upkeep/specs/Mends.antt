@@ -1,22 +1,21 @@
 -- A change of a tree that keeps its table, its soundness and its height, and leaves out nodes at most: carried from a list of children to
 -- its node, from a node to the list that it stands in, and from one change to the next.
-use Prim.Native.Nat.{ℕ, zero, suc, _+_, _-_}
-use mathlib.Core.Path.{_≡_, refl, sym, ap, ap₂, subst, _∙_}
-use mathlib.Core.List.{List, [], _∷_, _++_, append-assoc}
-use mathlib.Core.Bool.{Bool, true, false, _&&_, not, cond, false≢true}
-use lib.ListN.{length, drop}
-use lib.Dec.{leb, eqb}
-use Rattle.image.specs.Bytes.{before, shared}
-use Rattle.image.specs.Path.{owns}
+use Prim.Native.Nat.{ℕ, _-_}
+use mathlib.Core.Path.{_≡_, refl, ap, ap₂, _∙_}
+use mathlib.Core.List.{List, _++_}
+use mathlib.Core.Bool.{true}
+use lib.Dec.{leb}
+use Rattle.image.specs.Bytes.{shared}
 use Rattle.image.specs.Entry.{Message}
-use Rattle.image.specs.Image.{Tree, unread, leaf, interior, Forest, end, tree}
+use Rattle.image.specs.Image.{Tree, interior, Forest, tree}
 use Rattle.image.specs.Meaning.{highOf, applyAll, rows, rowsIn}
-use Rattle.image.specs.Sound.{soundTree, soundForest, soundMessages, firstPivot, numbers, numbersIn}
+use Rattle.image.specs.Sound.{soundTree, soundForest, firstPivot, numbers, numbersIn}
 use Rattle.octets.specs.Order.{and-left, and-right}
 use Rattle.laws.specs.Rising.{both}
-use Rattle.laws.specs.LookupTable.{Parts, parts, Inner, inner}
+use Rattle.laws.specs.LookupTable.{parts, inner}
 use Rattle.upkeep.specs.Sublists.{Sub, keep, sub-refl, sub-append, sub-trans}
-use Rattle.upkeep.specs.Merge.{tall, tallIn, numberOf, first-of, inner-sound}
+use Rattle.laws.specs.Page.{numberOf}
+use Rattle.upkeep.specs.Merge.{tall, tallIn, first-of, inner-sound}
 
 -- t is before, u after
 pub record Mends (t u : Tree) (lo hi : List ℕ) (level : ℕ) : Type 0 where

@@ -1,30 +1,28 @@
 -- Two neighbouring nodes as one: the left one's number, the entries rewritten for the joined range.
-use Prim.Native.Nat.{ℕ, zero, suc, _+_, _-_}
-use mathlib.Core.Path.{_≡_, refl, sym, ap, ap₂, subst, _∙_}
-use mathlib.Core.List.{List, [], _∷_, _++_, append-assoc, append-nil}
-use mathlib.Core.Bool.{Bool, true, false, _&&_, _||_, not, cond, false≢true, true≢false}
-use native.Mathlib.Omega.{arith}
+use Prim.Native.Nat.{ℕ, _-_}
+use mathlib.Core.Path.{_≡_, refl, sym, ap, ap₂, _∙_}
+use mathlib.Core.List.{List, [], _∷_, _++_, append-assoc}
+use mathlib.Core.Bool.{Bool, true, false, _&&_, not, false≢true}
 use lib.ListN.{length, drop}
-use lib.Dec.{ltb, leb, eqb}
-use borrow.Author.Tests.{eqb-true, eq-eqb, leb-true, le-leb}
-use Rattle.image.specs.Bytes.{same, before, begins, shared}
+use lib.Dec.{leb, eqb}
+use Rattle.image.specs.Bytes.{before, begins, shared}
 use Rattle.image.specs.Path.{owns, wellFormed, valueFits}
-use Rattle.image.specs.Entry.{Message, puts, drops, clears}
+use Rattle.image.specs.Entry.{Message}
 use Rattle.image.specs.Table.{Row, everyKey, underPrefix, leads, rising}
 use Rattle.image.specs.Image.{Tree, unread, leaf, interior, Forest, end, tree}
 use Rattle.image.specs.Meaning.{highOf, applyAll, rows, rowsIn}
 use Rattle.image.specs.Sound.{soundTree, soundForest, soundMessages, firstPivot, valuesFit, numbers, numbersIn}
-use Rattle.image.specs.Upkeep.{Reachable, reachable, reachableIn, noMessage, pairBytes, childBytes, shortPivots, treeBytes, treeShort, wouldFit}
-use Rattle.octets.specs.Order.{and-left, and-right, not-so, not-true, not-false, same-eq, same-refl, before-trans, before-append, begins-split, between-begins, before-irrefl}
+use Rattle.image.specs.Upkeep.{reachable, reachableIn, noMessage}
+use Rattle.octets.specs.Order.{and-left, and-right, not-so, not-false, same-eq, before-trans, before-append, begins-split}
 use Rattle.laws.specs.Rising.{both}
+use Rattle.laws.specs.Page.{numberOf}
 use Rattle.laws.specs.RowsRising.{rising-append, leaf-rises}
-use Rattle.laws.specs.LookupTable.{Parts, parts, Inner, inner, leaf-owned, not-low, under-high, does-own}
+use Rattle.laws.specs.LookupTable.{parts, inner, leaf-owned, not-low, under-high, does-own}
 use Rattle.laws.specs.Shift.{under-append}
 use Rattle.laws.specs.PushDown.{every-imp, owned-begins}
-use mathlib.Core.Logic.{_⊎_, inl, inr}
-use Rattle.laws.specs.PushDown.{first-low}
+use mathlib.Core.Logic.{inr}
 use Rattle.upkeep.specs.Sublists.{Sub, sub-refl, sub-append}
-use Rattle.upkeep.specs.Kept.{Stays, Kept, kept-refl, kept-append}
+use Rattle.upkeep.specs.Kept.{Kept, kept-refl, kept-append}
 
 -- pairs, and children, of a node that lifted `lifted`, in one that lifts `joined`
 unfoldable pub rewritten : List ℕ → List ℕ → List Row → List Row
@@ -350,11 +348,6 @@ pair-of (interior i f ms) (leaf j qs) a b c = absurd (false≢true a)
 pair-of (interior i f []) (interior j g []) a b c = inners i j f g
 pair-of (interior i f []) (interior j g (n ∷ ns)) a b c = absurd (false≢true c)
 pair-of (interior i f (m ∷ ms)) (interior j g ns) a b c = absurd (false≢true b)
-
-unfoldable pub numberOf : Tree → ℕ
-numberOf (unread i) = i
-numberOf (leaf i rs) = i
-numberOf (interior i f ms) = i
 
 -- The rows of both, in order.
 pub merged-rows : {t u : Tree} → Pair t u → (lo mid hi : List ℕ) → before lo mid ≡ true → before mid hi ≡ true

@@ -1,24 +1,23 @@
 -- What a node that reads says of its bytes: the entries written again have the same length, their pivots are short, and its tree has them.
-use Prim.Native.Nat.{ℕ, zero, suc, _+_, _-_, _*_, _≤_}
+use Prim.Native.Nat.{ℕ, zero, suc, _+_, _-_, _≤_}
 use mathlib.Core.Path.{_≡_, refl, sym, ap, ap₂, subst, _∙_}
 use mathlib.Core.Logic.{_⊎_, inl, inr}
-use mathlib.Core.List.{List, [], _∷_, _++_, append-nil}
-use mathlib.Core.Bool.{Bool, true, false, _&&_, cond, false≢true}
+use mathlib.Core.List.{List, [], _∷_, _++_}
+use mathlib.Core.Bool.{Bool, true, false, _&&_, cond}
 use mathlib.Core.Option.{Option, none, some, Option·some-injective, Option·none-ne-some}
 use native.Mathlib.Omega.{arith}
 use lib.ListN.{length, take, drop, length-append, length-drop, length-take, take-append-drop}
-use lib.Seq.{length-take-le}
 use lib.Dec.{leb, eqb}
 use borrow.Author.Tests.{leb-true, le-leb}
-use Rattle.image.specs.Bytes.{u16, zeros}
+use Rattle.image.specs.Bytes.{u16}
 use Rattle.image.specs.Entry.{Message, puts, drops, clears, Entry, pair, child, message, keyed, pointer, entryOf, entryThen, readAll, entriesOf}
 use Rattle.image.specs.Table.{Row}
-use Rattle.image.specs.Image.{Tree, unread, leaf, interior, Forest, end, tree, Kid, Inside, laidOut, entryBytes, nodeBytes, nodeEntries, pairThen, pairsOf, messageThen, messagesOf, noKids, kidThen, insideOf, forestOf, leafOf, interiorOf, orNone, treeAt}
-use Rattle.laws.specs.Encode.{bytesOf, bytesOfAll, allowed, allAllowed}
+use Rattle.image.specs.Image.{Tree, interior, Forest, Kid, Inside, laidOut, entryBytes, nodeBytes, nodeEntries, pairsOf, messageThen, messagesOf, noKids, kidThen, insideOf, forestOf, leafOf, interiorOf, orNone, treeAt}
+use Rattle.laws.specs.Encode.{bytesOf, allowed, allAllowed}
 use Rattle.octets.specs.Order.{and-left, and-right}
 use Rattle.laws.specs.Rising.{both}
-use Rattle.upkeep.specs.Merge.{numberOf}
-use Rattle.upkeep.specs.Size.{pairsFor, kidsFor, messagesFor, entriesFor, sizeOf, ownBytes, size-cons, size-nil, pair-size, child-size, put-size, drop-size, clear-size}
+use Rattle.laws.specs.Page.{numberOf, childEntries}
+use Rattle.upkeep.specs.Size.{messageEntries, sizeOf, size-cons, size-nil, pair-size, child-size, put-size, drop-size, clear-size}
 use Rattle.upkeep.specs.Page.{Reads, none-left, one-more}
 
 either : (b : Bool) (x y : Option Entry) (e : Entry) → cond b x y ≡ some e → (x ≡ some e) ⊎ (y ≡ some e)
@@ -159,22 +158,22 @@ kidEntries [] = []
 kidEntries (k ∷ ks) = child (k .number) (k .pivot) ∷ kidEntries ks
 
 messages-then : (m : Message) (es : List Entry) (o : Option (List Message)) (ms : List Message) → messageThen m o ≡ some ms
-    → ((ns : List Message) → o ≡ some ns → es ≡ messagesFor ns) → message m ∷ es ≡ messagesFor ms
-unfolding messageThen messagesFor
+    → ((ns : List Message) → o ≡ some ns → es ≡ messageEntries ns) → message m ∷ es ≡ messageEntries ms
+unfolding messageThen messageEntries
 messages-then m es none ms p f = absurd (Option·none-ne-some ms p)
-messages-then m es (some ns) ms p f = ap (λ l. message m ∷ l) (f ns refl) ∙ ap messagesFor (Option·some-injective (m ∷ ns) ms p)
+messages-then m es (some ns) ms p f = ap (λ l. message m ∷ l) (f ns refl) ∙ ap messageEntries (Option·some-injective (m ∷ ns) ms p)
 
-messages-entries : (es : List Entry) (ms : List Message) → messagesOf es ≡ some ms → es ≡ messagesFor ms
-unfolding messagesOf messagesFor
-messages-entries [] ms p = ap messagesFor (Option·some-injective [] ms p)
+messages-entries : (es : List Entry) (ms : List Message) → messagesOf es ≡ some ms → es ≡ messageEntries ms
+unfolding messagesOf messageEntries
+messages-entries [] ms p = ap messageEntries (Option·some-injective [] ms p)
 messages-entries (pair s v ∷ es) ms p = absurd (Option·none-ne-some ms p)
 messages-entries (child i s ∷ es) ms p = absurd (Option·none-ne-some ms p)
 messages-entries (message m ∷ es) ms p = messages-then m es (messagesOf es) ms p (λ ns q. messages-entries es ns q)
 
 abbrev reported : Inside → List Entry
-reported y = kidEntries (y .kids) ++ messagesFor (y .messages)
+reported y = kidEntries (y .kids) ++ messageEntries (y .messages)
 
-no-kids-entries : (es : List Entry) (o : Option (List Message)) (y : Inside) → noKids o ≡ some y → ((ns : List Message) → o ≡ some ns → es ≡ messagesFor ns) → es ≡ reported y
+no-kids-entries : (es : List Entry) (o : Option (List Message)) (y : Inside) → noKids o ≡ some y → ((ns : List Message) → o ≡ some ns → es ≡ messageEntries ns) → es ≡ reported y
 unfolding noKids kidEntries
 no-kids-entries es none y p f = absurd (Option·none-ne-some y p)
 no-kids-entries es (some ns) y p f = f ns refl ∙ ap reported (Option·some-injective (record { kids = []; messages = ns }) y p)
@@ -187,7 +186,7 @@ kid-entries k es (some z) y p f =
     ap (λ l. child (k .number) (k .pivot) ∷ l) (f z refl) ∙ ap reported (Option·some-injective (record { kids = k ∷ z .kids; messages = z .messages }) y p)
 
 pub inside-entries : (es : List Entry) (y : Inside) → insideOf es ≡ some y → es ≡ reported y
-unfolding insideOf kidEntries messagesFor
+unfolding insideOf kidEntries messageEntries
 inside-entries [] y p = ap reported (Option·some-injective (record { kids = []; messages = [] }) y p)
 inside-entries (pair s v ∷ es) y p = absurd (Option·none-ne-some y p)
 inside-entries (child i s ∷ es) y p = kid-entries (record { number = i; pivot = s }) es (insideOf es) y p (λ z q. inside-entries es z q)
@@ -210,8 +209,8 @@ number-at zero s i = refl
 number-at (suc zero) s i = leaf-number i (orNone pairsOf (nodeEntries 0x0001 1 (nodeBytes s i)))
 number-at (suc (suc l)) s i = interior-number (λ j. treeAt (suc l) s j) i (orNone insideOf (nodeEntries 0x0002 (suc (suc l)) (nodeBytes s i)))
 
-kids-for-forest : (under : ℕ → Tree) → ((j : ℕ) → numberOf (under j) ≡ j) → (ks : List Kid) → kidsFor (forestOf under ks) ≡ kidEntries ks
-unfolding kidsFor forestOf kidEntries
+kids-for-forest : (under : ℕ → Tree) → ((j : ℕ) → numberOf (under j) ≡ j) → (ks : List Kid) → childEntries (forestOf under ks) ≡ kidEntries ks
+unfolding childEntries forestOf kidEntries
 kids-for-forest under law [] = refl
 kids-for-forest under law (k ∷ ks) = ap₂ (λ i l. child i (k .pivot) ∷ l) (law (k .number)) (kids-for-forest under law ks)
 
@@ -223,8 +222,8 @@ reads-forest under law (k ∷ ks) = one-more (ap under (law (k .number))) (reads
 -- An interior node that reads.
 pub record Node (l : ℕ) (s : List ℕ) (f : Forest) (ms : List Message) : Type 0 where
   pub kids : Reads (λ j. treeAt (suc l) s j) f
-  pub fits : sizeOf (kidsFor f ++ messagesFor ms) ≤ 1016
-  pub short : allAllowed (kidsFor f ++ messagesFor ms) ≡ true
+  pub fits : sizeOf (childEntries f ++ messageEntries ms) ≤ 1016
+  pub short : allAllowed (childEntries f ++ messageEntries ms) ≡ true
 
 node-by : (l : ℕ) (s : List ℕ) (i : ℕ) (o : Option (List Entry)) (f : Forest) (ms : List Message) → interiorOf (λ j. treeAt (suc l) s j) i (orNone insideOf o) ≡ interior i f ms
     → ((es : List Entry) → o ≡ some es → (sizeOf es ≤ 1016) × (allAllowed es ≡ true)) → Node l s f ms
@@ -237,9 +236,9 @@ node-by l s i (some es) f ms p g = go (insideOf es) refl p
     go (some y) q r =
         let a : forestOf (λ j. treeAt (suc l) s j) (y .kids) ≡ f = cc in
         let b : y .messages ≡ ms = cc in
-        let c : kidsFor f ++ messagesFor ms ≡ es =
-        ap₂ (λ u v. kidsFor u ++ messagesFor v) (sym a) (sym b)
-        ∙ ap (λ k. k ++ messagesFor (y .messages)) (kids-for-forest (λ j. treeAt (suc l) s j) (λ j. number-at (suc l) s j) (y .kids))
+        let c : childEntries f ++ messageEntries ms ≡ es =
+        ap₂ (λ u v. childEntries u ++ messageEntries v) (sym a) (sym b)
+        ∙ ap (λ k. k ++ messageEntries (y .messages)) (kids-for-forest (λ j. treeAt (suc l) s j) (λ j. number-at (suc l) s j) (y .kids))
         ∙ sym (inside-entries es y q) in
         record {
           kids = subst (λ u. Reads (λ j. treeAt (suc l) s j) u) a (reads-forest (λ j. treeAt (suc l) s j) (λ j. number-at (suc l) s j) (y .kids));

@@ -1,26 +1,25 @@
 -- Sizes: of a node whose children are merged, and of the children of a node that is flushed; so that code can test that all fits before it acts.
-use Prim.Native.Nat.{ℕ, zero, suc, _+_, _-_, _≤_, _*_}
-use mathlib.Core.Path.{_≡_, refl, sym, ap, ap₂, subst, _∙_}
-use mathlib.Core.List.{List, [], _∷_, _++_, append-assoc, append-nil}
-use mathlib.Core.Bool.{Bool, true, false, _&&_, _||_, not, cond, false≢true}
-use mathlib.Core.Option.{Option, none, some, Option·some-injective, Option·none-ne-some}
+use Prim.Native.Nat.{ℕ, zero, suc, _+_, _≤_}
+use mathlib.Core.Path.{_≡_, refl, sym, ap, ap₂, _∙_}
+use mathlib.Core.List.{List, [], _∷_, _++_, append-nil}
+use mathlib.Core.Bool.{Bool, true, false, _&&_, cond}
 use native.Mathlib.Omega.{arith}
-use lib.ListN.{length, take, drop, length-append, length-drop}
-use lib.Seq.{length-take-le}
-use lib.Dec.{leb, eqb}
+use lib.ListN.{length}
+use lib.Dec.{leb}
 use borrow.Author.Tests.{leb-true, le-leb}
-use Rattle.image.specs.Bytes.{same, before, shared, u16}
+use Rattle.image.specs.Bytes.{same, before, shared}
 use Rattle.image.specs.Path.{below}
-use Rattle.image.specs.Entry.{Message, puts, drops, clears, Entry, pair, child, message, keyed, pointer, entryOf, entryThen, readAll, entriesOf}
+use Rattle.image.specs.Entry.{Message, puts, drops, clears, pair, child, message}
 use Rattle.image.specs.Table.{Row, withRow, without, withoutBelow}
 use Rattle.image.specs.Image.{Tree, unread, leaf, interior, Forest, end, tree}
 use Rattle.image.specs.Meaning.{highOf, apply}
-use Rattle.laws.specs.Encode.{bytesOf, bytesOfAll, allAllowed}
+use Rattle.laws.specs.Encode.{bytesOf, allAllowed}
 use Rattle.octets.specs.Order.{and-left, and-right}
 use Rattle.laws.specs.Rising.{both}
 use Rattle.laws.specs.PushDown.{taken, touches, lowered, sent, pushed, raised, high-pushed}
-use Rattle.upkeep.specs.Merge.{sameKind, merged, Pair, numberOf, merged-number}
-use Rattle.upkeep.specs.Size.{pairsFor, kidsFor, messagesFor, entriesFor, sizeOf, ownBytes, size-append, size-cons, size-nil, pair-size, child-size, put-size, drop-size, clear-size, Fits, fits, merged-size, merged-allowed}
+use Rattle.laws.specs.Page.{numberOf, pairEntries, childEntries}
+use Rattle.upkeep.specs.Merge.{sameKind, merged, merged-number}
+use Rattle.upkeep.specs.Size.{messageEntries, entriesFor, sizeOf, ownBytes, size-append, size-cons, size-nil, pair-size, put-size, Fits, fits, merged-size, merged-allowed}
 use Rattle.upkeep.specs.Join.{joins, joinAt, join-pair}
 use Rattle.upkeep.specs.Flush.{pushedAll, flushedNode}
 
@@ -37,26 +36,26 @@ merged-short t u lo mid hi e =
     let w : Fits t u lo mid hi = fits t u lo mid hi (and-right (sameKind t u) _ e) in
     merged-allowed (join-pair t u lo mid hi e) lo mid hi (w .leftShort) (w .rightShort)
 
-join-size : (k : ℕ) (f : Forest) (lifted hi : List ℕ) → sizeOf (kidsFor (joinAt k f lifted hi)) ≤ sizeOf (kidsFor f)
-unfolding joinAt kidsFor
+join-size : (k : ℕ) (f : Forest) (lifted hi : List ℕ) → sizeOf (childEntries (joinAt k f lifted hi)) ≤ sizeOf (childEntries f)
+unfolding joinAt childEntries
 join-size k end lifted hi = omega arith
 join-size k (tree s t end) lifted hi = omega arith
 join-size zero (tree s t (tree q u f)) lifted hi = go (joins t u (lifted ++ s) (lifted ++ q) (highOf lifted hi f)) refl
   where
     go : (x : Bool) → joins t u (lifted ++ s) (lifted ++ q) (highOf lifted hi f) ≡ x
-        → sizeOf (kidsFor (joinAt zero (tree s t (tree q u f)) lifted hi)) ≤ sizeOf (child (numberOf t) s ∷ child (numberOf u) q ∷ kidsFor f)
+        → sizeOf (childEntries (joinAt zero (tree s t (tree q u f)) lifted hi)) ≤ sizeOf (child (numberOf t) s ∷ child (numberOf u) q ∷ childEntries f)
     go true a =
         rw (a, merged-number (join-pair t u (lifted ++ s) (lifted ++ q) (highOf lifted hi f) a) (lifted ++ s) (lifted ++ q) (highOf lifted hi f))
-        (omega (arith, size-cons (child (numberOf t) s) (kidsFor f), size-cons (child (numberOf t) s) (child (numberOf u) q ∷ kidsFor f), size-cons (child (numberOf u) q) (kidsFor f)))
+        (omega (arith, size-cons (child (numberOf t) s) (childEntries f), size-cons (child (numberOf t) s) (child (numberOf u) q ∷ childEntries f), size-cons (child (numberOf u) q) (childEntries f)))
     go false a = rw a (omega arith)
 join-size (suc k) (tree s t (tree q u f)) lifted hi =
-    omega (arith, join-size k (tree q u f) lifted hi, size-cons (child (numberOf t) s) (kidsFor (joinAt k (tree q u f) lifted hi)), size-cons (child (numberOf t) s) (kidsFor (tree q u f)))
+    omega (arith, join-size k (tree q u f) lifted hi, size-cons (child (numberOf t) s) (childEntries (joinAt k (tree q u f) lifted hi)), size-cons (child (numberOf t) s) (childEntries (tree q u f)))
 
 -- the node itself is not longer than it was
 pub join-own : (i k : ℕ) (f : Forest) (ms : List Message) (lifted hi : List ℕ) → ownBytes (interior i (joinAt k f lifted hi) ms) ≤ ownBytes (interior i f ms)
 unfolding ownBytes entriesFor
 join-own i k f ms lifted hi =
-    omega (arith, join-size k f lifted hi, size-append (kidsFor (joinAt k f lifted hi)) (messagesFor ms), size-append (kidsFor f) (messagesFor ms))
+    omega (arith, join-size k f lifted hi, size-append (childEntries (joinAt k f lifted hi)) (messageEntries ms), size-append (childEntries f) (messageEntries ms))
 
 -- FLUSH: what each child becomes
 unfoldable pub sentAll : List ℕ → List Message → Tree → List ℕ → List ℕ → Tree
@@ -93,8 +92,8 @@ unfoldable pub addedBytes : List ℕ → List Message → List ℕ → List ℕ 
 addedBytes l [] lo hi = 0
 addedBytes l (m ∷ ms) lo hi = cond (touches (raised l m) lo hi) (messageBytes (lowered (shared lo hi) (raised l m))) 0 + addedBytes l ms lo hi
 
-messages-for-append : (ms : List Message) (m : Message) → messagesFor (ms ++ m ∷ []) ≡ messagesFor ms ++ message m ∷ []
-unfolding messagesFor
+messages-for-append : (ms : List Message) (m : Message) → messageEntries (ms ++ m ∷ []) ≡ messageEntries ms ++ message m ∷ []
+unfolding messageEntries
 messages-for-append [] m = refl
 messages-for-append (x ∷ ms) m = ap (λ l. message x ∷ l) (messages-for-append ms m)
 
@@ -104,9 +103,9 @@ inner-one i f ms m =
     rw (messages-for-append ms m)
     (omega (
       arith,
-      size-append (kidsFor f) (messagesFor ms ++ message m ∷ []),
-      size-append (messagesFor ms) (message m ∷ []),
-      size-append (kidsFor f) (messagesFor ms),
+      size-append (childEntries f) (messageEntries ms ++ message m ∷ []),
+      size-append (messageEntries ms) (message m ∷ []),
+      size-append (childEntries f) (messageEntries ms),
       size-cons (message m) [],
       size-nil,
     ))
@@ -143,61 +142,61 @@ leaf-after l (m ∷ ms) i rs lo hi = go (touches (raised l m) lo hi) refl (λ qs
     go true e ih = rw e (ih (apply [] (lowered (shared lo hi) (raised l m)) rs))
     go false e ih = rw e (ih rs)
 
-with-size : (p v : List ℕ) (t : List Row) → sizeOf (pairsFor (withRow p v t)) ≤ sizeOf (pairsFor t) + length (bytesOf (pair p v))
-unfolding withRow pairsFor
+with-size : (p v : List ℕ) (t : List Row) → sizeOf (pairEntries (withRow p v t)) ≤ sizeOf (pairEntries t) + length (bytesOf (pair p v))
+unfolding withRow pairEntries
 with-size p v [] = omega (arith, size-cons (pair p v) [], size-nil)
 with-size p v (r ∷ t) = go (before (r .key) p) refl (same p (r .key)) refl (with-size p v t)
   where
-    old : sizeOf (pair (r .key) (r .value) ∷ pairsFor t) ≡ length (bytesOf (pair (r .key) (r .value))) + sizeOf (pairsFor t)
-    old = size-cons (pair (r .key) (r .value)) (pairsFor t)
+    old : sizeOf (pair (r .key) (r .value) ∷ pairEntries t) ≡ length (bytesOf (pair (r .key) (r .value))) + sizeOf (pairEntries t)
+    old = size-cons (pair (r .key) (r .value)) (pairEntries t)
 
-    go : (x : Bool) → before (r .key) p ≡ x → (y : Bool) → same p (r .key) ≡ y → sizeOf (pairsFor (withRow p v t)) ≤ sizeOf (pairsFor t) + length (bytesOf (pair p v))
-        → sizeOf (pairsFor (withRow p v (r ∷ t))) ≤ sizeOf (pair (r .key) (r .value) ∷ pairsFor t) + length (bytesOf (pair p v))
-    go true e y f ih = rw e (omega (arith, old, size-cons (pair (r .key) (r .value)) (pairsFor (withRow p v t))))
-    go false e true f ih = rw (e, f) (omega (arith, old, size-cons (pair p v) (pairsFor t)))
-    go false e false f ih = rw (e, f) (omega (arith, size-cons (pair p v) (pair (r .key) (r .value) ∷ pairsFor t)))
+    go : (x : Bool) → before (r .key) p ≡ x → (y : Bool) → same p (r .key) ≡ y → sizeOf (pairEntries (withRow p v t)) ≤ sizeOf (pairEntries t) + length (bytesOf (pair p v))
+        → sizeOf (pairEntries (withRow p v (r ∷ t))) ≤ sizeOf (pair (r .key) (r .value) ∷ pairEntries t) + length (bytesOf (pair p v))
+    go true e y f ih = rw e (omega (arith, old, size-cons (pair (r .key) (r .value)) (pairEntries (withRow p v t))))
+    go false e true f ih = rw (e, f) (omega (arith, old, size-cons (pair p v) (pairEntries t)))
+    go false e false f ih = rw (e, f) (omega (arith, size-cons (pair p v) (pair (r .key) (r .value) ∷ pairEntries t)))
 
-without-size : (p : List ℕ) (t : List Row) → sizeOf (pairsFor (without p t)) ≤ sizeOf (pairsFor t)
-unfolding without pairsFor
+without-size : (p : List ℕ) (t : List Row) → sizeOf (pairEntries (without p t)) ≤ sizeOf (pairEntries t)
+unfolding without pairEntries
 without-size p [] = omega arith
 without-size p (r ∷ t) = go (same p (r .key)) refl (without-size p t)
   where
-    old : sizeOf (pair (r .key) (r .value) ∷ pairsFor t) ≡ length (bytesOf (pair (r .key) (r .value))) + sizeOf (pairsFor t)
-    old = size-cons (pair (r .key) (r .value)) (pairsFor t)
+    old : sizeOf (pair (r .key) (r .value) ∷ pairEntries t) ≡ length (bytesOf (pair (r .key) (r .value))) + sizeOf (pairEntries t)
+    old = size-cons (pair (r .key) (r .value)) (pairEntries t)
 
-    go : (x : Bool) → same p (r .key) ≡ x → sizeOf (pairsFor (without p t)) ≤ sizeOf (pairsFor t) → sizeOf (pairsFor (without p (r ∷ t))) ≤ sizeOf (pair (r .key) (r .value) ∷ pairsFor t)
+    go : (x : Bool) → same p (r .key) ≡ x → sizeOf (pairEntries (without p t)) ≤ sizeOf (pairEntries t) → sizeOf (pairEntries (without p (r ∷ t))) ≤ sizeOf (pair (r .key) (r .value) ∷ pairEntries t)
     go true e ih = rw e (omega (arith, old))
-    go false e ih = rw e (omega (arith, old, size-cons (pair (r .key) (r .value)) (pairsFor (without p t))))
+    go false e ih = rw e (omega (arith, old, size-cons (pair (r .key) (r .value)) (pairEntries (without p t))))
 
-cleared-size : (p : List ℕ) (t : List Row) → sizeOf (pairsFor (withoutBelow p t)) ≤ sizeOf (pairsFor t)
-unfolding withoutBelow pairsFor
+cleared-size : (p : List ℕ) (t : List Row) → sizeOf (pairEntries (withoutBelow p t)) ≤ sizeOf (pairEntries t)
+unfolding withoutBelow pairEntries
 cleared-size p [] = omega arith
 cleared-size p (r ∷ t) = go (below (r .key) p) refl (cleared-size p t)
   where
-    old : sizeOf (pair (r .key) (r .value) ∷ pairsFor t) ≡ length (bytesOf (pair (r .key) (r .value))) + sizeOf (pairsFor t)
-    old = size-cons (pair (r .key) (r .value)) (pairsFor t)
+    old : sizeOf (pair (r .key) (r .value) ∷ pairEntries t) ≡ length (bytesOf (pair (r .key) (r .value))) + sizeOf (pairEntries t)
+    old = size-cons (pair (r .key) (r .value)) (pairEntries t)
 
-    go : (x : Bool) → below (r .key) p ≡ x → sizeOf (pairsFor (withoutBelow p t)) ≤ sizeOf (pairsFor t)
-        → sizeOf (pairsFor (withoutBelow p (r ∷ t))) ≤ sizeOf (pair (r .key) (r .value) ∷ pairsFor t)
+    go : (x : Bool) → below (r .key) p ≡ x → sizeOf (pairEntries (withoutBelow p t)) ≤ sizeOf (pairEntries t)
+        → sizeOf (pairEntries (withoutBelow p (r ∷ t))) ≤ sizeOf (pair (r .key) (r .value) ∷ pairEntries t)
     go true e ih = rw e (omega (arith, old))
-    go false e ih = rw e (omega (arith, old, size-cons (pair (r .key) (r .value)) (pairsFor (withoutBelow p t))))
+    go false e ih = rw e (omega (arith, old, size-cons (pair (r .key) (r .value)) (pairEntries (withoutBelow p t))))
 
-apply-size : (m : Message) (t : List Row) → sizeOf (pairsFor (apply [] m t)) ≤ sizeOf (pairsFor t) + messageBytes m
+apply-size : (m : Message) (t : List Row) → sizeOf (pairEntries (apply [] m t)) ≤ sizeOf (pairEntries t) + messageBytes m
 unfolding apply messageBytes
 apply-size (puts s v) t = omega (arith, with-size s v t, pair-size s v, put-size s v)
 apply-size (drops s) t = omega (arith, without-size s t)
 apply-size (clears s) t = omega (arith, cleared-size s t)
 
 pub leaf-bound : (l : List ℕ) (ms : List Message) (rs : List Row) (lo hi : List ℕ)
-    → sizeOf (pairsFor (leafAfter l ms rs lo hi)) ≤ sizeOf (pairsFor rs) + addedBytes l ms lo hi
+    → sizeOf (pairEntries (leafAfter l ms rs lo hi)) ≤ sizeOf (pairEntries rs) + addedBytes l ms lo hi
 unfolding leafAfter addedBytes
 leaf-bound l [] rs lo hi = omega arith
 leaf-bound l (m ∷ ms) rs lo hi = go (touches (raised l m) lo hi) refl (λ qs. leaf-bound l ms qs lo hi)
   where
     go : (x : Bool) → touches (raised l m) lo hi ≡ x
-        → ((qs : List Row) → sizeOf (pairsFor (leafAfter l ms qs lo hi)) ≤ sizeOf (pairsFor qs) + addedBytes l ms lo hi)
-        → sizeOf (pairsFor (leafAfter l ms (cond (touches (raised l m) lo hi) (apply [] (lowered (shared lo hi) (raised l m)) rs) rs) lo hi))
-        ≤ sizeOf (pairsFor rs) + (cond (touches (raised l m) lo hi) (messageBytes (lowered (shared lo hi) (raised l m))) 0 + addedBytes l ms lo hi)
+        → ((qs : List Row) → sizeOf (pairEntries (leafAfter l ms qs lo hi)) ≤ sizeOf (pairEntries qs) + addedBytes l ms lo hi)
+        → sizeOf (pairEntries (leafAfter l ms (cond (touches (raised l m) lo hi) (apply [] (lowered (shared lo hi) (raised l m)) rs) rs) lo hi))
+        ≤ sizeOf (pairEntries rs) + (cond (touches (raised l m) lo hi) (messageBytes (lowered (shared lo hi) (raised l m))) 0 + addedBytes l ms lo hi)
     go true e ih = rw e (omega (arith, ih (apply [] (lowered (shared lo hi) (raised l m)) rs), apply-size (lowered (shared lo hi) (raised l m)) rs))
     go false e ih = rw e (omega (arith, ih rs))
 
@@ -257,16 +256,16 @@ number-sent m t lo hi = go (touches m lo hi)
     go true = number-taken (lowered (shared lo hi) m) t
     go false = refl
 
-kids-pushed : (m : Message) (f : Forest) (lifted hi : List ℕ) → kidsFor (pushed m f lifted hi) ≡ kidsFor f
-unfolding kidsFor pushed
+kids-pushed : (m : Message) (f : Forest) (lifted hi : List ℕ) → childEntries (pushed m f lifted hi) ≡ childEntries f
+unfolding childEntries pushed
 kids-pushed m end lifted hi = refl
 kids-pushed m (tree s t f) lifted hi = ap₂ (λ n l. child n s ∷ l) (number-sent m t (lifted ++ s) (highOf lifted hi f)) (kids-pushed m f lifted hi)
 
-pub kids-pushed-all : (ms : List Message) (f : Forest) (lifted hi : List ℕ) → kidsFor (pushedAll ms f lifted hi) ≡ kidsFor f
+pub kids-pushed-all : (ms : List Message) (f : Forest) (lifted hi : List ℕ) → childEntries (pushedAll ms f lifted hi) ≡ childEntries f
 unfolding pushedAll
 kids-pushed-all [] f lifted hi = refl
 kids-pushed-all (m ∷ ms) f lifted hi = kids-pushed-all ms (pushed (raised lifted m) f lifted hi) lifted hi ∙ kids-pushed (raised lifted m) f lifted hi
 
-pub flush-entries : (i : ℕ) (f : Forest) (ms : List Message) (lo hi : List ℕ) → entriesFor (flushedNode (interior i f ms) lo hi) ≡ kidsFor f
-unfolding entriesFor flushedNode messagesFor
-flush-entries i f ms lo hi = append-nil (kidsFor (pushedAll ms f (shared lo hi) hi)) ∙ kids-pushed-all ms f (shared lo hi) hi
+pub flush-entries : (i : ℕ) (f : Forest) (ms : List Message) (lo hi : List ℕ) → entriesFor (flushedNode (interior i f ms) lo hi) ≡ childEntries f
+unfolding entriesFor flushedNode messageEntries
+flush-entries i f ms lo hi = append-nil (childEntries (pushedAll ms f (shared lo hi) hi)) ∙ kids-pushed-all ms f (shared lo hi) hi

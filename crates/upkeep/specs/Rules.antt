@@ -1,20 +1,18 @@
 -- The rules of heal and flush on images, as a loop of code meets them.
-use Prim.Native.Nat.{ℕ, zero, suc, _+_, _-_, _≤_}
+use Prim.Native.Nat.{ℕ, zero, suc}
 use mathlib.Core.Path.{_≡_, refl, sym, ap, ap₂, subst, _∙_}
-use mathlib.Core.List.{List, [], _∷_, _++_}
-use mathlib.Core.Bool.{Bool, true, false, _&&_, not, cond, true≢false}
-use mathlib.Core.Option.{Option, none, some, Option·some-injective}
+use mathlib.Core.List.{List, _++_}
+use mathlib.Core.Bool.{Bool, true, false, _&&_, not, true≢false}
+use mathlib.Core.Option.{Option, some, Option·some-injective}
 use lib.ListN.{length}
-use lib.Dec.{leb, eqb}
-use Rattle.image.specs.Bytes.{shared}
-use Rattle.image.specs.Image.{Tree, unread, leaf, interior, Forest, end, tree, nodeBytes, nodesOf, header, headerOf, headerLaidOut, treeOf}
+use Rattle.image.specs.Image.{Tree, Forest, end, tree, nodeBytes, nodesOf, header, headerOf, headerLaidOut, treeOf}
 use Rattle.image.specs.Meaning.{highOf}
-use Rattle.image.specs.Sound.{soundHeader, soundTree, soundForest, soundRoot, sound, numbers, once, lowest, highest}
+use Rattle.image.specs.Sound.{soundHeader, soundTree, soundRoot, sound, numbers, once, lowest, highest}
 use Rattle.image.specs.Upkeep.{Reachable, reachable, reachableNodes, reachableAt, wouldFit, unmergeable, unmergeableAt, healed, flushed}
 use Rattle.octets.specs.Order.{and-left, and-right}
-use Rattle.upkeep.specs.Merge.{sameKind, tall, tallIn}
+use Rattle.upkeep.specs.Merge.{sameKind, tallIn}
 use Rattle.upkeep.specs.Mends.{tall-first, tall-later}
-use Rattle.upkeep.specs.Join.{joins, joinAt, firstPair, mended}
+use Rattle.upkeep.specs.Join.{joins, firstPair, mended}
 use Rattle.upkeep.specs.Loop.{one-kind}
 use Rattle.upkeep.specs.Alter.{altered, onKids}
 use Rattle.upkeep.specs.Healed.{rechilded, rechild, place-altered}

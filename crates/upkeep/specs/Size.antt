@@ -1,40 +1,33 @@
 -- The entries of a node as they are written, their length in bytes, and that they read back.
-use Prim.Native.Nat.{ℕ, zero, suc, _+_, _-_, _*_, _/_, _%_, _≤_}
+use Prim.Native.Nat.{ℕ, _+_, _≤_}
 use mathlib.Core.Path.{_≡_, refl, sym, ap, ap₂, _∙_}
 use mathlib.Core.List.{List, [], _∷_, _++_, append-assoc, append-nil}
-use mathlib.Core.Bool.{Bool, true, false, _&&_, cond, false≢true}
-use mathlib.Core.Option.{Option, none, some}
+use mathlib.Core.Bool.{true, _&&_}
+use mathlib.Core.Option.{some}
 use native.Mathlib.Omega.{arith}
 use lib.ListN.{length, drop, length-append}
-use lib.Dec.{leb, eqb}
+use lib.Dec.{leb}
 use borrow.Author.Tests.{leb-true}
-use Rattle.image.specs.Bytes.{shared, u16Bytes}
+use Rattle.image.specs.Bytes.{shared}
 use Rattle.image.specs.Entry.{Message, puts, drops, clears, Entry, pair, child, message, entriesOf}
 use Rattle.image.specs.Table.{Row}
-use Rattle.image.specs.Image.{Tree, unread, leaf, interior, Forest, end, tree, Kid, Inside, pairThen, pairsOf, messageThen, messagesOf, noKids, kidThen, insideOf, forestOf}
+use Rattle.image.specs.Image.{Tree, unread, leaf, interior, Forest, end, tree, pairsOf, messageThen, messagesOf, noKids, kidThen, insideOf}
 use Rattle.image.specs.Upkeep.{noMessage, pairBytes, childBytes, shortPivots, treeBytes, treeShort, wouldFit}
 use Rattle.laws.specs.Encode.{restOf, kindOf, bytesOf, bytesOfAll, allowed, allAllowed, all-back}
 use Rattle.octets.specs.Order.{and-left, and-right}
 use Rattle.laws.specs.Rising.{both}
-use Rattle.upkeep.specs.Merge.{rewritten, repointed, followed, merged, Pair, sameKind, pair-of, numberOf}
+use Rattle.laws.specs.Page.{numberOf, pairEntries, childEntries, kidsOf, pairs-back, pairs-allowed}
+use Rattle.upkeep.specs.Merge.{rewritten, repointed, followed, merged, Pair}
 
-unfoldable pub pairsFor : List Row → List Entry
-pairsFor [] = []
-pairsFor (r ∷ rs) = pair (r .key) (r .value) ∷ pairsFor rs
-
-unfoldable pub kidsFor : Forest → List Entry
-kidsFor end = []
-kidsFor (tree s t f) = child (numberOf t) s ∷ kidsFor f
-
-unfoldable pub messagesFor : List Message → List Entry
-messagesFor [] = []
-messagesFor (m ∷ ms) = message m ∷ messagesFor ms
+unfoldable pub messageEntries : List Message → List Entry
+messageEntries [] = []
+messageEntries (m ∷ ms) = message m ∷ messageEntries ms
 
 -- the entries of a node
 unfoldable pub entriesFor : Tree → List Entry
 entriesFor (unread i) = []
-entriesFor (leaf i rs) = pairsFor rs
-entriesFor (interior i f ms) = kidsFor f ++ messagesFor ms
+entriesFor (leaf i rs) = pairEntries rs
+entriesFor (interior i f ms) = childEntries f ++ messageEntries ms
 
 -- their bytes
 unfoldable pub sizeOf : List Entry → ℕ
@@ -81,42 +74,42 @@ unfolding sizeOf bytesOfAll
 size-nil = refl
 
 -- Upkeep's counts are the bytes of the entries rewritten
-pairs-for-append : (t u : List Row) → pairsFor (t ++ u) ≡ pairsFor t ++ pairsFor u
-unfolding pairsFor
+pairs-for-append : (t u : List Row) → pairEntries (t ++ u) ≡ pairEntries t ++ pairEntries u
+unfolding pairEntries
 pairs-for-append [] u = refl
 pairs-for-append (r ∷ t) u = ap (λ l. pair (r .key) (r .value) ∷ l) (pairs-for-append t u)
 
-kids-for-append : (f g : Forest) → kidsFor (followed f g) ≡ kidsFor f ++ kidsFor g
-unfolding kidsFor followed
+kids-for-append : (f g : Forest) → childEntries (followed f g) ≡ childEntries f ++ childEntries g
+unfolding childEntries followed
 kids-for-append end g = refl
 kids-for-append (tree s t f) g = ap (λ l. child (numberOf t) s ∷ l) (kids-for-append f g)
 
-pub pairs-size : (J L : List ℕ) (rs : List Row) → sizeOf (pairsFor (rewritten J L rs)) ≡ pairBytes J L rs
-unfolding pairsFor rewritten pairBytes
+pub pairs-size : (J L : List ℕ) (rs : List Row) → sizeOf (pairEntries (rewritten J L rs)) ≡ pairBytes J L rs
+unfolding pairEntries rewritten pairBytes
 pairs-size J L [] = size-nil
 pairs-size J L (r ∷ rs) =
-    size-cons (pair (drop (length J) (L ++ r .key)) (r .value)) (pairsFor (rewritten J L rs))
+    size-cons (pair (drop (length J) (L ++ r .key)) (r .value)) (pairEntries (rewritten J L rs))
     ∙ ap₂ (λ a b. a + b) (pair-size (drop (length J) (L ++ r .key)) (r .value)) (pairs-size J L rs)
 
-pub kids-size : (J L : List ℕ) (f : Forest) → sizeOf (kidsFor (repointed J L f)) ≡ childBytes J L f
-unfolding kidsFor repointed childBytes
+pub kids-size : (J L : List ℕ) (f : Forest) → sizeOf (childEntries (repointed J L f)) ≡ childBytes J L f
+unfolding childEntries repointed childBytes
 kids-size J L end = size-nil
 kids-size J L (tree s t f) =
-    size-cons (child (numberOf t) (drop (length J) (L ++ s))) (kidsFor (repointed J L f))
+    size-cons (child (numberOf t) (drop (length J) (L ++ s))) (childEntries (repointed J L f))
     ∙ ap₂ (λ a b. a + b) (child-size (numberOf t) (drop (length J) (L ++ s))) (kids-size J L f)
 
 -- The bytes of two nodes merged are what `wouldFit` counts.
 pub merged-size : {t u : Tree} → Pair t u → (lo mid hi : List ℕ)
     → ownBytes (merged t u lo mid hi) ≡ treeBytes (shared lo hi) (shared lo mid) t + treeBytes (shared lo hi) (shared mid hi) u
-unfolding ownBytes merged treeBytes entriesFor messagesFor
+unfolding ownBytes merged treeBytes entriesFor messageEntries
 merged-size (Pair.leaves i j rs qs) lo mid hi =
     ap sizeOf (pairs-for-append (rewritten (shared lo hi) (shared lo mid) rs) (rewritten (shared lo hi) (shared mid hi) qs))
-    ∙ size-append (pairsFor (rewritten (shared lo hi) (shared lo mid) rs)) (pairsFor (rewritten (shared lo hi) (shared mid hi) qs))
+    ∙ size-append (pairEntries (rewritten (shared lo hi) (shared lo mid) rs)) (pairEntries (rewritten (shared lo hi) (shared mid hi) qs))
     ∙ ap₂ (λ a b. a + b) (pairs-size (shared lo hi) (shared lo mid) rs) (pairs-size (shared lo hi) (shared mid hi) qs)
 merged-size (Pair.inners i j f g) lo mid hi =
-    ap sizeOf (append-nil (kidsFor (followed (repointed (shared lo hi) (shared lo mid) f) (repointed (shared lo hi) (shared mid hi) g)))
+    ap sizeOf (append-nil (childEntries (followed (repointed (shared lo hi) (shared lo mid) f) (repointed (shared lo hi) (shared mid hi) g)))
     ∙ kids-for-append (repointed (shared lo hi) (shared lo mid) f) (repointed (shared lo hi) (shared mid hi) g))
-    ∙ size-append (kidsFor (repointed (shared lo hi) (shared lo mid) f)) (kidsFor (repointed (shared lo hi) (shared mid hi) g))
+    ∙ size-append (childEntries (repointed (shared lo hi) (shared lo mid) f)) (childEntries (repointed (shared lo hi) (shared mid hi) g))
     ∙ ap₂ (λ a b. a + b) (kids-size (shared lo hi) (shared lo mid) f) (kids-size (shared lo hi) (shared mid hi) g)
 
 -- and its pivots' suffixes are short
@@ -125,30 +118,25 @@ unfolding allAllowed
 all-allowed-append [] fs a b = b
 all-allowed-append (e ∷ es) fs a b = both (and-left (allowed e) _ a) (all-allowed-append es fs (and-right (allowed e) _ a) b)
 
-pub pairs-allowed : (rs : List Row) → allAllowed (pairsFor rs) ≡ true
-unfolding allAllowed pairsFor allowed
-pairs-allowed [] = refl
-pairs-allowed (r ∷ rs) = pairs-allowed rs
-
-pub messages-allowed : (ms : List Message) → allAllowed (messagesFor ms) ≡ true
-unfolding allAllowed messagesFor allowed
+pub messages-allowed : (ms : List Message) → allAllowed (messageEntries ms) ≡ true
+unfolding allAllowed messageEntries allowed
 messages-allowed [] = refl
 messages-allowed (m ∷ ms) = messages-allowed ms
 
-kids-allowed : (J L : List ℕ) (f : Forest) → shortPivots J L f ≡ true → allAllowed (kidsFor (repointed J L f)) ≡ true
-unfolding allAllowed kidsFor allowed repointed shortPivots
+kids-allowed : (J L : List ℕ) (f : Forest) → shortPivots J L f ≡ true → allAllowed (childEntries (repointed J L f)) ≡ true
+unfolding allAllowed childEntries allowed repointed shortPivots
 kids-allowed J L end e = refl
 kids-allowed J L (tree s t f) e =
     both (and-left (leb (length (drop (length J) (L ++ s))) 65) _ e) (kids-allowed J L f (and-right (leb (length (drop (length J) (L ++ s))) 65) _ e))
 
 pub merged-allowed : {t u : Tree} → Pair t u → (lo mid hi : List ℕ) → treeShort (shared lo hi) (shared lo mid) t ≡ true
     → treeShort (shared lo hi) (shared mid hi) u ≡ true → allAllowed (entriesFor (merged t u lo mid hi)) ≡ true
-unfolding merged treeShort entriesFor messagesFor
+unfolding merged treeShort entriesFor messageEntries
 merged-allowed (Pair.leaves i j rs qs) lo mid hi a b = pairs-allowed _
 merged-allowed (Pair.inners i j f g) lo mid hi a b =
-    ap allAllowed (append-nil (kidsFor (followed (repointed (shared lo hi) (shared lo mid) f) (repointed (shared lo hi) (shared mid hi) g)))
+    ap allAllowed (append-nil (childEntries (followed (repointed (shared lo hi) (shared lo mid) f) (repointed (shared lo hi) (shared mid hi) g)))
     ∙ kids-for-append (repointed (shared lo hi) (shared lo mid) f) (repointed (shared lo hi) (shared mid hi) g))
-    ∙ all-allowed-append (kidsFor (repointed (shared lo hi) (shared lo mid) f)) (kidsFor (repointed (shared lo hi) (shared mid hi) g))
+    ∙ all-allowed-append (childEntries (repointed (shared lo hi) (shared lo mid) f)) (childEntries (repointed (shared lo hi) (shared mid hi) g))
     (kids-allowed (shared lo hi) (shared lo mid) f a) (kids-allowed (shared lo hi) (shared mid hi) g b)
 
 -- what the test says
@@ -175,27 +163,18 @@ fits t u lo mid hi e =
     }
 
 -- READING BACK
-pub pairs-back : (rs : List Row) → pairsOf (pairsFor rs) ≡ some rs
-unfolding pairsOf pairsFor pairThen
-pairs-back [] = refl
-pairs-back (r ∷ rs) = rw (pairs-back rs)
-
-messages-back : (ms : List Message) → messagesOf (messagesFor ms) ≡ some ms
-unfolding messagesOf messagesFor messageThen
+messages-back : (ms : List Message) → messagesOf (messageEntries ms) ≡ some ms
+unfolding messagesOf messageEntries messageThen
 messages-back [] = refl
 messages-back (m ∷ ms) = rw (messages-back ms)
 
-unfoldable pub kidsOf : Forest → List Kid
-kidsOf end = []
-kidsOf (tree s t f) = record { number = numberOf t; pivot = s } ∷ kidsOf f
-
-no-kids-back : (ms : List Message) → insideOf (messagesFor ms) ≡ some (record { kids = []; messages = ms })
-unfolding insideOf messagesFor noKids
+no-kids-back : (ms : List Message) → insideOf (messageEntries ms) ≡ some (record { kids = []; messages = ms })
+unfolding insideOf messageEntries noKids
 no-kids-back [] = refl
 no-kids-back (m ∷ ms) = ap noKids (messages-back (m ∷ ms))
 
-pub inside-back : (f : Forest) (ms : List Message) → insideOf (kidsFor f ++ messagesFor ms) ≡ some (record { kids = kidsOf f; messages = ms })
-unfolding insideOf kidsFor kidsOf kidThen
+pub inside-back : (f : Forest) (ms : List Message) → insideOf (childEntries f ++ messageEntries ms) ≡ some (record { kids = kidsOf f; messages = ms })
+unfolding insideOf childEntries kidsOf kidThen
 inside-back end ms = no-kids-back ms
 inside-back (tree s t f) ms = rw (inside-back f ms)
 
@@ -203,14 +182,14 @@ inside-back (tree s t f) ms = rw (inside-back f ms)
 pub leaf-back : (i : ℕ) (rs : List Row) (es : List Entry) → entriesOf (bytesOfAll (entriesFor (leaf i rs))) ≡ some es → pairsOf es ≡ some rs
 unfolding entriesFor
 leaf-back i rs es e =
-    let h : some (pairsFor rs) ≡ some es = sym (all-back (pairsFor rs) (pairs-allowed rs)) ∙ e in
-    let k : es ≡ pairsFor rs = cc in
+    let h : some (pairEntries rs) ≡ some es = sym (all-back (pairEntries rs) (pairs-allowed rs)) ∙ e in
+    let k : es ≡ pairEntries rs = cc in
     rw k (pairs-back rs)
 
 pub inner-back : (i : ℕ) (f : Forest) (ms : List Message) (es : List Entry) → allAllowed (entriesFor (interior i f ms)) ≡ true
     → entriesOf (bytesOfAll (entriesFor (interior i f ms))) ≡ some es → insideOf es ≡ some (record { kids = kidsOf f; messages = ms })
 unfolding entriesFor
 inner-back i f ms es a e =
-    let h : some (kidsFor f ++ messagesFor ms) ≡ some es = sym (all-back (kidsFor f ++ messagesFor ms) a) ∙ e in
-    let k : es ≡ kidsFor f ++ messagesFor ms = cc in
+    let h : some (childEntries f ++ messageEntries ms) ≡ some es = sym (all-back (childEntries f ++ messageEntries ms) a) ∙ e in
+    let k : es ≡ childEntries f ++ messageEntries ms = cc in
     rw k (inside-back f ms)

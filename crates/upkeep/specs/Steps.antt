@@ -1,26 +1,24 @@
 -- Heal as a loop of code takes it: a step merges the first pair that fits; after each step the tree is the first one with node n's children
 -- mended so often; and where the search finds no pair, heal's rule holds.
-use Prim.Native.Nat.{ℕ, zero, suc, _+_, _-_, _≤_}
-use mathlib.Core.Path.{_≡_, refl, sym, ap, ap₂, subst, fun-ext, _∙_}
-use mathlib.Core.List.{List, [], _∷_, _++_}
-use mathlib.Core.Bool.{Bool, true, false, _&&_, cond}
-use mathlib.Core.Option.{Option, none, some}
-use lib.ListN.{length}
-use lib.Dec.{leb, eqb}
+use Prim.Native.Nat.{ℕ, zero, suc, _-_}
+use mathlib.Core.Path.{_≡_, refl, sym, ap, ap₂, fun-ext, _∙_}
+use mathlib.Core.List.{List, _++_}
+use mathlib.Core.Bool.{Bool, true, false, cond}
+use mathlib.Core.Option.{some}
+use lib.Dec.{eqb}
 use Rattle.image.specs.Bytes.{shared}
 use Rattle.image.specs.Entry.{Message}
-use Rattle.image.specs.Table.{Row}
 use Rattle.image.specs.Image.{Tree, unread, leaf, interior, Forest, end, tree}
 use Rattle.image.specs.Meaning.{highOf}
-use Rattle.image.specs.Sound.{soundTree, soundForest, numbers, isIn, once}
-use Rattle.image.specs.Upkeep.{Reachable, reachable, reachableIn, reachableAt, unmergeable, unmergeableAt, keepsRange, healed}
+use Rattle.image.specs.Sound.{soundTree, numbers, isIn, once}
+use Rattle.image.specs.Upkeep.{Reachable, reachable, reachableAt, unmergeableAt, keepsRange, healed}
 use Rattle.octets.specs.Order.{same-refl}
 use Rattle.laws.specs.Rising.{both}
-use Rattle.laws.specs.LookupTable.{Inner, inner}
-use Rattle.upkeep.specs.Kept.{Kept, numbers-places, kept-no-gain}
-use Rattle.upkeep.specs.Merge.{tall, tallIn}
-use Rattle.upkeep.specs.Mends.{Mends, mends-node, tall-kids}
-use Rattle.upkeep.specs.Join.{joinAt, firstPair, mended, heads}
+use Rattle.laws.specs.LookupTable.{inner}
+use Rattle.upkeep.specs.Kept.{numbers-places, kept-no-gain}
+use Rattle.upkeep.specs.Merge.{tall}
+use Rattle.upkeep.specs.Mends.{mends-node, tall-kids}
+use Rattle.upkeep.specs.Join.{joinAt, firstPair, mended}
 use Rattle.upkeep.specs.Loop.{mended-mends, mended-kept}
 use Rattle.upkeep.specs.Alter.{altered, alteredIn, onKids, thenKids, Sane, Gentle, altered-kept, altered-twice, headsAt, node-kept}
 use Rattle.upkeep.specs.Healed.{rechilded, rechild, place-altered, place-number}

@@ -1,15 +1,8 @@
 -- `append::append_clear` meets its contract: what it writes is `appended`; the room that it requires bounds every place.
 use Rattle.append.specs.WriteSteps.{appends-clear, room-at, small-store}
 use borrow.Author.Needs.{needs}
-use native.Mathlib.Omega.{arith}
 use Rattle.append.proofs.append_clear.Statement.{statement}
 use Rattle.append.proofs.append_clear.Tie as tie
-use Rattle.append.proofs.append_clear.Reads as reads
-use Rattle.append.proofs.append_clear.Lts as lts
-use Rattle.append.proofs.root_at.Reads as root-at-reads
-use Rattle.append.proofs.write_short.Reads as write-short-reads
-use Rattle.octets.proofs.put_u16.Reads as put-u16-reads
-use Rattle.octets.proofs.u16_at.Reads as u16-at-reads
 
 -- src/lib.rt:99:9
 root-at-requires : tie.Need-root-at-requires

@@ -4,12 +4,6 @@ use borrow.Author.Needs.{needs}
 use native.Mathlib.Omega.{arith}
 use Rattle.append.proofs.append_put.Statement.{statement}
 use Rattle.append.proofs.append_put.Tie as tie
-use Rattle.append.proofs.append_put.Reads as reads
-use Rattle.append.proofs.append_put.Lts as lts
-use Rattle.append.proofs.root_at.Reads as root-at-reads
-use Rattle.append.proofs.write_put.Reads as write-put-reads
-use Rattle.octets.proofs.put_u16.Reads as put-u16-reads
-use Rattle.octets.proofs.u16_at.Reads as u16-at-reads
 
 -- src/lib.rt:77:9
 root-at-requires : tie.Need-root-at-requires

@@ -5,11 +5,6 @@ use borrow.Author.Needs.{needs}
 use native.Mathlib.Omega.{arith}
 use Rattle.append.proofs.has_messages_at_root.Statement.{statement}
 use Rattle.append.proofs.has_messages_at_root.Tie as tie
-use Rattle.append.proofs.has_messages_at_root.Reads as reads
-use Rattle.append.proofs.has_messages_at_root.Lts as lts
-use Rattle.append.proofs.holds_message.Reads as holds-message-reads
-use Rattle.append.proofs.root_at.Reads as root-at-reads
-use Rattle.octets.proofs.u16_at.Reads as u16-at-reads
 
 -- src/lib.rt:209:9
 u16-at-requires : tie.Need-u16-at-requires

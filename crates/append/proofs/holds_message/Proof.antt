@@ -10,10 +10,6 @@ use Prim.Native.Nat.{_-_}
 use mathlib.Core.Path.{_≡_, refl, _∙_}
 use Rattle.append.proofs.holds_message.Statement.{statement}
 use Rattle.append.proofs.holds_message.Tie as tie
-use Rattle.append.proofs.holds_message.Reads as reads
-use Rattle.append.proofs.holds_message.Lts as lts
-use Rattle.append.proofs.is_message.Reads as is-message-reads
-use Rattle.node.proofs.Cursor.step.Reads as step-reads
 
 abbrev Inv-loop : tie.InvT-loop
 Inv-loop s from end c₀ c = (c .end ≡ end) × (anyMessage (listed s (c .at) (c .end)) ≡ anyMessage (listed s from end))

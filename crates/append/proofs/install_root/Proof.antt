@@ -3,10 +3,6 @@ use Rattle.append.specs.WriteSteps.{installs}
 use borrow.Author.Needs.{needs}
 use Rattle.append.proofs.install_root.Statement.{statement}
 use Rattle.append.proofs.install_root.Tie as tie
-use Rattle.append.proofs.install_root.Reads as reads
-use Rattle.append.proofs.install_root.Lts as lts
-use Rattle.octets.proofs.copy_at.Reads as copy-at-reads
-use Rattle.octets.proofs.put_u16.Reads as put-u16-reads
 
 -- src/lib.rt:124:28
 mul-copy-at : tie.Need-mul-copy-at

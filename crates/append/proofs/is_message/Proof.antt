@@ -3,8 +3,6 @@ use Rattle.append.specs.HeldSteps.{pair-is-none, child-is-none, message-
 use borrow.Author.Needs.{needs}
 use Rattle.append.proofs.is_message.Statement.{statement}
 use Rattle.append.proofs.is_message.Tie as tie
-use Rattle.append.proofs.is_message.Reads as reads
-use Rattle.append.proofs.is_message.Lts as lts
 
 -- src/lib.rt:180:30
 enum-told : tie.Need-enum-told

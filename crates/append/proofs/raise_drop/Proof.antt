@@ -5,12 +5,6 @@ use native.Mathlib.Omega.{arith}
 use mathlib.Core.Path.{refl}
 use Rattle.append.proofs.raise_drop.Statement.{statement}
 use Rattle.append.proofs.raise_drop.Tie as tie
-use Rattle.append.proofs.raise_drop.Reads as reads
-use Rattle.append.proofs.raise_drop.Lts as lts
-use Rattle.append.proofs.install_root.Reads as install-root-reads
-use Rattle.append.proofs.write_root_head.Reads as write-root-head-reads
-use Rattle.append.proofs.write_short.Reads as write-short-reads
-use Rattle.octets.proofs.u16_at.Reads as u16-at-reads
 
 -- src/lib.rt:147:9
 u16-at-requires : tie.Need-u16-at-requires

@@ -5,12 +5,6 @@ use native.Mathlib.Omega.{arith}
 use mathlib.Core.Path.{refl}
 use Rattle.append.proofs.raise_put.Statement.{statement}
 use Rattle.append.proofs.raise_put.Tie as tie
-use Rattle.append.proofs.raise_put.Reads as reads
-use Rattle.append.proofs.raise_put.Lts as lts
-use Rattle.append.proofs.install_root.Reads as install-root-reads
-use Rattle.append.proofs.write_put.Reads as write-put-reads
-use Rattle.append.proofs.write_root_head.Reads as write-root-head-reads
-use Rattle.octets.proofs.u16_at.Reads as u16-at-reads
 
 -- src/lib.rt:134:9
 u16-at-requires : tie.Need-u16-at-requires

@@ -4,9 +4,6 @@ use borrow.Author.Needs.{needs}
 use native.Mathlib.Omega.{arith}
 use Rattle.append.proofs.root_at.Statement.{statement}
 use Rattle.append.proofs.root_at.Tie as tie
-use Rattle.append.proofs.root_at.Reads as reads
-use Rattle.append.proofs.root_at.Lts as lts
-use Rattle.octets.proofs.u16_at.Reads as u16-at-reads
 
 -- src/lib.rt:30:9
 u16-at-requires : tie.Need-u16-at-requires

@@ -3,9 +3,6 @@ use Rattle.append.specs.WriteSteps.{sets-live}
 use borrow.Author.Needs.{needs}
 use Rattle.append.proofs.set_live.Statement.{statement}
 use Rattle.append.proofs.set_live.Tie as tie
-use Rattle.append.proofs.set_live.Reads as reads
-use Rattle.append.proofs.set_live.Lts as lts
-use Rattle.octets.proofs.put_u16.Reads as put-u16-reads
 
 -- src/lib.rt:173:5
 put-u16-requires : tie.Need-put-u16-requires

@@ -4,10 +4,6 @@ use borrow.Author.Needs.{needs}
 use mathlib.Core.Path.{refl}
 use Rattle.append.proofs.write_put.Statement.{statement}
 use Rattle.append.proofs.write_put.Tie as tie
-use Rattle.append.proofs.write_put.Reads as reads
-use Rattle.append.proofs.write_put.Lts as lts
-use Rattle.octets.proofs.copy_at.Reads as copy-at-reads
-use Rattle.octets.proofs.put_u16.Reads as put-u16-reads
 
 -- src/lib.rt:54:16
 add-rest : tie.Need-add-rest

@@ -3,9 +3,6 @@ use Rattle.append.specs.WriteSteps.{writes-head}
 use borrow.Author.Needs.{needs}
 use Rattle.append.proofs.write_root_head.Statement.{statement}
 use Rattle.append.proofs.write_root_head.Tie as tie
-use Rattle.append.proofs.write_root_head.Reads as reads
-use Rattle.append.proofs.write_root_head.Lts as lts
-use Rattle.octets.proofs.put_u16.Reads as put-u16-reads
 
 -- src/lib.rt:110:5
 put-u16-requires : tie.Need-put-u16-requires

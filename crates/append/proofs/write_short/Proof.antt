@@ -3,10 +3,6 @@ use Rattle.append.specs.WriteSteps.{writes-short}
 use borrow.Author.Needs.{needs}
 use Rattle.append.proofs.write_short.Statement.{statement}
 use Rattle.append.proofs.write_short.Tie as tie
-use Rattle.append.proofs.write_short.Reads as reads
-use Rattle.append.proofs.write_short.Lts as lts
-use Rattle.octets.proofs.copy_at.Reads as copy-at-reads
-use Rattle.octets.proofs.put_u16.Reads as put-u16-reads
 
 -- src/lib.rt:67:5
 put-u16-requires : tie.Need-put-u16-requires

@@ -1,23 +1,10 @@
 -- What the borrow checker leaves of `build` to prove.
 -- Relies on specs/BuildSteps.
-use Rattle.build.specs.BuildSteps.{LeavesReady, EmptyReady, leaves-ready, empty-ready, ascent-first, build-last, build-empty}
-use Rattle.build.specs.Passes.{LeavesMade}
-use Rattle.build.specs.Built.{Asks, builtImage}
+use Rattle.build.specs.BuildSteps.{leaves-ready, empty-ready, ascent-first, build-last, build-empty}
 use native.Mathlib.Omega.{arith}
-use lib.ListN.{length, getD}
-use mathlib.Core.Path.{_≡_, refl, sym, ap, ap₂, _∙_}
-use Prim.Native.Nat.{ℕ, _+_, _*_, _-_, _/_, _%_, _≤_, _<_}
 use borrow.Author.Needs.{needs}
 use Rattle.build.proofs.build.Statement.{statement}
 use Rattle.build.proofs.build.Tie as tie
-use Rattle.build.proofs.build.Reads as reads
-use Rattle.build.proofs.build.Lts as lts
-use Rattle.rows.proofs.mark_at.Reads as mark-at-reads
-use Rattle.build.proofs.write_above.Reads as write-above-reads
-use Rattle.build.proofs.write_empty.Reads as write-empty-reads
-use Rattle.build.proofs.write_head.Reads as write-head-reads
-use Rattle.build.proofs.write_leaves.Reads as write-leaves-reads
-use Rattle.octets.proofs.u16_at.Reads as u16-at-reads
 
 u16-at-requires : tie.Need-u16-at-requires
 u16-at-requires c κs = let q = empty-ready (c .before .before .before .before .args .store .now) (c .before .before .before .before .args .area .now) (c .before .before .before .before .args .m) (c .before .before .before .before .args .numbers .now) (c .before .before .before .before .pre) in let z = q .some-number in omega arith

@@ -6,13 +6,11 @@ use lib.ListN.{drop}
 use mathlib.Core.List.{_++_}
 use borrow.Author.Needs.{needs}
 use native.Mathlib.Omega.{arith}
-use lib.ListN.{length, getD, set, length-set}
-use mathlib.Core.Path.{_≡_, refl, sym, ap, ap₂, _∙_}
-use Prim.Native.Nat.{ℕ, _+_, _*_, _-_, _/_, _%_, _≤_, _<_}
+use lib.ListN.{length, length-set}
+use mathlib.Core.Path.{_≡_, refl, ap, _∙_}
+use Prim.Native.Nat.{_-_, _≤_}
 use Rattle.build.proofs.clear_area.Statement.{statement}
 use Rattle.build.proofs.clear_area.Tie as tie
-use Rattle.build.proofs.clear_area.Reads as reads
-use Rattle.build.proofs.clear_area.Lts as lts
 
 abbrev Inv-loop : tie.InvT-loop
 Inv-loop area₀ len i₀ area i = (i ≤ len) × (length area ≡ length area₀) × (area ≡ zerosOf i ++ drop i area₀)

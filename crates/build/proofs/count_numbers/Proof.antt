@@ -1,18 +1,15 @@
 -- What the borrow checker leaves of `count_numbers` to prove.
 -- Relies on specs/CountSteps.
 use Rattle.build.specs.CountSteps.{count-first, count-next, count-last}
-use Rattle.build.specs.Handed.{listed, handed}
+use Rattle.build.specs.Handed.{listed}
 use Rattle.packed.specs.Packed.{numbersFrom}
 use borrow.Author.Needs.{needs}
 use native.Mathlib.Omega.{arith}
-use lib.ListN.{length, getD}
-use mathlib.Core.Path.{_≡_, refl, sym, ap, ap₂, _∙_}
-use Prim.Native.Nat.{ℕ, _+_, _*_, _-_, _/_, _%_, _≤_, _<_}
+use lib.ListN.{length}
+use mathlib.Core.Path.{_≡_, refl, ap, _∙_}
+use Prim.Native.Nat.{_-_, _/_, _≤_}
 use Rattle.build.proofs.count_numbers.Statement.{statement}
 use Rattle.build.proofs.count_numbers.Tie as tie
-use Rattle.build.proofs.count_numbers.Reads as reads
-use Rattle.build.proofs.count_numbers.Lts as lts
-use Rattle.octets.proofs.put_u16.Reads as put-u16-reads
 
 abbrev Inv-loop : tie.InvT-loop
 Inv-loop numbers₀ half k₀ numbers k = (half ≡ length numbers₀ / 2) × (k ≤ half) × (length numbers ≡ length numbers₀) × (listed k numbers 0 ≡ numbersFrom 1 k)

@@ -2,16 +2,10 @@
 -- Relies on specs/PairSteps.
 use Rattle.build.specs.PairSteps.{pair-put}
 use native.Mathlib.Omega.{arith}
-use lib.ListN.{length, getD}
-use mathlib.Core.Path.{_≡_, refl, sym, ap, ap₂, _∙_}
-use Prim.Native.Nat.{ℕ, _+_, _*_, _-_, _/_, _%_, _≤_, _<_}
+use mathlib.Core.Path.{refl}
 use borrow.Author.Needs.{needs}
 use Rattle.build.proofs.emit_pair.Statement.{statement}
 use Rattle.build.proofs.emit_pair.Tie as tie
-use Rattle.build.proofs.emit_pair.Reads as reads
-use Rattle.build.proofs.emit_pair.Lts as lts
-use Rattle.octets.proofs.copy_at.Reads as copy-at-reads
-use Rattle.octets.proofs.put_u16.Reads as put-u16-reads
 
 add-put-u16 : tie.Need-add-put-u16
 add-put-u16 c = search needs

@@ -1,22 +1,16 @@
 -- What the borrow checker leaves of `emit_row` to prove.
 -- Relies on specs/PairLaws.
-use Rattle.build.specs.PairLaws.{Parts, parts, pair-one, pair-size}
-use Rattle.build.specs.Pairs.{pairBytes, pathFrom}
+use Rattle.build.specs.PairLaws.{parts, pair-one, pair-size}
 use Rattle.octets.specs.Put.{put}
 use Rattle.laws.specs.Encode.{bytesOf}
 use Rattle.image.specs.Entry.{pair}
 use native.Mathlib.Omega.{arith}
-use lib.ListN.{length, getD}
-use mathlib.Core.Path.{_≡_, refl, sym, ap, ap₂, _∙_}
-use Prim.Native.Nat.{ℕ, _+_, _*_, _-_, _/_, _%_, _≤_, _<_}
+use lib.ListN.{length}
+use mathlib.Core.Path.{refl, sym, ap, ap₂, _∙_}
+use Prim.Native.Nat.{_+_, _*_}
 use borrow.Author.Needs.{needs}
 use Rattle.build.proofs.emit_row.Statement.{statement}
 use Rattle.build.proofs.emit_row.Tie as tie
-use Rattle.build.proofs.emit_row.Reads as reads
-use Rattle.build.proofs.emit_row.Lts as lts
-use Rattle.octets.proofs.wide.Reads as wide-reads
-use Rattle.build.proofs.emit_pair.Reads as emit-pair-reads
-use Rattle.build.proofs.path_from.Reads as path-from-reads
 
 mul-b : tie.Need-mul-b
 mul-b c = search needs

@@ -2,18 +2,10 @@
 -- Relies on specs/PairSteps.
 use borrow.Author.Needs.{needs}
 use Rattle.build.specs.PairSteps.{Emits, emits-first, emits-next, emits-last, emits-room}
-use Rattle.build.specs.Pairs.{pairBytes}
-use Rattle.octets.specs.Put.{put}
-use Rattle.rows.specs.Area.{RowsFit}
 use native.Mathlib.Omega.{arith}
-use lib.ListN.{length, getD}
-use mathlib.Core.Path.{_≡_, refl, sym, ap, ap₂, _∙_}
-use Prim.Native.Nat.{ℕ, _+_, _*_, _-_, _/_, _%_, _≤_, _<_}
+use Prim.Native.Nat.{_-_}
 use Rattle.build.proofs.emit_rows.Statement.{statement}
 use Rattle.build.proofs.emit_rows.Tie as tie
-use Rattle.build.proofs.emit_rows.Reads as reads
-use Rattle.build.proofs.emit_rows.Lts as lts
-use Rattle.build.proofs.emit_row.Reads as emit-row-reads
 
 abbrev Inv-loop : tie.InvT-loop
 Inv-loop page₀ area m from to k at t₀ p₀ page t p = Emits page₀ area from to k at page t p

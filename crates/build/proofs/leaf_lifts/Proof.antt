@@ -1,22 +1,14 @@
 -- What the borrow checker leaves of `leaf_lifts` to prove.
 -- Relies on specs/PairLaws.
 use Rattle.build.specs.PairLaws.{high-end, high-low, lifts-are}
-use Rattle.pages.specs.Entries.{Span, span}
-use Rattle.rows.specs.Steps.{highAt}
-use Rattle.rows.specs.Kids.{lowOfRow}
+use Rattle.pages.specs.Entries.{span}
 use Rattle.image.specs.Bytes.{shared}
 use native.Mathlib.Omega.{arith}
-use lib.ListN.{length, getD}
-use mathlib.Core.Path.{_≡_, refl, sym, ap, ap₂, _∙_}
-use Prim.Native.Nat.{ℕ, _+_, _*_, _-_, _/_, _%_, _≤_, _<_}
+use lib.ListN.{length}
+use mathlib.Core.Path.{sym, ap₂, _∙_}
 use borrow.Author.Needs.{needs}
 use Rattle.build.proofs.leaf_lifts.Statement.{statement}
 use Rattle.build.proofs.leaf_lifts.Tie as tie
-use Rattle.build.proofs.leaf_lifts.Reads as reads
-use Rattle.build.proofs.leaf_lifts.Lts as lts
-use Rattle.pages.proofs.kid_end.Reads as kid-end-reads
-use Rattle.pages.proofs.kid_start.Reads as kid-start-reads
-use Rattle.octets.proofs.common_length.Reads as common-length-reads
 
 kid-start-requires : tie.Need-kid-start-requires
 kid-start-requires c κs = search needs

@@ -2,15 +2,9 @@
 -- Relies on specs/PairLaws.
 use Rattle.build.specs.PairLaws.{from-short, from-long}
 use native.Mathlib.Omega.{arith}
-use lib.ListN.{length, getD}
-use mathlib.Core.Path.{_≡_, refl, sym, ap, ap₂, _∙_}
-use Prim.Native.Nat.{ℕ, _+_, _*_, _-_, _/_, _%_, _≤_, _<_}
 use borrow.Author.Needs.{needs}
 use Rattle.build.proofs.path_from.Statement.{statement}
 use Rattle.build.proofs.path_from.Tie as tie
-use Rattle.build.proofs.path_from.Reads as reads
-use Rattle.build.proofs.path_from.Lts as lts
-use Rattle.octets.proofs.wide.Reads as wide-reads
 
 mul-b : tie.Need-mul-b
 mul-b c = search needs

@@ -2,15 +2,12 @@
 -- Relies on specs/RowSteps.
 use Rattle.build.specs.RowSteps.{row-put}
 use native.Mathlib.Omega.{arith}
-use lib.ListN.{length, getD, set, length-set}
-use mathlib.Core.Path.{_≡_, refl, sym, ap, ap₂, _∙_}
-use Prim.Native.Nat.{ℕ, _+_, _*_, _-_, _/_, _%_, _≤_, _<_}
+use lib.ListN.{length, set, length-set}
+use mathlib.Core.Path.{refl}
+use Prim.Native.Nat.{_+_, _*_}
 use borrow.Author.Needs.{needs}
 use Rattle.build.proofs.put_row.Statement.{statement}
 use Rattle.build.proofs.put_row.Tie as tie
-use Rattle.build.proofs.put_row.Reads as reads
-use Rattle.build.proofs.put_row.Lts as lts
-use Rattle.octets.proofs.copy_at.Reads as copy-at-reads
 
 mul-at : tie.Need-mul-at
 mul-at c = search needs

@@ -1,20 +1,14 @@
 -- What the borrow checker leaves of `write_above` to prove.
 -- Relies on specs/AboveSteps.
 use Rattle.build.specs.Passes.{treeAbove, pagesAbove}
-use Rattle.build.specs.Passes.{Ascends, Ascended}
-use Rattle.build.specs.AboveSteps.{AscentReady, ascent-ready, ascent-next, ascent-last}
-use Rattle.build.specs.Passes.{LevelMade}
+use Rattle.build.specs.Passes.{Ascends}
+use Rattle.build.specs.AboveSteps.{ascent-ready, ascent-next, ascent-last}
 use Rattle.packed.specs.Tidy.{writeAll}
 use borrow.Author.Needs.{needs}
 use native.Mathlib.Omega.{arith}
-use lib.ListN.{length, getD}
-use mathlib.Core.Path.{_≡_, refl, sym, ap, ap₂, _∙_}
-use Prim.Native.Nat.{ℕ, _+_, _*_, _-_, _/_, _%_, _≤_, _<_}
+use Prim.Native.Nat.{_-_}
 use Rattle.build.proofs.write_above.Statement.{statement}
 use Rattle.build.proofs.write_above.Tie as tie
-use Rattle.build.proofs.write_above.Reads as reads
-use Rattle.build.proofs.write_above.Lts as lts
-use Rattle.build.proofs.write_level.Reads as write-level-reads
 
 abbrev Inv-loop : tie.InvT-loop
 Inv-loop store₀ area₀ m numbers made level₀ used₀ count₀ store area level used count = Ascends m numbers area₀ area store₀ store level used count (treeAbove m numbers area₀ made) (writeAll (pagesAbove m numbers area₀ made) store₀)

@@ -5,16 +5,10 @@ use Rattle.pages.specs.Nodes.{node-written}
 use Rattle.packed.specs.Tidy.{zerosOf}
 use Rattle.laws.specs.WriteNode.{writeNode}
 use native.Mathlib.Omega.{arith}
-use lib.ListN.{length, getD}
-use mathlib.Core.Path.{_≡_, refl, sym, ap, ap₂, _∙_}
-use Prim.Native.Nat.{ℕ, _+_, _*_, _-_, _/_, _%_, _≤_, _<_}
+use mathlib.Core.Path.{ap, _∙_}
 use borrow.Author.Needs.{needs}
 use Rattle.build.proofs.write_empty.Statement.{statement}
 use Rattle.build.proofs.write_empty.Tie as tie
-use Rattle.build.proofs.write_empty.Reads as reads
-use Rattle.build.proofs.write_empty.Lts as lts
-use Rattle.octets.proofs.copy_at.Reads as copy-at-reads
-use Rattle.octets.proofs.put_u16.Reads as put-u16-reads
 
 slice-aggregate-put-u16 : tie.Need-slice-aggregate-put-u16
 slice-aggregate-put-u16 c = search needs

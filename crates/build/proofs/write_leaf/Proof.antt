@@ -2,23 +2,14 @@
 -- Relies on specs/PairLaws, specs/PairSteps.
 use Rattle.build.specs.PairLaws.{bytes-of}
 use Rattle.build.specs.PairSteps.{leaf-page-is}
-use Rattle.build.specs.Pairs.{leafBytes}
 use Rattle.pages.specs.Nodes.{node-written}
 use Rattle.packed.specs.Tidy.{zerosOf}
 use Rattle.laws.specs.WriteNode.{writeNode}
 use native.Mathlib.Omega.{arith}
-use lib.ListN.{length, getD}
-use mathlib.Core.Path.{_≡_, refl, sym, ap, ap₂, _∙_}
-use Prim.Native.Nat.{ℕ, _+_, _*_, _-_, _/_, _%_, _≤_, _<_}
+use mathlib.Core.Path.{ap, _∙_}
 use borrow.Author.Needs.{needs}
 use Rattle.build.proofs.write_leaf.Statement.{statement}
 use Rattle.build.proofs.write_leaf.Tie as tie
-use Rattle.build.proofs.write_leaf.Reads as reads
-use Rattle.build.proofs.write_leaf.Lts as lts
-use Rattle.build.proofs.emit_rows.Reads as emit-rows-reads
-use Rattle.build.proofs.leaf_lifts.Reads as leaf-lifts-reads
-use Rattle.octets.proofs.copy_at.Reads as copy-at-reads
-use Rattle.octets.proofs.put_u16.Reads as put-u16-reads
 
 leaf-lifts-requires : tie.Need-leaf-lifts-requires
 leaf-lifts-requires c κs = search needs

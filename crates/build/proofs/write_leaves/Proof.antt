@@ -1,22 +1,11 @@
 -- What the borrow checker leaves of `write_leaves` to prove.
 -- Relies on specs/LeafSteps.
-use Rattle.build.specs.LeafSteps.{LeafTurns, LeafReady, leaf-first, leaf-ready, leaf-next, leaf-last}
-use Rattle.build.specs.Passes.{LeavesMade}
+use Rattle.build.specs.LeafSteps.{LeafTurns, leaf-first, leaf-ready, leaf-next, leaf-last}
 use borrow.Author.Needs.{needs}
 use native.Mathlib.Omega.{arith}
-use lib.ListN.{length, getD}
-use mathlib.Core.Path.{_≡_, refl, sym, ap, ap₂, _∙_}
-use Prim.Native.Nat.{ℕ, _+_, _*_, _-_, _/_, _%_, _≤_, _<_}
+use Prim.Native.Nat.{_-_}
 use Rattle.build.proofs.write_leaves.Statement.{statement}
 use Rattle.build.proofs.write_leaves.Tie as tie
-use Rattle.build.proofs.write_leaves.Reads as reads
-use Rattle.build.proofs.write_leaves.Lts as lts
-use Rattle.rows.proofs.clear_marks.Reads as clear-marks-reads
-use Rattle.rows.proofs.leaf_end.Reads as leaf-end-reads
-use Rattle.rows.proofs.put_mark.Reads as put-mark-reads
-use Rattle.build.proofs.row_weight.Reads as row-weight-reads
-use Rattle.build.proofs.write_leaf.Reads as write-leaf-reads
-use Rattle.octets.proofs.u16_at.Reads as u16-at-reads
 
 abbrev Inv-loop : tie.InvT-loop
 Inv-loop store₀ area₀ m numbers i₀ made₀ store area i made = LeafTurns m numbers area₀ area store₀ store i made

@@ -1,22 +1,11 @@
 -- What the borrow checker leaves of `write_level` to prove.
 -- Relies on specs/LevelSteps.
-use Rattle.build.specs.LevelSteps.{NodeTurns, NodeReady, level-first, node-ready, level-next, level-last}
-use Rattle.build.specs.Passes.{LevelMade}
+use Rattle.build.specs.LevelSteps.{NodeTurns, level-first, node-ready, level-next, level-last}
 use borrow.Author.Needs.{needs}
 use native.Mathlib.Omega.{arith}
-use lib.ListN.{length, getD}
-use mathlib.Core.Path.{_≡_, refl, sym, ap, ap₂, _∙_}
-use Prim.Native.Nat.{ℕ, _+_, _*_, _-_, _/_, _%_, _≤_, _<_}
+use Prim.Native.Nat.{_-_}
 use Rattle.build.proofs.write_level.Statement.{statement}
 use Rattle.build.proofs.write_level.Tie as tie
-use Rattle.build.proofs.write_level.Reads as reads
-use Rattle.build.proofs.write_level.Lts as lts
-use Rattle.rows.proofs.clear_marks.Reads as clear-marks-reads
-use Rattle.rows.proofs.node_end.Reads as node-end-reads
-use Rattle.rows.proofs.put_mark.Reads as put-mark-reads
-use Rattle.rows.proofs.start_weight.Reads as start-weight-reads
-use Rattle.pages.proofs.write_node.Reads as write-node-reads
-use Rattle.octets.proofs.u16_at.Reads as u16-at-reads
 
 abbrev Inv-loop : tie.InvT-loop
 Inv-loop store₀ area₀ m numbers from level i₀ made₀ store area i made = NodeTurns level m numbers from area₀ area store₀ store i made

@@ -1,16 +1,7 @@
-use native.Mathlib.Omega.{arith}
-use Prim.Native.Nat.{ℕ, suc, _+_, _-_, _≤_, _<_}
-use mathlib.Core.Path.{_≡_, refl, sym, ap, subst, _∙_}
-use mathlib.Core.List.{List, [], _∷_, _++_}
-use lib.ListN.{length, getD, take, drop}
 use borrow.Author.Needs.{needs}
 use Rattle.edit.specs.Edited.{spot-root, spot-above}
 use Rattle.edit.proofs.add.Statement.{statement}
 use Rattle.edit.proofs.add.Tie as tie
-use Rattle.edit.proofs.add.Reads as reads
-use Rattle.edit.proofs.add.Lts as lts
-use Rattle.edit.proofs.add_above.Reads as add-above-reads
-use Rattle.edit.proofs.add_at_root.Reads as add-at-root-reads
 
 -- src/lib.rt:138:37
 enum-told : tie.Need-enum-told

@@ -1,8 +1,4 @@
 use native.Mathlib.Omega.{arith}
-use Prim.Native.Nat.{ℕ, suc, _+_, _-_, _≤_, _<_}
-use mathlib.Core.Path.{_≡_, refl, sym, ap, subst, _∙_}
-use mathlib.Core.List.{List, [], _∷_, _++_}
-use lib.ListN.{length, getD, take, drop}
 use borrow.Author.Needs.{needs}
 use Rattle.laws.specs.ButLive.{sound-but-live}
 use Rattle.edit.specs.declared.Change.{Change}
@@ -10,11 +6,6 @@ use Rattle.edit.specs.Change.{size-small}
 use Rattle.edit.specs.Edited.{put-above, drop-above, clear-above}
 use Rattle.edit.proofs.add_above.Statement.{statement}
 use Rattle.edit.proofs.add_above.Tie as tie
-use Rattle.edit.proofs.add_above.Reads as reads
-use Rattle.edit.proofs.add_above.Lts as lts
-use Rattle.append.proofs.raise_clear.Reads as raise-clear-reads
-use Rattle.append.proofs.raise_drop.Reads as raise-drop-reads
-use Rattle.append.proofs.raise_put.Reads as raise-put-reads
 
 -- src/lib.rt:126:42
 enum-told : tie.Need-enum-told

@@ -1,18 +1,8 @@
-use native.Mathlib.Omega.{arith}
-use Prim.Native.Nat.{ℕ, suc, _+_, _-_, _≤_, _<_}
-use mathlib.Core.Path.{_≡_, refl, sym, ap, subst, _∙_}
-use mathlib.Core.List.{List, [], _∷_, _++_}
-use lib.ListN.{length, getD, take, drop}
 use borrow.Author.Needs.{needs}
 use Rattle.laws.specs.ButLive.{sound-but-live}
 use Rattle.edit.specs.Edited.{put-here, drop-here, clear-here, room-put, room-drop, room-clear}
 use Rattle.edit.proofs.add_at_root.Statement.{statement}
 use Rattle.edit.proofs.add_at_root.Tie as tie
-use Rattle.edit.proofs.add_at_root.Reads as reads
-use Rattle.edit.proofs.add_at_root.Lts as lts
-use Rattle.append.proofs.append_clear.Reads as append-clear-reads
-use Rattle.append.proofs.append_drop.Reads as append-drop-reads
-use Rattle.append.proofs.append_put.Reads as append-put-reads
 
 -- src/lib.rt:114:43
 enum-told : tie.Need-enum-told

@@ -1,20 +1,12 @@
 use native.Mathlib.Omega.{arith}
-use Prim.Native.Nat.{ℕ, suc, _+_, _-_, _≤_, _<_}
-use mathlib.Core.Path.{_≡_, refl, sym, ap, subst, _∙_}
-use mathlib.Core.List.{List, [], _∷_, _++_}
-use lib.ListN.{length, getD, take, drop}
+use Prim.Native.Nat.{_≤_}
+use mathlib.Core.Path.{sym, subst}
+use mathlib.Core.List.{[]}
 use borrow.Author.Needs.{needs}
-use Rattle.laws.specs.ButLive.{sound-but-live}
-use Rattle.edit.specs.Change.{size-small, sizeOf}
+use Rattle.edit.specs.Change.{size-small}
 use Rattle.edit.specs.Edited.{edited, few-rows, still-whole, still-long, spot-sized, room-whole}
 use Rattle.edit.proofs.apply_change.Statement.{statement}
 use Rattle.edit.proofs.apply_change.Tie as tie
-use Rattle.edit.proofs.apply_change.Reads as reads
-use Rattle.edit.proofs.apply_change.Lts as lts
-use Rattle.edit.proofs.add.Reads as add-reads
-use Rattle.edit.proofs.entry_size.Reads as entry-size-reads
-use Rattle.edit.proofs.finish.Reads as finish-reads
-use Rattle.edit.proofs.make_room.Reads as make-room-reads
 
 -- src/lib.rt:159:9
 entry-size-requires : tie.Need-entry-size-requires

@@ -1,17 +1,8 @@
-use native.Mathlib.Omega.{arith}
-use Prim.Native.Nat.{ℕ, suc, _+_, _-_, _≤_, _<_}
-use mathlib.Core.Path.{_≡_, refl, sym, ap, subst, _∙_}
-use mathlib.Core.List.{List, [], _∷_, _++_}
-use lib.ListN.{length, getD, take, drop}
 use borrow.Author.Needs.{needs}
 use Rattle.rebuild.specs.Callers.{to-act}
 use Rattle.ready.specs.Asked.{asked-fit, refused-meets}
 use Rattle.edit.proofs.clear.Statement.{statement}
 use Rattle.edit.proofs.clear.Tie as tie
-use Rattle.edit.proofs.clear.Reads as reads
-use Rattle.edit.proofs.clear.Lts as lts
-use Rattle.edit.proofs.clear_fit.Reads as clear-fit-reads
-use Rattle.ready.proofs.ask.Reads as ask-reads
 
 -- src/lib.rt:249:9
 ask-requires : tie.Need-ask-requires

@@ -1,14 +1,7 @@
-use native.Mathlib.Omega.{arith}
-use Prim.Native.Nat.{ℕ, suc, _+_, _-_, _≤_, _<_}
-use mathlib.Core.Path.{_≡_, refl, sym, ap, subst, _∙_}
-use mathlib.Core.List.{List, [], _∷_, _++_}
-use lib.ListN.{length, getD, take, drop}
 use borrow.Author.Needs.{needs}
 use Rattle.edit.specs.Edited.{size-put, size-drop, size-clear}
 use Rattle.edit.proofs.entry_size.Statement.{statement}
 use Rattle.edit.proofs.entry_size.Tie as tie
-use Rattle.edit.proofs.entry_size.Reads as reads
-use Rattle.edit.proofs.entry_size.Lts as lts
 
 -- src/lib.rt:102:24
 enum-told : tie.Need-enum-told

@@ -1,18 +1,8 @@
-use native.Mathlib.Omega.{arith}
-use Prim.Native.Nat.{ℕ, suc, _+_, _-_, _≤_, _<_}
-use mathlib.Core.Path.{_≡_, refl, sym, ap, subst, _∙_}
-use mathlib.Core.List.{List, [], _∷_, _++_}
-use lib.ListN.{length, getD, take, drop}
 use borrow.Author.Needs.{needs}
 use Rattle.soundness.specs.Judged.{countable}
 use Rattle.edit.specs.Edited.{finish-done, small-live, area-fits, len-kept}
 use Rattle.edit.proofs.finish.Statement.{statement}
 use Rattle.edit.proofs.finish.Tie as tie
-use Rattle.edit.proofs.finish.Reads as reads
-use Rattle.edit.proofs.finish.Lts as lts
-use Rattle.append.proofs.set_live.Reads as set-live-reads
-use Rattle.build.proofs.clear_area.Reads as clear-area-reads
-use Rattle.live.proofs.live_count.Reads as live-count-reads
 
 -- src/lib.rt:148:9
 live-count-requires : tie.Need-live-count-requires

@@ -1,14 +1,11 @@
 use borrow.Author.Needs.{needs}
 use native.Mathlib.Omega.{arith}
-use Prim.Native.Nat.{ℕ, suc, _+_, _-_, _≤_, _<_}
-use mathlib.Core.Path.{_≡_, refl, sym, ap, _∙_}
-use mathlib.Core.List.{List, [], _∷_, _++_}
-use lib.ListN.{length, getD, take, drop}
-use Rattle.edit.specs.Free.{free-found, free-none, free-more}
+use Prim.Native.Nat.{ℕ, _-_, _≤_, _<_}
+use mathlib.Core.Path.{_≡_}
+use lib.ListN.{getD}
+use Rattle.edit.specs.Free.{free-none, free-more}
 use Rattle.edit.proofs.first_free.Statement.{statement}
 use Rattle.edit.proofs.first_free.Tie as tie
-use Rattle.edit.proofs.first_free.Reads as reads
-use Rattle.edit.proofs.first_free.Lts as lts
 
 abbrev Inv-loop : tie.InvT-loop
 Inv-loop seen n i₀ i = (1 ≤ i) × ((j : ℕ) → 1 ≤ j → j < i → getD seen j 0 ≡ 0 → ⊥)

@@ -1,19 +1,11 @@
 use native.Mathlib.Omega.{arith}
-use Prim.Native.Nat.{ℕ, suc, _+_, _-_, _≤_, _<_}
-use mathlib.Core.Path.{_≡_, refl, sym, ap, subst, _∙_}
-use mathlib.Core.List.{List, [], _∷_, _++_}
-use lib.ListN.{length, getD, take, drop}
+use Prim.Native.Nat.{_≤_}
+use mathlib.Core.Path.{subst}
 use borrow.Author.Needs.{needs}
 use Rattle.laws.specs.ButLive.{sound-but-live}
 use Rattle.edit.specs.Room.{above-held, above-deep, above-unsound, above-found, nodes-are, few-nodes}
 use Rattle.edit.proofs.free_above.Statement.{statement}
 use Rattle.edit.proofs.free_above.Tie as tie
-use Rattle.edit.proofs.free_above.Reads as reads
-use Rattle.edit.proofs.free_above.Lts as lts
-use Rattle.append.proofs.has_messages_at_root.Reads as has-messages-at-root-reads
-use Rattle.edit.proofs.first_free.Reads as first-free-reads
-use Rattle.octets.proofs.u16_at.Reads as u16-at-reads
-use Rattle.tree_check.proofs.check_tree.Reads as check-tree-reads
 
 -- src/lib.rt:54:8
 has-messages-at-root-requires : tie.Need-has-messages-at-root-requires

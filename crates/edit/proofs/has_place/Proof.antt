@@ -1,17 +1,10 @@
 use native.Mathlib.Omega.{arith}
-use Prim.Native.Nat.{ℕ, suc, _+_, _-_, _≤_, _<_}
-use mathlib.Core.Path.{_≡_, refl, sym, ap, subst, _∙_}
-use mathlib.Core.List.{List, [], _∷_, _++_}
-use lib.ListN.{length, getD, take, drop}
+use mathlib.Core.Path.{refl}
 use borrow.Author.Needs.{needs}
 use Rattle.edit.specs.Room.{few-nodes}
 use Rattle.edit.specs.Edited.{place-present, place-left}
 use Rattle.edit.proofs.has_place.Statement.{statement}
 use Rattle.edit.proofs.has_place.Tie as tie
-use Rattle.edit.proofs.has_place.Reads as reads
-use Rattle.edit.proofs.has_place.Lts as lts
-use Rattle.lookup.proofs.value_of.Reads as value-of-reads
-use Rattle.octets.proofs.u16_at.Reads as u16-at-reads
 
 -- src/lib.rt:170:9
 value-of-requires : tie.Need-value-of-requires

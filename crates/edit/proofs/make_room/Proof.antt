@@ -1,19 +1,11 @@
 use native.Mathlib.Omega.{arith}
-use Prim.Native.Nat.{ℕ, suc, _+_, _-_, _≤_, _<_}
-use mathlib.Core.Path.{_≡_, refl, sym, ap, _∙_}
-use mathlib.Core.List.{List, [], _∷_, _++_}
-use lib.ListN.{length, getD, take, drop}
+use mathlib.Core.Path.{ap, _∙_}
 use borrow.Author.Needs.{needs}
 use Rattle.image.specs.Image.{wholeNodes}
 use Rattle.laws.specs.ButLive.{sound-but-live}
 use Rattle.edit.specs.Room.{roomy-now, roomy-above, rebuilt-now, rebuilt-above}
 use Rattle.edit.proofs.make_room.Statement.{statement}
 use Rattle.edit.proofs.make_room.Tie as tie
-use Rattle.edit.proofs.make_room.Reads as reads
-use Rattle.edit.proofs.make_room.Lts as lts
-use Rattle.append.proofs.fits_at_root.Reads as fits-at-root-reads
-use Rattle.edit.proofs.free_above.Reads as free-above-reads
-use Rattle.rebuild.proofs.rebuild.Reads as rebuild-reads
 
 -- src/lib.rt:74:8
 fits-at-root-requires : tie.Need-fits-at-root-requires

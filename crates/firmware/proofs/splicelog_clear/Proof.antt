@@ -1,16 +1,7 @@
-use native.Mathlib.Omega.{arith}
-use Prim.Native.Nat.{ℕ, suc, _+_, _-_, _≤_, _<_}
-use mathlib.Core.Path.{_≡_, refl, sym, ap, _∙_}
-use mathlib.Core.List.{List, [], _∷_, _++_}
-use lib.ListN.{length, getD, take, drop}
 use borrow.Author.Needs.{needs}
 use Rattle.firmware.specs.Words.{number-meets}
 use Rattle.firmware.proofs.splicelog_clear.Statement.{statement}
 use Rattle.firmware.proofs.splicelog_clear.Tie as tie
-use Rattle.firmware.proofs.splicelog_clear.Reads as reads
-use Rattle.firmware.proofs.splicelog_clear.Lts as lts
-use Rattle.edit.proofs.clear.Reads as clear-reads
-use Rattle.firmware.proofs.outcome_number.Reads as outcome-number-reads
 
 -- src/lib.rt:110:20
 clear-requires : tie.Need-clear-requires

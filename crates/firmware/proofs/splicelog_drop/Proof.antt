@@ -1,16 +1,8 @@
-use native.Mathlib.Omega.{arith}
-use Prim.Native.Nat.{ℕ, suc, _+_, _-_, _≤_, _<_}
-use mathlib.Core.Path.{_≡_, refl, sym, ap, _∙_}
-use mathlib.Core.List.{List, [], _∷_, _++_}
-use lib.ListN.{length, getD, take, drop}
+use lib.ListN.{drop}
 use borrow.Author.Needs.{needs}
 use Rattle.firmware.specs.Words.{number-meets}
 use Rattle.firmware.proofs.splicelog_drop.Statement.{statement}
 use Rattle.firmware.proofs.splicelog_drop.Tie as tie
-use Rattle.firmware.proofs.splicelog_drop.Reads as reads
-use Rattle.firmware.proofs.splicelog_drop.Lts as lts
-use Rattle.edit.proofs.drop.Reads as drop-reads
-use Rattle.firmware.proofs.outcome_number.Reads as outcome-number-reads
 
 -- src/lib.rt:103:20
 drop-requires : tie.Need-drop-requires

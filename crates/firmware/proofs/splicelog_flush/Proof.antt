@@ -1,16 +1,7 @@
-use native.Mathlib.Omega.{arith}
-use Prim.Native.Nat.{ℕ, suc, _+_, _-_, _≤_, _<_}
-use mathlib.Core.Path.{_≡_, refl, sym, ap, _∙_}
-use mathlib.Core.List.{List, [], _∷_, _++_}
-use lib.ListN.{length, getD, take, drop}
 use borrow.Author.Needs.{needs}
 use Rattle.firmware.specs.Words.{number-meets}
 use Rattle.firmware.proofs.splicelog_flush.Statement.{statement}
 use Rattle.firmware.proofs.splicelog_flush.Tie as tie
-use Rattle.firmware.proofs.splicelog_flush.Reads as reads
-use Rattle.firmware.proofs.splicelog_flush.Lts as lts
-use Rattle.firmware.proofs.outcome_number.Reads as outcome-number-reads
-use Rattle.maintain.proofs.flush.Reads as flush-reads
 
 -- src/lib.rt:131:20
 flush-requires : tie.Need-flush-requires

@@ -1,16 +1,7 @@
-use native.Mathlib.Omega.{arith}
-use Prim.Native.Nat.{ℕ, suc, _+_, _-_, _≤_, _<_}
-use mathlib.Core.Path.{_≡_, refl, sym, ap, _∙_}
-use mathlib.Core.List.{List, [], _∷_, _++_}
-use lib.ListN.{length, getD, take, drop}
 use borrow.Author.Needs.{needs}
 use Rattle.firmware.specs.Words.{number-meets}
 use Rattle.firmware.proofs.splicelog_put.Statement.{statement}
 use Rattle.firmware.proofs.splicelog_put.Tie as tie
-use Rattle.firmware.proofs.splicelog_put.Reads as reads
-use Rattle.firmware.proofs.splicelog_put.Lts as lts
-use Rattle.edit.proofs.put.Reads as put-reads
-use Rattle.firmware.proofs.outcome_number.Reads as outcome-number-reads
 
 -- src/lib.rt:96:20
 put-requires : tie.Need-put-requires

@@ -1,16 +1,7 @@
-use native.Mathlib.Omega.{arith}
-use Prim.Native.Nat.{ℕ, suc, _+_, _-_, _≤_, _<_}
-use mathlib.Core.Path.{_≡_, refl, sym, ap, _∙_}
-use mathlib.Core.List.{List, [], _∷_, _++_}
-use lib.ListN.{length, getD, take, drop}
 use borrow.Author.Needs.{needs}
 use Rattle.firmware.specs.Words.{number-meets}
 use Rattle.firmware.proofs.splicelog_tidy.Statement.{statement}
 use Rattle.firmware.proofs.splicelog_tidy.Tie as tie
-use Rattle.firmware.proofs.splicelog_tidy.Reads as reads
-use Rattle.firmware.proofs.splicelog_tidy.Lts as lts
-use Rattle.firmware.proofs.outcome_number.Reads as outcome-number-reads
-use Rattle.maintain.proofs.tidy.Reads as tidy-reads
 
 -- src/lib.rt:124:20
 tidy-requires : tie.Need-tidy-requires

@@ -1,7 +1,6 @@
 -- `add_capped` meets its contract, by whether the sum is over 65,535.
 -- Relies on specs/Steps.
 use Rattle.live.specs.Steps.{cap-small, cap-large}
-use Prim.Native.Nat.{_-_}
 use native.Mathlib.Omega.{arith}
 use borrow.Author.Needs.{needs}
 use Rattle.live.proofs.add_capped.Statement.{statement}

@@ -1,7 +1,6 @@
 -- `as_number` meets its contract, by the two values of a test.
 -- Relies on specs/Steps.
 use Rattle.live.specs.Steps.{one-yes, one-not}
-use Prim.Native.Nat.{_-_}
 use native.Mathlib.Omega.{arith}
 use Rattle.live.proofs.as_number.Statement.{statement}
 use Rattle.live.proofs.as_number.Tie as tie

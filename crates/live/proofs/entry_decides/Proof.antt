@@ -4,7 +4,6 @@ use mathlib.Core.Path.{subst}
 use Rattle.node.specs.Places.{Within, EntryWithin}
 use Rattle.search.specs.Hear.{message-places}
 use Rattle.live.specs.Steps.{pair-decides, child-decides, message-decides}
-use Prim.Native.Nat.{_-_}
 use native.Mathlib.Omega.{arith}
 use lib.ListN.{length}
 use borrow.Author.Needs.{needs}

@@ -1,7 +1,6 @@
 -- `is_live` meets its contract: a path that is too long, a path with no node above, and a path that the trail decides.
 -- Relies on specs/Steps and specs/PathSteps.
 use Rattle.live.specs.Steps.{key-length}
-use Prim.Native.Nat.{_-_}
 use native.Mathlib.Omega.{arith}
 use mathlib.Core.Path.{_≡_, refl}
 use lib.ListN.{length}

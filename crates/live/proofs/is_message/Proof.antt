@@ -1,7 +1,6 @@
 -- `is_message` meets its contract, by the kind of the entry.
 -- Relies on specs/Steps.
 use Rattle.live.specs.Steps.{pair-message, child-message, is-message}
-use Prim.Native.Nat.{_-_}
 use borrow.Author.Needs.{needs}
 use Rattle.live.proofs.is_message.Statement.{statement}
 use Rattle.live.proofs.is_message.Tie as tie

@@ -1,7 +1,6 @@
 -- `lengthen_trail` meets its contract: a node without messages leaves the test of the trail as it is.
 -- Relies on specs/Steps.
 use Rattle.live.specs.Steps.{same-trail, longer-trail}
-use Prim.Native.Nat.{_-_}
 use mathlib.Core.Path.{_≡_}
 use lib.ListN.{length}
 use borrow.Author.Needs.{needs}

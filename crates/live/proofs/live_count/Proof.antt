@@ -1,7 +1,6 @@
 -- `live_count` meets its contract: the count from the root, where nothing is lifted and no node stands above.
 -- Relies on specs/RootSteps.
 use Rattle.live.specs.RootSteps.{one-node, root-ready, root-counts}
-use Prim.Native.Nat.{_-_}
 use native.Mathlib.Omega.{arith}
 use mathlib.Core.Path.{refl}
 use borrow.Author.Needs.{needs}

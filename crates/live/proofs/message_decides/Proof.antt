@@ -3,7 +3,6 @@
 use Rattle.node.specs.Places.{Within}
 use Rattle.search.specs.Hear.{put-places}
 use Rattle.live.specs.Steps.{put-hidden, put-decides, drop-decides, clear-decides}
-use Prim.Native.Nat.{_-_}
 use native.Mathlib.Omega.{arith}
 use lib.ListN.{length}
 use borrow.Author.Needs.{needs}

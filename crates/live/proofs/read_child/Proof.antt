@@ -2,7 +2,6 @@
 -- Relies on specs/Steps and on the contract of node's cursor.
 use Rattle.node.specs.Places.{Next, step-bad-is, step-read-is}
 use Rattle.live.specs.Steps.{child-bad, child-other, child-next}
-use Prim.Native.Nat.{_-_}
 use mathlib.Core.Path.{sym, _∙_}
 use borrow.Author.Needs.{needs}
 use Rattle.live.proofs.read_child.Statement.{statement}

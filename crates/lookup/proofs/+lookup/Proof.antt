@@ -1,7 +1,5 @@
 use Rattle.lookup.specs.Look.{node-inside, look-leaf, look-value, look-gone, look-nobody, inner-places, last-places, inner-usable, inner-short, look-inner, last-usable, last-short, look-last}
 use Rattle.node.specs.Cut.{cut-length}
-use mathlib.Core.Path.{_≡_, refl, sym, ap, _∙_}
-use lib.ListN.{length}
 use borrow.Author.Needs.{needs}
 use native.Mathlib.Omega.{arith}
 use Prim.Native.Nat.{ℕ, _<_}

@@ -4,10 +4,6 @@ use native.Mathlib.Omega.{arith}
 use borrow.Author.Needs.{needs}
 use Rattle.lookup.proofs.value_of.Statement.{statement}
 use Rattle.lookup.proofs.value_of.Tie as tie
-use Rattle.lookup.proofs.value_of.Reads as reads
-use Rattle.lookup.proofs.value_of.Lts as lts
-use Rattle.lookup.proofs.lookup.Reads as lookup-reads
-use Rattle.octets.proofs.u16_at.Reads as u16-at-reads
 
 -- src/lib.rt:60:9
 u16-at-requires : tie.Need-u16-at-requires

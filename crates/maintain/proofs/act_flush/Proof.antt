@@ -1,17 +1,8 @@
-use native.Mathlib.Omega.{arith}
-use Prim.Native.Nat.{ℕ, suc, _+_, _-_, _≤_, _<_}
-use mathlib.Core.Path.{_≡_, refl, sym, ap, _∙_}
-use mathlib.Core.List.{List, [], _∷_, _++_}
-use lib.ListN.{length, getD, take, drop}
 use borrow.Author.Needs.{needs}
 use Rattle.push.specs.Callers.{done-is, no-room-is}
 use Rattle.maintain.specs.Steps.{pushed-passed, pushed-flushes, unpushed-passed, unpushed-flushes}
 use Rattle.maintain.proofs.act_flush.Statement.{statement}
 use Rattle.maintain.proofs.act_flush.Tie as tie
-use Rattle.maintain.proofs.act_flush.Reads as reads
-use Rattle.maintain.proofs.act_flush.Lts as lts
-use Rattle.maintain.proofs.rebuild_unless.Reads as rebuild-unless-reads
-use Rattle.push.proofs.push_down.Reads as push-down-reads
 
 -- src/lib.rt:80:9
 push-down-requires : tie.Need-push-down-requires

@@ -8,11 +8,6 @@ use Rattle.ready.specs.Asked.{asked-fit, refused-meets}
 use Rattle.maintain.specs.Steps.{passed, reached, not-interior, flushed-done}
 use Rattle.maintain.proofs.flush.Statement.{statement}
 use Rattle.maintain.proofs.flush.Tie as tie
-use Rattle.maintain.proofs.flush.Reads as reads
-use Rattle.maintain.proofs.flush.Lts as lts
-use Rattle.maintain.proofs.act_flush.Reads as act-flush-reads
-use Rattle.maintain.proofs.is_interior.Reads as is-interior-reads
-use Rattle.ready.proofs.ask.Reads as ask-reads
 
 ask-requires : tie.Need-ask-requires
 ask-requires c κs = search needs

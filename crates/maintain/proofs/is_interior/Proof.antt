@@ -6,9 +6,6 @@ use Rattle.rebuild.specs.RebuildSteps.{node-count}
 use Rattle.maintain.specs.Interior.{past-end, unmarked, marked}
 use Rattle.maintain.proofs.is_interior.Statement.{statement}
 use Rattle.maintain.proofs.is_interior.Tie as tie
-use Rattle.maintain.proofs.is_interior.Reads as reads
-use Rattle.maintain.proofs.is_interior.Lts as lts
-use Rattle.octets.proofs.u16_at.Reads as u16-at-reads
 
 returns : tie.Need-returns
 returns c = past-end _ _ _ (c .before .before .pre) (omega arith)

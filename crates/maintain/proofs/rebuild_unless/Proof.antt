@@ -7,10 +7,6 @@ use Rattle.rebuild.specs.RebuildSteps.{node-count}
 use Rattle.maintain.specs.Steps.{stayed, rebuilt}
 use Rattle.maintain.proofs.rebuild_unless.Statement.{statement}
 use Rattle.maintain.proofs.rebuild_unless.Tie as tie
-use Rattle.maintain.proofs.rebuild_unless.Reads as reads
-use Rattle.maintain.proofs.rebuild_unless.Lts as lts
-use Rattle.build.proofs.clear_area.Reads as clear-area-reads
-use Rattle.rebuild.proofs.rebuild.Reads as rebuild-reads
 
 mul-len : tie.Need-mul-len
 mul-len c = search needs

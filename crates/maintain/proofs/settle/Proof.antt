@@ -6,10 +6,6 @@ use Rattle.ready.specs.Asked.{asked-fit, refused-meets}
 use Rattle.maintain.specs.Steps.{passed, settled-done}
 use Rattle.maintain.proofs.settle.Statement.{statement}
 use Rattle.maintain.proofs.settle.Tie as tie
-use Rattle.maintain.proofs.settle.Reads as reads
-use Rattle.maintain.proofs.settle.Lts as lts
-use Rattle.maintain.proofs.rebuild_unless.Reads as rebuild-unless-reads
-use Rattle.ready.proofs.ask.Reads as ask-reads
 
 ask-requires : tie.Need-ask-requires
 ask-requires c κs = search needs

@@ -1,18 +1,9 @@
 use borrow.Author.Needs.{needs}
-use native.Mathlib.Omega.{arith}
-use Prim.Native.Nat.{ℕ, suc, _+_, _-_, _≤_, _<_}
-use mathlib.Core.Path.{_≡_, refl, sym, ap, _∙_}
-use mathlib.Core.List.{List, [], _∷_, _++_}
-use lib.ListN.{length, getD, take, drop}
 use borrow.Author.Needs.{needs}
 use borrow.Author.Tests.{not-true, not-false}
 use Rattle.make.specs.Steps.{make-refused, make-done, room}
 use Rattle.make.proofs.make.Statement.{statement}
 use Rattle.make.proofs.make.Tie as tie
-use Rattle.make.proofs.make.Reads as reads
-use Rattle.make.proofs.make.Lts as lts
-use Rattle.make.proofs.write_empty.Reads as write-empty-reads
-use Rattle.node.proofs.whole_nodes.Reads as whole-nodes-reads
 
 -- src/lib.rt:32:9
 whole-nodes-requires : tie.Need-whole-nodes-requires

@@ -1,17 +1,9 @@
 use borrow.Author.Needs.{needs}
 use native.Mathlib.Omega.{arith}
-use Prim.Native.Nat.{ℕ, suc, _+_, _-_, _≤_, _<_}
-use mathlib.Core.Path.{_≡_, refl, sym, ap, _∙_}
-use mathlib.Core.List.{List, [], _∷_, _++_}
-use lib.ListN.{length, getD, take, drop}
 use borrow.Author.Needs.{needs}
 use Rattle.make.specs.Steps.{writes-empty}
 use Rattle.make.proofs.write_empty.Statement.{statement}
 use Rattle.make.proofs.write_empty.Tie as tie
-use Rattle.make.proofs.write_empty.Reads as reads
-use Rattle.make.proofs.write_empty.Lts as lts
-use Rattle.octets.proofs.fill_at.Reads as fill-at-reads
-use Rattle.octets.proofs.put_u16.Reads as put-u16-reads
 
 -- src/lib.rt:16:31
 mul-fill-at : tie.Need-mul-fill-at

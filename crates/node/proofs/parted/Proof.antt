@@ -1,17 +1,9 @@
-use Rattle.node.specs.Entries.{entriesFrom, keyed-short, keyed-long, keyed-at, pointer-short, pointer-long, pointer-at, kind-pair, kind-child, kind-put, kind-drop, kind-clear, kind-other, entries-short, entries-cut, entries-step}
-use Rattle.node.specs.Places.{entryIn, within, split-bad, split-at, split-bad-is, split-at-is, got-bad, got-good, got-bad-is, got-good-is, step-bad, step-read, step-bad-is, step-read-is, entry-wider, then-bad, then-good}
-use Rattle.node.specs.declared.Split.{Split}
-use Rattle.node.specs.declared.Got.{Got}
-use Rattle.image.specs.Entry as defined
-use mathlib.Core.Option.{some}
-use mathlib.Core.Path.{_≡_, refl, sym, ap, _∙_}
+use Rattle.node.specs.Entries.{keyed-short, keyed-long, keyed-at}
+use Rattle.node.specs.Places.{split-bad, split-at}
 use native.Mathlib.Omega.{arith}
 use borrow.Author.Needs.{needs}
 use Rattle.node.proofs.parted.Statement.{statement}
 use Rattle.node.proofs.parted.Tie as tie
-use Rattle.node.proofs.parted.Reads as reads
-use Rattle.node.proofs.parted.Lts as lts
-use Rattle.octets.proofs.u16_at.Reads as u16-at-reads
 
 -- src/lib.rt:50:8
 sub-if1 : tie.Need-sub-if1

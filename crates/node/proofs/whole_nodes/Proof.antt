@@ -1,14 +1,7 @@
-use native.Mathlib.Omega.{arith}
-use Prim.Native.Nat.{ℕ, suc, _+_, _-_, _≤_, _<_}
-use mathlib.Core.Path.{_≡_, refl, sym, ap, _∙_}
-use mathlib.Core.List.{List, [], _∷_, _++_}
-use lib.ListN.{length, getD, take, drop}
 use borrow.Author.Needs.{needs}
 use Rattle.node.specs.Whole.{ragged, too-few, whole-by}
 use Rattle.node.proofs.whole_nodes.Statement.{statement}
 use Rattle.node.proofs.whole_nodes.Tie as tie
-use Rattle.node.proofs.whole_nodes.Reads as reads
-use Rattle.node.proofs.whole_nodes.Lts as lts
 
 -- src/lib.rt:14:8
 mul-if1 : tie.Need-mul-if1

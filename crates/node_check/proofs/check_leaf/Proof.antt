@@ -1,6 +1,6 @@
 use Rattle.node_check.specs.Leaf.{leaf-start}
 use borrow.Author.Tests.{not-true, not-false}
-use Rattle.node_check.specs.Leaf.{prevIn, PrevFits, leafRun, leaf-bad, leaf-end, leaf-other, leaf-stop, leaf-on, start-fits, key-fits, none-is}
+use Rattle.node_check.specs.Leaf.{prevIn, PrevFits, leafRun, leaf-bad, leaf-end, leaf-other, leaf-stop, leaf-on, start-fits, key-fits}
 use Rattle.path.specs.Fed.{shapeIs}
 use Rattle.search.specs.Pairs.{pairIs, pair-places}
 use Rattle.search.specs.declared.Pair.{Pair}
@@ -8,17 +8,12 @@ use Rattle.node.specs.Places.{Within, Next, step-bad-is, step-read-is}
 use Rattle.node.specs.Entries.{entriesFrom, entries-end}
 use lib.ListN.{length}
 use mathlib.Core.Option.{none}
-use mathlib.Core.Path.{_≡_, refl, sym, ap, _∙_}
+use mathlib.Core.Path.{_≡_, refl, sym, _∙_}
 use native.Mathlib.Omega.{arith}
-use Prim.Native.Nat.{ℕ, _≤_, _<_, _-_, _+_}
+use Prim.Native.Nat.{_-_}
 use borrow.Author.Needs.{needs}
 use Rattle.node_check.proofs.check_leaf.Statement.{statement}
 use Rattle.node_check.proofs.check_leaf.Tie as tie
-use Rattle.node_check.proofs.check_leaf.Reads as reads
-use Rattle.node_check.proofs.check_leaf.Lts as lts
-use Rattle.node_check.proofs.row_good.Reads as row-good-reads
-use Rattle.node.proofs.Cursor.step.Reads as step-reads
-use Rattle.search.proofs.pair_of.Reads as pair-of-reads
 
 abbrev Inv-loop : tie.InvT-loop
 Inv-loop s from end lo hi sh c₀ prev₀ c prev =

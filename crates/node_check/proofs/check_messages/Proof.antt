@@ -2,21 +2,16 @@ use Rattle.node_check.specs.Messages.{noteIs, note-places, notes-bad, no
 use Rattle.node_check.specs.Inside.{messagesRun}
 use Rattle.node_check.specs.declared.Note.{Note}
 use Rattle.path.specs.Fed.{shapeIs}
-use Rattle.node.specs.Places.{MessageWithin, Next, step-bad-is, step-read-is, entry-wider}
+use Rattle.node.specs.Places.{Next, step-bad-is, step-read-is, entry-wider}
 use Rattle.node.specs.Entries.{entriesFrom, entries-end}
 use lib.ListN.{length}
-use mathlib.Core.Path.{_≡_, refl, sym, ap, _∙_}
+use mathlib.Core.Path.{_≡_, refl, sym, _∙_}
 use native.Mathlib.Omega.{arith}
-use Prim.Native.Nat.{ℕ, _≤_, _<_, _-_, _+_}
+use Prim.Native.Nat.{_-_}
 use borrow.Author.Tests.{not-true, not-false}
 use borrow.Author.Needs.{needs}
 use Rattle.node_check.proofs.check_messages.Statement.{statement}
 use Rattle.node_check.proofs.check_messages.Tie as tie
-use Rattle.node_check.proofs.check_messages.Reads as reads
-use Rattle.node_check.proofs.check_messages.Lts as lts
-use Rattle.node_check.proofs.message_good.Reads as message-good-reads
-use Rattle.node_check.proofs.note_of.Reads as note-of-reads
-use Rattle.node.proofs.Cursor.step.Reads as step-reads
 
 abbrev Inv-loop : tie.InvT-loop
 Inv-loop s from end lo hi sh c₀ c =

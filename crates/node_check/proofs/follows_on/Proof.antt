@@ -5,9 +5,6 @@ use native.Mathlib.Omega.{arith}
 use borrow.Author.Needs.{needs}
 use Rattle.node_check.proofs.follows_on.Statement.{statement}
 use Rattle.node_check.proofs.follows_on.Tie as tie
-use Rattle.node_check.proofs.follows_on.Reads as reads
-use Rattle.node_check.proofs.follows_on.Lts as lts
-use Rattle.octets.proofs.precedes.Reads as precedes-reads
 
 prev-in : (c : tie.After-known-told) → Within 0 (length (c .before .before .before .before .before .args .s .now)) (c .before .prev .given .0 .0)
 prev-in c = prev-place _ (c .before .before .before .before .before .args .prev) _ (c .before .before .before .before .before .pre) (c .before .prev .given .1)

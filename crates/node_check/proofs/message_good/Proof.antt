@@ -7,10 +7,6 @@ use borrow.Author.Tests.{not-true, not-false}
 use borrow.Author.Needs.{needs}
 use Rattle.node_check.proofs.message_good.Statement.{statement}
 use Rattle.node_check.proofs.message_good.Tie as tie
-use Rattle.node_check.proofs.message_good.Reads as reads
-use Rattle.node_check.proofs.message_good.Lts as lts
-use Rattle.octets.proofs.owned.Reads as owned-reads
-use Rattle.path.proofs.goes_on.Reads as goes-on-reads
 
 put-in : (c : tie.After-known-told) → Within 0 (length (c .before .before .before .before .before .before .args .s .now)) (c .before .m .given .0 .0) × Within 0 (length (c .before .before .before .before .before .before .args .s .now)) (c .before .m .given .0 .1 .0)
 put-in c = put-places _ (c .before .before .before .before .before .before .args .m) _ _ (c .before .before .before .before .before .before .pre) (c .before .m .given .1)

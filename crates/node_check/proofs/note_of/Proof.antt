@@ -2,8 +2,6 @@ use Rattle.node_check.specs.Messages.{pair-note, child-note, message-not
 use borrow.Author.Needs.{needs}
 use Rattle.node_check.proofs.note_of.Statement.{statement}
 use Rattle.node_check.proofs.note_of.Tie as tie
-use Rattle.node_check.proofs.note_of.Reads as reads
-use Rattle.node_check.proofs.note_of.Lts as lts
 
 -- src/lib.rt:92:30
 enum-told : tie.Need-enum-told

@@ -4,11 +4,6 @@ use native.Mathlib.Omega.{arith}
 use borrow.Author.Needs.{needs}
 use Rattle.node_check.proofs.row_good.Statement.{statement}
 use Rattle.node_check.proofs.row_good.Tie as tie
-use Rattle.node_check.proofs.row_good.Reads as reads
-use Rattle.node_check.proofs.row_good.Lts as lts
-use Rattle.node_check.proofs.follows_on.Reads as follows-on-reads
-use Rattle.octets.proofs.owned.Reads as owned-reads
-use Rattle.path.proofs.goes_on.Reads as goes-on-reads
 
 -- src/lib.rt:42:13
 sub-if1 : tie.Need-sub-if1

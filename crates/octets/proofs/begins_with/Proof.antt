@@ -1,11 +1,7 @@
-use native.Mathlib.Omega.{arith}
-use Rattle.octets.specs.Compare.{starts-by, equal-by, not-equal, no-by, yes-by, at-by}
+use Rattle.octets.specs.Compare.{starts-by}
 use borrow.Author.Needs.{needs}
 use Rattle.octets.proofs.begins_with.Statement.{statement}
 use Rattle.octets.proofs.begins_with.Tie as tie
-use Rattle.octets.proofs.begins_with.Reads as reads
-use Rattle.octets.proofs.begins_with.Lts as lts
-use Rattle.octets.proofs.common_length.Reads as common-length-reads
 
 -- src/lib.rt:42:5
 common-length-requires : tie.Need-common-length-requires

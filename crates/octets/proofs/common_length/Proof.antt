@@ -1,16 +1,13 @@
 use borrow.Author.Needs.{needs}
-use Prim.Native.Nat.{ℕ, _≤_, _<_, _-_, _+_}
+use Prim.Native.Nat.{_≤_, _-_, _+_}
 use native.Mathlib.Omega.{arith}
 use native.Mathlib.Numerals.{add-one}
-use mathlib.Core.List.{List}
-use mathlib.Core.Path.{_≡_, refl, sym, ap, _∙_}
+use mathlib.Core.Path.{_≡_}
 use lib.ListN.{length, drop}
 use Rattle.image.specs.Bytes.{shared}
 use Rattle.octets.specs.Compare.{shared-step, shared-stop, shared-first, shared-second}
 use Rattle.octets.proofs.common_length.Statement.{statement}
 use Rattle.octets.proofs.common_length.Tie as tie
-use Rattle.octets.proofs.common_length.Reads as reads
-use Rattle.octets.proofs.common_length.Lts as lts
 
 abbrev Inv-loop : tie.InvT-loop
 Inv-loop a b i₀ i = (i ≤ length a) × (i ≤ length b) × (length (shared a b) ≡ i + length (shared (drop i a) (drop i b)))

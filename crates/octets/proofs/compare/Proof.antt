@@ -1,15 +1,7 @@
-use native.Mathlib.Omega.{arith}
-use Prim.Native.Nat.{ℕ, suc, _+_, _-_, _≤_, _<_}
-use mathlib.Core.Path.{_≡_, refl, sym, ap, _∙_}
-use mathlib.Core.List.{List, [], _∷_, _++_}
-use lib.ListN.{length, getD, take, drop}
 use borrow.Author.Needs.{needs}
 use Rattle.octets.specs.Ordering.{ordering-equal, ordering-greater, ordering-less, ordering-less-at, ordering-greater-at}
 use Rattle.octets.proofs.compare.Statement.{statement}
 use Rattle.octets.proofs.compare.Tie as tie
-use Rattle.octets.proofs.compare.Reads as reads
-use Rattle.octets.proofs.compare.Lts as lts
-use Rattle.octets.proofs.common_length.Reads as common-length-reads
 
 -- src/lib.rt:85:9
 common-length-requires : tie.Need-common-length-requires

@@ -1,14 +1,12 @@
-use Prim.Native.Nat.{ℕ, _+_, _*_, _-_, _/_, _%_, _≤_, _<_}
+use Prim.Native.Nat.{_+_, _-_, _≤_}
 use mathlib.Core.Path.{_≡_, refl, sym, ap, _∙_}
 use lib.ListN.{length, getD, set, take, length-set}
 use lib.Seq.{take-all}
-use Rattle.octets.specs.Put.{put, put-size, put-nil, put-more, put-two}
+use Rattle.octets.specs.Put.{put, put-nil, put-more}
 use native.Mathlib.Omega.{arith}
 use borrow.Author.Needs.{needs}
 use Rattle.octets.proofs.copy_at.Statement.{statement}
 use Rattle.octets.proofs.copy_at.Tie as tie
-use Rattle.octets.proofs.copy_at.Reads as reads
-use Rattle.octets.proofs.copy_at.Lts as lts
 
 abbrev Inv-loop : tie.InvT-loop
 Inv-loop page₀ at src i₀ page i = (i ≤ length src) × (length page ≡ length page₀) × (page ≡ put page₀ at (take i src))

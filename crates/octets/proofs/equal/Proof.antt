@@ -1,11 +1,8 @@
 use native.Mathlib.Omega.{arith}
-use Rattle.octets.specs.Compare.{starts-by, equal-by, not-equal, no-by, yes-by, at-by}
+use Rattle.octets.specs.Compare.{equal-by, not-equal}
 use borrow.Author.Needs.{needs}
 use Rattle.octets.proofs.equal.Statement.{statement}
 use Rattle.octets.proofs.equal.Tie as tie
-use Rattle.octets.proofs.equal.Reads as reads
-use Rattle.octets.proofs.equal.Lts as lts
-use Rattle.octets.proofs.common_length.Reads as common-length-reads
 
 -- src/lib.rt:49:9
 returns : tie.Need-returns

@@ -1,14 +1,11 @@
 use borrow.Author.Needs.{needs}
 use native.Mathlib.Omega.{arith}
-use Prim.Native.Nat.{ℕ, suc, _+_, _-_, _≤_, _<_}
-use mathlib.Core.Path.{_≡_, refl, sym, ap, _∙_}
-use mathlib.Core.List.{List, [], _∷_, _++_}
-use lib.ListN.{length, set, replicate, length-set}
-use Rattle.octets.specs.Put.{put, put-nil, put-fill, fill-more, fill-done}
+use Prim.Native.Nat.{_-_, _≤_}
+use mathlib.Core.Path.{_≡_, refl, sym}
+use lib.ListN.{length, replicate}
+use Rattle.octets.specs.Put.{put, put-nil, fill-more, fill-done}
 use Rattle.octets.proofs.fill_at.Statement.{statement}
 use Rattle.octets.proofs.fill_at.Tie as tie
-use Rattle.octets.proofs.fill_at.Reads as reads
-use Rattle.octets.proofs.fill_at.Lts as lts
 
 abbrev Inv-loop : tie.InvT-loop
 Inv-loop page₀ at count byte i₀ page i = (i ≤ count) × (length page ≡ length page₀) × (page ≡ put page₀ at (replicate i byte))

@@ -2,9 +2,6 @@ use Rattle.octets.specs.Compare.{owned-low, owned-high}
 use borrow.Author.Needs.{needs}
 use Rattle.octets.proofs.owned.Statement.{statement}
 use Rattle.octets.proofs.owned.Tie as tie
-use Rattle.octets.proofs.owned.Reads as reads
-use Rattle.octets.proofs.owned.Lts as lts
-use Rattle.octets.proofs.precedes.Reads as precedes-reads
 
 -- src/lib.rt:73:8
 precedes-requires : tie.Need-precedes-requires

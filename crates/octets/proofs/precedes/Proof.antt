@@ -1,11 +1,8 @@
 use native.Mathlib.Omega.{arith}
-use Rattle.octets.specs.Compare.{starts-by, equal-by, not-equal, no-by, yes-by, at-by}
+use Rattle.octets.specs.Compare.{no-by, yes-by, at-by}
 use borrow.Author.Needs.{needs}
 use Rattle.octets.proofs.precedes.Statement.{statement}
 use Rattle.octets.proofs.precedes.Tie as tie
-use Rattle.octets.proofs.precedes.Reads as reads
-use Rattle.octets.proofs.precedes.Lts as lts
-use Rattle.octets.proofs.common_length.Reads as common-length-reads
 
 -- src/lib.rt:58:9
 common-length-requires : tie.Need-common-length-requires

@@ -1,14 +1,9 @@
-use Prim.Native.Nat.{ℕ, _+_, _*_, _-_, _/_, _%_, _≤_, _<_}
-use mathlib.Core.Path.{_≡_, refl, sym, ap, _∙_}
-use lib.ListN.{length, getD, set, take, length-set}
-use lib.Seq.{take-length}
-use Rattle.octets.specs.Put.{put, put-size, put-nil, put-more, put-two}
+use lib.ListN.{length-set}
+use Rattle.octets.specs.Put.{put-two}
 use native.Mathlib.Omega.{arith}
 use borrow.Author.Needs.{needs}
 use Rattle.octets.proofs.put_u16.Statement.{statement}
 use Rattle.octets.proofs.put_u16.Tie as tie
-use Rattle.octets.proofs.put_u16.Reads as reads
-use Rattle.octets.proofs.put_u16.Lts as lts
 
 cast-page : tie.Need-cast-page
 cast-page c = search needs

@@ -3,9 +3,6 @@ use Rattle.image.specs.Bytes.{u16}
 use borrow.Author.Needs.{needs}
 use Rattle.octets.proofs.u16_at.Statement.{statement}
 use Rattle.octets.proofs.u16_at.Tie as tie
-use Rattle.octets.proofs.u16_at.Reads as reads
-use Rattle.octets.proofs.u16_at.Lts as lts
-use Rattle.octets.proofs.wide.Reads as wide-reads
 
 -- src/lib.rt:18:10
 shared-slice-read-wide : tie.Need-shared-slice-read-wide

@@ -1,16 +1,9 @@
-use Prim.Native.Nat.{ℕ, _+_, _*_, _-_, _/_, _%_, _≤_, _<_}
-use mathlib.Core.Path.{_≡_, refl, sym, ap, _∙_}
-use lib.ListN.{length, getD}
+use mathlib.Core.Path.{refl}
 use native.Mathlib.Omega.{arith}
 use borrow.Author.Needs.{needs}
-use Rattle.octets.specs.Put.{put}
 use Rattle.pages.specs.Entries.{child-put}
 use Rattle.pages.proofs.emit_child.Statement.{statement}
 use Rattle.pages.proofs.emit_child.Tie as tie
-use Rattle.pages.proofs.emit_child.Reads as reads
-use Rattle.pages.proofs.emit_child.Lts as lts
-use Rattle.octets.proofs.copy_at.Reads as copy-at-reads
-use Rattle.octets.proofs.put_u16.Reads as put-u16-reads
 
 add-put-u16 : tie.Need-add-put-u16
 add-put-u16 c = search needs

@@ -1,20 +1,13 @@
-use Prim.Native.Nat.{ℕ, _+_, _*_, _-_, _/_, _%_, _≤_, _<_}
-use mathlib.Core.Path.{_≡_, refl, sym, ap, ap₂, _∙_}
+use mathlib.Core.Path.{sym, ap, ap₂, _∙_}
 use Rattle.image.specs.Entry.{child}
 use Rattle.laws.specs.Encode.{bytesOf}
-use lib.ListN.{length, getD}
+use lib.ListN.{length}
 use native.Mathlib.Omega.{arith}
 use borrow.Author.Needs.{needs}
 use Rattle.octets.specs.Put.{put, put-nil}
-use Rattle.pages.specs.Entries.{kidBytes, bytes-none, bytes-some, child-size, Span, span}
+use Rattle.pages.specs.Entries.{bytes-none, bytes-some, child-size, span}
 use Rattle.pages.proofs.emit_kid.Statement.{statement}
 use Rattle.pages.proofs.emit_kid.Tie as tie
-use Rattle.pages.proofs.emit_kid.Reads as reads
-use Rattle.pages.proofs.emit_kid.Lts as lts
-use Rattle.rows.proofs.mark_at.Reads as mark-at-reads
-use Rattle.pages.proofs.emit_child.Reads as emit-child-reads
-use Rattle.pages.proofs.kid_end.Reads as kid-end-reads
-use Rattle.pages.proofs.kid_start.Reads as kid-start-reads
 
 mark-at-requires : tie.Need-mark-at-requires
 mark-at-requires c κs = search needs

@@ -1,16 +1,9 @@
-use Prim.Native.Nat.{ℕ, _+_, _*_, _-_, _/_, _%_, _≤_, _<_}
-use mathlib.Core.Path.{_≡_, refl, sym, ap, _∙_}
-use lib.ListN.{length, getD}
+use Prim.Native.Nat.{_-_}
 use native.Mathlib.Omega.{arith}
 use borrow.Author.Needs.{needs}
-use Rattle.rows.specs.Area.{RowsFit}
-use Rattle.octets.specs.Put.{put}
-use Rattle.pages.specs.Entries.{kidBytes, Emits, emits-first, emits-next, emits-last, emits-room}
+use Rattle.pages.specs.Entries.{Emits, emits-first, emits-next, emits-last, emits-room}
 use Rattle.pages.proofs.emit_kids.Statement.{statement}
 use Rattle.pages.proofs.emit_kids.Tie as tie
-use Rattle.pages.proofs.emit_kids.Reads as reads
-use Rattle.pages.proofs.emit_kids.Lts as lts
-use Rattle.pages.proofs.emit_kid.Reads as emit-kid-reads
 
 abbrev Inv-loop : tie.InvT-loop
 Inv-loop page₀ area m from to k at t₀ p₀ page t p = Emits page₀ area from to k at page t p

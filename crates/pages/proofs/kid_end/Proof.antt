@@ -1,14 +1,9 @@
-use Prim.Native.Nat.{ℕ, _+_, _*_, _-_, _/_, _%_, _≤_, _<_}
-use mathlib.Core.Path.{_≡_, refl, sym, ap, _∙_}
-use lib.ListN.{length, getD}
+use mathlib.Core.Path.{sym}
 use native.Mathlib.Omega.{arith}
 use borrow.Author.Needs.{needs}
-use Rattle.pages.specs.Entries.{endAt, startAt, end-first, end-later, start-zero, start-short, start-long}
+use Rattle.pages.specs.Entries.{end-first, end-later}
 use Rattle.pages.proofs.kid_end.Statement.{statement}
 use Rattle.pages.proofs.kid_end.Tie as tie
-use Rattle.pages.proofs.kid_end.Reads as reads
-use Rattle.pages.proofs.kid_end.Lts as lts
-use Rattle.octets.proofs.wide.Reads as wide-reads
 
 mul-b : tie.Need-mul-b
 mul-b c = search needs

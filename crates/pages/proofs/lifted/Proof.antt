@@ -1,19 +1,12 @@
-use Prim.Native.Nat.{ℕ, _+_, _*_, _-_, _/_, _%_, _≤_, _<_}
-use mathlib.Core.Path.{_≡_, refl, sym, ap, ap₂, _∙_}
-use lib.ListN.{length, getD}
+use mathlib.Core.Path.{sym, ap₂, _∙_}
+use lib.ListN.{length}
 use native.Mathlib.Omega.{arith}
 use borrow.Author.Needs.{needs}
 use Rattle.image.specs.Bytes.{shared}
-use Rattle.rows.specs.Kids.{lowOfRow, highOfRow}
-use Rattle.pages.specs.Entries.{Span, span}
+use Rattle.pages.specs.Entries.{span}
 use Rattle.pages.specs.Nodes.{high-last, high-row}
 use Rattle.pages.proofs.lifted.Statement.{statement}
 use Rattle.pages.proofs.lifted.Tie as tie
-use Rattle.pages.proofs.lifted.Reads as reads
-use Rattle.pages.proofs.lifted.Lts as lts
-use Rattle.pages.proofs.kid_end.Reads as kid-end-reads
-use Rattle.pages.proofs.kid_start.Reads as kid-start-reads
-use Rattle.octets.proofs.common_length.Reads as common-length-reads
 
 kid-start-requires : tie.Need-kid-start-requires
 kid-start-requires c κs = search needs

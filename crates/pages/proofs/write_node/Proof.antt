@@ -1,21 +1,11 @@
-use Prim.Native.Nat.{ℕ, _+_, _*_, _-_, _/_, _%_, _≤_, _<_}
-use mathlib.Core.Path.{_≡_, refl, sym, ap, _∙_}
-use lib.ListN.{length, getD}
+use mathlib.Core.Path.{ap, _∙_}
 use native.Mathlib.Omega.{arith}
 use borrow.Author.Needs.{needs}
-use Rattle.rows.specs.Kids.{nodePage}
 use Rattle.laws.specs.WriteNode.{writeNode}
-use Rattle.octets.specs.Put.{put}
 use Rattle.packed.specs.Tidy.{zerosOf}
-use Rattle.pages.specs.Nodes.{nodeBytesOf, bytes-of, node-page-is, node-written}
+use Rattle.pages.specs.Nodes.{bytes-of, node-page-is, node-written}
 use Rattle.pages.proofs.write_node.Statement.{statement}
 use Rattle.pages.proofs.write_node.Tie as tie
-use Rattle.pages.proofs.write_node.Reads as reads
-use Rattle.pages.proofs.write_node.Lts as lts
-use Rattle.octets.proofs.copy_at.Reads as copy-at-reads
-use Rattle.pages.proofs.emit_kids.Reads as emit-kids-reads
-use Rattle.pages.proofs.lifted.Reads as lifted-reads
-use Rattle.octets.proofs.put_u16.Reads as put-u16-reads
 
 lifted-requires : tie.Need-lifted-requires
 lifted-requires c κs = search needs

@@ -3,8 +3,6 @@ use native.Mathlib.Omega.{arith}
 use borrow.Author.Needs.{needs}
 use Rattle.path.proofs.closed.Statement.{statement}
 use Rattle.path.proofs.closed.Tie as tie
-use Rattle.path.proofs.closed.Reads as reads
-use Rattle.path.proofs.closed.Lts as lts
 
 -- src/lib.rt:66:24
 enum-known-sh : tie.Need-enum-known-sh

@@ -3,8 +3,6 @@ use native.Mathlib.Omega.{arith}
 use borrow.Author.Needs.{needs}
 use Rattle.path.proofs.fed.Statement.{statement}
 use Rattle.path.proofs.fed.Tie as tie
-use Rattle.path.proofs.fed.Reads as reads
-use Rattle.path.proofs.fed.Lts as lts
 
 -- src/lib.rt:17:24
 enum-known-sh : tie.Need-enum-known-sh

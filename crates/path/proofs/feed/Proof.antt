@@ -7,9 +7,6 @@ use native.Mathlib.Omega.{arith}
 use borrow.Author.Needs.{needs}
 use Rattle.path.proofs.feed.Statement.{statement}
 use Rattle.path.proofs.feed.Tie as tie
-use Rattle.path.proofs.feed.Reads as reads
-use Rattle.path.proofs.feed.Lts as lts
-use Rattle.path.proofs.fed.Reads as fed-reads
 
 abbrev Inv-loop : tie.InvT-loop
 Inv-loop s sh₀ i₀ sh i = (i ≤ length s) × (defined.feed (shapeIs sh) (drop i s) ≡ defined.feed (shapeIs sh₀) s)

@@ -2,10 +2,6 @@ use Rattle.path.specs.Fed.{goes-is}
 use borrow.Author.Needs.{needs}
 use Rattle.path.proofs.goes_on.Statement.{statement}
 use Rattle.path.proofs.goes_on.Tie as tie
-use Rattle.path.proofs.goes_on.Reads as reads
-use Rattle.path.proofs.goes_on.Lts as lts
-use Rattle.path.proofs.closed.Reads as closed-reads
-use Rattle.path.proofs.feed.Reads as feed-reads
 
 -- src/lib.rt:85:12
 feed-requires : tie.Need-feed-requires

@@ -1,8 +1,5 @@
 use native.Mathlib.Omega.{arith}
-use Prim.Native.Nat.{ℕ, suc, _+_, _-_, _≤_, _<_}
-use mathlib.Core.Path.{_≡_, refl, sym, ap, _∙_}
-use mathlib.Core.List.{List, [], _∷_, _++_}
-use lib.ListN.{length, getD, take, drop}
+use mathlib.Core.Path.{sym, _∙_}
 use borrow.Author.Needs.{needs}
 use borrow.Author.Tests.{not-true, not-false}
 use Rattle.image.specs.Calls.{get}
@@ -10,13 +7,6 @@ use Rattle.query.specs.Asked.{ragged-store, unsound-store, malformed-pat
 use Rattle.query.specs.Steps.{get-path, get-short, get-room, value-there, value-absent}
 use Rattle.query.proofs.get.Statement.{statement}
 use Rattle.query.proofs.get.Tie as tie
-use Rattle.query.proofs.get.Reads as reads
-use Rattle.query.proofs.get.Lts as lts
-use Rattle.lookup.proofs.value_of.Reads as value-of-reads
-use Rattle.node.proofs.whole_nodes.Reads as whole-nodes-reads
-use Rattle.octets.proofs.copy_at.Reads as copy-at-reads
-use Rattle.path.proofs.is_path.Reads as is-path-reads
-use Rattle.soundness.proofs.is_sound.Reads as is-sound-reads
 
 -- src/lib.rt:18:9
 whole-nodes-requires : tie.Need-whole-nodes-requires

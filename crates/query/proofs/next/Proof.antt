@@ -1,8 +1,6 @@
 use native.Mathlib.Omega.{arith}
-use Prim.Native.Nat.{ℕ, suc, _+_, _-_, _≤_, _<_}
-use mathlib.Core.Path.{_≡_, refl, sym, ap, _∙_}
-use mathlib.Core.List.{List, [], _∷_, _++_}
-use lib.ListN.{length, getD, take, drop}
+use mathlib.Core.Path.{_≡_, sym, _∙_}
+use lib.ListN.{length}
 use borrow.Author.Needs.{needs}
 use borrow.Author.Tests.{not-true, not-false}
 use Rattle.image.specs.Calls.{next}
@@ -10,13 +8,6 @@ use Rattle.query.specs.Asked.{ragged-store, unsound-store, malformed-pat
 use Rattle.query.specs.Steps.{next-short, next-room, path-absent, path-there, taken-size}
 use Rattle.query.proofs.next.Statement.{statement}
 use Rattle.query.proofs.next.Tie as tie
-use Rattle.query.proofs.next.Reads as reads
-use Rattle.query.proofs.next.Lts as lts
-use Rattle.node.proofs.whole_nodes.Reads as whole-nodes-reads
-use Rattle.octets.proofs.copy_at.Reads as copy-at-reads
-use Rattle.query.proofs.paths_fit.Reads as paths-fit-reads
-use Rattle.seek.proofs.next_path.Reads as next-path-reads
-use Rattle.soundness.proofs.is_sound.Reads as is-sound-reads
 
 -- src/lib.rt:57:9
 whole-nodes-requires : tie.Need-whole-nodes-requires

@@ -1,16 +1,9 @@
 use native.Mathlib.Omega.{arith}
-use Prim.Native.Nat.{ℕ, suc, _+_, _-_, _≤_, _<_}
-use mathlib.Core.Path.{_≡_, refl, sym, ap, _∙_}
-use mathlib.Core.List.{List, [], _∷_, _++_}
-use lib.ListN.{length, getD, take, drop}
 use borrow.Author.Needs.{needs}
 use borrow.Author.Tests.{not-true, not-false}
 use Rattle.query.specs.Steps.{next-bad, next-first, next-second}
 use Rattle.query.proofs.paths_fit.Statement.{statement}
 use Rattle.query.proofs.paths_fit.Tie as tie
-use Rattle.query.proofs.paths_fit.Reads as reads
-use Rattle.query.proofs.paths_fit.Lts as lts
-use Rattle.path.proofs.is_path.Reads as is-path-reads
 
 -- src/lib.rt:44:9
 is-path-requires : tie.Need-is-path-requires

@@ -6,11 +6,6 @@ use borrow.Author.Tests.{not-true, not-false}
 use Rattle.query.specs.SameSteps.{first-ragged, second-ragged, first-unsound, second-unsound, paths-same, paths-differ}
 use Rattle.query.proofs.same.Statement.{statement}
 use Rattle.query.proofs.same.Tie as tie
-use Rattle.query.proofs.same.Reads as reads
-use Rattle.query.proofs.same.Lts as lts
-use Rattle.node.proofs.whole_nodes.Reads as whole-nodes-reads
-use Rattle.query.proofs.same_paths.Reads as same-paths-reads
-use Rattle.soundness.proofs.is_sound.Reads as is-sound-reads
 
 whole-nodes-requires : tie.Need-whole-nodes-requires
 whole-nodes-requires c κs = search needs

@@ -7,9 +7,6 @@ use lib.ListN.{length}
 use Rattle.query.specs.SameSteps.{first-ends, second-ends, both-held}
 use Rattle.query.proofs.same_held.Statement.{statement}
 use Rattle.query.proofs.same_held.Tie as tie
-use Rattle.query.proofs.same_held.Reads as reads
-use Rattle.query.proofs.same_held.Lts as lts
-use Rattle.octets.proofs.equal.Reads as equal-reads
 
 returns : tie.Need-returns
 returns c = first-ends (c .before .args .p) (c .before .args .q) (omega arith)

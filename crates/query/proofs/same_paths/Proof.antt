@@ -11,10 +11,6 @@ use Rattle.image.specs.Sound.{tableOf}
 use Rattle.query.specs.SameSteps.{Undecided, walk-starts, walk-differs, walk-ends, walk-goes-on, walk-shortens}
 use Rattle.query.proofs.same_paths.Statement.{statement}
 use Rattle.query.proofs.same_paths.Tie as tie
-use Rattle.query.proofs.same_paths.Reads as reads
-use Rattle.query.proofs.same_paths.Lts as lts
-use Rattle.query.proofs.same_held.Reads as same-held-reads
-use Rattle.seek.proofs.next_path.Reads as next-path-reads
 
 abbrev Inv-loop : tie.InvT-loop
 Inv-loop store other last₀ size₀ last size = (size ≤ 64) × (length last ≡ 64) × Undecided store other (take size last)

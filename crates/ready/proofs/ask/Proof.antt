@@ -9,10 +9,6 @@ use Rattle.soundness.specs.Judged.{whole-long}
 use Rattle.ready.specs.Steps.{ragged-store, short-work, unsound-store, sound-store}
 use Rattle.ready.proofs.ask.Statement.{statement}
 use Rattle.ready.proofs.ask.Tie as tie
-use Rattle.ready.proofs.ask.Reads as reads
-use Rattle.ready.proofs.ask.Lts as lts
-use Rattle.node.proofs.whole_nodes.Reads as whole-nodes-reads
-use Rattle.soundness.proofs.judge.Reads as judge-reads
 
 whole-nodes-requires : tie.Need-whole-nodes-requires
 whole-nodes-requires c κs = search needs

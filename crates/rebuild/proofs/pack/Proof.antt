@@ -6,10 +6,6 @@ use borrow.Author.Needs.{needs}
 use native.Mathlib.Omega.{arith}
 use Rattle.rebuild.proofs.pack.Statement.{statement}
 use Rattle.rebuild.proofs.pack.Tie as tie
-use Rattle.rebuild.proofs.pack.Reads as reads
-use Rattle.rebuild.proofs.pack.Lts as lts
-use Rattle.build.proofs.build.Reads as build-reads
-use Rattle.build.proofs.count_numbers.Reads as count-numbers-reads
 
 count-numbers-requires : tie.Need-count-numbers-requires
 count-numbers-requires c κs = let p = c .before .before .before .before .pre in let w = whole-parts _ (p .whole) in let n = p .numbers in let f = w .few in omega arith

@@ -6,9 +6,6 @@ use native.Mathlib.Omega.{arith}
 use mathlib.Core.Path.{refl}
 use Rattle.rebuild.proofs.rebuild.Statement.{statement}
 use Rattle.rebuild.proofs.rebuild.Tie as tie
-use Rattle.rebuild.proofs.rebuild.Reads as reads
-use Rattle.rebuild.proofs.rebuild.Lts as lts
-use Rattle.rebuild.proofs.rebuild_in.Reads as rebuild-in-reads
 
 mul-k : tie.Need-mul-k
 mul-k c = search needs

@@ -9,11 +9,6 @@ use mathlib.Core.Path.{refl}
 use lib.ListN.{length}
 use Rattle.rebuild.proofs.rebuild_in.Statement.{statement}
 use Rattle.rebuild.proofs.rebuild_in.Tie as tie
-use Rattle.rebuild.proofs.rebuild_in.Reads as reads
-use Rattle.rebuild.proofs.rebuild_in.Lts as lts
-use Rattle.build.proofs.clear_area.Reads as clear-area-reads
-use Rattle.dump.proofs.dump.Reads as dump-reads
-use Rattle.rebuild.proofs.pack.Reads as pack-reads
 
 dump-requires : tie.Need-dump-requires
 dump-requires c κs = let n = node-count _ (c .before .before .before .before .pre .0) in (c .before .before .before .before .pre .1, omega arith, omega arith)

@@ -1,15 +1,12 @@
-use Prim.Native.Nat.{ℕ, _+_, _*_, _-_, _/_, _%_, _≤_, _<_}
-use mathlib.Core.Path.{_≡_, refl, sym, ap, _∙_}
-use lib.ListN.{length, getD}
+use Prim.Native.Nat.{_+_, _-_, _≤_}
+use mathlib.Core.Path.{_≡_, sym, ap, _∙_}
+use lib.ListN.{length}
 use native.Mathlib.Omega.{arith}
 use borrow.Author.Needs.{needs}
-use Rattle.rows.specs.Puts.{putMark, put-length}
+use Rattle.rows.specs.Puts.{put-length}
 use Rattle.rows.specs.Remark.{clearMarks, clear-step, clear-done}
 use Rattle.rows.proofs.clear_marks.Statement.{statement}
 use Rattle.rows.proofs.clear_marks.Tie as tie
-use Rattle.rows.proofs.clear_marks.Reads as reads
-use Rattle.rows.proofs.clear_marks.Lts as lts
-use Rattle.rows.proofs.put_mark.Reads as put-mark-reads
 
 abbrev Inv-loop : tie.InvT-loop
 Inv-loop area₀ from to i₀ area i = (i ≤ to) × (length area ≡ length area₀) × (clearMarks (to - from) area₀ from ≡ clearMarks (to - i) area i)

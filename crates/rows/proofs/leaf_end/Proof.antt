@@ -1,14 +1,10 @@
-use Prim.Native.Nat.{ℕ, _+_, _*_, _-_, _≤_, _<_}
-use mathlib.Core.Path.{_≡_, refl, sym, _∙_}
-use lib.ListN.{length, getD}
+use Prim.Native.Nat.{_+_, _-_, _≤_}
+use mathlib.Core.Path.{_≡_, sym, _∙_}
 use borrow.Author.Needs.{needs}
 use native.Mathlib.Omega.{arith}
-use Rattle.rows.specs.Area.{RowsFit, leafEnd, leaf-end-done, leaf-end-stop, leaf-end-on}
+use Rattle.rows.specs.Area.{leafEnd, leaf-end-done, leaf-end-stop, leaf-end-on}
 use Rattle.rows.proofs.leaf_end.Statement.{statement}
 use Rattle.rows.proofs.leaf_end.Tie as tie
-use Rattle.rows.proofs.leaf_end.Reads as reads
-use Rattle.rows.proofs.leaf_end.Lts as lts
-use Rattle.octets.proofs.wide.Reads as wide-reads
 
 abbrev Inv-loop : tie.InvT-loop
 Inv-loop area m from used i₀ sum₀ i sum = (i ≤ m) × (sum ≤ 2000) × (leafEnd m area from used ≡ leafEnd m area i sum)

@@ -1,15 +1,8 @@
-use Prim.Native.Nat.{ℕ, _+_, _*_, _-_, _/_, _%_, _≤_, _<_}
-use mathlib.Core.Path.{_≡_, refl, sym, ap, _∙_}
-use lib.ListN.{length, getD}
-use native.Mathlib.Omega.{arith}
 use borrow.Author.Needs.{needs}
 use Rattle.image.specs.Bytes.{u16}
 use Rattle.rows.specs.Kids.{markAt}
 use Rattle.rows.proofs.mark_at.Statement.{statement}
 use Rattle.rows.proofs.mark_at.Tie as tie
-use Rattle.rows.proofs.mark_at.Reads as reads
-use Rattle.rows.proofs.mark_at.Lts as lts
-use Rattle.octets.proofs.wide.Reads as wide-reads
 
 mul-at : tie.Need-mul-at
 mul-at c = search needs

@@ -1,15 +1,10 @@
-use Prim.Native.Nat.{ℕ, _+_, _*_, _-_, _/_, _%_, _≤_, _<_}
-use mathlib.Core.Path.{_≡_, refl, sym, ap, _∙_}
-use lib.ListN.{length, getD}
+use Prim.Native.Nat.{_-_, _≤_}
+use mathlib.Core.Path.{_≡_, sym, _∙_}
 use native.Mathlib.Omega.{arith}
 use borrow.Author.Needs.{needs}
-use Rattle.rows.specs.Area.{RowsFit}
 use Rattle.rows.specs.Kids.{nodeEnd, end-done, node-end-stop, node-end-on}
 use Rattle.rows.proofs.node_end.Statement.{statement}
 use Rattle.rows.proofs.node_end.Tie as tie
-use Rattle.rows.proofs.node_end.Reads as reads
-use Rattle.rows.proofs.node_end.Lts as lts
-use Rattle.rows.proofs.weight_at.Reads as weight-at-reads
 
 abbrev Inv-loop : tie.InvT-loop
 Inv-loop area m from used i₀ sum₀ i sum = (from ≤ i) × (i ≤ m) × (sum ≤ 1016) × (nodeEnd m area from used ≡ nodeEnd m area i sum)

@@ -1,13 +1,10 @@
-use Prim.Native.Nat.{ℕ, _+_, _*_, _-_, _/_, _%_, _≤_, _<_}
-use mathlib.Core.Path.{_≡_, refl, sym, ap, _∙_}
-use lib.ListN.{length, getD, length-set}
+use mathlib.Core.Path.{refl}
+use lib.ListN.{length-set}
 use Rattle.rows.specs.Puts.{putMark}
 use native.Mathlib.Omega.{arith}
 use borrow.Author.Needs.{needs}
 use Rattle.rows.proofs.put_mark.Statement.{statement}
 use Rattle.rows.proofs.put_mark.Tie as tie
-use Rattle.rows.proofs.put_mark.Reads as reads
-use Rattle.rows.proofs.put_mark.Lts as lts
 
 mul-at : tie.Need-mul-at
 mul-at c = search needs

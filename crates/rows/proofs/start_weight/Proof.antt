@@ -1,14 +1,9 @@
-use Prim.Native.Nat.{ℕ, _+_, _*_, _-_, _/_, _%_, _≤_, _<_}
-use mathlib.Core.Path.{_≡_, refl, sym, ap, _∙_}
-use lib.ListN.{length, getD}
+use mathlib.Core.Path.{sym}
 use native.Mathlib.Omega.{arith}
 use borrow.Author.Needs.{needs}
-use Rattle.rows.specs.Remark.{startWeight, start-first, start-later}
+use Rattle.rows.specs.Remark.{start-first, start-later}
 use Rattle.rows.proofs.start_weight.Statement.{statement}
 use Rattle.rows.proofs.start_weight.Tie as tie
-use Rattle.rows.proofs.start_weight.Reads as reads
-use Rattle.rows.proofs.start_weight.Lts as lts
-use Rattle.octets.proofs.wide.Reads as wide-reads
 
 returns : tie.Need-returns
 returns c = (sym (start-first _ _ (omega arith)), omega arith)

@@ -1,15 +1,9 @@
-use Prim.Native.Nat.{ℕ, _+_, _*_, _-_, _/_, _%_, _≤_, _<_}
-use mathlib.Core.Path.{_≡_, refl, sym, ap, _∙_}
-use lib.ListN.{length, getD}
+use mathlib.Core.Path.{sym}
 use native.Mathlib.Omega.{arith}
 use borrow.Author.Needs.{needs}
-use Rattle.rows.specs.Kids.{markAt, weightAt, weight-none, weight-some}
+use Rattle.rows.specs.Kids.{weight-none, weight-some}
 use Rattle.rows.proofs.weight_at.Statement.{statement}
 use Rattle.rows.proofs.weight_at.Tie as tie
-use Rattle.rows.proofs.weight_at.Reads as reads
-use Rattle.rows.proofs.weight_at.Lts as lts
-use Rattle.rows.proofs.mark_at.Reads as mark-at-reads
-use Rattle.octets.proofs.wide.Reads as wide-reads
 
 mark-at-requires : tie.Need-mark-at-requires
 mark-at-requires c κs = search needs

@@ -1,19 +1,13 @@
-use Rattle.search.specs.Pairs.{Finds, pairIs, findE, nothing-is, value-is, find-end, find-other, find-here, find-on, pair-places}
+use Rattle.search.specs.Pairs.{pairIs, findE, nothing-is, value-is, find-end, find-other, find-here, find-on, pair-places}
 use Rattle.search.specs.declared.Pair.{Pair}
-use Rattle.node.specs.Places.{Within, Next, step-bad-is, step-read-is, entry-wider}
+use Rattle.node.specs.Places.{Within, Next, step-bad-is, step-read-is}
 use Rattle.node.specs.Entries.{listed, listed-end}
-use lib.ListN.{length}
-use mathlib.Core.Path.{_≡_, refl, sym, ap, _∙_}
+use mathlib.Core.Path.{_≡_, refl, sym, _∙_}
 use native.Mathlib.Omega.{arith}
-use Prim.Native.Nat.{ℕ, _≤_, _<_, _-_, _+_}
+use Prim.Native.Nat.{_-_}
 use borrow.Author.Needs.{needs}
 use Rattle.search.proofs.find.Statement.{statement}
 use Rattle.search.proofs.find.Tie as tie
-use Rattle.search.proofs.find.Reads as reads
-use Rattle.search.proofs.find.Lts as lts
-use Rattle.node.proofs.Cursor.step.Reads as step-reads
-use Rattle.octets.proofs.equal.Reads as equal-reads
-use Rattle.search.proofs.pair_of.Reads as pair-of-reads
 
 abbrev Inv-loop : tie.InvT-loop
 Inv-loop s from end rest c₀ c = (c .end ≡ end) × (findE (listed s (c .at) (c .end)) rest ≡ findE (listed s from end) rest)

@@ -1,11 +1,7 @@
 use Rattle.search.specs.Hear.{message-places, as-entry, hear-pair, hear-child, hear-on}
-use native.Mathlib.Omega.{arith}
 use borrow.Author.Needs.{needs}
 use Rattle.search.proofs.hear.Statement.{statement}
 use Rattle.search.proofs.hear.Tie as tie
-use Rattle.search.proofs.hear.Reads as reads
-use Rattle.search.proofs.hear.Lts as lts
-use Rattle.search.proofs.hear_message.Reads as hear-message-reads
 
 -- src/lib.rt:54:30
 enum-told : tie.Need-enum-told

@@ -5,10 +5,6 @@ use native.Mathlib.Omega.{arith}
 use borrow.Author.Needs.{needs}
 use Rattle.search.proofs.hear_message.Statement.{statement}
 use Rattle.search.proofs.hear_message.Tie as tie
-use Rattle.search.proofs.hear_message.Reads as reads
-use Rattle.search.proofs.hear_message.Lts as lts
-use Rattle.octets.proofs.equal.Reads as equal-reads
-use Rattle.octets.proofs.begins_with.Reads as begins-with-reads
 
 -- the places of the arm's message
 put-in : (c : tie.After-known-told) → Within 0 (length (c .before .before .before .before .before .args .s .now)) (c .before .m .given .0 .0) × Within 0 (length (c .before .before .before .before .before .args .s .now)) (c .before .m .given .0 .1 .0)

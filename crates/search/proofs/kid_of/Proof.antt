@@ -2,8 +2,6 @@ use Rattle.search.specs.Own.{pair-kid, child-kid, message-kid}
 use borrow.Author.Needs.{needs}
 use Rattle.search.proofs.kid_of.Statement.{statement}
 use Rattle.search.proofs.kid_of.Tie as tie
-use Rattle.search.proofs.kid_of.Reads as reads
-use Rattle.search.proofs.kid_of.Lts as lts
 
 -- src/lib.rt:136:30
 enum-told : tie.Need-enum-told

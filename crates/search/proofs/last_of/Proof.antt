@@ -2,9 +2,6 @@ use Rattle.search.specs.Own.{last-yes, last-no}
 use borrow.Author.Needs.{needs}
 use Rattle.search.proofs.last_of.Statement.{statement}
 use Rattle.search.proofs.last_of.Tie as tie
-use Rattle.search.proofs.last_of.Reads as reads
-use Rattle.search.proofs.last_of.Lts as lts
-use Rattle.octets.proofs.owned.Reads as owned-reads
 
 -- src/lib.rt:149:22
 sub-owned : tie.Need-sub-owned

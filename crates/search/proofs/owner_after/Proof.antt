@@ -1,21 +1,15 @@
-use Rattle.search.specs.Own.{kid, kidIs, kidsE, ownerOf, Owned, pair-kid, child-kid, message-kid, kid-place, kids-none, kids-other, kids-more, last-yes, last-no, at-last, inner-yes, inner-no, nobody-is, as-kids}
+use Rattle.search.specs.Own.{kid, kidIs, kidsE, ownerOf, kid-place, kids-none, kids-other, kids-more, at-last, inner-yes, inner-no}
 use Rattle.search.specs.declared.Kid.{Kid}
-use Rattle.node.specs.Places.{part, Within, Next, step-bad-is, step-read-is, entry-wider}
+use Rattle.node.specs.Places.{part, Within, Next, step-bad-is, step-read-is}
 use Rattle.node.specs.Entries.{listed, listed-end}
 use lib.ListN.{length}
-use mathlib.Core.List.{[], _∷_}
-use mathlib.Core.Path.{_≡_, refl, sym, ap, _∙_}
+use mathlib.Core.List.{_∷_}
+use mathlib.Core.Path.{_≡_, refl, sym, _∙_}
 use native.Mathlib.Omega.{arith}
-use Prim.Native.Nat.{ℕ, _≤_, _<_, _-_, _+_}
+use Prim.Native.Nat.{_-_}
 use borrow.Author.Needs.{needs}
 use Rattle.search.proofs.owner_after.Statement.{statement}
 use Rattle.search.proofs.owner_after.Tie as tie
-use Rattle.search.proofs.owner_after.Reads as reads
-use Rattle.search.proofs.owner_after.Lts as lts
-use Rattle.node.proofs.Cursor.step.Reads as step-reads
-use Rattle.octets.proofs.owned.Reads as owned-reads
-use Rattle.search.proofs.kid_of.Reads as kid-of-reads
-use Rattle.search.proofs.last_of.Reads as last-of-reads
 
 abbrev Inv-loop : tie.InvT-loop
 Inv-loop s first hi rest end c₀ num₀ low₀ c num low =

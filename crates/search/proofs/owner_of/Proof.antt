@@ -1,20 +1,12 @@
-use Rattle.search.specs.Own.{kid, kidIs, kidsE, ownerOf, Owned, kid-place, kids-none, kids-other, kids-more, nobody-is, as-kids}
+use Rattle.search.specs.Own.{kidIs, kid-place, kids-none, kids-other, kids-more, nobody-is, as-kids}
 use Rattle.search.specs.declared.Kid.{Kid}
-use Rattle.node.specs.Places.{part, Within, Next, step-bad-is, step-read-is, entry-wider}
-use Rattle.node.specs.Entries.{listed, listed-end}
+use Rattle.node.specs.Places.{Within, Next, step-bad-is, step-read-is}
 use lib.ListN.{length}
-use mathlib.Core.List.{[], _∷_}
-use mathlib.Core.Path.{_≡_, refl, sym, ap, _∙_}
+use mathlib.Core.Path.{_≡_, sym, _∙_}
 use native.Mathlib.Omega.{arith}
-use Prim.Native.Nat.{ℕ, _≤_, _<_, _-_, _+_}
 use borrow.Author.Needs.{needs}
 use Rattle.search.proofs.owner_of.Statement.{statement}
 use Rattle.search.proofs.owner_of.Tie as tie
-use Rattle.search.proofs.owner_of.Reads as reads
-use Rattle.search.proofs.owner_of.Lts as lts
-use Rattle.node.proofs.Cursor.step.Reads as step-reads
-use Rattle.search.proofs.kid_of.Reads as kid-of-reads
-use Rattle.search.proofs.owner_after.Reads as owner-after-reads
 
 next-is : (c : tie.After-known-told) → Next (c .before .before .before .before .before .before .before .args .s .now) (c .before .before .before .before .before .before .before .args .from) (c .before .before .before .before .before .before .before .args .end) (c .before .e .given .0 .0) (c .before .e .given .0 .1 .0)
 next-is c = step-read-is _ _ _ _ _ _ (c .before .before .before .step .ensures) (c .before .e .given .1)

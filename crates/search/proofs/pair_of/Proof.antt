@@ -2,8 +2,6 @@ use Rattle.search.specs.Pairs.{pair-is, child-is, message-is}
 use borrow.Author.Needs.{needs}
 use Rattle.search.proofs.pair_of.Statement.{statement}
 use Rattle.search.proofs.pair_of.Tie as tie
-use Rattle.search.proofs.pair_of.Reads as reads
-use Rattle.search.proofs.pair_of.Lts as lts
 
 -- src/lib.rt:91:21
 enum-known-e : tie.Need-enum-known-e

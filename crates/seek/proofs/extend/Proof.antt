@@ -10,8 +10,6 @@ use native.Mathlib.Omega.{arith}
 use borrow.Author.Needs.{needs}
 use Rattle.seek.proofs.extend.Statement.{statement}
 use Rattle.seek.proofs.extend.Tie as tie
-use Rattle.seek.proofs.extend.Reads as reads
-use Rattle.seek.proofs.extend.Lts as lts
 
 abbrev Inv-loop : tie.InvT-loop
 Inv-loop s q₀ i₀ q i = (i ≤ length s) × (length (q .bytes) ≡ 64) × (appended (bufferIs q) (drop i s) ≡ appended (bufferIs q₀) s)

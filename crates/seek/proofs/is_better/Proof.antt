@@ -6,9 +6,6 @@ use native.Mathlib.Omega.{arith}
 use borrow.Author.Needs.{needs}
 use Rattle.seek.proofs.is_better.Statement.{statement}
 use Rattle.seek.proofs.is_better.Tie as tie
-use Rattle.seek.proofs.is_better.Reads as reads
-use Rattle.seek.proofs.is_better.Lts as lts
-use Rattle.seek.proofs.joined_precedes.Reads as joined-precedes-reads
 
 -- src/lib.rt:101:9
 returns : tie.Need-returns

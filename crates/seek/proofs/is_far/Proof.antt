@@ -3,11 +3,6 @@ use Rattle.seek.specs.Tests.{far-early, far-late, far-under, far-inside,
 use borrow.Author.Needs.{needs}
 use Rattle.seek.proofs.is_far.Statement.{statement}
 use Rattle.seek.proofs.is_far.Tie as tie
-use Rattle.seek.proofs.is_far.Reads as reads
-use Rattle.seek.proofs.is_far.Lts as lts
-use Rattle.seek.proofs.is_better.Reads as is-better-reads
-use Rattle.seek.proofs.precedes_joined.Reads as precedes-joined-reads
-use Rattle.seek.proofs.starts_joined.Reads as starts-joined-reads
 
 -- src/lib.rt:124:9
 precedes-joined-requires : tie.Need-precedes-joined-requires

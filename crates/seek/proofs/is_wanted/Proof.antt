@@ -3,11 +3,6 @@ use Rattle.seek.specs.Tests.{wanted-early, wanted-apart, wanted-last}
 use borrow.Author.Needs.{needs}
 use Rattle.seek.proofs.is_wanted.Statement.{statement}
 use Rattle.seek.proofs.is_wanted.Tie as tie
-use Rattle.seek.proofs.is_wanted.Reads as reads
-use Rattle.seek.proofs.is_wanted.Lts as lts
-use Rattle.seek.proofs.is_better.Reads as is-better-reads
-use Rattle.seek.proofs.precedes_joined.Reads as precedes-joined-reads
-use Rattle.seek.proofs.starts_joined.Reads as starts-joined-reads
 
 -- src/lib.rt:111:9
 precedes-joined-requires : tie.Need-precedes-joined-requires

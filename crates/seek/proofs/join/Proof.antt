@@ -4,9 +4,6 @@ use mathlib.Core.Path.{refl}
 use borrow.Author.Needs.{needs}
 use Rattle.seek.proofs.join.Statement.{statement}
 use Rattle.seek.proofs.join.Tie as tie
-use Rattle.seek.proofs.join.Reads as reads
-use Rattle.seek.proofs.join.Lts as lts
-use Rattle.seek.proofs.extend.Reads as extend-reads
 
 -- src/lib.rt:58:9
 extend-requires : tie.Need-extend-requires

@@ -7,10 +7,6 @@ use native.Mathlib.Omega.{arith}
 use borrow.Author.Needs.{needs}
 use Rattle.seek.proofs.next_path.Statement.{statement}
 use Rattle.seek.proofs.next_path.Tie as tie
-use Rattle.seek.proofs.next_path.Reads as reads
-use Rattle.seek.proofs.next_path.Lts as lts
-use Rattle.octets.proofs.u16_at.Reads as u16-at-reads
-use Rattle.seek.proofs.seek_node.Reads as seek-node-reads
 
 -- src/lib.rt:303:9
 u16-at-requires : tie.Need-u16-at-requires

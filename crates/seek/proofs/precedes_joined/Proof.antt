@@ -5,10 +5,6 @@ use native.Mathlib.Omega.{arith}
 use borrow.Author.Needs.{needs}
 use Rattle.seek.proofs.precedes_joined.Statement.{statement}
 use Rattle.seek.proofs.precedes_joined.Tie as tie
-use Rattle.seek.proofs.precedes_joined.Reads as reads
-use Rattle.seek.proofs.precedes_joined.Lts as lts
-use Rattle.octets.proofs.precedes.Reads as precedes-reads
-use Rattle.octets.proofs.begins_with.Reads as begins-with-reads
 
 -- src/lib.rt:77:8
 begins-with-requires : tie.Need-begins-with-requires

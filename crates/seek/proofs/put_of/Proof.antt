@@ -3,8 +3,6 @@ use Rattle.seek.specs.Steps.{put-at, drop-other, clear-other}
 use borrow.Author.Needs.{needs}
 use Rattle.seek.proofs.put_of.Statement.{statement}
 use Rattle.seek.proofs.put_of.Tie as tie
-use Rattle.seek.proofs.put_of.Reads as reads
-use Rattle.seek.proofs.put_of.Lts as lts
 
 -- src/lib.rt:169:22
 enum-known-m : tie.Need-enum-known-m

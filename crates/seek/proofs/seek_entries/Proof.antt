@@ -13,10 +13,6 @@ use native.Mathlib.Omega.{arith}
 use borrow.Author.Needs.{needs}
 use Rattle.seek.proofs.seek_entries.Statement.{statement}
 use Rattle.seek.proofs.seek_entries.Tie as tie
-use Rattle.seek.proofs.seek_entries.Reads as reads
-use Rattle.seek.proofs.seek_entries.Lts as lts
-use Rattle.node.proofs.Cursor.step.Reads as step-reads
-use Rattle.seek.proofs.try_entry.Reads as try-entry-reads
 
 abbrev Inv-loop : tie.InvT-loop
 Inv-loop store from end pre below after c₀ best₀ c best = (c .end ≡ end) × (walkIn store below after (bufferIs best) (under pre (pathsOf (listed store (c .at) (c .end)))) ≡ walkIn store below after (bufferIs best₀) (under pre (pathsOf (listed store from end))))

@@ -5,9 +5,6 @@ use native.Mathlib.Omega.{arith}
 use borrow.Author.Needs.{needs}
 use Rattle.seek.proofs.starts_joined.Statement.{statement}
 use Rattle.seek.proofs.starts_joined.Tie as tie
-use Rattle.seek.proofs.starts_joined.Reads as reads
-use Rattle.seek.proofs.starts_joined.Lts as lts
-use Rattle.octets.proofs.begins_with.Reads as begins-with-reads
 
 -- src/lib.rt:88:8
 begins-with-requires : tie.Need-begins-with-requires

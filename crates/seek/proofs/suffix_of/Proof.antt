@@ -3,9 +3,6 @@ use Rattle.seek.specs.Steps.{pair-at, child-other, message-put}
 use borrow.Author.Needs.{needs}
 use Rattle.seek.proofs.suffix_of.Statement.{statement}
 use Rattle.seek.proofs.suffix_of.Tie as tie
-use Rattle.seek.proofs.suffix_of.Reads as reads
-use Rattle.seek.proofs.suffix_of.Lts as lts
-use Rattle.seek.proofs.put_of.Reads as put-of-reads
 
 -- src/lib.rt:179:21
 enum-known-e : tie.Need-enum-known-e

@@ -9,10 +9,6 @@ use native.Mathlib.Omega.{arith}
 use borrow.Author.Needs.{needs}
 use Rattle.seek.proofs.try_entry.Statement.{statement}
 use Rattle.seek.proofs.try_entry.Tie as tie
-use Rattle.seek.proofs.try_entry.Reads as reads
-use Rattle.seek.proofs.try_entry.Lts as lts
-use Rattle.seek.proofs.suffix_of.Reads as suffix-of-reads
-use Rattle.seek.proofs.try_path.Reads as try-path-reads
 
 suffix-is : (c : tie.After-known-told) → suffixIs (c .before .before .before .before .before .before .before .before .args .e) ≡ Suffix.At (c .before .p .given .0 .0)
 suffix-is c = sym (c .before .before .before .suffix-of .ensures) ∙ c .before .p .given .1

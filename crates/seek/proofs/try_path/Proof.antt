@@ -7,11 +7,6 @@ use native.Mathlib.Omega.{arith}
 use borrow.Author.Needs.{needs}
 use Rattle.seek.proofs.try_path.Statement.{statement}
 use Rattle.seek.proofs.try_path.Tie as tie
-use Rattle.seek.proofs.try_path.Reads as reads
-use Rattle.seek.proofs.try_path.Lts as lts
-use Rattle.lookup.proofs.value_of.Reads as value-of-reads
-use Rattle.seek.proofs.is_wanted.Reads as is-wanted-reads
-use Rattle.seek.proofs.join.Reads as join-reads
 
 -- src/lib.rt:144:9
 is-wanted-requires : tie.Need-is-wanted-requires

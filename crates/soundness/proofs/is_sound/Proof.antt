@@ -1,15 +1,7 @@
-use native.Mathlib.Omega.{arith}
-use Prim.Native.Nat.{ℕ, suc, _+_, _-_, _≤_, _<_}
-use mathlib.Core.Path.{_≡_, refl, sym, ap, _∙_}
-use mathlib.Core.List.{List, [], _∷_, _++_}
-use lib.ListN.{length, getD, take, drop}
 use borrow.Author.Needs.{needs}
 use Rattle.soundness.specs.Judged.{verdict-yes, verdict-no, whole-long}
 use Rattle.soundness.proofs.is_sound.Statement.{statement}
 use Rattle.soundness.proofs.is_sound.Tie as tie
-use Rattle.soundness.proofs.is_sound.Reads as reads
-use Rattle.soundness.proofs.is_sound.Lts as lts
-use Rattle.soundness.proofs.judge.Reads as judge-reads
 
 -- src/lib.rt:41:26
 slice-aggregate-judge : tie.Need-slice-aggregate-judge

@@ -1,17 +1,8 @@
 use native.Mathlib.Omega.{arith}
-use Prim.Native.Nat.{ℕ, suc, _+_, _-_, _≤_, _<_}
-use mathlib.Core.Path.{_≡_, refl, sym, ap, _∙_}
-use mathlib.Core.List.{List, [], _∷_, _++_}
-use lib.ListN.{length, getD, take, drop}
 use borrow.Author.Needs.{needs}
 use Rattle.soundness.specs.Judged.{judged-no-tree, judged-settled-yes, judged-settled-no, judged-yes, judged-no, count-it, whole-long}
 use Rattle.soundness.proofs.judge.Statement.{statement}
 use Rattle.soundness.proofs.judge.Tie as tie
-use Rattle.soundness.proofs.judge.Reads as reads
-use Rattle.soundness.proofs.judge.Lts as lts
-use Rattle.live.proofs.live_count.Reads as live-count-reads
-use Rattle.octets.proofs.u16_at.Reads as u16-at-reads
-use Rattle.tree_check.proofs.check_tree.Reads as check-tree-reads
 
 -- src/lib.rt:17:9
 check-tree-requires : tie.Need-check-tree-requires

@@ -8,8 +8,6 @@ use Rattle.node.specs.Cut.{cut}
 use Rattle.tree_check.specs.Layout.{zeros-end, zeros-stop, zeros-on}
 use Rattle.tree_check.proofs.all_zero.Statement.{statement}
 use Rattle.tree_check.proofs.all_zero.Tie as tie
-use Rattle.tree_check.proofs.all_zero.Reads as reads
-use Rattle.tree_check.proofs.all_zero.Lts as lts
 
 abbrev Inv-loop : tie.InvT-loop
 Inv-loop s from end i₀ i = zeros (cut s i end) ≡ zeros (cut s from end)

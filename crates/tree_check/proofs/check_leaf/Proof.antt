@@ -8,12 +8,6 @@ use borrow.Author.Tests.{not-true, not-false}
 use borrow.Author.Needs.{needs}
 use Rattle.tree_check.proofs.check_leaf.Statement.{statement}
 use Rattle.tree_check.proofs.check_leaf.Tie as tie
-use Rattle.tree_check.proofs.check_leaf.Reads as reads
-use Rattle.tree_check.proofs.check_leaf.Lts as lts
-use Rattle.node_check.proofs.check_leaf.Reads as check-leaf-reads
-use Rattle.octets.proofs.u16_at.Reads as u16-at-reads
-use Rattle.tree_check.proofs.count_entries.Reads as count-entries-reads
-use Rattle.tree_check.proofs.laid_out.Reads as laid-out-reads
 
 few : (c : tie.After-u16-at) → c .u16-at .result ≤ 1016
 few c = leaf-few (c .before .before .before .before .before .before .args .store .now) (c .before .before .before .before .before .before .args .num) (shapeIs (c .before .before .before .before .before .before .args .sh)) (c .before .before .before .before .before .before .args .lo .now) (c .before .before .before .before .before .before .args .hi .now) (c .before .before .before .before .before .before .pre) _ (c .before .before .laid-out .ensures) (not-false _ (c .before .if1 .left)) _ (c .u16-at .ensures .0)

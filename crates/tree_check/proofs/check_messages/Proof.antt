@@ -6,10 +6,6 @@ use Rattle.tree_check.specs.ChildSteps.{messages-unsound, messages-sound
 use borrow.Author.Needs.{needs}
 use Rattle.tree_check.proofs.check_messages.Statement.{statement}
 use Rattle.tree_check.proofs.check_messages.Tie as tie
-use Rattle.tree_check.proofs.check_messages.Reads as reads
-use Rattle.tree_check.proofs.check_messages.Lts as lts
-use Rattle.node_check.proofs.check_messages.Reads as check-messages-reads
-use Rattle.tree_check.proofs.count_entries.Reads as count-entries-reads
 
 -- src/lib.rt:179:9
 check-messages-requires : tie.Need-check-messages-requires

@@ -6,12 +6,6 @@ use Rattle.tree_check.specs.RootSteps.{bad-head, from-root}
 use borrow.Author.Needs.{needs}
 use Rattle.tree_check.proofs.check_tree.Statement.{statement}
 use Rattle.tree_check.proofs.check_tree.Tie as tie
-use Rattle.tree_check.proofs.check_tree.Reads as reads
-use Rattle.tree_check.proofs.check_tree.Lts as lts
-use Rattle.octets.proofs.u16_at.Reads as u16-at-reads
-use Rattle.tree_check.proofs.check_node.Reads as check-node-reads
-use Rattle.tree_check.proofs.clear.Reads as clear-reads
-use Rattle.tree_check.proofs.header_good.Reads as header-good-reads
 
 -- src/lib.rt:323:9
 header-good-requires : tie.Need-header-good-requires

@@ -8,8 +8,6 @@ use lib.ListN.{length, getD, length-set}
 use Rattle.tree_check.specs.RootSteps.{zero-next, zeroed}
 use Rattle.tree_check.proofs.clear.Statement.{statement}
 use Rattle.tree_check.proofs.clear.Tie as tie
-use Rattle.tree_check.proofs.clear.Reads as reads
-use Rattle.tree_check.proofs.clear.Lts as lts
 
 abbrev Inv-loop : tie.InvT-loop
 Inv-loop seen₀ i₀ seen i = (i ≤ length seen₀) × (length seen ≡ length seen₀) × ((k : ℕ) → k < i → getD seen k 0 ≡ 0)

@@ -10,10 +10,6 @@ use Rattle.node.specs.Places.{Next, step-bad-is, step-read-is}
 use Rattle.tree_check.specs.CountLaws.{count-done, count-on}
 use Rattle.tree_check.proofs.count_entries.Statement.{statement}
 use Rattle.tree_check.proofs.count_entries.Tie as tie
-use Rattle.tree_check.proofs.count_entries.Reads as reads
-use Rattle.tree_check.proofs.count_entries.Lts as lts
-use Rattle.node.proofs.Cursor.step.Reads as step-reads
-use Rattle.tree_check.proofs.capped_sum.Reads as capped-sum-reads
 
 abbrev Inv-loop : tie.InvT-loop
 Inv-loop s from end c₀ n₀ c n = (c .end ≡ end) × (n ≤ c .at) × (n + length (listed s (c .at) (c .end)) ≡ length (listed s from end))

@@ -9,13 +9,6 @@ use borrow.Author.Tests.{not-true, not-false}
 use borrow.Author.Needs.{needs}
 use Rattle.tree_check.proofs.first_child.Statement.{statement}
 use Rattle.tree_check.proofs.first_child.Tie as tie
-use Rattle.tree_check.proofs.first_child.Reads as reads
-use Rattle.tree_check.proofs.first_child.Lts as lts
-use Rattle.node.proofs.Cursor.step.Reads as step-reads
-use Rattle.octets.proofs.equal.Reads as equal-reads
-use Rattle.octets.proofs.u16_at.Reads as u16-at-reads
-use Rattle.search.proofs.kid_of.Reads as kid-of-reads
-use Rattle.tree_check.proofs.laid_out.Reads as laid-out-reads
 
 place-in : (c : tie.After-known-told2) → Within 0 (length (c .before .before .before .before .before .before .before .before .before .before .before .before .before .args .store .now)) (c .before .child .given .0 .1 .0)
 place-in c = first-place (c .before .before .before .before .before .before .before .before .before .before .before .before .before .args .store .now) (c .before .before .before .before .before .before .before .before .before .before .before .before .before .args .num) (c .before .before .before .before .before .before .before .before .before .before .before .before .before .args .level) (c .before .before .before .before .before .before .before .before .before .before .before .before .before .args .lo .now) (c .before .before .before .before .before .before .before .before .before .before .before .before .before .pre) _ (c .before .before .before .before .before .before .before .before .before .before .laid-out .ensures) (not-false _ (c .before .before .before .before .before .before .before .before .before .if1 .left)) _ (c .before .before .before .before .before .before .before .before .u16-at .ensures .0) _ (c .before .before .before .before .before .before .before .step .ensures) _ _ (c .before .before .before .before .before .e .given .1) _ _ (sym (c .before .before .before .kid-of .ensures) ∙ c .before .child .given .1)

@@ -5,11 +5,6 @@ use Rattle.tree_check.specs.RootSteps.{other-length, other-kind, other-c
 use borrow.Author.Needs.{needs}
 use Rattle.tree_check.proofs.header_good.Statement.{statement}
 use Rattle.tree_check.proofs.header_good.Tie as tie
-use Rattle.tree_check.proofs.header_good.Reads as reads
-use Rattle.tree_check.proofs.header_good.Lts as lts
-use Rattle.octets.proofs.u16_at.Reads as u16-at-reads
-use Rattle.tree_check.proofs.all_zero.Reads as all-zero-reads
-use Rattle.tree_check.proofs.node_count.Reads as node-count-reads
 
 -- src/lib.rt:273:9
 node-count-requires : tie.Need-node-count-requires

@@ -5,10 +5,6 @@ use native.Mathlib.Omega.{arith}
 use Rattle.tree_check.specs.Layout.{laid-long, laid-kind, laid-level, laid-zero, laid-rest}
 use Rattle.tree_check.proofs.laid_out.Statement.{statement}
 use Rattle.tree_check.proofs.laid_out.Tie as tie
-use Rattle.tree_check.proofs.laid_out.Reads as reads
-use Rattle.tree_check.proofs.laid_out.Lts as lts
-use Rattle.octets.proofs.u16_at.Reads as u16-at-reads
-use Rattle.tree_check.proofs.all_zero.Reads as all-zero-reads
 
 -- src/lib.rt:95:14
 mul-at : tie.Need-mul-at

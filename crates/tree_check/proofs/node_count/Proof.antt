@@ -3,8 +3,6 @@
 use Rattle.tree_check.specs.Layout.{nodes-are}
 use Rattle.tree_check.proofs.node_count.Statement.{statement}
 use Rattle.tree_check.proofs.node_count.Tie as tie
-use Rattle.tree_check.proofs.node_count.Reads as reads
-use Rattle.tree_check.proofs.node_count.Lts as lts
 
 -- src/lib.rt:69:1
 returns : tie.Need-returns

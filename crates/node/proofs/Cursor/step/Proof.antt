@@ -1,19 +1,11 @@
 use Prim.Native.Nat.{_+_}
-use Rattle.node.specs.Entries.{entriesFrom, keyed-short, keyed-long, keyed-at, pointer-short, pointer-long, pointer-at, kind-pair, kind-child, kind-put, kind-drop, kind-clear, kind-other, entries-short, entries-cut, entries-step, listed-end, listed-short, listed-cut, listed-step}
-use Rattle.node.specs.Places.{entryIn, within, split-bad, split-at, split-bad-is, split-at-is, got-bad, got-good, got-bad-is, got-good-is, step-bad, step-read, step-bad-is, step-read-is, entry-wider, then-bad, then-good, cons-bad, cons-good}
-use Rattle.node.specs.declared.Split.{Split}
-use Rattle.node.specs.declared.Got.{Got}
-use Rattle.image.specs.Entry as defined
-use mathlib.Core.Option.{some}
-use mathlib.Core.Path.{_≡_, refl, sym, ap, _∙_}
+use Rattle.node.specs.Entries.{entries-short, entries-cut, entries-step, listed-end, listed-short, listed-cut, listed-step}
+use Rattle.node.specs.Places.{got-bad-is, got-good-is, step-bad, step-read, entry-wider, then-bad, then-good, cons-bad, cons-good}
+use mathlib.Core.Path.{refl}
 use native.Mathlib.Omega.{arith}
 use borrow.Author.Needs.{needs}
 use Rattle.node.proofs.Cursor.step.Statement.{statement}
 use Rattle.node.proofs.Cursor.step.Tie as tie
-use Rattle.node.proofs.Cursor.step.Reads as reads
-use Rattle.node.proofs.Cursor.step.Lts as lts
-use Rattle.node.proofs.entry_at.Reads as entry-at-reads
-use Rattle.octets.proofs.u16_at.Reads as u16-at-reads
 
 -- src/lib.rt:106:13
 returns : tie.Need-returns

@@ -1,0 +1,117 @@
+-- The 1,024 bytes of a node with given entries, and that they read back: what joins a written image to its tree, for the packed form, the
+-- slices and the upkeep alike. Relies on Encode (entries as bytes).
+use Prim.Native.Nat.{ℕ, zero, suc, _+_, _-_, _/_, _%_, _≤_}
+use mathlib.Core.Path.{_≡_, refl, _∙_}
+use mathlib.Core.List.{List, [], _∷_, _++_}
+use mathlib.Core.Bool.{true}
+use mathlib.Core.Option.{some}
+use native.Mathlib.Omega.{arith}
+use lib.ListN.{length, drop, replicate, length-append, length-replicate}
+use lib.Seq.{drop-append-add, take-append-seam, drop-append-seam}
+use borrow.Author.Tests.{le-leb, eq-eqb}
+use Rattle.image.specs.Bytes.{u16, zeros, u16Bytes}
+use Rattle.image.specs.Entry.{Entry, pair, child, entriesOf}
+use Rattle.image.specs.Table.{Row}
+use Rattle.image.specs.Image.{Tree, unread, leaf, interior, Forest, end, tree, Kid, laidOut, entryBytes, nodeEntries, pairThen, pairsOf, kidThen, insideOf}
+use Rattle.laws.specs.Encode.{bytesOfAll, allowed, allAllowed, all-back}
+
+-- a node: u16 length of the entries, kind, level, zero, the entries, zeros
+unfoldable pub page : ℕ → ℕ → List ℕ → List ℕ
+page kind level es = u16Bytes (length es) ++ (u16Bytes kind ++ (u16Bytes level ++ (0 ∷ 0 ∷ (es ++ replicate (1016 - length es) 0))))
+
+pub page-length : (kind level : ℕ) (es : List ℕ) → length es ≤ 1016 → length (page kind level es) ≡ 1024
+unfolding page
+page-length kind level es h =
+    let a = length-append es (replicate (1016 - length es) 0) in
+    let b = length-replicate {A = ℕ} (1016 - length es) 0 in
+    omega arith
+
+pub zeros-replicate : (k : ℕ) → zeros (replicate k 0) ≡ true
+unfolding zeros
+zeros-replicate zero = refl
+zeros-replicate (suc k) = zeros-replicate k
+
+module _ (kind level : ℕ) (es : List ℕ) where
+  pub page-0 : u16 (page kind level es) 0 ≡ length es
+  unfolding u16 page
+  page-0 = omega arith
+
+  pub page-2 : u16 (page kind level es) 2 ≡ kind
+  unfolding u16 page
+  page-2 = omega arith
+
+  pub page-4 : u16 (page kind level es) 4 ≡ level
+  unfolding u16 page
+  page-4 = omega arith
+
+  page-6 : u16 (page kind level es) 6 ≡ 0
+  unfolding u16 page
+  page-6 = refl
+
+  page-after : drop (8 + length es) (page kind level es) ≡ replicate (1016 - length es) 0
+  unfolding page
+  page-after =
+      drop-append-add (length es % 256 ∷ length es / 256 ∷ kind % 256 ∷ kind / 256 ∷ level % 256 ∷ level / 256 ∷ 0 ∷ 0 ∷ [])
+      (es ++ replicate (1016 - length es) 0) (length es)
+      ∙ drop-append-seam es (replicate (1016 - length es) 0)
+
+  pub page-laid : length es ≤ 1016 → laidOut kind level (page kind level es) ≡ true
+  unfolding laidOut
+  page-laid h =
+      rw (
+        page-0,
+        page-2,
+        page-4,
+        page-6,
+        page-after,
+        le-leb (length es) 1016 h,
+        eq-eqb kind kind refl,
+        eq-eqb level level refl,
+        zeros-replicate (1016 - length es),
+      )
+
+  pub page-entries : entryBytes (page kind level es) ≡ es
+  unfolding entryBytes
+  page-entries = rw page-0 (unfold page in take-append-seam es (replicate (1016 - length es) 0))
+
+  -- a page is laid out, and its entries are those written
+  pub page-reads : length es ≤ 1016 → nodeEntries kind level (page kind level es) ≡ entriesOf es
+  unfolding nodeEntries
+  page-reads h = rw (page-laid h, page-entries)
+
+pub page-back : (kind level : ℕ) (es : List Entry) → length (bytesOfAll es) ≤ 1016 → allAllowed es ≡ true
+    → nodeEntries kind level (page kind level (bytesOfAll es)) ≡ some es
+page-back kind level es h a = page-reads kind level (bytesOfAll es) h ∙ all-back es a
+
+-- the entries of a leaf, and the children of an interior node
+unfoldable pub numberOf : Tree → ℕ
+numberOf (unread i) = i
+numberOf (leaf i rs) = i
+numberOf (interior i f ms) = i
+
+unfoldable pub pairEntries : List Row → List Entry
+pairEntries [] = []
+pairEntries (r ∷ rs) = pair (r .key) (r .value) ∷ pairEntries rs
+
+unfoldable pub childEntries : Forest → List Entry
+childEntries end = []
+childEntries (tree s t f) = child (numberOf t) s ∷ childEntries f
+
+unfoldable pub kidsOf : Forest → List Kid
+kidsOf end = []
+kidsOf (tree s t f) = record { number = numberOf t; pivot = s } ∷ kidsOf f
+
+pub pairs-back : (rs : List Row) → pairsOf (pairEntries rs) ≡ some rs
+unfolding pairsOf pairEntries pairThen
+pairs-back [] = refl
+pairs-back (r ∷ rs) = rw (pairs-back rs)
+
+pub pairs-allowed : (rs : List Row) → allAllowed (pairEntries rs) ≡ true
+unfolding allAllowed allowed pairEntries
+pairs-allowed [] = refl
+pairs-allowed (r ∷ rs) = pairs-allowed rs
+
+pub kids-back : (f : Forest) → insideOf (childEntries f) ≡ some (record { kids = kidsOf f; messages = [] })
+unfolding insideOf childEntries kidThen kidsOf
+kids-back end = refl
+kids-back (tree s t f) = rw (kids-back f)

@@ -1,0 +1,149 @@
+// What an interior child takes: the messages that touch it, without what it lifts, behind its own entries. How an entry and a page are
+// written stands here too. Relies on room, which says what touches a child, and on node and octets; specs/Kinds has an entry's bytes.
+use crate::room;
+use node::Cursor;
+use node::Entry;
+use node::Message;
+use node::Step;
+ghost use mathlib.Core.Path.{_≡_};
+ghost use mathlib.Core.Bool.{true};
+ghost use Prim.Native.Nat.{_+_, _*_, _<_, _≤_};
+ghost use lib.ListN.{length};
+ghost use Rattle.image.specs.Bytes.{u16Bytes};
+ghost use Rattle.image.specs.Entry.{message};
+ghost use Rattle.laws.specs.Encode.{bytesOf};
+ghost use Rattle.octets.specs.Put.{put};
+ghost use Rattle.node.specs.Places.{EntryWithin, MessageWithin, entryIn, messageIn};
+ghost use Rattle.node.specs.Entries.{listed};
+ghost use Rattle.push_laws.specs.Arriving.{loweredBy, brought, broughtAll};
+ghost use Rattle.push_laws.specs.Written.{interiorTakes, hasRoom};
+ghost use Rattle.push.specs.Kinds.{keyedEntry, shortEntry};
+
+// An entry of a suffix and a value. Gives the place behind it.
+pub fn emit_keyed(page: &mut [u8], at: usize, kind: usize, key: &[u8], value: &[u8]) -> usize
+    requires { ⌜ (at + (6 + length (now key) + length (now value)) ≤ length (now page)) × (length (now page) ≤ 1024) × (kind < 65536) ⌝ }
+    ensures { λ r. ⌜ (now (page .exit) ≡ put (now (page .entry)) at (keyedEntry kind (now (key .entry)) (now (value .entry)))) × (r ≡ at + (6 + length (now (key .entry)) + length (now (value .entry)))) ⌝ }
+{
+    let n = key.len();
+    let k = value.len();
+    octets::put_u16(page, at, 2 + n + k);
+    octets::put_u16(page, at + 2, kind);
+    octets::put_u16(page, at + 4, n);
+    octets::copy_at(page, at + 6, key);
+    octets::copy_at(page, at + 6 + n, value);
+    at + (6 + n + k)
+}
+
+// An entry of a suffix alone. Gives the place behind it.
+fn emit_short(page: &mut [u8], at: usize, kind: usize, key: &[u8]) -> usize
+    requires { ⌜ (at + (4 + length (now key)) ≤ length (now page)) × (length (now page) ≤ 1024) × (kind < 65536) ⌝ }
+    ensures { λ r. ⌜ (now (page .exit) ≡ put (now (page .entry)) at (shortEntry kind (now (key .entry)))) × (r ≡ at + (4 + length (now (key .entry)))) ⌝ }
+{
+    let n = key.len();
+    octets::put_u16(page, at, n);
+    octets::put_u16(page, at + 2, kind);
+    octets::copy_at(page, at + 4, key);
+    at + (4 + n)
+}
+
+// A message's entry for a child that lifts k bytes more. Gives the place behind it.
+fn emit_message(page: &mut [u8], at: usize, node: &[u8], m: Message, k: usize) -> usize
+    requires { ⌜ MessageWithin 0 (length (now node)) m × (at + length (bytesOf (message (loweredBy k (messageIn (now node) m)))) ≤ length (now page)) × (length (now page) ≤ 1024) ⌝ }
+    ensures { λ r. ⌜ (now (page .exit) ≡ put (now (page .entry)) at (bytesOf (message (loweredBy k (messageIn (now (node .entry)) m))))) × (r ≡ at + length (bytesOf (message (loweredBy k (messageIn (now (node .entry)) m))))) ⌝ }
+{
+    match m {
+        Message::Put(p, v) => {
+            let x = room::start_past(p, k);
+            let y = p.stop;
+            let a = v.start;
+            let b = v.stop;
+            emit_keyed(page, at, 32, &node[x..y], &node[a..b])
+        }
+        Message::Drop(p) => {
+            let x = room::start_past(p, k);
+            let y = p.stop;
+            emit_short(page, at, 33, &node[x..y])
+        }
+        Message::Clear(p) => {
+            let x = room::start_past(p, k);
+            let y = p.stop;
+            emit_short(page, at, 34, &node[x..y])
+        }
+    }
+}
+
+// What an entry of the node brings to a child with these pivots. Gives the place behind it.
+fn emit_entry(page: &mut [u8], at: usize, node: &[u8], e: Entry, lo: &[u8], hi: &[u8]) -> usize
+    requires { ⌜ EntryWithin 0 (length (now node)) e × (at + length (brought (entryIn (now node) e) (now lo) (now hi)) ≤ length (now page)) × (length (now page) ≤ 1024) ⌝ }
+    ensures { λ r. ⌜ (now (page .exit) ≡ put (now (page .entry)) at (brought (entryIn (now (node .entry)) e) (now (lo .entry)) (now (hi .entry)))) × (r ≡ at + length (brought (entryIn (now (node .entry)) e) (now (lo .entry)) (now (hi .entry)))) ⌝ }
+{
+    match e {
+        Entry::Pair(_, _) => at,
+        Entry::Child(_, _) => at,
+        Entry::Message(m) => {
+            if !room::touches_child(node, m, lo, hi) {
+                return at;
+            }
+            let k = octets::common_length(lo, hi);
+            emit_message(page, at, node, m, k)
+        }
+    }
+}
+
+// What the entries of the node bring to a child with these pivots. Gives the place behind it.
+fn emit_messages(
+    page: &mut [u8],
+    at: usize,
+    node: &[u8],
+    stop: usize,
+    lo: &[u8],
+    hi: &[u8],
+) -> usize
+    requires { ⌜ (stop ≤ length (now node)) × (at + length (broughtAll (listed (now node) 8 stop) (now lo) (now hi)) ≤ length (now page)) × (length (now page) ≤ 1024) ⌝ }
+    ensures { λ r. ⌜ (now (page .exit) ≡ put (now (page .entry)) at (broughtAll (listed (now (node .entry)) 8 stop) (now (lo .entry)) (now (hi .entry)))) × (r ≡ at + length (broughtAll (listed (now (node .entry)) 8 stop) (now (lo .entry)) (now (hi .entry)))) ⌝ }
+{
+    let mut c = Cursor { at: 8, end: stop };
+    let mut to = at;
+    while c.at < stop {
+        let Step::Read(e, next) = c.step(node) else {
+            return to;
+        };
+        to = emit_entry(page, to, node, e, lo, hi);
+        c = next;
+    }
+    to
+}
+
+// A page with its first bytes, as a node of the store: the size of its entries, its kind and its level.
+pub fn write_page(
+    store: &mut [u8],
+    num: usize,
+    page: &mut [u8],
+    kind: usize,
+    level: usize,
+    size: usize,
+)
+    requires { ⌜ (num * 1024 + 1024 ≤ length (now store)) × (length (now page) ≡ 1024) × (kind < 65536) × (level < 65536) × (size < 65536) ⌝ }
+    ensures { λ _. ⌜ now (store .exit) ≡ put (now (store .entry)) (num * 1024) (put (put (put (now (page .entry)) 0 (u16Bytes size)) 2 (u16Bytes kind)) 4 (u16Bytes level)) ⌝ }
+{
+    octets::put_u16(page, 0, size);
+    octets::put_u16(page, 2, kind);
+    octets::put_u16(page, 4, level);
+    octets::copy_at(store, num * 1024, page);
+}
+
+// An interior child with these pivots takes what the entries of the node bring.
+pub fn push_interior(store: &mut [u8], num: usize, node: &[u8], stop: usize, lo: &[u8], hi: &[u8])
+    requires { ⌜ (stop ≤ length (now node)) × (length (now node) ≤ 1024) × (hasRoom (listed (now node) 8 stop) num (now lo) (now hi) (now store) ≡ true) ⌝ }
+    ensures { λ _. ⌜ now (store .exit) ≡ interiorTakes (listed (now (node .entry)) 8 stop) num (now (lo .entry)) (now (hi .entry)) (now (store .entry)) ⌝ }
+{
+    let at = num * 1024;
+    let len = octets::u16_at(store, at);
+    let level = octets::u16_at(store, at + 4);
+    let from = at + 8;
+    let to = from + len;
+    let mut page = [0u8; 1024];
+    octets::copy_at(&mut page, 8, &store[from..to]);
+    let end = emit_messages(&mut page, 8 + len, node, stop, lo, hi);
+    write_page(store, num, &mut page, 2, level, end - 8);
+}

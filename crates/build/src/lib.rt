@@ -237,7 +237,7 @@ pub fn build(store: &mut [u8], area: &mut [u8], m: usize, numbers: &[u8])
 
 // Row `i` of the area: a path and its value. The rows before it stay.
 pub fn put_row(area: &mut [u8], i: usize, path: &[u8], value: &[u8])
-    requires { ⌜ RowsFit i (now area) × (i * 128 + 128 ≤ length (now area)) × (length (now path) ≤ 64) × (length (now value) ≤ 60) × (length (now area) ≤ 2000000) ⌝ }
+    requires { ⌜ RowsFit i (now area) × (i * 128 + 128 ≤ length (now area)) × (length (now path) ≤ 64) × (length (now value) ≤ 60) ⌝ }
     ensures { λ _. ⌜ RowPut i (now (area .entry)) (now (area .exit)) (now (path .entry)) (now (value .entry)) ⌝ }
 {
     let at = i * 128;

@@ -55,7 +55,7 @@ pub room-first : (area : List ℕ) (m : ℕ) (t u w : List Row) → w ≡ t ++ u
 room-first area m t u w e r =
     let l : length w ≡ length t + length u = ap length e ∙ length-append t u in
     let h = r .room in
-    record { fit = r .fit; room = omega arith; bound = r .bound }
+    record { fit = r .fit; room = omega arith }
 
 pub room-rest : (a b : List ℕ) (m n : ℕ) (t u w : List Row) → w ≡ t ++ u → Room a m w → Added m a b n t → Room b n u
 room-rest a b m n t u w e r x =
@@ -63,8 +63,7 @@ room-rest a b m n t u w e r x =
     let h = r .room in
     let c = x .count in
     let s = x .size in
-    let d = r .bound in
-    record { fit = x .fit; room = omega arith; bound = omega arith }
+    record { fit = x .fit; room = omega arith }
 
 -- ONE PAIR
 -- a path that passes is short

@@ -64,7 +64,6 @@ pub record Untold (X : List ℕ) (es : List Entry) (t : List Row) : Type 0 where
 pub record Room (area : List ℕ) (m : ℕ) (t : List Row) : Type 0 where
   pub fit : RowsFit m area
   pub room : 128 * (m + length t) ≤ length area
-  pub bound : length area ≤ 2000000
 
 -- the rows of t stand in the area after the first m, r in all
 pub record Added (m : ℕ) (area area′ : List ℕ) (r : ℕ) (t : List Row) : Type 0 where
@@ -80,7 +79,6 @@ pub record Open (area : List ℕ) (first m : ℕ) (ok : List ℕ → Bool) (X : 
   pub untold : Untold X es (rowsOf (m - first) area first)
   pub values : valuesFitE es ≡ true
   pub room : 128 * (first + length (insertE ok X es (rowsOf (m - first) area first))) ≤ length area
-  pub bound : length area ≤ 2000000
 
 -- the rows from `first` on are the table t, those before it are as they were
 pub record Placed (first : ℕ) (area area′ : List ℕ) (r : ℕ) (t : List Row) : Type 0 where

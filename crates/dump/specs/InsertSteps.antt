@@ -264,7 +264,6 @@ module _ (first : ℕ) (area₀ area : List ℕ) (m : ℕ) (ok : List ℕ → Bo
         let w : insertE ok X ts (rowsOf (r - first) area′ first) ≡ insertE ok X (e ∷ ts) (rowsOf (m - first) area first) = ap (λ l. insertE ok X ts l) (x .rows) ∙ folds in
         let h = o .room in
         let s = x .size in
-        let b = o .bound in
         let l : length (insertE ok X ts (rowsOf (r - first) area′ first)) ≡ length (insertE ok X (e ∷ ts) (rowsOf (m - first) area first)) = ap length w in
         record {
           opened = record {
@@ -273,7 +272,6 @@ module _ (first : ℕ) (area₀ area : List ℕ) (m : ℕ) (ok : List ℕ → Bo
             untold = subst (λ u. Untold X ts u) (sym (x .rows)) (untold-next ok X e ts (rowsOf (m - first) area first) (o .untold));
             values = values-later e (e ∷ ts) ts refl (o .values);
             room = omega arith;
-            bound = omega arith;
           };
           whole = w ∙ ap (λ l. insertE ok X l (rowsOf (m - first) area first)) (sym q) ∙ a .whole;
           front = x .front ∙ a .front;

@@ -151,7 +151,7 @@ module _ (s : List ℕ) (level num : ℕ) (p : PathBuffer) (t : Trail) (ready : 
                 let g = insert-grows (passing s t) (pathIn here) own Kids untold in
                 let e : length (insertE (passing s t) (pathIn here) own Kids) ≡ length Whole = ap length inner-whole in
                 let r = room .room in
-                record { fit = room .fit; room = omega arith; bound = room .bound }
+                record { fit = room .fit; room = omega arith }
 
             -- the children's rows stand in the area, and the node's puts are to come in
             module _ (area₁ : List ℕ) (n : ℕ) (x : Added m area area₁ n Kids) where
@@ -165,14 +165,12 @@ module _ (s : List ℕ) (level num : ℕ) (p : PathBuffer) (t : Trail) (ready : 
                   = ap (λ l. length (insertE (passing s t) (pathIn here) own l)) (cut .1) ∙ ap length inner-whole in
                   let r = room .room in
                   let z = x .size in
-                  let b = room .bound in
                   record {
                     fit = x .fit;
                     ahead = omega arith;
                     untold = subst (λ l. Untold (pathIn here) own l) (sym (cut .1)) untold;
                     values = ap (λ es. valuesFitE es) (sym own-is) ∙ interior-fits s num level (ready .reads) two low high sound;
                     room = omega arith;
-                    bound = omega arith;
                   }
 
               pub node-inner : (area₂ : List ℕ) (r : ℕ) → Placed m area₁ area₂ r (insertE (passing s t) (pathIn here) own (rowsOf (n - m) area₁ m)) → Added m area area₂ r Whole

@@ -68,11 +68,11 @@ module _ (s : List ℕ) (h : sound s ≡ true) where
             ∙ ap₂ (λ x y. keep y (rows x lowest highest)) (tree-is s countable root levels a b) (λ i q. no-trail s countable root levels a b t f q i)
             ∙ keep-all short (rows (treeOf s) lowest highest) (all-short (treeOf s) lowest highest (countable .tree))
 
-        pub dump-room : (area : List ℕ) → 128 * nodesOf (length s) ≤ length area → length area ≤ 2000000 → Room area 0 Rows
-        dump-room area l m =
+        pub dump-room : (area : List ℕ) → 128 * nodesOf (length s) ≤ length area → Room area 0 Rows
+        dump-room area l =
             let n = table-few s h in
             let w : length Rows ≡ length (tableOf s) = ap length whole-table in
-            record { fit = no-rows-fit area; room = omega arith; bound = m }
+            record { fit = no-rows-fit area; room = omega arith }
 
         pub dump-done : (area area′ : List ℕ) (r : ℕ) → Added 0 area area′ r Rows → Dumped s area area′ r
         unfolding rowsOf

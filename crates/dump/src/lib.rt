@@ -302,7 +302,7 @@ fn dump_children(
 
 // Every row of the map, rising, in the area. Gives how many.
 pub fn dump(store: &[u8], area: &mut [u8]) -> usize
-    requires { ⌜ (sound (now store) ≡ true) × (128 * nodesOf (length (now store)) ≤ length (now area)) × (length (now area) ≤ 2000000) ⌝ }
+    requires { ⌜ (sound (now store) ≡ true) × (128 * nodesOf (length (now store)) ≤ length (now area)) ⌝ }
     ensures { λ r. ⌜ Dumped (now (store .entry)) (now (area .entry)) (now (area .exit)) r ⌝ }
 {
     let root = octets::u16_at(store, 6);

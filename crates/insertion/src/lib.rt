@@ -13,7 +13,7 @@ ghost use Rattle.insertion.specs.Insertion.{rank, Inserted};
 
 // Whether the path of row `i` comes before a path.
 fn row_precedes(area: &[u8], m: usize, i: usize, path: &[u8]) -> bool
-    requires { ⌜ RowsFit m (now area) × (i < m) × (length (now area) ≤ 2000000) ⌝ }
+    requires { ⌜ RowsFit m (now area) × (i < m) ⌝ }
     ensures { λ r. ⌜ r ≡ before (rowAt (now (area .entry)) i .key) (now (path .entry)) ⌝ }
 {
     let from = i * 128 + 4;
@@ -23,7 +23,7 @@ fn row_precedes(area: &[u8], m: usize, i: usize, path: &[u8]) -> bool
 
 // The first of the rows from `from` up to `m`, which rise, that does not come before a path; `m` if there is none.
 pub fn place_of(area: &[u8], from: usize, m: usize, path: &[u8]) -> usize
-    requires { ⌜ RowsFit m (now area) × (from ≤ m) × (length (now area) ≤ 2000000) × (rising (rowsOf (m - from) (now area) from) ≡ true) ⌝ }
+    requires { ⌜ RowsFit m (now area) × (from ≤ m) × (rising (rowsOf (m - from) (now area) from) ≡ true) ⌝ }
     ensures { λ r. ⌜ (r ≡ from + rank (now (path .entry)) (rowsOf (m - from) (now (area .entry)) from)) × (from ≤ r) × (r ≤ m) ⌝ }
 {
     let mut low = from;
@@ -41,7 +41,7 @@ pub fn place_of(area: &[u8], from: usize, m: usize, path: &[u8]) -> usize
 
 // The rows from `i` up to `m` one place up, byte by byte from the last.
 pub fn move_rows(area: &mut [u8], i: usize, m: usize)
-    requires { ⌜ (i ≤ m) × (m * 128 + 128 ≤ length (now area)) × (length (now area) ≤ 2000000) ⌝ }
+    requires { ⌜ (i ≤ m) × (m * 128 + 128 ≤ length (now area)) ⌝ }
     ensures { λ _. ⌜ now (area .exit) ≡ put (now (area .entry)) (i * 128 + 128) (take ((m - i) * 128) (drop (i * 128) (now (area .entry)))) ⌝ }
 {
     let start = i * 128;
@@ -54,7 +54,7 @@ pub fn move_rows(area: &mut [u8], i: usize, m: usize)
 
 // The path and its value as a row at its place among the rows from `from` up to `m`, which rise and do not have the path.
 pub fn insert_row(area: &mut [u8], from: usize, m: usize, path: &[u8], value: &[u8])
-    requires { ⌜ RowsFit m (now area) × (from ≤ m) × (m * 128 + 128 ≤ length (now area)) × (length (now path) ≤ 64) × (length (now value) ≤ 60) × (length (now area) ≤ 2000000) × (rising (rowsOf (m - from) (now area) from) ≡ true) × (find (now path) (rowsOf (m - from) (now area) from) ≡ none) ⌝ }
+    requires { ⌜ RowsFit m (now area) × (from ≤ m) × (m * 128 + 128 ≤ length (now area)) × (length (now path) ≤ 64) × (length (now value) ≤ 60) × (rising (rowsOf (m - from) (now area) from) ≡ true) × (find (now path) (rowsOf (m - from) (now area) from) ≡ none) ⌝ }
     ensures { λ _. ⌜ Inserted from m (now (area .entry)) (now (area .exit)) (now (path .entry)) (now (value .entry)) ⌝ }
 {
     let i = place_of(area, from, m, path);

@@ -53,10 +53,10 @@ part-put-row-end-2 : tie.Need-part-put-row-end-2
 part-put-row-end-2 c = search needs
 
 put-row-requires : tie.Need-put-row-requires
-put-row-requires c κs = let w : length (c .before .before .before .before .before .before .before .before .before .before .before .before .args .prefix .bytes) ≡ 64 = search needs in let z : length (c .before .before .before .before .before .extend .result .bytes) ≡ 64 = search needs in let b = full-short (c .before .before .before .before .before .before .before .before .before .before .before .before .args .store .now) (c .before .before .before .before .before .before .before .before .before .before .before .before .args .prefix) (c .before .before .before .before .before .before .before .before .before .before .before .before .args .trail) _ _ (c .before .before .before .before .before .before .before .before .is-live .ensures) (c .before .before .before .before .before .before .before .if1 .left) (omega arith) (c .before .before .before .before .before .extend .result) (c .before .before .before .before .before .extend .ensures .1) in ((c .before .before .before .before .before .before .before .before .before .before .before .before .pre .5) .fit, pair-room (c .before .before .before .before .before .before .before .before .before .before .before .before .args .store .now) (c .before .before .before .before .before .before .before .before .before .before .before .before .args .prefix) (c .before .before .before .before .before .before .before .before .before .before .before .before .args .trail) (c .before .before .before .before .before .before .before .before .before .before .before .before .args .key) (c .before .before .before .before .before .before .before .before .before .before .before .before .args .value) (c .before .before .before .before .before .before .before .before .before .before .before .before .args .area .now) (c .before .before .before .before .before .before .before .before .before .before .before .before .args .m) _ (c .before .before .before .before .before .before .before .before .is-live .ensures) (c .before .before .before .before .before .before .before .before .before .before .before .before .pre .5) (c .before .before .before .before .before .before .before .if1 .left), path-short (c .before .before .before .before .before .extend .result) b (omega arith), value-short _ (c .before .before .before .before .before .before .before .before .before .before .before .before .pre .4), (c .before .before .before .before .before .before .before .before .before .before .before .before .pre .5) .bound)
+put-row-requires c κs = let w : length (c .before .before .before .before .before .before .before .before .before .before .before .before .args .prefix .bytes) ≡ 64 = search needs in let z : length (c .before .before .before .before .before .extend .result .bytes) ≡ 64 = search needs in let b = full-short (c .before .before .before .before .before .before .before .before .before .before .before .before .args .store .now) (c .before .before .before .before .before .before .before .before .before .before .before .before .args .prefix) (c .before .before .before .before .before .before .before .before .before .before .before .before .args .trail) _ _ (c .before .before .before .before .before .before .before .before .is-live .ensures) (c .before .before .before .before .before .before .before .if1 .left) (omega arith) (c .before .before .before .before .before .extend .result) (c .before .before .before .before .before .extend .ensures .1) in ((c .before .before .before .before .before .before .before .before .before .before .before .before .pre .5) .fit, pair-room (c .before .before .before .before .before .before .before .before .before .before .before .before .args .store .now) (c .before .before .before .before .before .before .before .before .before .before .before .before .args .prefix) (c .before .before .before .before .before .before .before .before .before .before .before .before .args .trail) (c .before .before .before .before .before .before .before .before .before .before .before .before .args .key) (c .before .before .before .before .before .before .before .before .before .before .before .before .args .value) (c .before .before .before .before .before .before .before .before .before .before .before .before .args .area .now) (c .before .before .before .before .before .before .before .before .before .before .before .before .args .m) _ (c .before .before .before .before .before .before .before .before .is-live .ensures) (c .before .before .before .before .before .before .before .before .before .before .before .before .pre .5) (c .before .before .before .before .before .before .before .if1 .left), path-short (c .before .before .before .before .before .extend .result) b (omega arith), value-short _ (c .before .before .before .before .before .before .before .before .before .before .before .before .pre .4))
 
 add-result : tie.Need-add-result
-add-result c = let b = pair-room (c .before .before .before .before .before .before .before .before .before .before .before .before .before .before .before .args .store .now) (c .before .before .before .before .before .before .before .before .before .before .before .before .before .before .before .args .prefix) (c .before .before .before .before .before .before .before .before .before .before .before .before .before .before .before .args .trail) (c .before .before .before .before .before .before .before .before .before .before .before .before .before .before .before .args .key) (c .before .before .before .before .before .before .before .before .before .before .before .before .before .before .before .args .value) (c .before .before .before .before .before .before .before .before .before .before .before .before .before .before .before .args .area .now) (c .before .before .before .before .before .before .before .before .before .before .before .before .before .before .before .args .m) _ (c .before .before .before .before .before .before .before .before .before .before .before .is-live .ensures) (c .before .before .before .before .before .before .before .before .before .before .before .before .before .before .before .pre .5) (c .before .before .before .before .before .before .before .before .before .before .if1 .left) in let d = (c .before .before .before .before .before .before .before .before .before .before .before .before .before .before .before .pre .5) .bound in omega arith
+add-result c = let b = pair-room (c .before .before .before .before .before .before .before .before .before .before .before .before .before .before .before .args .store .now) (c .before .before .before .before .before .before .before .before .before .before .before .before .before .before .before .args .prefix) (c .before .before .before .before .before .before .before .before .before .before .before .before .before .before .before .args .trail) (c .before .before .before .before .before .before .before .before .before .before .before .before .before .before .before .args .key) (c .before .before .before .before .before .before .before .before .before .before .before .before .before .before .before .args .value) (c .before .before .before .before .before .before .before .before .before .before .before .before .before .before .before .args .area .now) (c .before .before .before .before .before .before .before .before .before .before .before .before .before .before .before .args .m) _ (c .before .before .before .before .before .before .before .before .before .before .before .is-live .ensures) (c .before .before .before .before .before .before .before .before .before .before .before .before .before .before .before .pre .5) (c .before .before .before .before .before .before .before .before .before .before .if1 .left) in omega arith
 
 same-length : tie.Need-same-length
 same-length c = search needs

@@ -25,7 +25,7 @@ slice-aggregate-dump-node : tie.Need-slice-aggregate-dump-node
 slice-aggregate-dump-node c = search needs
 
 dump-node-requires : tie.Need-dump-node-requires
-dump-node-requires c κs = (dump-ready (c .before .before .before .before .before .before .before .before .args .store .now) (c .before .before .before .before .before .before .before .before .pre .0) _ _ (c .before .before .before .before .before .u16-at .ensures .0) (c .before .before .before .before .u16-at2 .ensures .0) _ refl _ refl, dump-sound (c .before .before .before .before .before .before .before .before .args .store .now) (c .before .before .before .before .before .before .before .before .pre .0) _ _ (c .before .before .before .before .before .u16-at .ensures .0) (c .before .before .before .before .u16-at2 .ensures .0) _ refl _ _ refl refl, dump-room (c .before .before .before .before .before .before .before .before .args .store .now) (c .before .before .before .before .before .before .before .before .pre .0) _ _ (c .before .before .before .before .before .u16-at .ensures .0) (c .before .before .before .before .u16-at2 .ensures .0) _ refl _ _ refl refl _ refl _ (c .before .before .before .before .before .before .before .before .pre .1) (c .before .before .before .before .before .before .before .before .pre .2))
+dump-node-requires c κs = (dump-ready (c .before .before .before .before .before .before .before .before .args .store .now) (c .before .before .before .before .before .before .before .before .pre .0) _ _ (c .before .before .before .before .before .u16-at .ensures .0) (c .before .before .before .before .u16-at2 .ensures .0) _ refl _ refl, dump-sound (c .before .before .before .before .before .before .before .before .args .store .now) (c .before .before .before .before .before .before .before .before .pre .0) _ _ (c .before .before .before .before .before .u16-at .ensures .0) (c .before .before .before .before .u16-at2 .ensures .0) _ refl _ _ refl refl, dump-room (c .before .before .before .before .before .before .before .before .args .store .now) (c .before .before .before .before .before .before .before .before .pre .0) _ _ (c .before .before .before .before .before .u16-at .ensures .0) (c .before .before .before .before .u16-at2 .ensures .0) _ refl _ _ refl refl _ refl _ (c .before .before .before .before .before .before .before .before .pre .1))
 
 same-length : tie.Need-same-length
 same-length c = search needs

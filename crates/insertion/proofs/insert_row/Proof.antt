@@ -21,7 +21,7 @@ put-row-requires c κs =
     let h = c .before .before .before .before .before .before .before .before .before .before .pre in
     let i = c .before .before .before .before .before .place-of .result in
     let f = fit-front (a .area .now) i (a .m) (h .0) (omega arith) (omega arith) _ (c .before .before .before .move-rows .ensures) in
-    (f, omega arith, omega arith, omega arith, omega arith)
+    (f, omega arith, omega arith, omega arith)
 
 -- src/lib.rt:56:1
 same-length : tie.Need-same-length
@@ -34,7 +34,7 @@ returns c =
     let h = c .before .before .before .before .before .before .before .before .before .before .before .before .before .pre in
     let i = c .before .before .before .before .before .before .before .before .place-of .result in
     inserted (a .area .now) i (a .m) (h .0) (omega arith) (omega arith) _ (c .before .before .before .before .before .before .move-rows .ensures)
-    (a .path .now) (a .value .now) _ (omega arith) (c .before .before .put-row .ensures) (a .from) (c .before .before .before .before .before .before .before .before .place-of .ensures .0) (h .7)
+    (a .path .now) (a .value .now) _ (omega arith) (c .before .before .put-row .ensures) (a .from) (c .before .before .before .before .before .before .before .before .place-of .ensures .0) (h .6)
 
 pub insert-row-spec : {M : Type 1} → statement M
 insert-row-spec =

@@ -30,7 +30,7 @@ add-middle c = search needs
 
 -- src/lib.rt:33:12
 row-precedes-requires : tie.Need-row-precedes-requires Inv-loop μ-loop
-row-precedes-requires c κs = (c .before .before .before .before .pre .0, omega arith, c .before .before .before .before .pre .2)
+row-precedes-requires c κs = (c .before .before .before .before .pre .0, omega arith)
 
 -- src/lib.rt:34:19
 add-low : tie.Need-add-low Inv-loop μ-loop
@@ -45,7 +45,7 @@ loop-again : tie.Need-loop-again Inv-loop μ-loop
 loop-again c =
     let a = c .before .before .before .before .before .before .args in
     let l = c .before .before .before .loop in
-    let h = place-behind (a .area .now) (a .from) (a .m) (a .path .now) (l .low + (l .high - l .low) / 2) (omega arith) (omega arith) (c .before .before .before .before .before .before .pre .3) (sym (c .before .row-precedes .ensures) ∙ c .if1 .taken) in
+    let h = place-behind (a .area .now) (a .from) (a .m) (a .path .now) (l .low + (l .high - l .low) / 2) (omega arith) (omega arith) (c .before .before .before .before .before .before .pre .2) (sym (c .before .row-precedes .ensures) ∙ c .if1 .taken) in
     (omega arith, omega arith, omega arith, omega arith)
 
 -- src/lib.rt:31:5

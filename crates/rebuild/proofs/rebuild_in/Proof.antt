@@ -11,7 +11,7 @@ use Rattle.rebuild.proofs.rebuild_in.Statement.{statement}
 use Rattle.rebuild.proofs.rebuild_in.Tie as tie
 
 dump-requires : tie.Need-dump-requires
-dump-requires c κs = let n = node-count _ (c .before .before .before .before .pre .0) in (c .before .before .before .before .pre .1, omega arith, omega arith)
+dump-requires c κs = let n = node-count _ (c .before .before .before .before .pre .0) in (c .before .before .before .before .pre .1, omega arith)
 
 sub-e : tie.Need-sub-e
 sub-e c = let n = node-count _ (c .before .before .before .before .before .before .before .pre .0) in omega arith

@@ -30,7 +30,7 @@ use Rattle.node.specs.declared.Place.{Place}
 use Rattle.node.specs.Places.{part}
 use Rattle.search.specs.declared.Found.{Found}
 use Rattle.search.specs.Pairs.{Finds, foundIn}
-use Rattle.live.specs.Walk.{cap}
+use Rattle.octets.specs.Cap.{cap, cap-small}
 use Rattle.soundness.specs.Judged.{told-live}
 use Rattle.append_laws.specs.Append.{roomAtRoot, appended, Appended}
 use Rattle.append_laws.specs.Raise.{rootRaised}
@@ -51,10 +51,6 @@ pub record Finished (s s′ w w′ : List ℕ) : Type 0 where
   pub table : tableOf s′ ≡ tableOf s
   pub size : length s′ ≡ length s
   pub work : w′ ≡ cleared (nodesOf (length s)) w
-
-cap-small : (n : ℕ) → n ≤ 65535 → cap n ≡ n
-unfolding cap
-cap-small n h = rw (le-leb n 65535 h)
 
 area-size : (len : ℕ) → 128 * (len / 1024) ≡ workPerNode * nodesOf len
 unfolding nodesOf

@@ -8,6 +8,7 @@ use native.Mathlib.Omega.{arith}
 use lib.ListN.{length, take, drop, length-append}
 use Rattle.image.specs.Bytes.{u16, shared}
 use Rattle.image.specs.Image.{Tree, Kid, nodesOf, forestOf, treeAt}
+use Rattle.octets.specs.Cap.{cap, cap-small, cap-add}
 use Rattle.reading.specs.Relative.{lifts, usable, usableIn}
 use Rattle.node.specs.Places.{part}
 use Rattle.node.specs.Entries.{listed}
@@ -22,9 +23,9 @@ use Rattle.live.specs.PathBuffers.{pathIn}
 use Rattle.live.specs.PathSteps.{path-length}
 use Rattle.live.specs.declared.path_buffer.PathBuffer.{PathBuffer}
 use Rattle.live.specs.declared.Trail.{Trail}
-use Rattle.live.specs.Walk.{passing, TrailIn, Above, Deeper, countE, cap, NextChild, Ready, ReadyKids}
-use Rattle.live.specs.Steps.{passes-short, cap-small}
-use Rattle.live.specs.WalkLaws.{leaf-counts, kids-usable, interior-counts, cap-add, first-usable, shared-take}
+use Rattle.live.specs.Walk.{passing, TrailIn, Above, Deeper, countE, NextChild, Ready, ReadyKids}
+use Rattle.live.specs.Steps.{passes-short}
+use Rattle.live.specs.WalkLaws.{leaf-counts, kids-usable, interior-counts, first-usable, shared-take}
 
 no-kids : (under : ℕ → Tree) (ok : List ℕ → Bool) (X hi : List ℕ) → liveKids (forestOf under []) ok X hi ≡ 0
 unfolding liveKids forestOf
@@ -40,7 +41,7 @@ module _ (s : List ℕ) (level num : ℕ) (p : PathBuffer) (t : Trail) (ready : 
   node-long k e h l =
       let a : length (pathIn p ++ shared lo hi) ≡ p .len + length (shared lo hi)
       = length-append (pathIn p) (shared lo hi) ∙ ap (λ n. n + length (shared lo hi)) (path-length p h) in
-      cap-small 0 (omega arith) ∙ ap cap (sym (too-long (treeAt level s num) (passing s t) (pathIn p ++ shared lo hi) (drop (lifts lo hi) hi) (passes-short s t) (omega arith)))
+      sym (cap-small 0 (omega arith)) ∙ ap cap (sym (too-long (treeAt level s num) (passing s t) (pathIn p ++ shared lo hi) (drop (lifts lo hi) hi) (passes-short s t) (omega arith)))
 
   -- here is the prefix of the node's own entries
   module _ (k : ℕ) (ek : k ≡ length (shared lo hi)) (here : PathBuffer) (eh : pathIn here ≡ pathIn p ++ take (k - 0) (drop 0 lo)) where
@@ -61,7 +62,7 @@ module _ (s : List ℕ) (level num : ℕ) (p : PathBuffer) (t : Trail) (ready : 
       own-is = eo ∙ ap (λ n. countE (passing s t) (pathIn here) (listed s (num * 1024 + 8) (num * 1024 + 8 + n))) el
 
       pub node-leaf : level ≤ 1 → own ≤ 65535 → own ≡ cap Whole
-      node-leaf l h = cap-small own h ∙ ap cap (own-is ∙ leaf-counts s num level (ready .reads) l (passing s t) (pathIn here) (drop k hi) ∙ whole-is)
+      node-leaf l h = sym (cap-small own h) ∙ ap cap (own-is ∙ leaf-counts s num level (ready .reads) l (passing s t) (pathIn here) (drop k hi) ∙ whole-is)
 
       kids-are : (ks : List Kid) → kidsE (listed s (num * 1024 + 8) (num * 1024 + 8 + len)) ≡ ks → kidsE (listing s num) ≡ ks
       kids-are ks e = ap (λ n. kidsE (listed s (num * 1024 + 8) (num * 1024 + 8 + n))) (sym el) ∙ e
@@ -76,7 +77,7 @@ module _ (s : List ℕ) (level num : ℕ) (p : PathBuffer) (t : Trail) (ready : 
           = ap (λ ks. liveKids (forestOf (λ j. treeAt (level - 1) s j) ks) more (pathIn here) (drop k hi)) (kids-are [] e)
           ∙ no-kids (λ j. treeAt (level - 1) s j) more (pathIn here) (drop k hi) in
           let c : own ≡ liveHere (treeAt level s num) (passing s t) (pathIn here) (drop k hi) = let d = own-is in omega arith in
-          cap-small own h ∙ ap cap (c ∙ whole-is)
+          sym (cap-small own h) ∙ ap cap (c ∙ whole-is)
 
       -- the children, from the first on
       module _ (two : 2 ≤ level) (first : ℕ) (pivot : Place) (next : Cursor)

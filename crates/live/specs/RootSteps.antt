@@ -9,6 +9,7 @@ use lib.ListN.{length, take, drop}
 use Rattle.image.specs.Bytes.{u16, shared}
 use Rattle.image.specs.Image.{Tree, nodesOf, header, headerOf, treeAt, treeOf}
 use Rattle.image.specs.Sound.{lowest, highest, tableOf}
+use Rattle.octets.specs.Cap.{cap}
 use Rattle.reading.specs.Relative.{lifts, usable, sound-usable}
 use Rattle.lookup.specs.Look.{node-inside}
 use Rattle.lookup.specs.Root.{first-u16}
@@ -17,7 +18,7 @@ use Rattle.live.specs.LiveLaws.{live-root}
 use Rattle.live.specs.PathBuffers.{pathIn}
 use Rattle.live.specs.declared.path_buffer.PathBuffer.{PathBuffer}
 use Rattle.live.specs.declared.Trail.{Trail}
-use Rattle.live.specs.Walk.{passes, passing, cap, Ready, Countable}
+use Rattle.live.specs.Walk.{passes, passing, Ready, Countable}
 
 module _ (s : List ℕ) (h : Countable s) where
   tree-reads : usable (nodesOf (length s)) (treeOf s) ≡ true

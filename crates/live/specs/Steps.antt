@@ -33,7 +33,7 @@ use Rattle.live.specs.PathSteps.{path-length}
 use Rattle.live.specs.declared.path_buffer.PathBuffer.{PathBuffer}
 use Rattle.live.specs.declared.Trail.{Trail}
 use Rattle.live.specs.declared.Pending.{Pending}
-use Rattle.live.specs.Walk.{passes, passing, TrailIn, Above, Deeper, pushed, decides, countE, isMessage, hasMessage, cap, NextChild, Pends}
+use Rattle.live.specs.Walk.{passes, passing, TrailIn, Above, Deeper, pushed, decides, countE, isMessage, hasMessage, NextChild, Pends}
 
 -- what was heard is nothing, or something
 module _ (s : List ℕ) (X : Said) (r : Heard) (h : Hears s X r) where
@@ -249,15 +249,6 @@ module _ (s : List ℕ) (num lift : ℕ) (t : Trail) (fit : TrailIn s lift t) (f
         fits = record { few = omega arith; each = above };
         depth = omega arith;
       }
-
--- sums that are told up to 65,535
-pub cap-small : (n : ℕ) → n ≤ 65535 → n ≡ cap n
-unfolding cap
-cap-small n h = rw (le-leb n 65535 h)
-
-pub cap-large : (n : ℕ) → 65535 < n → 65535 ≡ cap n
-unfolding cap
-cap-large n h = rw (lt-leb n 65535 h)
 
 -- the next child
 pub child-bad : (s : List ℕ) (at end : ℕ) → listed s at end ≡ [] → Pends s at end Pending.End

@@ -4,7 +4,6 @@ use mathlib.Core.Path.{_≡_}
 use mathlib.Core.List.{List, [], _∷_, _++_}
 use mathlib.Core.Bool.{Bool, true, false, _&&_, cond}
 use lib.ListN.{length, drop, getD, set}
-use lib.Dec.{leb}
 use Rattle.image.specs.Bytes.{u16}
 use Rattle.image.specs.Entry as defined
 use Rattle.image.specs.Image.{headerOf, treeOf, treeAt, nodesOf, forestOf}
@@ -72,10 +71,6 @@ isMessage (defined.message m) = true
 unfoldable pub hasMessage : List defined.Entry → Bool
 hasMessage [] = false
 hasMessage (e ∷ es) = cond (isMessage e) true (hasMessage es)
-
--- a count, where more than 65,535 is told as 65,535
-unfoldable pub cap : ℕ → ℕ
-cap n = cond (leb n 65535) n 65535
 
 -- The child at a cursor and the cursor after it, or that no child is there.
 pub record NextChild (s : List ℕ) (at end k : ℕ) (p : Place) (c : Cursor) : Type 0 where

@@ -1,26 +1,26 @@
 -- What the walk counts at a node, and over its children, is what Live defines of the tree under the node.
 -- Relies on the laws that join the bytes of a node to its tree (look: Look) and on LiveLaws.
-use Prim.Native.Nat.{ℕ, _+_, _-_, _<_, _≤_}
+use Prim.Native.Nat.{ℕ, _+_, _-_, _≤_}
 use mathlib.Core.Path.{_≡_, refl, sym, ap, ap₂, _∙_}
 use mathlib.Core.List.{List, [], _∷_, _++_}
 use mathlib.Core.Bool.{Bool, true, false, _&&_, and-comm}
 use mathlib.Core.Option.{Option, none, some}
 use native.Mathlib.Omega.{arith}
 use lib.ListN.{length, take, drop}
-use lib.Dec.{leb, eqb}
-use borrow.Author.Tests.{leb-true, leb-false, ne-eqb}
+use lib.Dec.{eqb}
 use Rattle.image.specs.Bytes.{shared}
 use Rattle.image.specs.Entry as defined
 use Rattle.image.specs.Table.{Row}
 use Rattle.image.specs.Image.{Tree, leaf, interior, Forest, tree, Kid, Inside, nodesOf, pairThen, pairsOf, messageThen, messagesOf, noKids, kidThen, insideOf, forestOf, treeAt}
 use Rattle.image.specs.Meaning.{newest, highOf}
+use Rattle.octets.specs.Cap.{cap, cap-add, cap-front}
 use Rattle.octets.specs.Order.{and-left, and-right}
 use Rattle.reading.specs.Relative.{lifts, usable, usableIn}
 use Rattle.search.specs.Hear.{newestE}
 use Rattle.search.specs.Own.{kid, kidsE}
 use Rattle.lookup.specs.Look.{listing, leaf-at, interior-at, inside-splits, messages-newest}
 use Rattle.live.specs.Live.{holdsNoMessage, one, countRows, countPuts, liveHere, liveKids}
-use Rattle.live.specs.Walk.{decides, countE, cap}
+use Rattle.live.specs.Walk.{decides, countE}
 
 -- a count of one entry
 none-decides : (n : ℕ) → one false + n ≡ n
@@ -141,42 +141,6 @@ module _ (s : List ℕ) (i level : ℕ) (u : usable (nodesOf (length s)) (treeAt
       ap₂ (λ y z. y + z) a (ap (λ ks. liveKids (forestOf (λ j. treeAt (level - 1) s j) ks) more X hi) b ∙ c)
       ∙ interior-here i f (n .x .messages) ok X hi
       ∙ ap (λ t. liveHere t ok X hi) (sym (n .tree))
-
--- sums that are told up to 65,535
-data Size (n : ℕ) : Type 0 where
-  small : n ≤ 65535 → cap n ≡ n → Size n
-  large : 65535 < n → cap n ≡ 65535 → Size n
-
-size : (n : ℕ) → Size n
-size n = go (leb n 65535) refl
-  where
-    go : (x : Bool) → leb n 65535 ≡ x → Size n
-    go true e = small (leb-true n 65535 e) (unfold cap in rw e)
-    go false e = large (leb-false n 65535 e) (unfold cap in rw e)
-
-pub cap-add : (a b : ℕ) → cap (a + cap b) ≡ cap (a + b)
-cap-add a b = go (size b) (size (a + cap b)) (size (a + b))
-  where
-    go : Size b → Size (a + cap b) → Size (a + b) → cap (a + cap b) ≡ cap (a + b)
-    go (small h e) q r = ap (λ n. cap (a + n)) e
-    go (large h e) (small i f) (small j g) = absurd (omega arith)
-    go (large h e) (small i f) (large j g) = omega arith
-    go (large h e) (large i f) (small j g) = absurd (omega arith)
-    go (large h e) (large i f) (large j g) = f ∙ sym g
-
-pub cap-front : (a b : ℕ) → cap (cap a + b) ≡ cap (a + b)
-cap-front a b =
-    let p : cap a + b ≡ b + cap a = omega arith in
-    let q : b + a ≡ a + b = omega arith in
-    ap cap p ∙ cap-add b a ∙ ap cap q
-
--- a number that is less is told apart by the count as it is told
-pub cap-equal : (n m : ℕ) → m < 65535 → eqb (cap n) m ≡ eqb n m
-cap-equal n m h = go (size n)
-  where
-    go : Size n → eqb (cap n) m ≡ eqb n m
-    go (small l e) = ap (λ k. eqb k m) e
-    go (large l e) = ap (λ k. eqb k m) e ∙ ne-eqb 65535 m (λ q. omega arith) ∙ sym (ne-eqb n m (λ q. omega arith))
 
 -- the children, one at a time: the child in hand, and those that follow
 module _ (under : ℕ → Tree) (ok : List ℕ → Bool) (X hi : List ℕ) (num : ℕ) (low : List ℕ) where

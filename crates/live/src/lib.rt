@@ -19,6 +19,7 @@ ghost use Rattle.image.specs.Bytes.{shared, u16};
 ghost use Rattle.image.specs.Entry.{message};
 ghost use Rattle.image.specs.Image.{treeAt, nodesOf, forestOf};
 ghost use Rattle.image.specs.Sound.{tableOf};
+ghost use Rattle.octets.specs.Cap.{cap};
 ghost use Rattle.reading.specs.Relative.{usable, usableIn, lifts};
 ghost use Rattle.node.specs.Places.{Within, EntryWithin, MessageWithin, part, entryIn, messageIn};
 ghost use Rattle.node.specs.Entries.{listed};
@@ -27,7 +28,7 @@ ghost use Rattle.search.specs.Own.{kid, kidsE};
 ghost use Rattle.lookup.specs.Look.{listing};
 ghost use Rattle.live.specs.Live.{holdsNoMessage, one, liveHere, liveKids};
 ghost use Rattle.live.specs.PathBuffers.{pathIn};
-ghost use Rattle.live.specs.Walk.{passing, TrailIn, Above, decides, countE, isMessage, hasMessage, cap, Pends, Deeper, pushed, Ready, ReadyKids, Countable};
+ghost use Rattle.live.specs.Walk.{passing, TrailIn, Above, decides, countE, isMessage, hasMessage, Pends, Deeper, pushed, Ready, ReadyKids, Countable};
 
 // The nodes above that hold messages, from the root down: each with how many bytes it lifts.
 pub struct Trail {
@@ -231,18 +232,6 @@ pub fn lengthen_trail(store: &[u8], trail: Trail, num: usize, lift: usize) -> Tr
     push(trail, num, lift)
 }
 
-// A sum, where more than 65,535 is reported as 65,535.
-fn add_capped(a: usize, b: usize) -> usize
-    requires { ⌜ (a ≤ 65535) × (b ≤ 65535) ⌝ }
-    ensures { λ r. ⌜ (r ≡ cap (a + b)) × (r ≤ 65535) ⌝ }
-{
-    let n = a + b;
-    if 65535 < n {
-        return 65535;
-    }
-    n
-}
-
 pub fn read_child(store: &[u8], c: Cursor) -> Pending
     requires { ⌜ c .end ≤ length (now store) ⌝ }
     ensures { λ r. ⌜ Pends (now (store .entry)) (c .at) (c .end) r ⌝ }
@@ -289,7 +278,7 @@ pub fn count_node(
     let lift = here.len;
     let above = lengthen_trail(store, trail, num, lift);
     let n = count_children(store, first, pivot, next, level - 1, here, &hi[k..], above);
-    add_capped(own, n)
+    octets::capped_sum(own, n)
 }
 
 // The same for a child and those that follow from the cursor on; a child's high pivot is the next one's low pivot, or else hi.
@@ -315,12 +304,12 @@ pub fn count_children(
         let b = low.stop;
         let Pending::Child(k, p, next) = read_child(store, c) else {
             let last = count_node(store, num, level, prefix, &store[a..b], hi, trail);
-            return add_capped(total, last);
+            return octets::capped_sum(total, last);
         };
         let x = p.start;
         let y = p.stop;
         let n = count_node(store, num, level, prefix, &store[a..b], &store[x..y], trail);
-        total = add_capped(total, n);
+        total = octets::capped_sum(total, n);
         num = k;
         low = p;
         c = next;

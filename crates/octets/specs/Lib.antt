@@ -2,3 +2,4 @@ pub mod Order
 pub mod Compare
 pub mod Ordering
 pub mod Put
+pub mod Cap

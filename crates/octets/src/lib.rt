@@ -6,6 +6,7 @@ ghost use lib.ListN.{length, getD};
 ghost use lib.ListN.{replicate};
 ghost use Rattle.image.specs.Bytes.{same, before, begins, shared, u16, u16Bytes};
 ghost use Rattle.image.specs.Path.{owns};
+ghost use Rattle.octets.specs.Cap.{cap};
 ghost use Rattle.octets.specs.Put.{put};
 ghost use Rattle.octets.specs.Ordering.{ordering};
 
@@ -14,6 +15,19 @@ pub fn wide(x: u8) -> usize
     ensures { λ r. ⌜ (r ≡ x) × (r < 256) ⌝ }
 {
     x as usize
+}
+
+// A sum, where more than 65,535, the most that two bytes hold, is told as 65,535.
+pub fn capped_sum(a: usize, b: usize) -> usize
+    ensures { λ r. ⌜ (r ≡ cap (a + b)) × (r ≤ 65535) ⌝ }
+{
+    if 65535 <= a {
+        return 65535;
+    }
+    if 65535 - a <= b {
+        return 65535;
+    }
+    a + b
 }
 
 // The two-byte little-endian number at a place.

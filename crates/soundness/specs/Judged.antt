@@ -20,8 +20,8 @@ use Rattle.laws.specs.ButLive.{soundHead, soundNodes, soundButLive}
 use Rattle.tree_check.specs.Whole.{isSound, Verified}
 use Rattle.laws.specs.ButLive.{sound-live}
 use Rattle.tree_check.specs.Callers.{Holds, verified-yes, verified-no, sound-settled}
-use Rattle.live.specs.Walk.{cap, Countable}
-use Rattle.live.specs.WalkLaws.{cap-equal}
+use Rattle.live.specs.Walk.{Countable}
+use Rattle.octets.specs.Cap.{cap, cap-equal}
 
 pub record Judged (image : List ℕ) (r : Checked) (seen : List ℕ) : Type 0 where
   pub answer : isSound r ≡ sound image

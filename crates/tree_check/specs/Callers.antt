@@ -18,8 +18,8 @@ use Rattle.laws.specs.LiveCount.{pairCount, pairs-live, still-quiet}
 use Rattle.slicing.specs.FromImage.{quiet-still}
 use Rattle.tree_check.specs.declared.Tally.{Tally}
 use Rattle.tree_check.specs.declared.Checked.{Checked}
-use Rattle.tree_check.specs.Count.{cap, messageCount, messageCountIn, countOf, capped}
-use Rattle.tree_check.specs.CountLaws.{cap-small, cap-large}
+use Rattle.tree_check.specs.Count.{messageCount, messageCountIn, countOf, capped}
+use Rattle.octets.specs.Cap.{cap, cap-small, cap-large}
 use Rattle.tree_check.specs.Answer.{Counts}
 use Rattle.laws.specs.ButLive.{soundHead, soundNodes, soundButLive, sound-live}
 use Rattle.tree_check.specs.Whole.{isSound, Marked, Verified}

@@ -29,7 +29,8 @@ use Rattle.lookup.specs.Look.{part-rest}
 use Rattle.node_check.specs.Inside.{messagesRun, childRun, kidsList, kidsRun, kids-step, kids-end, onward-some}
 use Rattle.tree_check.specs.declared.Tally.{Tally}
 use Rattle.tree_check.specs.declared.Checked.{Checked}
-use Rattle.tree_check.specs.Count.{cap, Count, plus, countOf, onlyMessages, lastCount, kidsCount, tallySum}
+use Rattle.octets.specs.Cap.{cap}
+use Rattle.tree_check.specs.Count.{Count, plus, countOf, onlyMessages, lastCount, kidsCount, tallySum}
 use Rattle.tree_check.specs.CountLaws.{messages-capped, count-end, count-more}
 use Rattle.tree_check.specs.Answer.{Checks, unsound, all-sound, checks-as, withRest}
 use Rattle.tree_check.specs.Walk.{nodeRun, lastRun}

@@ -2,18 +2,13 @@
 -- Relies on the tree of plan (Image), its numbers (Sound) and its pairs (Live). Definitions only.
 use Prim.Native.Nat.{ℕ, _+_}
 use mathlib.Core.List.{List, [], _∷_}
-use mathlib.Core.Bool.{cond}
 use lib.ListN.{length}
-use lib.Dec.{leb}
 use Rattle.image.specs.Entry as defined
 use Rattle.image.specs.Image.{Tree, unread, leaf, interior, Forest, end, tree}
 use Rattle.image.specs.Sound.{numbers, numbersIn}
+use Rattle.octets.specs.Cap.{cap}
 use Rattle.laws.specs.LiveCount.{pairCount, pairCountIn}
 use Rattle.tree_check.specs.declared.Tally.{Tally}
-
--- the smaller of a number and 65,535
-unfoldable pub cap : ℕ → ℕ
-cap x = cond (leb x 65535) x 65535
 
 -- the messages that wait in the nodes of a tree
 unfoldable mutual

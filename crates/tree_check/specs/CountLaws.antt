@@ -1,53 +1,19 @@
 -- Sums of counts, also capped, and what the entries of a node hold.
 -- Relies on Count and on plan's tree of entries.
-use Prim.Native.Nat.{ℕ, suc, _+_, _<_, _≤_}
+use Prim.Native.Nat.{ℕ, suc, _+_}
 use mathlib.Core.Path.{_≡_, refl, sym, ap, ap₂, subst, _∙_}
 use mathlib.Core.List.{List, [], _∷_, _++_}
-use mathlib.Core.Bool.{Bool, true, false, cond}
 use mathlib.Core.Option.{Option, none, some}
 use native.Mathlib.Omega.{arith}
 use lib.ListN.{length, length-append}
-use lib.Dec.{leb}
-use borrow.Author.Tests.{le-leb, leb-true, leb-false}
 use Rattle.image.specs.Entry as defined
 use Rattle.image.specs.Table.{Row}
 use Rattle.image.specs.Image.{Tree, leaf, interior, Forest, end, tree, Inside, pairThen, pairsOf, messageThen, messagesOf, noKids, kidThen, insideOf, forestOf}
 use Rattle.image.specs.Sound.{numbers, numbersIn}
+use Rattle.octets.specs.Cap.{cap, cap-small, cap-sum}
 use Rattle.laws.specs.LiveCount.{pairCount, pairCountIn}
 use Rattle.tree_check.specs.declared.Tally.{Tally}
-use Rattle.tree_check.specs.Count.{cap, messageCount, messageCountIn, Count, plus, countOf, countIn, onlyPairs, onlyMessages, onlyNode, lastCount, kidsCount, capped, tallySum}
-
-pub cap-small : (x : ℕ) → x ≤ 65535 → cap x ≡ x
-unfolding cap
-cap-small x h = rw (le-leb x 65535 h)
-
-pub cap-large : (x : ℕ) → 65535 ≤ x → cap x ≡ 65535
-unfolding cap
-cap-large x h = go (leb x 65535) refl
-  where
-    go : (b : Bool) → leb x 65535 ≡ b → cond (leb x 65535) x 65535 ≡ 65535
-    go true e = let k : x ≤ 65535 = leb-true x 65535 e in rw e (omega arith)
-    go false e = rw e
-
-data Sized (x : ℕ) : Type 0 where
-  small : x ≤ 65535 → cap x ≡ x → Sized x
-  large : 65535 < x → cap x ≡ 65535 → Sized x
-
-sized : (x : ℕ) → Sized x
-sized x = go (leb x 65535) refl
-  where
-    go : (b : Bool) → leb x 65535 ≡ b → Sized x
-    go true e = let k : x ≤ 65535 = leb-true x 65535 e in small k (cap-small x k)
-    go false e = let k : 65535 < x = leb-false x 65535 e in large k (cap-large x (omega arith))
-
--- sums may be capped at every step
-pub cap-sum : (a b : ℕ) → cap (cap a + cap b) ≡ cap (a + b)
-cap-sum a b = go (sized a) (sized b)
-  where
-    go : Sized a → Sized b → cap (cap a + cap b) ≡ cap (a + b)
-    go (small h e) (small k f) = ap₂ (λ x y. cap (x + y)) e f
-    go (small h e) (large k f) = cap-large (cap a + cap b) (omega arith) ∙ sym (cap-large (a + b) (omega arith))
-    go (large h e) y = cap-large (cap a + cap b) (omega arith) ∙ sym (cap-large (a + b) (omega arith))
+use Rattle.tree_check.specs.Count.{messageCount, messageCountIn, Count, plus, countOf, countIn, onlyPairs, onlyMessages, onlyNode, lastCount, kidsCount, capped, tallySum}
 
 tally-path : {a b c x y z : ℕ} → a ≡ x → b ≡ y → c ≡ z → _≡_ {A = Tally} (record { pairs = a; messages = b; nodes = c }) (record { pairs = x; messages = y; nodes = z })
 tally-path p q r = rw (p, q, r)

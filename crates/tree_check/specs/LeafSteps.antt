@@ -14,7 +14,8 @@ use Rattle.reading.specs.SoundHere.{soundHere}
 use Rattle.node.specs.Entries.{entriesFrom, listed}
 use Rattle.node_check.specs.Leaf.{leafRun, leaf-sound}
 use Rattle.tree_check.specs.declared.Checked.{Checked}
-use Rattle.tree_check.specs.Count.{cap, countOf, onlyPairs, capped}
+use Rattle.octets.specs.Cap.{cap}
+use Rattle.tree_check.specs.Count.{countOf, onlyPairs, capped}
 use Rattle.tree_check.specs.CountLaws.{pairs-capped}
 use Rattle.tree_check.specs.Answer.{Checks, unsound, all-sound}
 use Rattle.tree_check.specs.Walk.{leaf-counts}

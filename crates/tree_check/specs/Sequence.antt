@@ -9,7 +9,8 @@ use Rattle.reading.specs.Visit.{onward}
 use Rattle.tree_check.specs.declared.Tally.{Tally}
 use Rattle.tree_check.specs.declared.Checked.{Checked}
 use Rattle.tree_check.specs.Count.{Count, plus, capped, onlyMessages, tallySum}
-use Rattle.tree_check.specs.CountLaws.{cap-small, messages-capped, tally-joined, plus-assoc, none-plus}
+use Rattle.octets.specs.Cap.{cap-small}
+use Rattle.tree_check.specs.CountLaws.{messages-capped, tally-joined, plus-assoc, none-plus}
 use Rattle.tree_check.specs.Answer.{Checks, unsound, all-sound, unsound-is, sound-is, tally-is, withRest, with-rest}
 
 stops : (x : Option (List ℕ)) (f : List ℕ → Option (List ℕ)) → x ≡ none → onward x f ≡ none

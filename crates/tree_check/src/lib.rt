@@ -20,7 +20,8 @@ ghost use Rattle.node.specs.Entries.{entriesFrom, listed};
 ghost use Rattle.node.specs.Places.{Within, part};
 ghost use Rattle.path.specs.Fed.{shapeIs};
 ghost use Rattle.node_check.specs.Inside.{messagesRun, childRun, kidsRun};
-ghost use Rattle.tree_check.specs.Count.{cap, tallySum, countOf, onlyMessages, lastCount, kidsCount};
+ghost use Rattle.octets.specs.Cap.{cap};
+ghost use Rattle.tree_check.specs.Count.{tallySum, countOf, onlyMessages, lastCount, kidsCount};
 ghost use Rattle.tree_check.specs.Answer.{Checks, withRest};
 ghost use Rattle.tree_check.specs.Walk.{nodeRun, lastRun};
 ghost use Rattle.tree_check.specs.First.{FirstAs};
@@ -45,24 +46,12 @@ pub enum First {
     Nothing,
 }
 
-pub fn capped_sum(a: usize, b: usize) -> usize
-    ensures { λ r. ⌜ r ≡ cap (a + b) ⌝ }
-{
-    if 65535 <= a {
-        return 65535;
-    }
-    if 65535 - a <= b {
-        return 65535;
-    }
-    a + b
-}
-
 pub fn joined(a: Tally, b: Tally) -> Tally
     ensures { λ r. ⌜ r ≡ tallySum a b ⌝ }
 {
-    let pairs = capped_sum(a.pairs, b.pairs);
-    let messages = capped_sum(a.messages, b.messages);
-    let nodes = capped_sum(a.nodes, b.nodes);
+    let pairs = octets::capped_sum(a.pairs, b.pairs);
+    let messages = octets::capped_sum(a.messages, b.messages);
+    let nodes = octets::capped_sum(a.nodes, b.nodes);
     Tally {
         pairs,
         messages,
@@ -133,12 +122,12 @@ pub fn count_entries(s: &[u8], from: usize, end: usize) -> usize
     let mut n: usize = 0;
     while c.at < end {
         let Step::Read(_, next) = c.step(s) else {
-            return capped_sum(n, 0);
+            return octets::capped_sum(n, 0);
         };
         n += 1;
         c = next;
     }
-    capped_sum(n, 0)
+    octets::capped_sum(n, 0)
 }
 
 // Whether a node of the store is a sound leaf, and how many pairs it holds.

@@ -16,7 +16,8 @@ use Rattle.search.specs.Own.{kid, kidsE}
 use Rattle.lookup.specs.Look.{node-inside}
 use Rattle.live.specs.PathBuffers.{pathIn}
 use Rattle.live.specs.Live.{liveKids}
-use Rattle.live.specs.Walk.{passing, cap, NextChild}
+use Rattle.octets.specs.Cap.{cap}
+use Rattle.live.specs.Walk.{passing, NextChild}
 use Rattle.live.specs.Steps.{trail-wider, pends-child, pends-end}
 use Rattle.live.specs.WalkLaws.{walk-start, walk-last, walk-on, later-usable}
 use Rattle.live.specs.NodeSteps.{node-long, node-leaf, node-bare, kids-ready, node-inner, node-above, child-ready}
@@ -29,7 +30,7 @@ use Rattle.live.proofs.+count_children+count_node.Lts-count_children as
 use Rattle.live.proofs.count_node.Reads as count-node
 use Rattle.live.proofs.count_node.Kinds as count-node-kinds
 use Rattle.live.proofs.+count_children+count_node.Lts-count_node as count-node-lts
-use Rattle.live.proofs.add_capped.Reads as add-capped-reads
+use Rattle.octets.proofs.capped_sum.Reads as capped-sum-reads
 use Rattle.live.proofs.count_entries.Reads as count-entries-reads
 use Rattle.live.proofs.read_child.Reads as read-child-reads
 use Rattle.live.proofs.path_buffer.extend.Reads as extend-reads
@@ -75,8 +76,8 @@ kid-next : (t : ℕ) (c : count-children-lts.After-known-told (
   read-child-reads.Learnt,
   count-node-below t,
   count-node.Post,
-  add-capped-reads.Asked,
-  add-capped-reads.Learnt,
+  capped-sum-reads.Asked,
+  capped-sum-reads.Learnt,
 ) (count-children-at t) count-children.Post count-children-Inv-loop count-children-μ-loop)
     → NextChild (c .before .before .before .before .before .before .before .args .store .now) (c .before .before .before .before .loop .c .at) (c .before .before .before .before .loop .c .end) (c .before .k .given .0 .0) (c .before .k .given .0 .1 .0) (c .before .k .given .0 .1 .1 .0)
 kid-next t c = pends-child _ _ _ _ _ _ _ (c .before .before .before .read-child .ensures) (c .before .k .given .1)
@@ -96,8 +97,8 @@ here-length : (t : ℕ) (c : count-node-lts.After-extend (
   lengthen-trail-reads.Learnt,
   count-children-below t,
   count-children.Post,
-  add-capped-reads.Asked,
-  add-capped-reads.Learnt,
+  capped-sum-reads.Asked,
+  capped-sum-reads.Learnt,
 ) (count-node-at t) count-node.Post) → length (c .extend .result .bytes) ≡ 64
 here-length t c = search needs
 
@@ -116,8 +117,8 @@ first-next : (t : ℕ) (c : count-node-lts.After-known-told (
   lengthen-trail-reads.Learnt,
   count-children-below t,
   count-children.Post,
-  add-capped-reads.Asked,
-  add-capped-reads.Learnt,
+  capped-sum-reads.Asked,
+  capped-sum-reads.Learnt,
 ) (count-node-at t) count-node.Post)
     → NextChild (c .before .before .before .before .before .before .before .before .before .before .before .before .before .before .before .args .store .now) (c .before .before .before .before .before .before .before .before .before .before .before .before .before .before .before .args .num * 1024 + 8) (c .before .before .before .before .before .before .before .before .before .before .before .before .before .before .before .args .num * 1024 + 8 + c .before .before .before .before .before .before .u16-at .result) (c .before .first .given .0 .0) (c .before .first .given .0 .1 .0) (c .before .first .given .0 .1 .1 .0)
 first-next t c = pends-child _ _ _ _ _ _ _ (c .before .before .before .read-child .ensures) (c .before .first .given .1)
@@ -128,8 +129,8 @@ count-children-loop-holds : (t : ℕ) → count-children-lts.Need-loop-holds (
   read-child-reads.Learnt,
   count-node-below t,
   count-node.Post,
-  add-capped-reads.Asked,
-  add-capped-reads.Learnt,
+  capped-sum-reads.Asked,
+  capped-sum-reads.Learnt,
 ) (count-children-at t) count-children.Post count-children-Inv-loop count-children-μ-loop
 count-children-loop-holds t c = ((c .before .before .pre .1) .ends, (c .before .before .pre .1) .place, omega arith, (c .before .before .pre .1) .reads, walk-start _)
 
@@ -139,8 +140,8 @@ count-kids-read-child-requires : (t : ℕ) → count-children-lts.Need-read-chil
   read-child-reads.Learnt,
   count-node-below t,
   count-node.Post,
-  add-capped-reads.Asked,
-  add-capped-reads.Learnt,
+  capped-sum-reads.Asked,
+  capped-sum-reads.Learnt,
 ) (count-children-at t) count-children.Post count-children-Inv-loop count-children-μ-loop
 count-kids-read-child-requires t c κs = c .loop .inv .0
 
@@ -150,8 +151,8 @@ count-children-enum-known-k : (t : ℕ) → count-children-lts.Need-enum-known-k
   read-child-reads.Learnt,
   count-node-below t,
   count-node.Post,
-  add-capped-reads.Asked,
-  add-capped-reads.Learnt,
+  capped-sum-reads.Asked,
+  capped-sum-reads.Learnt,
 ) (count-children-at t) count-children.Post count-children-Inv-loop count-children-μ-loop
 count-children-enum-known-k t c = search needs
 
@@ -161,8 +162,8 @@ count-children-enum-told : (t : ℕ) → count-children-lts.Need-enum-told (
   read-child-reads.Learnt,
   count-node-below t,
   count-node.Post,
-  add-capped-reads.Asked,
-  add-capped-reads.Learnt,
+  capped-sum-reads.Asked,
+  capped-sum-reads.Learnt,
 ) (count-children-at t) count-children.Post count-children-Inv-loop count-children-μ-loop
 count-children-enum-told t c = search needs
 
@@ -172,8 +173,8 @@ count-children-sub-count-node : (t : ℕ) → count-children-lts.Need-sub-count-
   read-child-reads.Learnt,
   count-node-below t,
   count-node.Post,
-  add-capped-reads.Asked,
-  add-capped-reads.Learnt,
+  capped-sum-reads.Asked,
+  capped-sum-reads.Learnt,
 ) (count-children-at t) count-children.Post count-children-Inv-loop count-children-μ-loop
 count-children-sub-count-node t c = let w = c .before .before .before .loop .inv .1 in omega arith
 
@@ -183,8 +184,8 @@ count-children-part-count-node-start : (t : ℕ) → count-children-lts.Need-par
   read-child-reads.Learnt,
   count-node-below t,
   count-node.Post,
-  add-capped-reads.Asked,
-  add-capped-reads.Learnt,
+  capped-sum-reads.Asked,
+  capped-sum-reads.Learnt,
 ) (count-children-at t) count-children.Post count-children-Inv-loop count-children-μ-loop
 count-children-part-count-node-start t c = let w = c .before .before .before .loop .inv .1 in omega arith
 
@@ -194,8 +195,8 @@ count-children-part-count-node-end : (t : ℕ) → count-children-lts.Need-part-
   read-child-reads.Learnt,
   count-node-below t,
   count-node.Post,
-  add-capped-reads.Asked,
-  add-capped-reads.Learnt,
+  capped-sum-reads.Asked,
+  capped-sum-reads.Learnt,
 ) (count-children-at t) count-children.Post count-children-Inv-loop count-children-μ-loop
 count-children-part-count-node-end t c = let w = c .before .before .before .loop .inv .1 in omega arith
 
@@ -205,21 +206,21 @@ count-children-count-node-requires : (t : ℕ) → count-children-lts.Need-count
   read-child-reads.Learnt,
   count-node-below t,
   count-node.Post,
-  add-capped-reads.Asked,
-  add-capped-reads.Learnt,
+  capped-sum-reads.Asked,
+  capped-sum-reads.Learnt,
 ) (count-children-at t) count-children.Post count-children-Inv-loop count-children-μ-loop
 count-children-count-node-requires t c κs = (omega arith, child-ready (c .before .before .before .before .before .before .before .args .store .now) (c .before .before .before .before .before .before .before .args .level) (c .before .before .before .before .loop .num) (part (c .before .before .before .before .before .before .before .args .store .now) (c .before .before .before .before .loop .low)) (kidsE (listed (c .before .before .before .before .before .before .before .args .store .now) (c .before .before .before .before .loop .c .at) (c .before .before .before .before .loop .c .end))) (c .before .before .before .before .before .before .before .args .prefix) (c .before .before .before .before .before .before .before .args .trail) (c .before .before .before .before .loop .inv .3) ((c .before .before .before .before .before .before .before .pre .1) .room) ((c .before .before .before .before .before .before .before .pre .1) .trail) ((c .before .before .before .before .before .before .before .pre .1) .deep))
 
 -- src/lib.rt:288:13
-count-children-add-capped-requires : (t : ℕ) → count-children-lts.Need-add-capped-requires (
+count-children-capped-sum-requires : (t : ℕ) → count-children-lts.Need-capped-sum-requires (
   read-child-reads.Asked,
   read-child-reads.Learnt,
   count-node-below t,
   count-node.Post,
-  add-capped-reads.Asked,
-  add-capped-reads.Learnt,
+  capped-sum-reads.Asked,
+  capped-sum-reads.Learnt,
 ) (count-children-at t) count-children.Post count-children-Inv-loop count-children-μ-loop
-count-children-add-capped-requires t c κs = (omega arith, c .count-node .ensures .1)
+count-children-capped-sum-requires t c κs = search needs
 
 -- src/lib.rt:288:13
 count-children-returns : (t : ℕ) → count-children-lts.Need-returns (
@@ -227,10 +228,10 @@ count-children-returns : (t : ℕ) → count-children-lts.Need-returns (
   read-child-reads.Learnt,
   count-node-below t,
   count-node.Post,
-  add-capped-reads.Asked,
-  add-capped-reads.Learnt,
+  capped-sum-reads.Asked,
+  capped-sum-reads.Learnt,
 ) (count-children-at t) count-children.Post count-children-Inv-loop count-children-μ-loop
-count-children-returns t c = (walk-last (λ j. treeAt (c .before .before .before .before .before .before .before .before .before .args .level) (c .before .before .before .before .before .before .before .before .before .args .store .now) j) (passing (c .before .before .before .before .before .before .before .before .before .args .store .now) (c .before .before .before .before .before .before .before .before .before .args .trail)) (pathIn (c .before .before .before .before .before .before .before .before .before .args .prefix)) (c .before .before .before .before .before .before .before .before .before .args .hi .now) (c .before .before .before .before .before .before .loop .num) (part (c .before .before .before .before .before .before .before .before .before .args .store .now) (c .before .before .before .before .before .before .loop .low)) _ (c .before .before .before .before .before .before .loop .total) (c .before .count-node .result) _ _ (pends-end _ _ _ _ (c .before .before .before .before .before .read-child .ensures) (c .before .before .before .enum-told .given .1)) (c .before .count-node .ensures .0) (c .add-capped .ensures .0) (c .before .before .before .before .before .before .loop .inv .4), c .add-capped .ensures .1)
+count-children-returns t c = (walk-last (λ j. treeAt (c .before .before .before .before .before .before .before .before .before .args .level) (c .before .before .before .before .before .before .before .before .before .args .store .now) j) (passing (c .before .before .before .before .before .before .before .before .before .args .store .now) (c .before .before .before .before .before .before .before .before .before .args .trail)) (pathIn (c .before .before .before .before .before .before .before .before .before .args .prefix)) (c .before .before .before .before .before .before .before .before .before .args .hi .now) (c .before .before .before .before .before .before .loop .num) (part (c .before .before .before .before .before .before .before .before .before .args .store .now) (c .before .before .before .before .before .before .loop .low)) _ (c .before .before .before .before .before .before .loop .total) (c .before .count-node .result) _ _ (pends-end _ _ _ _ (c .before .before .before .before .before .read-child .ensures) (c .before .before .before .enum-told .given .1)) (c .before .count-node .ensures .0) (c .capped-sum .ensures .0) (c .before .before .before .before .before .before .loop .inv .4), c .capped-sum .ensures .1)
 
 -- src/lib.rt:292:55
 count-children-sub-count-node-2 : (t : ℕ) → count-children-lts.Need-sub-count-node-2 (
@@ -238,8 +239,8 @@ count-children-sub-count-node-2 : (t : ℕ) → count-children-lts.Need-sub-coun
   read-child-reads.Learnt,
   count-node-below t,
   count-node.Post,
-  add-capped-reads.Asked,
-  add-capped-reads.Learnt,
+  capped-sum-reads.Asked,
+  capped-sum-reads.Learnt,
 ) (count-children-at t) count-children.Post count-children-Inv-loop count-children-μ-loop
 count-children-sub-count-node-2 t c = let w = c .before .before .before .before .loop .inv .1 in omega arith
 
@@ -249,8 +250,8 @@ count-children-part-count-node-start-2 : (t : ℕ) → count-children-lts.Need-p
   read-child-reads.Learnt,
   count-node-below t,
   count-node.Post,
-  add-capped-reads.Asked,
-  add-capped-reads.Learnt,
+  capped-sum-reads.Asked,
+  capped-sum-reads.Learnt,
 ) (count-children-at t) count-children.Post count-children-Inv-loop count-children-μ-loop
 count-children-part-count-node-start-2 t c = let w = c .before .before .before .before .loop .inv .1 in omega arith
 
@@ -260,8 +261,8 @@ count-children-part-count-node-end-2 : (t : ℕ) → count-children-lts.Need-par
   read-child-reads.Learnt,
   count-node-below t,
   count-node.Post,
-  add-capped-reads.Asked,
-  add-capped-reads.Learnt,
+  capped-sum-reads.Asked,
+  capped-sum-reads.Learnt,
 ) (count-children-at t) count-children.Post count-children-Inv-loop count-children-μ-loop
 count-children-part-count-node-end-2 t c = let w = c .before .before .before .before .loop .inv .1 in omega arith
 
@@ -271,8 +272,8 @@ count-children-sub-count-node-3 : (t : ℕ) → count-children-lts.Need-sub-coun
   read-child-reads.Learnt,
   count-node-below t,
   count-node.Post,
-  add-capped-reads.Asked,
-  add-capped-reads.Learnt,
+  capped-sum-reads.Asked,
+  capped-sum-reads.Learnt,
 ) (count-children-at t) count-children.Post count-children-Inv-loop count-children-μ-loop
 count-children-sub-count-node-3 t c = let n = kid-next t (c .before) in let w = n .place in omega arith
 
@@ -282,8 +283,8 @@ count-children-part-count-node-start-3 : (t : ℕ) → count-children-lts.Need-p
   read-child-reads.Learnt,
   count-node-below t,
   count-node.Post,
-  add-capped-reads.Asked,
-  add-capped-reads.Learnt,
+  capped-sum-reads.Asked,
+  capped-sum-reads.Learnt,
 ) (count-children-at t) count-children.Post count-children-Inv-loop count-children-μ-loop
 count-children-part-count-node-start-3 t c = let n = kid-next t (c .before) in let w = n .place in omega arith
 
@@ -293,8 +294,8 @@ count-children-part-count-node-end-3 : (t : ℕ) → count-children-lts.Need-par
   read-child-reads.Learnt,
   count-node-below t,
   count-node.Post,
-  add-capped-reads.Asked,
-  add-capped-reads.Learnt,
+  capped-sum-reads.Asked,
+  capped-sum-reads.Learnt,
 ) (count-children-at t) count-children.Post count-children-Inv-loop count-children-μ-loop
 count-children-part-count-node-end-3 t c = let n = kid-next t (c .before) in let w = n .place in omega arith
 
@@ -304,21 +305,21 @@ count-children-count-node-requires-2 : (t : ℕ) → count-children-lts.Need-cou
   read-child-reads.Learnt,
   count-node-below t,
   count-node.Post,
-  add-capped-reads.Asked,
-  add-capped-reads.Learnt,
+  capped-sum-reads.Asked,
+  capped-sum-reads.Learnt,
 ) (count-children-at t) count-children.Post count-children-Inv-loop count-children-μ-loop
 count-children-count-node-requires-2 t c κs = (omega arith, child-ready (c .before .before .before .before .before .before .before .before .before .args .store .now) (c .before .before .before .before .before .before .before .before .before .args .level) (c .before .before .before .before .before .before .loop .num) (part (c .before .before .before .before .before .before .before .before .before .args .store .now) (c .before .before .before .before .before .before .loop .low)) (kidsE (listed (c .before .before .before .before .before .before .before .before .before .args .store .now) (c .before .before .before .before .before .before .loop .c .at) (c .before .before .before .before .before .before .loop .c .end))) (c .before .before .before .before .before .before .before .before .before .args .prefix) (c .before .before .before .before .before .before .before .before .before .args .trail) (c .before .before .before .before .before .before .loop .inv .3) ((c .before .before .before .before .before .before .before .before .before .pre .1) .room) ((c .before .before .before .before .before .before .before .before .before .pre .1) .trail) ((c .before .before .before .before .before .before .before .before .before .pre .1) .deep))
 
 -- src/lib.rt:293:9
-count-children-add-capped-requires-2 : (t : ℕ) → count-children-lts.Need-add-capped-requires-2 (
+count-children-capped-sum-requires-2 : (t : ℕ) → count-children-lts.Need-capped-sum-requires-2 (
   read-child-reads.Asked,
   read-child-reads.Learnt,
   count-node-below t,
   count-node.Post,
-  add-capped-reads.Asked,
-  add-capped-reads.Learnt,
+  capped-sum-reads.Asked,
+  capped-sum-reads.Learnt,
 ) (count-children-at t) count-children.Post count-children-Inv-loop count-children-μ-loop
-count-children-add-capped-requires-2 t c κs = (omega arith, c .count-node2 .ensures .1)
+count-children-capped-sum-requires-2 t c κs = search needs
 
 -- src/lib.rt:283:5
 count-children-loop-less : (t : ℕ) → count-children-lts.Need-loop-less (
@@ -326,8 +327,8 @@ count-children-loop-less : (t : ℕ) → count-children-lts.Need-loop-less (
   read-child-reads.Learnt,
   count-node-below t,
   count-node.Post,
-  add-capped-reads.Asked,
-  add-capped-reads.Learnt,
+  capped-sum-reads.Asked,
+  capped-sum-reads.Learnt,
 ) (count-children-at t) count-children.Post count-children-Inv-loop count-children-μ-loop
 count-children-loop-less t c = let n = kid-next t (c .before .before .before .before) in omega arith
 
@@ -337,16 +338,16 @@ count-children-loop-again : (t : ℕ) → count-children-lts.Need-loop-again (
   read-child-reads.Learnt,
   count-node-below t,
   count-node.Post,
-  add-capped-reads.Asked,
-  add-capped-reads.Learnt,
+  capped-sum-reads.Asked,
+  capped-sum-reads.Learnt,
 ) (count-children-at t) count-children.Post count-children-Inv-loop count-children-μ-loop
 count-children-loop-again t c =
     let n = kid-next t (c .before .before .before .before) in (
       omega arith,
       n .place,
-      c .add-capped2 .ensures .1,
+      c .capped-sum2 .ensures .1,
       later-usable (nodesOf (length (c .before .before .before .before .before .before .before .before .before .before .before .args .store .now))) (λ j. treeAt (c .before .before .before .before .before .before .before .before .before .before .before .args .level) (c .before .before .before .before .before .before .before .before .before .before .before .args .store .now) j) (kid (c .before .before .before .before .before .before .before .before .loop .num) (part (c .before .before .before .before .before .before .before .before .before .before .before .args .store .now) (c .before .before .before .before .before .before .before .before .loop .low))) _ _ (n .lists) (c .before .before .before .before .before .before .before .before .loop .inv .3),
-      walk-on (λ j. treeAt (c .before .before .before .before .before .before .before .before .before .before .before .args .level) (c .before .before .before .before .before .before .before .before .before .before .before .args .store .now) j) (passing (c .before .before .before .before .before .before .before .before .before .before .before .args .store .now) (c .before .before .before .before .before .before .before .before .before .before .before .args .trail)) (pathIn (c .before .before .before .before .before .before .before .before .before .before .before .args .prefix)) (c .before .before .before .before .before .before .before .before .before .before .before .args .hi .now) (c .before .before .before .before .before .before .before .before .loop .num) (part (c .before .before .before .before .before .before .before .before .before .before .before .args .store .now) (c .before .before .before .before .before .before .before .before .loop .low)) (c .before .before .before .before .before .k .given .0 .0) (part (c .before .before .before .before .before .before .before .before .before .before .before .args .store .now) (c .before .before .before .before .before .k .given .0 .1 .0)) _ (kidsE (listed (c .before .before .before .before .before .before .before .before .before .before .before .args .store .now) ((c .before .before .before .before .before .k .given .0 .1 .1 .0) .at) ((c .before .before .before .before .before .k .given .0 .1 .1 .0) .end))) (c .before .before .before .before .before .before .before .before .loop .total) (c .before .count-node2 .result) _ _ (n .lists) (c .before .count-node2 .ensures .0) (c .add-capped2 .ensures .0) (c .before .before .before .before .before .before .before .before .loop .inv .4),
+      walk-on (λ j. treeAt (c .before .before .before .before .before .before .before .before .before .before .before .args .level) (c .before .before .before .before .before .before .before .before .before .before .before .args .store .now) j) (passing (c .before .before .before .before .before .before .before .before .before .before .before .args .store .now) (c .before .before .before .before .before .before .before .before .before .before .before .args .trail)) (pathIn (c .before .before .before .before .before .before .before .before .before .before .before .args .prefix)) (c .before .before .before .before .before .before .before .before .before .before .before .args .hi .now) (c .before .before .before .before .before .before .before .before .loop .num) (part (c .before .before .before .before .before .before .before .before .before .before .before .args .store .now) (c .before .before .before .before .before .before .before .before .loop .low)) (c .before .before .before .before .before .k .given .0 .0) (part (c .before .before .before .before .before .before .before .before .before .before .before .args .store .now) (c .before .before .before .before .before .k .given .0 .1 .0)) _ (kidsE (listed (c .before .before .before .before .before .before .before .before .before .before .before .args .store .now) ((c .before .before .before .before .before .k .given .0 .1 .1 .0) .at) ((c .before .before .before .before .before .k .given .0 .1 .1 .0) .end))) (c .before .before .before .before .before .before .before .before .loop .total) (c .before .count-node2 .result) _ _ (n .lists) (c .before .count-node2 .ensures .0) (c .capped-sum2 .ensures .0) (c .before .before .before .before .before .before .before .before .loop .inv .4),
     )
 
 -- src/lib.rt:251:9
@@ -365,8 +366,8 @@ count-node-common-length-requires : (t : ℕ) → count-node-lts.Need-common-len
   lengthen-trail-reads.Learnt,
   count-children-below t,
   count-children.Post,
-  add-capped-reads.Asked,
-  add-capped-reads.Learnt,
+  capped-sum-reads.Asked,
+  capped-sum-reads.Learnt,
 ) (count-node-at t) count-node.Post
 count-node-common-length-requires t c κs = search needs
 
@@ -386,8 +387,8 @@ count-node-sub-room : (t : ℕ) → count-node-lts.Need-sub-room (
   lengthen-trail-reads.Learnt,
   count-children-below t,
   count-children.Post,
-  add-capped-reads.Asked,
-  add-capped-reads.Learnt,
+  capped-sum-reads.Asked,
+  capped-sum-reads.Learnt,
 ) (count-node-at t) count-node.Post
 count-node-sub-room t c = let r = (c .before .before .before .before .before .pre .1) .room in omega arith
 
@@ -407,8 +408,8 @@ count-node-returns : (t : ℕ) → count-node-lts.Need-returns (
   lengthen-trail-reads.Learnt,
   count-children-below t,
   count-children.Post,
-  add-capped-reads.Asked,
-  add-capped-reads.Learnt,
+  capped-sum-reads.Asked,
+  capped-sum-reads.Learnt,
 ) (count-node-at t) count-node.Post
 count-node-returns t c = let p : length ((c .before .before .before .before .before .before .args .prefix) .bytes) ≡ 64 = search needs in let r = (c .before .before .before .before .before .before .pre .1) .room in (node-long (c .before .before .before .before .before .before .args .store .now) (c .before .before .before .before .before .before .args .level) (c .before .before .before .before .before .before .args .num) (c .before .before .before .before .before .before .args .prefix) (c .before .before .before .before .before .before .args .trail) (c .before .before .before .before .before .before .pre .1) (c .before .before .before .before .before .before .args .lo .now) (c .before .before .before .before .before .before .args .hi .now) (c .before .before .common-length .result) (c .before .before .common-length .ensures .0) (omega arith) (omega arith), omega arith)
 
@@ -428,8 +429,8 @@ count-node-sub-extend : (t : ℕ) → count-node-lts.Need-sub-extend (
   lengthen-trail-reads.Learnt,
   count-children-below t,
   count-children.Post,
-  add-capped-reads.Asked,
-  add-capped-reads.Learnt,
+  capped-sum-reads.Asked,
+  capped-sum-reads.Learnt,
 ) (count-node-at t) count-node.Post
 count-node-sub-extend t c = search needs
 
@@ -449,8 +450,8 @@ count-node-part-extend-start : (t : ℕ) → count-node-lts.Need-part-extend-sta
   lengthen-trail-reads.Learnt,
   count-children-below t,
   count-children.Post,
-  add-capped-reads.Asked,
-  add-capped-reads.Learnt,
+  capped-sum-reads.Asked,
+  capped-sum-reads.Learnt,
 ) (count-node-at t) count-node.Post
 count-node-part-extend-start t c = search needs
 
@@ -470,8 +471,8 @@ count-node-part-extend-end : (t : ℕ) → count-node-lts.Need-part-extend-end (
   lengthen-trail-reads.Learnt,
   count-children-below t,
   count-children.Post,
-  add-capped-reads.Asked,
-  add-capped-reads.Learnt,
+  capped-sum-reads.Asked,
+  capped-sum-reads.Learnt,
 ) (count-node-at t) count-node.Post
 count-node-part-extend-end t c = search needs
 
@@ -491,8 +492,8 @@ count-node-extend-requires : (t : ℕ) → count-node-lts.Need-extend-requires (
   lengthen-trail-reads.Learnt,
   count-children-below t,
   count-children.Post,
-  add-capped-reads.Asked,
-  add-capped-reads.Learnt,
+  capped-sum-reads.Asked,
+  capped-sum-reads.Learnt,
 ) (count-node-at t) count-node.Post
 count-node-extend-requires t c κs = let l : length (take ((c .before .before .before .common-length .result) - 0) (c .before .before .before .before .before .before .before .args .lo .now)) ≡ (c .before .before .before .common-length .result) - 0 = length-take-le ((c .before .before .before .common-length .result) - 0) (c .before .before .before .before .before .before .before .args .lo .now) (omega arith) in let r = (c .before .before .before .before .before .before .before .pre .1) .room in omega arith
 
@@ -512,8 +513,8 @@ count-node-mul-at : (t : ℕ) → count-node-lts.Need-mul-at (
   lengthen-trail-reads.Learnt,
   count-children-below t,
   count-children.Post,
-  add-capped-reads.Asked,
-  add-capped-reads.Learnt,
+  capped-sum-reads.Asked,
+  capped-sum-reads.Learnt,
 ) (count-node-at t) count-node.Post
 count-node-mul-at t c = let w = node-inside (c .before .before .before .before .before .before .before .before .args .store .now) (c .before .before .before .before .before .before .before .before .args .num) (c .before .before .before .before .before .before .before .before .args .level) ((c .before .before .before .before .before .before .before .before .pre .1) .reads) in omega arith
 
@@ -533,8 +534,8 @@ count-node-u16-at-requires : (t : ℕ) → count-node-lts.Need-u16-at-requires (
   lengthen-trail-reads.Learnt,
   count-children-below t,
   count-children.Post,
-  add-capped-reads.Asked,
-  add-capped-reads.Learnt,
+  capped-sum-reads.Asked,
+  capped-sum-reads.Learnt,
 ) (count-node-at t) count-node.Post
 count-node-u16-at-requires t c κs = let w = node-inside (c .before .before .before .before .before .before .before .before .args .store .now) (c .before .before .before .before .before .before .before .before .args .num) (c .before .before .before .before .before .before .before .before .args .level) ((c .before .before .before .before .before .before .before .before .pre .1) .reads) in omega arith
 
@@ -554,8 +555,8 @@ count-node-add-from : (t : ℕ) → count-node-lts.Need-add-from (
   lengthen-trail-reads.Learnt,
   count-children-below t,
   count-children.Post,
-  add-capped-reads.Asked,
-  add-capped-reads.Learnt,
+  capped-sum-reads.Asked,
+  capped-sum-reads.Learnt,
 ) (count-node-at t) count-node.Post
 count-node-add-from t c = let w = node-inside (c .before .before .before .before .before .before .before .before .before .args .store .now) (c .before .before .before .before .before .before .before .before .before .args .num) (c .before .before .before .before .before .before .before .before .before .args .level) ((c .before .before .before .before .before .before .before .before .before .pre .1) .reads) in omega arith
 
@@ -575,8 +576,8 @@ count-node-add-end : (t : ℕ) → count-node-lts.Need-add-end (
   lengthen-trail-reads.Learnt,
   count-children-below t,
   count-children.Post,
-  add-capped-reads.Asked,
-  add-capped-reads.Learnt,
+  capped-sum-reads.Asked,
+  capped-sum-reads.Learnt,
 ) (count-node-at t) count-node.Post
 count-node-add-end t c = let w = node-inside (c .before .before .before .before .before .before .before .before .before .args .store .now) (c .before .before .before .before .before .before .before .before .before .args .num) (c .before .before .before .before .before .before .before .before .before .args .level) ((c .before .before .before .before .before .before .before .before .before .pre .1) .reads) in omega arith
 
@@ -596,8 +597,8 @@ count-node-count-entries-requires : (t : ℕ) → count-node-lts.Need-count-entr
   lengthen-trail-reads.Learnt,
   count-children-below t,
   count-children.Post,
-  add-capped-reads.Asked,
-  add-capped-reads.Learnt,
+  capped-sum-reads.Asked,
+  capped-sum-reads.Learnt,
 ) (count-node-at t) count-node.Post
 count-node-count-entries-requires t c κs = let w = node-inside (c .before .before .before .before .before .before .before .before .before .args .store .now) (c .before .before .before .before .before .before .before .before .before .args .num) (c .before .before .before .before .before .before .before .before .before .args .level) ((c .before .before .before .before .before .before .before .before .before .pre .1) .reads) in let l : length (take ((c .before .before .before .before .before .common-length .result) - 0) (c .before .before .before .before .before .before .before .before .before .args .lo .now)) ≡ (c .before .before .before .before .before .common-length .result) - 0 = length-take-le ((c .before .before .before .before .before .common-length .result) - 0) (c .before .before .before .before .before .before .before .before .before .args .lo .now) (omega arith) in let r = (c .before .before .before .before .before .before .before .before .before .pre .1) .room in (omega arith, omega arith, omega arith, trail-wider (c .before .before .before .before .before .before .before .before .before .args .store .now) ((c .before .before .before .before .before .before .before .before .before .args .prefix) .len) ((c .before .extend .result) .len) (c .before .before .before .before .before .before .before .before .before .args .trail) (omega arith) ((c .before .before .before .before .before .before .before .before .before .pre .1) .trail))
 
@@ -617,8 +618,8 @@ count-node-returns-2 : (t : ℕ) → count-node-lts.Need-returns-2 (
   lengthen-trail-reads.Learnt,
   count-children-below t,
   count-children.Post,
-  add-capped-reads.Asked,
-  add-capped-reads.Learnt,
+  capped-sum-reads.Asked,
+  capped-sum-reads.Learnt,
 ) (count-node-at t) count-node.Post
 count-node-returns-2 t c = let w = node-inside (c .before .before .before .before .before .before .before .before .before .before .before .args .store .now) (c .before .before .before .before .before .before .before .before .before .before .before .args .num) (c .before .before .before .before .before .before .before .before .before .before .before .args .level) ((c .before .before .before .before .before .before .before .before .before .before .before .pre .1) .reads) in (node-leaf (c .before .before .before .before .before .before .before .before .before .before .before .args .store .now) (c .before .before .before .before .before .before .before .before .before .before .before .args .level) (c .before .before .before .before .before .before .before .before .before .before .before .args .num) (c .before .before .before .before .before .before .before .before .before .before .before .args .prefix) (c .before .before .before .before .before .before .before .before .before .before .before .args .trail) (c .before .before .before .before .before .before .before .before .before .before .before .pre .1) (c .before .before .before .before .before .before .before .before .before .before .before .args .lo .now) (c .before .before .before .before .before .before .before .before .before .before .before .args .hi .now) (c .before .before .before .before .before .before .before .common-length .result) (c .before .before .before .before .before .before .before .common-length .ensures .0) (c .before .before .before .extend .result) (c .before .before .before .extend .ensures .0) (c .before .before .u16-at .result) (c .before .count-entries .result) (c .before .before .u16-at .ensures .0) (c .before .count-entries .ensures .0) (omega arith) (omega arith), omega arith)
 
@@ -638,8 +639,8 @@ count-node-read-child-requires : (t : ℕ) → count-node-lts.Need-read-child-re
   lengthen-trail-reads.Learnt,
   count-children-below t,
   count-children.Post,
-  add-capped-reads.Asked,
-  add-capped-reads.Learnt,
+  capped-sum-reads.Asked,
+  capped-sum-reads.Learnt,
 ) (count-node-at t) count-node.Post
 count-node-read-child-requires t c κs = let w = node-inside (c .before .before .before .before .before .before .before .before .before .before .before .args .store .now) (c .before .before .before .before .before .before .before .before .before .before .before .args .num) (c .before .before .before .before .before .before .before .before .before .before .before .args .level) ((c .before .before .before .before .before .before .before .before .before .before .before .pre .1) .reads) in omega arith
 
@@ -659,8 +660,8 @@ count-node-enum-known-first : (t : ℕ) → count-node-lts.Need-enum-known-first
   lengthen-trail-reads.Learnt,
   count-children-below t,
   count-children.Post,
-  add-capped-reads.Asked,
-  add-capped-reads.Learnt,
+  capped-sum-reads.Asked,
+  capped-sum-reads.Learnt,
 ) (count-node-at t) count-node.Post
 count-node-enum-known-first t c = search needs
 
@@ -680,8 +681,8 @@ count-node-enum-told : (t : ℕ) → count-node-lts.Need-enum-told (
   lengthen-trail-reads.Learnt,
   count-children-below t,
   count-children.Post,
-  add-capped-reads.Asked,
-  add-capped-reads.Learnt,
+  capped-sum-reads.Asked,
+  capped-sum-reads.Learnt,
 ) (count-node-at t) count-node.Post
 count-node-enum-told t c = search needs
 
@@ -701,8 +702,8 @@ count-node-returns-3 : (t : ℕ) → count-node-lts.Need-returns-3 (
   lengthen-trail-reads.Learnt,
   count-children-below t,
   count-children.Post,
-  add-capped-reads.Asked,
-  add-capped-reads.Learnt,
+  capped-sum-reads.Asked,
+  capped-sum-reads.Learnt,
 ) (count-node-at t) count-node.Post
 count-node-returns-3 t c = let w = node-inside (c .before .before .before .before .before .before .before .before .before .before .before .before .before .before .args .store .now) (c .before .before .before .before .before .before .before .before .before .before .before .before .before .before .args .num) (c .before .before .before .before .before .before .before .before .before .before .before .before .before .before .args .level) ((c .before .before .before .before .before .before .before .before .before .before .before .before .before .before .pre .1) .reads) in (node-bare (c .before .before .before .before .before .before .before .before .before .before .before .before .before .before .args .store .now) (c .before .before .before .before .before .before .before .before .before .before .before .before .before .before .args .level) (c .before .before .before .before .before .before .before .before .before .before .before .before .before .before .args .num) (c .before .before .before .before .before .before .before .before .before .before .before .before .before .before .args .prefix) (c .before .before .before .before .before .before .before .before .before .before .before .before .before .before .args .trail) (c .before .before .before .before .before .before .before .before .before .before .before .before .before .before .pre .1) (c .before .before .before .before .before .before .before .before .before .before .before .before .before .before .args .lo .now) (c .before .before .before .before .before .before .before .before .before .before .before .before .before .before .args .hi .now) (c .before .before .before .before .before .before .before .before .before .before .common-length .result) (c .before .before .before .before .before .before .before .before .before .before .common-length .ensures .0) (c .before .before .before .before .before .before .extend .result) (c .before .before .before .before .before .before .extend .ensures .0) (c .before .before .before .before .before .u16-at .result) (c .before .before .before .before .count-entries .result) (c .before .before .before .before .before .u16-at .ensures .0) (c .before .before .before .before .count-entries .ensures .0) (omega arith) (omega arith) (pends-end _ _ _ _ (c .before .before .read-child .ensures) (c .enum-told .given .1)), omega arith)
 
@@ -722,8 +723,8 @@ count-node-lengthen-trail-requires : (t : ℕ) → count-node-lts.Need-lengthen-
   lengthen-trail-reads.Learnt,
   count-children-below t,
   count-children.Post,
-  add-capped-reads.Asked,
-  add-capped-reads.Learnt,
+  capped-sum-reads.Asked,
+  capped-sum-reads.Learnt,
 ) (count-node-at t) count-node.Post
 count-node-lengthen-trail-requires t c κs = let l : length (take ((c .before .before .before .before .before .before .before .before .before .before .before .common-length .result) - 0) (c .before .before .before .before .before .before .before .before .before .before .before .before .before .before .before .args .lo .now)) ≡ (c .before .before .before .before .before .before .before .before .before .before .before .common-length .result) - 0 = length-take-le ((c .before .before .before .before .before .before .before .before .before .before .before .common-length .result) - 0) (c .before .before .before .before .before .before .before .before .before .before .before .before .before .before .before .args .lo .now) (omega arith) in let d = (c .before .before .before .before .before .before .before .before .before .before .before .before .before .before .before .pre .1) .deep in (omega arith, trail-wider (c .before .before .before .before .before .before .before .before .before .before .before .before .before .before .before .args .store .now) ((c .before .before .before .before .before .before .before .before .before .before .before .before .before .before .before .args .prefix) .len) ((c .before .before .before .before .before .before .before .extend .result) .len) (c .before .before .before .before .before .before .before .before .before .before .before .before .before .before .before .args .trail) (omega arith) ((c .before .before .before .before .before .before .before .before .before .before .before .before .before .before .before .pre .1) .trail), node-above (c .before .before .before .before .before .before .before .before .before .before .before .before .before .before .before .args .store .now) (c .before .before .before .before .before .before .before .before .before .before .before .before .before .before .before .args .level) (c .before .before .before .before .before .before .before .before .before .before .before .before .before .before .before .args .num) ((c .before .before .before .before .before .before .before .extend .result) .len) ((c .before .before .before .before .before .before .before .before .before .before .before .before .before .before .before .pre .1) .reads))
 
@@ -743,8 +744,8 @@ count-node-sub-count-children : (t : ℕ) → count-node-lts.Need-sub-count-chil
   lengthen-trail-reads.Learnt,
   count-children-below t,
   count-children.Post,
-  add-capped-reads.Asked,
-  add-capped-reads.Learnt,
+  capped-sum-reads.Asked,
+  capped-sum-reads.Learnt,
 ) (count-node-at t) count-node.Post
 count-node-sub-count-children t c = search needs
 
@@ -764,8 +765,8 @@ count-node-sub-count-children-2 : (t : ℕ) → count-node-lts.Need-sub-count-ch
   lengthen-trail-reads.Learnt,
   count-children-below t,
   count-children.Post,
-  add-capped-reads.Asked,
-  add-capped-reads.Learnt,
+  capped-sum-reads.Asked,
+  capped-sum-reads.Learnt,
 ) (count-node-at t) count-node.Post
 count-node-sub-count-children-2 t c = search needs
 
@@ -785,8 +786,8 @@ count-node-part-count-children-start : (t : ℕ) → count-node-lts.Need-part-co
   lengthen-trail-reads.Learnt,
   count-children-below t,
   count-children.Post,
-  add-capped-reads.Asked,
-  add-capped-reads.Learnt,
+  capped-sum-reads.Asked,
+  capped-sum-reads.Learnt,
 ) (count-node-at t) count-node.Post
 count-node-part-count-children-start t c = search needs
 
@@ -806,8 +807,8 @@ count-node-part-count-children-end : (t : ℕ) → count-node-lts.Need-part-coun
   lengthen-trail-reads.Learnt,
   count-children-below t,
   count-children.Post,
-  add-capped-reads.Asked,
-  add-capped-reads.Learnt,
+  capped-sum-reads.Asked,
+  capped-sum-reads.Learnt,
 ) (count-node-at t) count-node.Post
 count-node-part-count-children-end t c = search needs
 
@@ -827,15 +828,15 @@ count-node-count-children-requires : (t : ℕ) → count-node-lts.Need-count-chi
   lengthen-trail-reads.Learnt,
   count-children-below t,
   count-children.Post,
-  add-capped-reads.Asked,
-  add-capped-reads.Learnt,
+  capped-sum-reads.Asked,
+  capped-sum-reads.Learnt,
 ) (count-node-at t) count-node.Post
 count-node-count-children-requires t c κs =
     let q = c .before .before .before .before .before .before .before .before .before .before .before .before .before .before .before .before .before .pre .0 in let m = c .before .before .before .before .before .before .before .before .before .before .before .before .before .common-length .ensures .1 in let g = c .before .before .before .before .before .before .before .before .before .before .before .if1 .left in let x = c .before .before .before .before .before .before .before .before .before .extend .ensures .1 in let v = c .before .before .before .before .before .before .if2 .left in let w = node-inside (c .before .before .before .before .before .before .before .before .before .before .before .before .before .before .before .before .before .args .store .now) (c .before .before .before .before .before .before .before .before .before .before .before .before .before .before .before .before .before .args .num) (c .before .before .before .before .before .before .before .before .before .before .before .before .before .before .before .before .before .args .level) ((c .before .before .before .before .before .before .before .before .before .before .before .before .before .before .before .before .before .pre .1) .reads) in let l : length (take ((c .before .before .before .before .before .before .before .before .before .before .before .before .before .common-length .result) - 0) (c .before .before .before .before .before .before .before .before .before .before .before .before .before .before .before .before .before .args .lo .now)) ≡ (c .before .before .before .before .before .before .before .before .before .before .before .before .before .common-length .result) - 0 = length-take-le ((c .before .before .before .before .before .before .before .before .before .before .before .before .before .common-length .result) - 0) (c .before .before .before .before .before .before .before .before .before .before .before .before .before .before .before .before .before .args .lo .now) (omega arith) in let r = (c .before .before .before .before .before .before .before .before .before .before .before .before .before .before .before .before .before .pre .1) .room in let n = first-next t (c .before .before) in
     (omega arith, kids-ready (c .before .before .before .before .before .before .before .before .before .before .before .before .before .before .before .before .before .args .store .now) (c .before .before .before .before .before .before .before .before .before .before .before .before .before .before .before .before .before .args .level) (c .before .before .before .before .before .before .before .before .before .before .before .before .before .before .before .before .before .args .num) (c .before .before .before .before .before .before .before .before .before .before .before .before .before .before .before .before .before .args .prefix) (c .before .before .before .before .before .before .before .before .before .before .before .before .before .before .before .before .before .args .trail) (c .before .before .before .before .before .before .before .before .before .before .before .before .before .before .before .before .before .pre .1) (c .before .before .before .before .before .before .before .before .before .before .before .before .before .before .before .before .before .args .lo .now) (c .before .before .before .before .before .before .before .before .before .before .before .before .before .before .before .before .before .args .hi .now) (c .before .before .before .before .before .before .before .before .before .before .before .before .before .common-length .result) (c .before .before .before .before .before .before .before .before .before .before .before .before .before .common-length .ensures .0) (c .before .before .before .before .before .before .before .before .before .extend .result) (c .before .before .before .before .before .before .before .before .before .extend .ensures .0) (c .before .before .before .before .before .before .before .before .u16-at .result) (c .before .before .before .before .before .before .before .count-entries .result) (c .before .before .before .before .before .before .before .before .u16-at .ensures .0) (c .before .before .before .before .before .before .before .count-entries .ensures .0) (omega arith) (c .before .before .before .first .given .0 .0) (c .before .before .before .first .given .0 .1 .0) (c .before .before .before .first .given .0 .1 .1 .0) (first-next t (c .before .before)) (c .before .lengthen-trail .result) (c .before .lengthen-trail .ensures) (omega arith) (omega arith))
 
 -- src/lib.rt:271:5
-count-node-add-capped-requires : (t : ℕ) → count-node-lts.Need-add-capped-requires (
+count-node-capped-sum-requires : (t : ℕ) → count-node-lts.Need-capped-sum-requires (
   common-length-reads.Asked,
   common-length-reads.Learnt,
   extend-reads.Asked,
@@ -850,10 +851,10 @@ count-node-add-capped-requires : (t : ℕ) → count-node-lts.Need-add-capped-re
   lengthen-trail-reads.Learnt,
   count-children-below t,
   count-children.Post,
-  add-capped-reads.Asked,
-  add-capped-reads.Learnt,
+  capped-sum-reads.Asked,
+  capped-sum-reads.Learnt,
 ) (count-node-at t) count-node.Post
-count-node-add-capped-requires t c κs = let w = node-inside (c .before .before .before .before .before .before .before .before .before .before .before .before .before .before .before .before .before .before .args .store .now) (c .before .before .before .before .before .before .before .before .before .before .before .before .before .before .before .before .before .before .args .num) (c .before .before .before .before .before .before .before .before .before .before .before .before .before .before .before .before .before .before .args .level) ((c .before .before .before .before .before .before .before .before .before .before .before .before .before .before .before .before .before .before .pre .1) .reads) in (omega arith, c .count-children .ensures .1)
+count-node-capped-sum-requires t c κs = search needs
 
 -- src/lib.rt:247:1
 count-node-returns-4 : (t : ℕ) → count-node-lts.Need-returns-4 (
@@ -871,13 +872,13 @@ count-node-returns-4 : (t : ℕ) → count-node-lts.Need-returns-4 (
   lengthen-trail-reads.Learnt,
   count-children-below t,
   count-children.Post,
-  add-capped-reads.Asked,
-  add-capped-reads.Learnt,
+  capped-sum-reads.Asked,
+  capped-sum-reads.Learnt,
 ) (count-node-at t) count-node.Post
 count-node-returns-4 t c =
     let q = c .before .before .before .before .before .before .before .before .before .before .before .before .before .before .before .before .before .before .before .pre .0 in let m = c .before .before .before .before .before .before .before .before .before .before .before .before .before .before .before .common-length .ensures .1 in let g = c .before .before .before .before .before .before .before .before .before .before .before .before .before .if1 .left in let x = c .before .before .before .before .before .before .before .before .before .before .before .extend .ensures .1 in let v = c .before .before .before .before .before .before .before .before .if2 .left in let l : length (take ((c .before .before .before .before .before .before .before .before .before .before .before .before .before .before .before .common-length .result) - 0) (c .before .before .before .before .before .before .before .before .before .before .before .before .before .before .before .before .before .before .before .args .lo .now)) ≡ (c .before .before .before .before .before .before .before .before .before .before .before .before .before .before .before .common-length .result) - 0 = length-take-le ((c .before .before .before .before .before .before .before .before .before .before .before .before .before .before .before .common-length .result) - 0) (c .before .before .before .before .before .before .before .before .before .before .before .before .before .before .before .before .before .before .before .args .lo .now) (omega arith) in let r = (c .before .before .before .before .before .before .before .before .before .before .before .before .before .before .before .before .before .before .before .pre .1) .room in
     let h = here-length t (c .before .before .before .before .before .before .before .before .before .before .before) in
-    (node-inner (c .before .before .before .before .before .before .before .before .before .before .before .before .before .before .before .before .before .before .before .args .store .now) (c .before .before .before .before .before .before .before .before .before .before .before .before .before .before .before .before .before .before .before .args .level) (c .before .before .before .before .before .before .before .before .before .before .before .before .before .before .before .before .before .before .before .args .num) (c .before .before .before .before .before .before .before .before .before .before .before .before .before .before .before .before .before .before .before .args .prefix) (c .before .before .before .before .before .before .before .before .before .before .before .before .before .before .before .before .before .before .before .args .trail) (c .before .before .before .before .before .before .before .before .before .before .before .before .before .before .before .before .before .before .before .pre .1) (c .before .before .before .before .before .before .before .before .before .before .before .before .before .before .before .before .before .before .before .args .lo .now) (c .before .before .before .before .before .before .before .before .before .before .before .before .before .before .before .before .before .before .before .args .hi .now) (c .before .before .before .before .before .before .before .before .before .before .before .before .before .before .before .common-length .result) (c .before .before .before .before .before .before .before .before .before .before .before .before .before .before .before .common-length .ensures .0) (c .before .before .before .before .before .before .before .before .before .before .before .extend .result) (c .before .before .before .before .before .before .before .before .before .before .before .extend .ensures .0) (c .before .before .before .before .before .before .before .before .before .before .u16-at .result) (c .before .before .before .before .before .before .before .before .before .count-entries .result) (c .before .before .before .before .before .before .before .before .before .before .u16-at .ensures .0) (c .before .before .before .before .before .before .before .before .before .count-entries .ensures .0) (omega arith) (c .before .before .before .before .before .first .given .0 .0) (c .before .before .before .before .before .first .given .0 .1 .0) (c .before .before .before .before .before .first .given .0 .1 .1 .0) (first-next t (c .before .before .before .before)) (c .before .before .before .lengthen-trail .result) (c .before .before .before .lengthen-trail .ensures) (c .before .count-children .result) _ (omega arith) (c .before .count-children .ensures .0) (c .add-capped .ensures .0), c .add-capped .ensures .1)
+    (node-inner (c .before .before .before .before .before .before .before .before .before .before .before .before .before .before .before .before .before .before .before .args .store .now) (c .before .before .before .before .before .before .before .before .before .before .before .before .before .before .before .before .before .before .before .args .level) (c .before .before .before .before .before .before .before .before .before .before .before .before .before .before .before .before .before .before .before .args .num) (c .before .before .before .before .before .before .before .before .before .before .before .before .before .before .before .before .before .before .before .args .prefix) (c .before .before .before .before .before .before .before .before .before .before .before .before .before .before .before .before .before .before .before .args .trail) (c .before .before .before .before .before .before .before .before .before .before .before .before .before .before .before .before .before .before .before .pre .1) (c .before .before .before .before .before .before .before .before .before .before .before .before .before .before .before .before .before .before .before .args .lo .now) (c .before .before .before .before .before .before .before .before .before .before .before .before .before .before .before .before .before .before .before .args .hi .now) (c .before .before .before .before .before .before .before .before .before .before .before .before .before .before .before .common-length .result) (c .before .before .before .before .before .before .before .before .before .before .before .before .before .before .before .common-length .ensures .0) (c .before .before .before .before .before .before .before .before .before .before .before .extend .result) (c .before .before .before .before .before .before .before .before .before .before .before .extend .ensures .0) (c .before .before .before .before .before .before .before .before .before .before .u16-at .result) (c .before .before .before .before .before .before .before .before .before .count-entries .result) (c .before .before .before .before .before .before .before .before .before .before .u16-at .ensures .0) (c .before .before .before .before .before .before .before .before .before .count-entries .ensures .0) (omega arith) (c .before .before .before .before .before .first .given .0 .0) (c .before .before .before .before .before .first .given .0 .1 .0) (c .before .before .before .before .before .first .given .0 .1 .1 .0) (first-next t (c .before .before .before .before)) (c .before .before .before .lengthen-trail .result) (c .before .before .before .lengthen-trail .ensures) (c .before .count-children .result) _ (omega arith) (c .before .count-children .ensures .0) (c .capped-sum .ensures .0), c .capped-sum .ensures .1)
 
 pub +count-children+count-node-spec : {M : Type 1} → statement M
 +count-children+count-node-spec = close μ-count-children μ-count-node (λ t. count-children-lts.spec (
@@ -885,8 +886,8 @@ pub +count-children+count-node-spec : {M : Type 1} → statement M
   read-child-reads.Learnt,
   count-node-below t,
   count-node.Post,
-  add-capped-reads.Asked,
-  add-capped-reads.Learnt,
+  capped-sum-reads.Asked,
+  capped-sum-reads.Learnt,
 )
     (count-children-at t)
     count-children.Post
@@ -900,7 +901,7 @@ pub +count-children+count-node-spec : {M : Type 1} → statement M
     (count-children-part-count-node-start t)
     (count-children-part-count-node-end t)
     (count-children-count-node-requires t)
-    (count-children-add-capped-requires t)
+    (count-children-capped-sum-requires t)
     (count-children-returns t)
     (count-children-sub-count-node-2 t)
     (count-children-part-count-node-start-2 t)
@@ -909,7 +910,7 @@ pub +count-children+count-node-spec : {M : Type 1} → statement M
     (count-children-part-count-node-start-3 t)
     (count-children-part-count-node-end-3 t)
     (count-children-count-node-requires-2 t)
-    (count-children-add-capped-requires-2 t)
+    (count-children-capped-sum-requires-2 t)
     (count-children-loop-less t)
     (count-children-loop-again t))
     λ t. count-node-lts.spec (
@@ -927,8 +928,8 @@ pub +count-children+count-node-spec : {M : Type 1} → statement M
       lengthen-trail-reads.Learnt,
       count-children-below t,
       count-children.Post,
-      add-capped-reads.Asked,
-      add-capped-reads.Learnt,
+      capped-sum-reads.Asked,
+      capped-sum-reads.Learnt,
     )
     (count-node-at t)
     count-node.Post
@@ -955,5 +956,5 @@ pub +count-children+count-node-spec : {M : Type 1} → statement M
     (count-node-part-count-children-start t)
     (count-node-part-count-children-end t)
     (count-node-count-children-requires t)
-    (count-node-add-capped-requires t)
+    (count-node-capped-sum-requires t)
     (count-node-returns-4 t)

@@ -42,7 +42,7 @@ capped-sum-requires c κs = search needs
 
 -- src/lib.rt:121:13
 returns : tie.Need-returns Inv-loop μ-loop
-returns c = count-done _ _ _ _ (step-bad-is _ _ _ _ (c .before .before .before .step .ensures) (c .before .enum-told .given .1) .1) (c .before .before .before .before .before .before .loop .inv .2) (c .capped-sum .ensures)
+returns c = count-done _ _ _ _ (step-bad-is _ _ _ _ (c .before .before .before .step .ensures) (c .before .enum-told .given .1) .1) (c .before .before .before .before .before .before .loop .inv .2) (c .capped-sum .ensures .0)
 
 -- src/lib.rt:123:9
 add-n : tie.Need-add-n Inv-loop μ-loop
@@ -64,7 +64,7 @@ capped-sum-requires-2 c κs = search needs
 
 -- src/lib.rt:113:1
 returns-2 : tie.Need-returns-2 Inv-loop μ-loop
-returns-2 c = count-done _ _ _ _ (listed-end _ _ _ (omega arith)) (c .before .before .before .loop .inv .2) (c .capped-sum2 .ensures)
+returns-2 c = count-done _ _ _ _ (listed-end _ _ _ (omega arith)) (c .before .before .before .loop .inv .2) (c .capped-sum2 .ensures .0)
 
 pub count-entries-spec : {M : Type 1} → statement M
 count-entries-spec =

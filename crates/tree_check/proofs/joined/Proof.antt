@@ -15,7 +15,7 @@ capped-sum-requires-3 : tie.Need-capped-sum-requires-3
 capped-sum-requires-3 c κs = search needs
 
 returns : tie.Need-returns
-returns c = sum-is _ _ _ _ _ (c .before .before .capped-sum .ensures) (c .before .capped-sum2 .ensures) (c .capped-sum3 .ensures)
+returns c = sum-is _ _ _ _ _ (c .before .before .capped-sum .ensures .0) (c .before .capped-sum2 .ensures .0) (c .capped-sum3 .ensures .0)
 
 pub joined-spec : {M : Type 1} → statement M
 joined-spec =

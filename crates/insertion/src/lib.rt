@@ -6,7 +6,7 @@ ghost use mathlib.Core.Option.{none};
 ghost use Prim.Native.Nat.{_+_, _*_, _-_, _<_, _≤_};
 ghost use lib.ListN.{length, take, drop};
 ghost use Rattle.image.specs.Bytes.{before};
-ghost use Rattle.image.specs.Table.{Row, rising, find};
+ghost use Rattle.image.specs.Table.{rising, find};
 ghost use Rattle.octets.specs.Put.{put};
 ghost use Rattle.rows.specs.Area.{RowsFit, rowAt, rowsOf};
 ghost use Rattle.insertion.specs.Insertion.{rank, Inserted};

@@ -1,5 +1,5 @@
 -- Step lemmas of the count from the root: what the first call asks, and that its answer is the length of the table.
--- Relies on `Countable` (Walk), on live-root (LiveLaws), and on the bytes of the header (look: Root).
+-- Relies on `Countable` (Walk), on live-root (LiveLaws), and on the bytes of the header (lookup: Root).
 use Prim.Native.Nat.{ℕ, _≤_}
 use mathlib.Core.Path.{_≡_, refl, sym, ap, ap₂, _∙_}
 use mathlib.Core.List.{List, [], _++_}

@@ -1,5 +1,5 @@
 -- Step lemmas of the functions that look at one entry: what each exit of the code owes, over plain lists and numbers.
--- Relies on the definitions of Walk and on the contracts of tree and node.
+-- Relies on the definitions of Walk and on the contracts of node and search.
 use Prim.Native.Nat.{ℕ, zero, suc, _+_, _-_, _*_, _<_, _≤_}
 use mathlib.Core.Path.{_≡_, refl, sym, ap, subst, _∙_}
 use mathlib.Core.List.{List, [], _∷_, _++_}

@@ -1,5 +1,5 @@
 -- What the walk counts at a node, and over its children, is what Live defines of the tree under the node.
--- Relies on the laws that join the bytes of a node to its tree (look: Look) and on LiveLaws.
+-- Relies on the laws that join the bytes of a node to its tree (lookup: Look) and on LiveLaws.
 use Prim.Native.Nat.{ℕ, _+_, _-_, _≤_}
 use mathlib.Core.Path.{_≡_, refl, sym, ap, ap₂, _∙_}
 use mathlib.Core.List.{List, [], _∷_, _++_}

@@ -1,5 +1,5 @@
 // The number of paths present in an image that may have waiting messages, counted in one walk over its nodes: each entry that decides
-// its path counts once. Relies on the readers of nodes (node, tree) and on `usable` (rel); specs/Live says what is counted.
+// its path counts once. Relies on the readers of nodes (node, search) and on `usable` (reading); specs/Live says what is counted.
 pub mod path_buffer;
 
 use node::Cursor;
@@ -11,17 +11,16 @@ use path_buffer::PathBuffer;
 use search::Heard;
 use search::Kid;
 ghost use mathlib.Core.Path.{_≡_};
-ghost use mathlib.Core.List.{List, _++_, _∷_, []};
-ghost use mathlib.Core.Bool.{true};
-ghost use Prim.Native.Nat.{ℕ, _+_, _-_, _*_, _<_, _≤_};
+ghost use mathlib.Core.List.{List, _++_, _∷_};
+ghost use Prim.Native.Nat.{ℕ, _+_, _*_, _<_, _≤_};
 ghost use lib.ListN.{length, drop};
 ghost use Rattle.image.specs.Bytes.{shared, u16};
 ghost use Rattle.image.specs.Entry.{message};
-ghost use Rattle.image.specs.Image.{treeAt, nodesOf, forestOf};
+ghost use Rattle.image.specs.Image.{treeAt, forestOf};
 ghost use Rattle.image.specs.Sound.{tableOf};
 ghost use Rattle.octets.specs.Cap.{cap};
-ghost use Rattle.reading.specs.Relative.{usable, usableIn, lifts};
-ghost use Rattle.node.specs.Places.{Within, EntryWithin, MessageWithin, part, entryIn, messageIn};
+ghost use Rattle.reading.specs.Relative.{lifts};
+ghost use Rattle.node.specs.Places.{EntryWithin, MessageWithin, part, entryIn, messageIn};
 ghost use Rattle.node.specs.Entries.{listed};
 ghost use Rattle.search.specs.Hear.{newestE};
 ghost use Rattle.search.specs.Own.{kid, kidsE};

@@ -2,7 +2,7 @@
 // what the buffer holds: a caller sees that there is room before it extends.
 ghost use mathlib.Core.Path.{_≡_};
 ghost use mathlib.Core.List.{_++_};
-ghost use Prim.Native.Nat.{ℕ, _+_, _≤_};
+ghost use Prim.Native.Nat.{_+_, _≤_};
 ghost use lib.ListN.{length};
 ghost use Rattle.live.specs.PathBuffers.{pathIn};
 

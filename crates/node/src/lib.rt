@@ -1,8 +1,8 @@
 // The nodes of a store: how many there are, and the entries of a node, read one by one by a cursor.
 // Every reader answers places in the slice that it was lent, and promises that they lie inside it.
 ghost use mathlib.Core.Path.{_≡_};
-ghost use Prim.Native.Nat.{ℕ, _+_, _-_, _*_, _<_, _≤_};
-ghost use lib.ListN.{length, getD};
+ghost use Prim.Native.Nat.{_≤_};
+ghost use lib.ListN.{length};
 ghost use Rattle.node.specs.Places.{SplitAs, GotAs, Stepped};
 ghost use Rattle.image.specs.Image.{wholeNodes};
 

@@ -1,8 +1,8 @@
 // Strings of bytes and the numbers in them: what every other crate reads, compares and writes bytes with.
 // One loop compares, `common_length`; the tests follow from it by laws.
 ghost use mathlib.Core.Path.{_≡_};
-ghost use Prim.Native.Nat.{ℕ, _+_, _*_, _<_, _≤_};
-ghost use lib.ListN.{length, getD};
+ghost use Prim.Native.Nat.{_+_, _<_, _≤_};
+ghost use lib.ListN.{length};
 ghost use lib.ListN.{replicate};
 ghost use Rattle.image.specs.Bytes.{same, before, begins, shared, u16, u16Bytes};
 ghost use Rattle.image.specs.Path.{owns};

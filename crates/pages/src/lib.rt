@@ -1,7 +1,6 @@
 ghost use mathlib.Core.Path.{_≡_};
 ghost use Prim.Native.Nat.{_+_, _*_, _-_, _<_, _≤_};
 ghost use lib.ListN.{length};
-ghost use Rattle.image.specs.Bytes.{u16Bytes};
 ghost use Rattle.laws.specs.Encode.{bytesOf};
 ghost use Rattle.image.specs.Entry.{child};
 ghost use Rattle.image.specs.Bytes.{shared};
@@ -10,7 +9,6 @@ ghost use Rattle.rows.specs.Kids.{markAt, lowOfRow, highOfRow, nodePage};
 ghost use Rattle.laws.specs.WriteNode.{writeNode};
 ghost use Rattle.octets.specs.Put.{put};
 ghost use Rattle.pages.specs.Nodes.{nodeBytesOf};
-ghost use Rattle.pages.specs.Raise.{nodesFrom, LevelUp};
 ghost use Rattle.pages.specs.Entries.{kidBytes, endAt, startAt};
 
 // One child entry. Gives the place behind it.

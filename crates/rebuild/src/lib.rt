@@ -2,7 +2,7 @@
 // the rows over the same store. Relies on `dump` and `build`; the caller has checked that the store is sound.
 ghost use mathlib.Core.Path.{_≡_};
 ghost use mathlib.Core.Bool.{true};
-ghost use Prim.Native.Nat.{_+_, _*_, _-_, _<_, _≤_};
+ghost use Prim.Native.Nat.{_*_, _≤_};
 ghost use lib.ListN.{length, replicate};
 ghost use Rattle.image.specs.Image.{nodesOf, wholeNodes};
 ghost use Rattle.image.specs.Sound.{sound, tableOf};

@@ -4,7 +4,7 @@ ghost use lib.ListN.{length};
 ghost use Rattle.rows.specs.Area.{RowsFit, leafEnd};
 ghost use Rattle.rows.specs.Kids.{markAt, nodeEnd, weightAt};
 ghost use Rattle.rows.specs.Puts.{putMark};
-ghost use Rattle.rows.specs.Remark.{clearMarks, startWeight, Raised};
+ghost use Rattle.rows.specs.Remark.{clearMarks, startWeight};
 
 // The row before which a leaf ends: it has `used` bytes in use, and may go on at row `from`.
 pub fn leaf_end(area: &[u8], m: usize, from: usize, used: usize) -> usize

@@ -5,15 +5,14 @@ use node::Message;
 use node::Place;
 use node::Step;
 ghost use mathlib.Core.Path.{_≡_};
-ghost use mathlib.Core.Bool.{true};
-ghost use Prim.Native.Nat.{ℕ, _+_, _-_, _*_, _<_, _≤_};
-ghost use lib.ListN.{length, getD};
+ghost use Prim.Native.Nat.{_≤_};
+ghost use lib.ListN.{length};
 ghost use mathlib.Core.List.{[], _∷_};
 ghost use Rattle.node.specs.Places.{EntryWithin, MessageWithin, Within, part, entryIn, messageIn};
 ghost use Rattle.image.specs.Meaning.{saysOf};
 ghost use Rattle.search.specs.Own.{kidIs, kid, kidsE, ownerOf, Owned};
 ghost use Rattle.node.specs.Entries.{listed};
-ghost use Rattle.search.specs.Hear.{Hears, HeardFits, heardIn, said, saidBy, saysE, newestE, speaks};
+ghost use Rattle.search.specs.Hear.{Hears, HeardFits, said, saidBy, saysE, newestE, speaks};
 ghost use Rattle.search.specs.Pairs.{Finds, findE, pairIs};
 
 // What the messages of a node say of a path.

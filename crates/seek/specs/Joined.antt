@@ -1,5 +1,5 @@
 -- The order and the beginnings of a path that is given in two parts, a and b, told without joining them.
--- Relies on: the order's laws (plan.Order).
+-- Relies on: the order's laws (octets/specs/Order).
 use Prim.Native.Nat.{ℕ, _+_, _-_, _≤_}
 use mathlib.Core.Path.{_≡_, refl, sym, ap, _∙_}
 use mathlib.Core.List.{List, [], _∷_, _++_}

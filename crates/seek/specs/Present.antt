@@ -1,5 +1,5 @@
 -- Present paths of a sound image are well formed, and so at most 64 bytes; the walk from the root over all paths is next.
--- Relies on: rel's walk (Seek, SeekHere), look's root.
+-- Relies on: the walk of reading (Seek, SeekHere), the root of lookup.
 use Prim.Native.Nat.{ℕ, _<_, _≤_}
 use mathlib.Core.Path.{_≡_, refl, sym, ap, subst, _∙_}
 use mathlib.Core.List.{List, [], _∷_}

@@ -1,5 +1,5 @@
 -- The tests on a path or a range, one law for each return.
--- Relies on: rel's better, wanted and farFrom.
+-- Relies on: better, wanted and farFrom of reading/specs/Seek.
 use Prim.Native.Nat.{ℕ, _-_, _<_, _≤_}
 use mathlib.Core.Path.{_≡_, refl, sym, ap, _∙_}
 use mathlib.Core.List.{List}

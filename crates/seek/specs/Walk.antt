@@ -1,5 +1,5 @@
 -- The walk of next as its functions see it: the paths that entries name, the paths under a child and under a run of children, and what
--- each function may rely on. Relies on: rel's walk over keys (Seek, SeekHere).
+-- each function may rely on. Relies on: the walk over keys of reading (Seek, SeekHere).
 use Prim.Native.Nat.{ℕ}
 use mathlib.Core.Path.{_≡_}
 use mathlib.Core.List.{List, [], _∷_, _++_}

@@ -1,5 +1,5 @@
 -- The walk in pieces: one path, a child, a run of children; what is ready of a node is ready of its children.
--- Relies on: rel's walk (Seek, SeekHere), look's nodes (leaf-at, interior-at).
+-- Relies on: the walk of reading (Seek, SeekHere), the nodes of lookup (leaf-at, interior-at).
 use Prim.Native.Nat.{ℕ, _-_, _<_, _≤_}
 use mathlib.Core.Path.{_≡_, refl, sym, ap, ap₂, subst, _∙_}
 use mathlib.Core.List.{List, [], _∷_, _++_, append-nil, append-assoc}

@@ -1,5 +1,5 @@
 -- Laws for those who call the check: what its answer says of `sound`, of the live count, of `settled` and of the nodes in use.
--- Relies on Whole and on plan's laws of a tree with no message (Live, FromImage).
+-- Relies on Whole and on the laws of a tree with no message (laws: LiveCount).
 use Prim.Native.Nat.{ℕ, zero, suc, _+_, _-_, _<_, _≤_}
 use mathlib.Core.Path.{_≡_, refl, sym, ap, ap₂, subst, _∙_}
 use mathlib.Core.List.{List, [], _∷_}

@@ -1,5 +1,5 @@
 -- What the check counts in a tree: pairs, waiting messages and nodes, each shown up to 65,535 so that no sum of the code can overflow.
--- Relies on the tree of plan (Image), its numbers (Sound) and its pairs (Live). Definitions only.
+-- Relies on the tree of image (Image), its numbers (Sound) and its pairs (laws: LiveCount). Definitions only.
 use Prim.Native.Nat.{ℕ, _+_}
 use mathlib.Core.List.{List, [], _∷_}
 use lib.ListN.{length}

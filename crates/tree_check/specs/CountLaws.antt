@@ -1,5 +1,5 @@
 -- Sums of counts, also capped, and what the entries of a node hold.
--- Relies on Count and on plan's tree of entries.
+-- Relies on Count and on image's tree of entries.
 use Prim.Native.Nat.{ℕ, suc, _+_}
 use mathlib.Core.Path.{_≡_, refl, sym, ap, ap₂, subst, _∙_}
 use mathlib.Core.List.{List, [], _∷_, _++_}

@@ -1,5 +1,5 @@
 -- The layout of a node and of node 0, read at its place in the store.
--- Relies on plan's layout (Image) and on look's laws of a node's bytes.
+-- Relies on image's layout (Image) and on lookup's laws of a node's bytes.
 use Prim.Native.Nat.{ℕ, suc, _+_, _-_, _*_, _/_, _<_, _≤_}
 use mathlib.Core.Path.{_≡_, refl, sym, ap, ap₂, _∙_}
 use mathlib.Core.List.{List, _∷_}

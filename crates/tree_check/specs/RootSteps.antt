@@ -1,5 +1,5 @@
 -- The exits of the check of node 0 and of the check of an image.
--- Relies on Whole, and on rel's law of the walk from the root with no mark set (`visit-root`).
+-- Relies on Whole, and on reading's law of the walk from the root with no mark set (`visit-root`).
 use Prim.Native.Nat.{ℕ, _+_, _*_, _<_, _≤_}
 use mathlib.Core.Path.{_≡_, refl, sym, ap, ap₂, subst, _∙_}
 use mathlib.Core.List.{List, [], _∷_}

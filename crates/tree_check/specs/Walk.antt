@@ -1,4 +1,4 @@
--- The check of one node by its entries: what the walk of rel (Visit) is for a leaf and for an interior node of an image.
+-- The check of one node by its entries: what the walk of reading (Visit) is for a leaf and for an interior node of an image.
 -- Relies on guard's walks over pairs (Leaf) and over children and messages (Inside).
 use Prim.Native.Nat.{ℕ, zero, suc, _<_, _≤_}
 use mathlib.Core.Path.{_≡_, refl, sym, ap, _∙_}

@@ -1,5 +1,5 @@
 -- The whole check: all that makes an image sound but its live count, and what the check of an image promises.
--- Relies on plan's `sound` and on Count and Answer. Definitions only.
+-- Relies on image's `sound` and on Count and Answer. Definitions only.
 use Prim.Native.Nat.{ℕ, _<_}
 use mathlib.Core.Path.{_≡_}
 use mathlib.Core.List.{List}

@@ -1,5 +1,5 @@
 // The soundness check of document 01 as code.
-// It reads any store of at least one node, and meets plan's definition of `sound`, the live count apart; it counts what a sound tree holds.
+// It reads any store of at least one node, and meets the definition of `sound`, the live count apart; it counts what a sound tree holds.
 use node::Cursor;
 use node::Place;
 use node::Step;
@@ -9,7 +9,7 @@ ghost use mathlib.Core.Path.{_≡_};
 ghost use mathlib.Core.Bool.{cond};
 ghost use mathlib.Core.List.{List};
 ghost use mathlib.Core.Option.{none, some};
-ghost use Prim.Native.Nat.{ℕ, _+_, _-_, _*_, _<_, _≤_};
+ghost use Prim.Native.Nat.{ℕ, _+_, _*_, _≤_};
 ghost use lib.ListN.{length};
 ghost use Rattle.image.specs.Bytes.{zeros};
 ghost use Rattle.image.specs.Image.{nodesOf, nodeBytes, laidOut, treeAt};

@@ -5,27 +5,21 @@ use native.Mathlib.Omega.{arith}
 use Rattle.append.proofs.fits_at_root.Statement.{statement}
 use Rattle.append.proofs.fits_at_root.Tie as tie
 
--- src/lib.rt:39:9
 u16-at-requires : tie.Need-u16-at-requires
 u16-at-requires c κs = let l = long (c .before .args .store .now) (c .before .pre .0) in omega arith
 
--- src/lib.rt:41:9
 returns : tie.Need-returns
 returns c = no-room _ _ _ (c .before .u16-at .ensures .0) (c .if1 .taken)
 
--- src/lib.rt:43:9
 root-at-requires : tie.Need-root-at-requires
 root-at-requires c κs = search needs
 
--- src/lib.rt:44:9
 u16-at-requires-2 : tie.Need-u16-at-requires-2
 u16-at-requires-2 c κs = search needs
 
--- src/lib.rt:45:5
 add-result : tie.Need-add-result
 add-result c = search needs
 
--- src/lib.rt:35:1
 returns-2 : tie.Need-returns-2
 returns-2 c = room-by _ _ _ _ _ (c .before .before .before .u16-at .ensures .0) (c .before .before .if1 .left) (c .before .root-at .ensures .0) (c .u16-at2 .ensures .0)
 

@@ -6,35 +6,27 @@ use native.Mathlib.Omega.{arith}
 use Rattle.append.proofs.has_messages_at_root.Statement.{statement}
 use Rattle.append.proofs.has_messages_at_root.Tie as tie
 
--- src/lib.rt:209:9
 u16-at-requires : tie.Need-u16-at-requires
 u16-at-requires c κs = let l = long (c .before .args .store .now) (c .before .pre) in omega arith
 
--- src/lib.rt:211:9
 returns : tie.Need-returns
 returns c = no-levels _ (c .before .before .before .pre) _ (c .before .u16-at .ensures .0) (c .if1 .taken)
 
--- src/lib.rt:213:9
 root-at-requires : tie.Need-root-at-requires
 root-at-requires c κs = search needs
 
--- src/lib.rt:214:9
 u16-at-requires-2 : tie.Need-u16-at-requires-2
 u16-at-requires-2 c κs = search needs
 
--- src/lib.rt:215:16
 add-from : tie.Need-add-from
 add-from c = search needs
 
--- src/lib.rt:216:32
 add-holds-message : tie.Need-add-holds-message
 add-holds-message c = search needs
 
--- src/lib.rt:216:5
 holds-message-requires : tie.Need-holds-message-requires
 holds-message-requires c κs = let h = root-short _ (c .before .before .before .before .before .pre) _ _ _ (c .before .before .before .u16-at .ensures .0) (c .before .before .if1 .left) (c .before .root-at .ensures .0) (c .u16-at2 .ensures .0) in omega arith
 
--- src/lib.rt:205:1
 returns-2 : tie.Need-returns-2
 returns-2 c = root-held _ (c .before .before .before .before .before .before .pre) _ _ _ _ (c .before .before .before .before .u16-at .ensures .0) (c .before .before .before .if1 .left) (c .before .before .root-at .ensures .0) (c .before .u16-at2 .ensures .0) (c .holds-message .ensures)
 

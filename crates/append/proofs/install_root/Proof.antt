@@ -4,27 +4,21 @@ use borrow.Author.Needs.{needs}
 use Rattle.append.proofs.install_root.Statement.{statement}
 use Rattle.append.proofs.install_root.Tie as tie
 
--- src/lib.rt:124:28
 mul-copy-at : tie.Need-mul-copy-at
 mul-copy-at c = search needs
 
--- src/lib.rt:124:5
 copy-at-requires : tie.Need-copy-at-requires
 copy-at-requires c κs = search needs
 
--- src/lib.rt:125:5
 put-u16-requires : tie.Need-put-u16-requires
 put-u16-requires c κs = search needs
 
--- src/lib.rt:126:5
 put-u16-requires-2 : tie.Need-put-u16-requires-2
 put-u16-requires-2 c κs = search needs
 
--- src/lib.rt:120:1
 same-length : tie.Need-same-length
 same-length c = search needs
 
--- src/lib.rt:120:1
 returns : tie.Need-returns
 returns c = installs _ _ _ _ _ _ _ (c .before .before .before .before .before .before .before .before .before .before .copy-at .ensures) (c .before .before .before .before .before .before .put-u16 .ensures) (c .before .before .put-u162 .ensures)
 

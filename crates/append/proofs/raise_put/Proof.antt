@@ -6,59 +6,45 @@ use mathlib.Core.Path.{refl}
 use Rattle.append.proofs.raise_put.Statement.{statement}
 use Rattle.append.proofs.raise_put.Tie as tie
 
--- src/lib.rt:134:9
 u16-at-requires : tie.Need-u16-at-requires
 u16-at-requires c κs = let l = long (c .before .before .before .before .args .store .now) (c .before .before .before .before .pre .1) in omega arith
 
--- src/lib.rt:135:9
 u16-at-requires-2 : tie.Need-u16-at-requires-2
 u16-at-requires-2 c κs = let l = long (c .before .before .before .before .before .before .args .store .now) (c .before .before .before .before .before .before .pre .1) in omega arith
 
--- src/lib.rt:137:21
 slice-aggregate-write-root-head : tie.Need-slice-aggregate-write-root-head
 slice-aggregate-write-root-head c = search needs
 
--- src/lib.rt:137:32
 add-write-root-head : tie.Need-add-write-root-head
 add-write-root-head c = search needs
 
--- src/lib.rt:137:32
 add-write-root-head-2 : tie.Need-add-write-root-head-2
 add-write-root-head-2 c = search needs
 
--- src/lib.rt:137:63
 add-write-root-head-3 : tie.Need-add-write-root-head-3
 add-write-root-head-3 c = search needs
 
--- src/lib.rt:137:5
 write-root-head-requires : tie.Need-write-root-head-requires
 write-root-head-requires c κs = let q = few-levels _ _ (c .before .before .before .before .before .before .before .before .pre .1) (c .before .u16-at2 .ensures .0) in search needs
 
--- src/lib.rt:138:15
 slice-aggregate-write-put : tie.Need-slice-aggregate-write-put
 slice-aggregate-write-put c = search needs
 
--- src/lib.rt:138:5
 write-put-requires : tie.Need-write-put-requires
 write-put-requires c κs = search needs
 
--- src/lib.rt:139:31
 add-install-root : tie.Need-add-install-root
 add-install-root c = search needs
 
--- src/lib.rt:139:43
 slice-aggregate-install-root : tie.Need-slice-aggregate-install-root
 slice-aggregate-install-root c = search needs
 
--- src/lib.rt:139:5
 install-root-requires : tie.Need-install-root-requires
 install-root-requires c κs = let w = small-store (c .before .before .before .before .before .before .before .before .before .before .before .before .before .before .before .args .store .now) (c .before .before .before .before .before .before .before .before .before .before .before .before .before .before .before .pre .0) in let f = free-inside (c .before .before .before .before .before .before .before .before .before .before .before .before .before .before .before .args .store .now) _ (c .before .before .before .before .before .before .before .before .before .before .before .before .before .before .before .pre .2) in let q = few-levels _ _ (c .before .before .before .before .before .before .before .before .before .before .before .before .before .before .before .pre .1) (c .before .before .before .before .before .before .before .before .u16-at2 .ensures .0) in search needs
 
--- src/lib.rt:130:1
 same-length : tie.Need-same-length
 same-length c = search needs
 
--- src/lib.rt:130:1
 returns : tie.Need-returns
 returns c = raises-put _ _ _ _ _ _ _ _ _ (c .before .before .before .before .before .before .before .before .before .before .before .before .before .u16-at .ensures .0) (c .before .before .before .before .before .before .before .before .before .before .before .u16-at2 .ensures .0) refl refl _ _ (c .before .before .before .before .before .before .before .before .before .write-root-head .ensures) (c .before .before .before .before .before .before .write-put .ensures) (c .before .before .before .before .before .before .before .before .before .before .before .before .before .before .before .before .before .before .pre .3) (c .before .before .install-root .ensures)
 

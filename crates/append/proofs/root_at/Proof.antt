@@ -5,15 +5,12 @@ use native.Mathlib.Omega.{arith}
 use Rattle.append.proofs.root_at.Statement.{statement}
 use Rattle.append.proofs.root_at.Tie as tie
 
--- src/lib.rt:30:9
 u16-at-requires : tie.Need-u16-at-requires
 u16-at-requires c κs = let l = long (c .before .args .store .now) (c .before .pre) in omega arith
 
--- src/lib.rt:31:5
 mul-result : tie.Need-mul-result
 mul-result c = search needs
 
--- src/lib.rt:26:1
 returns : tie.Need-returns
 returns c = root-place _ _ (c .before .before .pre) (c .u16-at .ensures .0)
 

@@ -4,15 +4,12 @@ use borrow.Author.Needs.{needs}
 use Rattle.append.proofs.set_live.Statement.{statement}
 use Rattle.append.proofs.set_live.Tie as tie
 
--- src/lib.rt:173:5
 put-u16-requires : tie.Need-put-u16-requires
 put-u16-requires c κs = search needs
 
--- src/lib.rt:169:1
 same-length : tie.Need-same-length
 same-length c = search needs
 
--- src/lib.rt:169:1
 returns : tie.Need-returns
 returns c = sets-live _ _ _ (c .before .before .put-u16 .ensures)
 

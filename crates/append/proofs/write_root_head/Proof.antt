@@ -4,39 +4,30 @@ use borrow.Author.Needs.{needs}
 use Rattle.append.proofs.write_root_head.Statement.{statement}
 use Rattle.append.proofs.write_root_head.Tie as tie
 
--- src/lib.rt:110:5
 put-u16-requires : tie.Need-put-u16-requires
 put-u16-requires c κs = search needs
 
--- src/lib.rt:111:5
 put-u16-requires-2 : tie.Need-put-u16-requires-2
 put-u16-requires-2 c κs = search needs
 
--- src/lib.rt:112:5
 put-u16-requires-3 : tie.Need-put-u16-requires-3
 put-u16-requires-3 c κs = search needs
 
--- src/lib.rt:113:5
 put-u16-requires-4 : tie.Need-put-u16-requires-4
 put-u16-requires-4 c κs = search needs
 
--- src/lib.rt:114:5
 put-u16-requires-5 : tie.Need-put-u16-requires-5
 put-u16-requires-5 c κs = search needs
 
--- src/lib.rt:115:5
 put-u16-requires-6 : tie.Need-put-u16-requires-6
 put-u16-requires-6 c κs = search needs
 
--- src/lib.rt:116:5
 put-u16-requires-7 : tie.Need-put-u16-requires-7
 put-u16-requires-7 c κs = search needs
 
--- src/lib.rt:106:1
 same-length : tie.Need-same-length
 same-length c = search needs
 
--- src/lib.rt:106:1
 returns : tie.Need-returns
 returns c = writes-head _ _ _ _ _ _ _ _ _ _ _ (c .before .before .before .before .before .before .before .before .before .before .before .before .before .before .before .before .before .before .before .before .before .before .before .before .before .before .before .before .before .pre .0) (c .before .before .before .before .before .before .before .before .before .before .before .before .before .before .before .before .before .before .before .before .before .before .before .before .before .before .put-u16 .ensures) (c .before .before .before .before .before .before .before .before .before .before .before .before .before .before .before .before .before .before .before .before .before .before .put-u162 .ensures) (c .before .before .before .before .before .before .before .before .before .before .before .before .before .before .before .before .before .before .put-u163 .ensures) (c .before .before .before .before .before .before .before .before .before .before .before .before .before .before .put-u164 .ensures) (c .before .before .before .before .before .before .before .before .before .before .put-u165 .ensures) (c .before .before .before .before .before .before .put-u166 .ensures) (c .before .before .put-u167 .ensures)
 

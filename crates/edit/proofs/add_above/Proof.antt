@@ -7,51 +7,39 @@ use Rattle.edit.specs.Edited.{put-above, drop-above, clear-above}
 use Rattle.edit.proofs.add_above.Statement.{statement}
 use Rattle.edit.proofs.add_above.Tie as tie
 
--- src/lib.rt:126:42
 enum-told : tie.Need-enum-told
 enum-told c = search needs
 
--- src/lib.rt:126:24
 raise-put-requires : tie.Need-raise-put-requires
 raise-put-requires c κs = let z = size-small Change.Put (c .before .before .before .before .before .before .args .path .now) (c .before .before .before .before .before .before .args .value .now) (c .before .before .before .before .before .before .pre .2) (c .before .before .before .before .before .before .pre .3) in (c .before .before .before .before .before .before .pre .0, sound-but-live _ (c .before .before .before .before .before .before .pre .1), c .before .before .before .before .before .before .pre .4 .high, omega (arith, z .1, z .2))
 
--- src/lib.rt:127:44
 enum-told-2 : tie.Need-enum-told-2
 enum-told-2 c = search needs
 
--- src/lib.rt:127:25
 raise-drop-requires : tie.Need-raise-drop-requires
 raise-drop-requires c κs = let z = size-small Change.Drop (c .before .before .before .before .before .before .args .path .now) (c .before .before .before .before .before .before .args .value .now) (c .before .before .before .before .before .before .pre .2) (c .before .before .before .before .before .before .pre .3) in (c .before .before .before .before .before .before .pre .0, sound-but-live _ (c .before .before .before .before .before .before .pre .1), c .before .before .before .before .before .before .pre .4 .high, omega (arith, z .1, z .2))
 
--- src/lib.rt:128:46
 enum-told-3 : tie.Need-enum-told-3
 enum-told-3 c = search needs
 
--- src/lib.rt:128:26
 raise-clear-requires : tie.Need-raise-clear-requires
 raise-clear-requires c κs = let z = size-small Change.Clear (c .before .before .before .before .before .before .args .path .now) (c .before .before .before .before .before .before .args .value .now) (c .before .before .before .before .before .before .pre .2) (c .before .before .before .before .before .before .pre .3) in (c .before .before .before .before .before .before .pre .0, sound-but-live _ (c .before .before .before .before .before .before .pre .1), c .before .before .before .before .before .before .pre .4 .high, omega (arith, z .1, z .2))
 
--- src/lib.rt:121:1
 same-length : tie.Need-same-length
 same-length c = search needs
 
--- src/lib.rt:121:1
 returns : tie.Need-returns
 returns c = put-above _ _ _ _ (c .before .before .before .before .before .before .before .before .before .pre .1) (c .before .before .before .before .before .before .before .before .before .pre .2) (c .before .before .before .before .before .before .before .before .before .pre .3) _ _ (c .before .before .before .before .before .before .before .before .before .pre .4) (c .before .before .before .before .enum-told .given .1) (c .before .before .raise-put .ensures)
 
--- src/lib.rt:121:1
 same-length-2 : tie.Need-same-length-2
 same-length-2 c = search needs
 
--- src/lib.rt:121:1
 returns-2 : tie.Need-returns-2
 returns-2 c = drop-above _ _ _ _ (c .before .before .before .before .before .before .before .before .before .pre .1) (c .before .before .before .before .before .before .before .before .before .pre .2) (c .before .before .before .before .before .before .before .before .before .pre .3) _ _ (c .before .before .before .before .before .before .before .before .before .pre .4) (c .before .before .before .before .enum-told2 .given .1) (c .before .before .raise-drop .ensures)
 
--- src/lib.rt:121:1
 same-length-3 : tie.Need-same-length-3
 same-length-3 c = search needs
 
--- src/lib.rt:121:1
 returns-3 : tie.Need-returns-3
 returns-3 c = clear-above _ _ _ _ (c .before .before .before .before .before .before .before .before .before .pre .1) (c .before .before .before .before .before .before .before .before .before .pre .2) (c .before .before .before .before .before .before .before .before .before .pre .3) _ _ (c .before .before .before .before .before .before .before .before .before .pre .4) (c .before .before .before .before .enum-told3 .given .1) (c .before .before .raise-clear .ensures)
 

@@ -4,51 +4,39 @@ use Rattle.edit.specs.Edited.{put-here, drop-here, clear-here, room-put,
 use Rattle.edit.proofs.add_at_root.Statement.{statement}
 use Rattle.edit.proofs.add_at_root.Tie as tie
 
--- src/lib.rt:114:43
 enum-told : tie.Need-enum-told
 enum-told c = search needs
 
--- src/lib.rt:114:24
 append-put-requires : tie.Need-append-put-requires
 append-put-requires c κs = (c .before .before .before .before .before .before .pre .0, sound-but-live _ (c .before .before .before .before .before .before .pre .1), room-put _ _ _ _ (c .before .before .before .before .before .before .pre .4) (c .before .enum-told .given .1))
 
--- src/lib.rt:115:45
 enum-told-2 : tie.Need-enum-told-2
 enum-told-2 c = search needs
 
--- src/lib.rt:115:25
 append-drop-requires : tie.Need-append-drop-requires
 append-drop-requires c κs = (c .before .before .before .before .before .before .pre .0, sound-but-live _ (c .before .before .before .before .before .before .pre .1), room-drop _ _ _ _ (c .before .before .before .before .before .before .pre .4) (c .before .enum-told2 .given .1))
 
--- src/lib.rt:116:47
 enum-told-3 : tie.Need-enum-told-3
 enum-told-3 c = search needs
 
--- src/lib.rt:116:26
 append-clear-requires : tie.Need-append-clear-requires
 append-clear-requires c κs = (c .before .before .before .before .before .before .pre .0, sound-but-live _ (c .before .before .before .before .before .before .pre .1), room-clear _ _ _ _ (c .before .before .before .before .before .before .pre .4) (c .before .enum-told3 .given .1))
 
--- src/lib.rt:109:1
 same-length : tie.Need-same-length
 same-length c = search needs
 
--- src/lib.rt:109:1
 returns : tie.Need-returns
 returns c = put-here _ _ _ _ (c .before .before .before .before .before .before .before .before .before .pre .1) (c .before .before .before .before .before .before .before .before .before .pre .2) (c .before .before .before .before .before .before .before .before .before .pre .3) _ (c .before .before .before .before .before .before .before .before .before .pre .4) (c .before .before .before .before .enum-told .given .1) (c .before .before .append-put .ensures)
 
--- src/lib.rt:109:1
 same-length-2 : tie.Need-same-length-2
 same-length-2 c = search needs
 
--- src/lib.rt:109:1
 returns-2 : tie.Need-returns-2
 returns-2 c = drop-here _ _ _ _ (c .before .before .before .before .before .before .before .before .before .pre .1) (c .before .before .before .before .before .before .before .before .before .pre .2) (c .before .before .before .before .before .before .before .before .before .pre .3) _ (c .before .before .before .before .before .before .before .before .before .pre .4) (c .before .before .before .before .enum-told2 .given .1) (c .before .before .append-drop .ensures)
 
--- src/lib.rt:109:1
 same-length-3 : tie.Need-same-length-3
 same-length-3 c = search needs
 
--- src/lib.rt:109:1
 returns-3 : tie.Need-returns-3
 returns-3 c = clear-here _ _ _ _ (c .before .before .before .before .before .before .before .before .before .pre .1) (c .before .before .before .before .before .before .before .before .before .pre .2) (c .before .before .before .before .before .before .before .before .before .pre .3) _ (c .before .before .before .before .before .before .before .before .before .pre .4) (c .before .before .before .before .enum-told3 .given .1) (c .before .before .append-clear .ensures)
 

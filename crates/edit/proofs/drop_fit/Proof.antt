@@ -6,39 +6,30 @@ use Rattle.edit.specs.Edited.{drop-malformed, drop-done, drop-allowed, n
 use Rattle.edit.proofs.drop_fit.Statement.{statement}
 use Rattle.edit.proofs.drop_fit.Tie as tie
 
--- src/lib.rt:213:9
 is-path-requires : tie.Need-is-path-requires
 is-path-requires c κs = search needs
 
--- src/lib.rt:214:9
 returns : tie.Need-returns
 returns c = drop-malformed (c .before .before .before .before .before .args .store .now) (c .before .before .before .before .before .args .work .now) (c .before .before .before .before .before .pre .0) (c .before .before .before .before .before .pre .1) (c .before .before .before .before .before .pre .2) (c .before .before .before .before .before .args .path .now) _ (c .before .is-path .ensures) (not-true _ (c .if1 .taken))
 
--- src/lib.rt:216:51
 sub-apply-change : tie.Need-sub-apply-change
 sub-apply-change c = search needs
 
--- src/lib.rt:216:51
 part-apply-change-start : tie.Need-part-apply-change-start
 part-apply-change-start c = search needs
 
--- src/lib.rt:216:51
 part-apply-change-end : tie.Need-part-apply-change-end
 part-apply-change-end c = search needs
 
--- src/lib.rt:216:5
 apply-change-requires : tie.Need-apply-change-requires
 apply-change-requires c κs = (c .before .before .before .before .before .before .before .before .pre .0, c .before .before .before .before .before .before .before .before .pre .1, c .before .before .before .before .before .before .before .before .pre .2, drop-allowed (c .before .before .before .before .before .before .before .before .args .store .now) (c .before .before .before .before .before .before .before .before .args .work .now) (c .before .before .before .before .before .before .before .before .pre .0) (c .before .before .before .before .before .before .before .before .pre .1) (c .before .before .before .before .before .before .before .before .pre .2) (c .before .before .before .before .before .before .before .before .args .path .now) _ (c .before .before .before .before .is-path .ensures) (not-false _ (c .before .before .before .if1 .left)) Change.Drop _ (omega arith) not-put-drop)
 
--- src/lib.rt:209:1
 same-length : tie.Need-same-length
 same-length c = search needs
 
--- src/lib.rt:209:1
 same-length-2 : tie.Need-same-length-2
 same-length-2 c = search needs
 
--- src/lib.rt:209:1
 returns-2 : tie.Need-returns-2
 returns-2 c = drop-done (c .before .before .before .before .before .before .before .before .before .before .before .before .before .args .store .now) (c .before .before .before .before .before .before .before .before .before .before .before .before .before .args .work .now) (c .before .before .before .before .before .before .before .before .before .before .before .before .before .pre .0) (c .before .before .before .before .before .before .before .before .before .before .before .before .before .pre .1) (c .before .before .before .before .before .before .before .before .before .before .before .before .before .pre .2) (c .before .before .before .before .before .before .before .before .before .before .before .before .before .args .path .now) _ (c .before .before .before .before .before .before .before .before .before .is-path .ensures) (not-false _ (c .before .before .before .before .before .before .before .before .if1 .left)) _ _ _ (c .before .before .before .before .apply-change .ensures)
 

@@ -3,43 +3,33 @@ use Rattle.edit.specs.Edited.{size-put, size-drop, size-clear}
 use Rattle.edit.proofs.entry_size.Statement.{statement}
 use Rattle.edit.proofs.entry_size.Tie as tie
 
--- src/lib.rt:102:24
 enum-told : tie.Need-enum-told
 enum-told c = search needs
 
--- src/lib.rt:102:24
 add-result : tie.Need-add-result
 add-result c = search needs
 
--- src/lib.rt:102:24
 add-result-2 : tie.Need-add-result-2
 add-result-2 c = search needs
 
--- src/lib.rt:103:25
 enum-told-2 : tie.Need-enum-told-2
 enum-told-2 c = search needs
 
--- src/lib.rt:103:25
 add-result-3 : tie.Need-add-result-3
 add-result-3 c = search needs
 
--- src/lib.rt:104:26
 enum-told-3 : tie.Need-enum-told-3
 enum-told-3 c = search needs
 
--- src/lib.rt:104:26
 add-result-4 : tie.Need-add-result-4
 add-result-4 c = search needs
 
--- src/lib.rt:97:1
 returns : tie.Need-returns
 returns c = size-put _ _ _ (c .enum-told .given .1)
 
--- src/lib.rt:97:1
 returns-2 : tie.Need-returns-2
 returns-2 c = size-drop _ _ _ (c .enum-told2 .given .1)
 
--- src/lib.rt:97:1
 returns-3 : tie.Need-returns-3
 returns-3 c = size-clear _ _ _ (c .enum-told3 .given .1)
 

@@ -4,31 +4,24 @@ use Rattle.edit.specs.Edited.{finish-done, small-live, area-fits, len-ke
 use Rattle.edit.proofs.finish.Statement.{statement}
 use Rattle.edit.proofs.finish.Tie as tie
 
--- src/lib.rt:148:9
 live-count-requires : tie.Need-live-count-requires
 live-count-requires c κs = countable _ (c .before .before .before .pre .1)
 
--- src/lib.rt:149:5
 set-live-requires : tie.Need-set-live-requires
 set-live-requires c κs = small-live _ _ (c .before .before .before .before .before .pre .0) (c .before .before .before .before .before .pre .2) (c .before .live-count .ensures)
 
--- src/lib.rt:150:13
 mul-k : tie.Need-mul-k
 mul-k c = search needs
 
--- src/lib.rt:151:5
 clear-area-requires : tie.Need-clear-area-requires
 clear-area-requires c κs = area-fits (c .before .before .before .before .before .before .before .before .before .args .store .now) _ (c .before .before .before .before .before .before .before .before .before .args .work .now) _ (c .before .before .before .before .before .before .before .before .before .pre .1) (c .before .before .before .set-live .ensures) (c .before .before .before .before .before .before .before .before .before .pre .3)
 
--- src/lib.rt:144:1
 same-length : tie.Need-same-length
 same-length c = search needs
 
--- src/lib.rt:144:1
 same-length-2 : tie.Need-same-length-2
 same-length-2 c = search needs
 
--- src/lib.rt:144:1
 returns : tie.Need-returns
 returns c = finish-done _ _ _ _ _ _ (c .before .before .before .before .before .before .before .before .before .before .before .before .pre .0) (c .before .before .before .before .before .before .before .before .before .before .before .before .pre .1) (c .before .before .before .before .before .before .before .before .before .before .before .before .pre .2) (c .before .before .before .before .before .before .before .before .live-count .ensures) (c .before .before .before .before .before .before .set-live .ensures) (len-kept (c .before .before .before .before .before .before .before .before .before .before .before .before .args .store .now) _ _ (c .before .before .before .before .before .before .before .before .before .before .before .before .pre .1) (c .before .before .before .before .before .before .set-live .ensures)) (c .before .before .clear-area .ensures)
 

@@ -13,31 +13,24 @@ Inv-loop seen n i₀ i = (1 ≤ i) × ((j : ℕ) → 1 ≤ j → j < i → getD 
 abbrev μ-loop : tie.MeasureT-loop
 μ-loop seen n i₀ i = n - i
 
--- src/lib.rt:40:5
 loop-holds : tie.Need-loop-holds Inv-loop μ-loop
 loop-holds c = search needs
 
--- src/lib.rt:41:12
 shared-slice-read-if1 : tie.Need-shared-slice-read-if1 Inv-loop μ-loop
 shared-slice-read-if1 c = search needs
 
--- src/lib.rt:42:13
 returns : tie.Need-returns Inv-loop μ-loop
 returns c = search needs
 
--- src/lib.rt:44:13
 add-i : tie.Need-add-i Inv-loop μ-loop
 add-i c = search needs
 
--- src/lib.rt:40:5
 loop-less : tie.Need-loop-less Inv-loop μ-loop
 loop-less c = search needs
 
--- src/lib.rt:40:5
 loop-again : tie.Need-loop-again Inv-loop μ-loop
 loop-again c = (omega arith, free-more (c .before .before .before .before .args .seen .now) (c .before .before .before .loop .i) (c .if1 .left) (c .before .before .before .loop .inv .1))
 
--- src/lib.rt:35:1
 returns-2 : tie.Need-returns-2 Inv-loop μ-loop
 returns-2 c = free-none _ _ _ (omega arith) (c .before .loop .inv .1)
 

@@ -7,50 +7,39 @@ use Rattle.edit.specs.Room.{above-held, above-deep, above-unsound, above
 use Rattle.edit.proofs.free_above.Statement.{statement}
 use Rattle.edit.proofs.free_above.Tie as tie
 
--- src/lib.rt:54:8
 has-messages-at-root-requires : tie.Need-has-messages-at-root-requires
 has-messages-at-root-requires c κs = sound-but-live _ (c .before .pre .1)
 
--- src/lib.rt:55:9
 returns : tie.Need-returns
 returns c = above-held _ _ (c .before .has-messages-at-root .ensures) (c .if1 .taken)
 
--- src/lib.rt:57:9
 u16-at-requires : tie.Need-u16-at-requires
 u16-at-requires c κs = omega (arith, few-nodes _ (c .before .before .before .pre .0) .1)
 
--- src/lib.rt:59:9
 returns-2 : tie.Need-returns-2
 returns-2 c = above-deep _ _ (c .before .u16-at .ensures .0) (omega arith)
 
--- src/lib.rt:62:43
 slice-aggregate-check-tree : tie.Need-slice-aggregate-check-tree
 slice-aggregate-check-tree c = search needs
 
--- src/lib.rt:62:9
 check-tree-requires : tie.Need-check-tree-requires
 check-tree-requires c κs = let w = few-nodes _ (c .before .before .before .before .before .before .pre .0) in (w .1, subst (λ k. k ≤ 1024) (nodes-are _) (w .0))
 
 enum-told : tie.Need-enum-told
 enum-told c = search needs
 
--- src/lib.rt:64:9
 enum-told-2 : tie.Need-enum-told-2
 enum-told-2 c = search needs
 
--- src/lib.rt:64:9
 returns-3 : tie.Need-returns-3
 returns-3 c = above-unsound _ _ _ (c .before .before .before .before .before .before .before .before .before .before .pre .1) (c .before .before .before .check-tree .ensures) (c .enum-told2 .given .1)
 
--- src/lib.rt:66:16
 slice-aggregate-first-free : tie.Need-slice-aggregate-first-free
 slice-aggregate-first-free c = search needs
 
--- src/lib.rt:66:5
 first-free-requires : tie.Need-first-free-requires
 first-free-requires c κs = let w = few-nodes _ (c .before .before .before .before .before .before .before .before .before .before .before .pre .0) in omega (arith, w .0)
 
--- src/lib.rt:50:1
 returns-4 : tie.Need-returns-4
 returns-4 c = above-found _ _ _ _ _ _ _ (c .before .before .before .before .before .check-tree .ensures) (c .before .before .enum-told .given .1) (nodes-are _) (c .before .before .before .before .before .before .before .before .u16-at .ensures .0) (omega arith) (c .first-free .ensures)
 

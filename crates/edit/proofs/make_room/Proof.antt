@@ -7,63 +7,48 @@ use Rattle.edit.specs.Room.{roomy-now, roomy-above, rebuilt-now, rebuilt
 use Rattle.edit.proofs.make_room.Statement.{statement}
 use Rattle.edit.proofs.make_room.Tie as tie
 
--- src/lib.rt:74:8
 fits-at-root-requires : tie.Need-fits-at-root-requires
 fits-at-root-requires c κs = (sound-but-live _ (c .before .before .before .pre .1), omega arith)
 
--- src/lib.rt:75:9
 same-length : tie.Need-same-length
 same-length c = search needs
 
--- src/lib.rt:75:9
 returns : tie.Need-returns
 returns c = roomy-now _ _ _ _ (c .before .before .before .before .before .pre .1) (c .before .fits-at-root .ensures) (c .if1 .taken)
 
--- src/lib.rt:77:9
 free-above-requires : tie.Need-free-above-requires
 free-above-requires c κs = search needs
 
--- src/lib.rt:79:9
 same-length-2 : tie.Need-same-length-2
 same-length-2 c = search needs
 
--- src/lib.rt:79:9
 returns-2 : tie.Need-returns-2
 returns-2 c = roomy-above _ _ _ _ (c .before .before .before .before .before .before .before .before .pre .1) (c .before .free-above .ensures) (c .if2 .taken)
 
--- src/lib.rt:81:5
 rebuild-requires : tie.Need-rebuild-requires
 rebuild-requires c κs = search needs
 
--- src/lib.rt:82:8
 fits-at-root-requires-2 : tie.Need-fits-at-root-requires-2
 fits-at-root-requires-2 c κs = (sound-but-live _ (c .before .before .before .before .before .rebuild .ensures .is-sound), omega arith)
 
--- src/lib.rt:83:9
 same-length-3 : tie.Need-same-length-3
 same-length-3 c = search needs
 
--- src/lib.rt:83:9
 same-length-4 : tie.Need-same-length-4
 same-length-4 c = search needs
 
--- src/lib.rt:83:9
 returns-3 : tie.Need-returns-3
 returns-3 c = rebuilt-now _ _ _ _ _ (c .before .before .before .before .before .before .before .before .before .before .before .before .before .before .before .before .before .before .pre .0) (c .before .before .before .before .before .before .before .before .before .before .before .before .before .before .before .before .before .before .pre .2) (c .before .before .before .before .before .before .before .rebuild .ensures) _ (c .before .fits-at-root2 .ensures) (c .if3 .taken)
 
--- src/lib.rt:85:17
 free-above-requires-2 : tie.Need-free-above-requires-2
 free-above-requires-2 c κs = (ap (λ k. wholeNodes k) (c .before .before .before .before .before .before .before .before .rebuild .ensures .size) ∙ c .before .before .before .before .before .before .before .before .before .before .before .before .before .before .before .before .before .before .before .pre .0, c .before .before .before .before .before .before .before .before .rebuild .ensures .is-sound)
 
--- src/lib.rt:70:1
 same-length-5 : tie.Need-same-length-5
 same-length-5 c = search needs
 
--- src/lib.rt:70:1
 same-length-6 : tie.Need-same-length-6
 same-length-6 c = search needs
 
--- src/lib.rt:70:1
 returns-4 : tie.Need-returns-4
 returns-4 c = rebuilt-above _ _ _ _ _ (c .before .before .before .before .before .before .before .before .before .before .before .before .before .before .before .before .before .before .before .before .pre .0) (c .before .before .before .before .before .before .before .before .before .before .before .before .before .before .before .before .before .before .before .before .pre .2) (c .before .before .before .before .before .before .before .before .before .rebuild .ensures) _ (c .free-above2 .ensures)
 

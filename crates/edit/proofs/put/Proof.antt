@@ -4,43 +4,33 @@ use Rattle.ready.specs.Asked.{asked-fit, refused-meets}
 use Rattle.edit.proofs.put.Statement.{statement}
 use Rattle.edit.proofs.put.Tie as tie
 
--- src/lib.rt:201:9
 ask-requires : tie.Need-ask-requires
 ask-requires c κs = search needs
 
--- src/lib.rt:203:24
 enum-known-asked : tie.Need-enum-known-asked
 enum-known-asked c = search needs
 
--- src/lib.rt:204:34
 enum-told : tie.Need-enum-told
 enum-told c = search needs
 
--- src/lib.rt:204:26
 put-fit-requires : tie.Need-put-fit-requires
 put-fit-requires c κs = let f = asked-fit _ _ _ _ (c .before .before .before .before .ask .ensures) _ (c .before .before .enum-told .given .1) in (f .whole, f .is-sound, f .long)
 
--- src/lib.rt:197:1
 same-length : tie.Need-same-length
 same-length c = search needs
 
--- src/lib.rt:197:1
 same-length-2 : tie.Need-same-length-2
 same-length-2 c = search needs
 
--- src/lib.rt:197:1
 returns : tie.Need-returns
 returns c = refused-meets _ _ _ _ (c .before .before .before .ask .ensures) _ (c .before .asked .given .1) _ to-act
 
--- src/lib.rt:197:1
 same-length-3 : tie.Need-same-length-3
 same-length-3 c = search needs
 
--- src/lib.rt:197:1
 same-length-4 : tie.Need-same-length-4
 same-length-4 c = search needs
 
--- src/lib.rt:197:1
 returns-2 : tie.Need-returns-2
 returns-2 c = c .before .before .before .before .put-fit .ensures
 

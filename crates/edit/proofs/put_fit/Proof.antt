@@ -5,43 +5,33 @@ use Rattle.edit.specs.Edited.{put-malformed, put-long, put-full, put-don
 use Rattle.edit.proofs.put_fit.Statement.{statement}
 use Rattle.edit.proofs.put_fit.Tie as tie
 
--- src/lib.rt:183:9
 is-path-requires : tie.Need-is-path-requires
 is-path-requires c κs = search needs
 
--- src/lib.rt:184:9
 returns : tie.Need-returns
 returns c = put-malformed (c .before .before .before .before .before .before .args .store .now) (c .before .before .before .before .before .before .args .work .now) (c .before .before .before .before .before .before .pre .0) (c .before .before .before .before .before .before .pre .1) (c .before .before .before .before .before .before .pre .2) (c .before .before .before .before .before .before .args .path .now) _ (c .before .is-path .ensures) (c .before .before .before .before .before .before .args .value .now) (not-true _ (c .if1 .taken))
 
--- src/lib.rt:187:9
 returns-2 : tie.Need-returns-2
 returns-2 c = put-long (c .before .before .before .before .before .before .before .args .store .now) (c .before .before .before .before .before .before .before .args .work .now) (c .before .before .before .before .before .before .before .pre .0) (c .before .before .before .before .before .before .before .pre .1) (c .before .before .before .before .before .before .before .pre .2) (c .before .before .before .before .before .before .before .args .path .now) _ (c .before .before .is-path .ensures) (not-false _ (c .before .if1 .left)) (c .before .before .before .before .before .before .before .args .value .now) (omega arith)
 
--- src/lib.rt:189:9
 has-place-requires : tie.Need-has-place-requires
 has-place-requires c κs = (c .before .before .before .before .before .before .before .before .pre .0, c .before .before .before .before .before .before .before .before .pre .1)
 
--- src/lib.rt:190:9
 same-length : tie.Need-same-length
 same-length c = search needs
 
--- src/lib.rt:190:9
 returns-3 : tie.Need-returns-3
 returns-3 c = put-full (c .before .before .before .before .before .before .before .before .before .before .args .store .now) (c .before .before .before .before .before .before .before .before .before .before .args .work .now) (c .before .before .before .before .before .before .before .before .before .before .pre .0) (c .before .before .before .before .before .before .before .before .before .before .pre .1) (c .before .before .before .before .before .before .before .before .before .before .pre .2) (c .before .before .before .before .before .before .before .before .before .before .args .path .now) _ (c .before .before .before .before .before .is-path .ensures) (not-false _ (c .before .before .before .before .if1 .left)) (c .before .before .before .before .before .before .before .before .before .before .args .value .now) (omega arith) _ (c .before .has-place .ensures) (not-true _ (c .if3 .taken))
 
--- src/lib.rt:192:5
 apply-change-requires : tie.Need-apply-change-requires
 apply-change-requires c κs = (c .before .before .before .before .before .before .before .before .before .before .before .before .pre .0, c .before .before .before .before .before .before .before .before .before .before .before .before .pre .1, c .before .before .before .before .before .before .before .before .before .before .before .before .pre .2, put-allowed (c .before .before .before .before .before .before .before .before .before .before .before .before .args .store .now) (c .before .before .before .before .before .before .before .before .before .before .before .before .args .work .now) (c .before .before .before .before .before .before .before .before .before .before .before .before .pre .0) (c .before .before .before .before .before .before .before .before .before .before .before .before .pre .1) (c .before .before .before .before .before .before .before .before .before .before .before .before .pre .2) (c .before .before .before .before .before .before .before .before .before .before .before .before .args .path .now) _ (c .before .before .before .before .before .before .before .is-path .ensures) (not-false _ (c .before .before .before .before .before .before .if1 .left)) (c .before .before .before .before .before .before .before .before .before .before .before .before .args .value .now) (omega arith) _ (c .before .before .before .has-place .ensures) (not-false _ (c .before .before .if3 .left)))
 
--- src/lib.rt:179:1
 same-length-2 : tie.Need-same-length-2
 same-length-2 c = search needs
 
--- src/lib.rt:179:1
 same-length-3 : tie.Need-same-length-3
 same-length-3 c = search needs
 
--- src/lib.rt:179:1
 returns-4 : tie.Need-returns-4
 returns-4 c = put-done (c .before .before .before .before .before .before .before .before .before .before .before .before .before .before .before .before .before .args .store .now) (c .before .before .before .before .before .before .before .before .before .before .before .before .before .before .before .before .before .args .work .now) (c .before .before .before .before .before .before .before .before .before .before .before .before .before .before .before .before .before .pre .0) (c .before .before .before .before .before .before .before .before .before .before .before .before .before .before .before .before .before .pre .1) (c .before .before .before .before .before .before .before .before .before .before .before .before .before .before .before .before .before .pre .2) (c .before .before .before .before .before .before .before .before .before .before .before .before .before .before .before .before .before .args .path .now) _ (c .before .before .before .before .before .before .before .before .before .before .before .before .is-path .ensures) (not-false _ (c .before .before .before .before .before .before .before .before .before .before .before .if1 .left)) (c .before .before .before .before .before .before .before .before .before .before .before .before .before .before .before .before .before .args .value .now) (omega arith) _ (c .before .before .before .before .before .before .before .before .has-place .ensures) _ _ (not-false _ (c .before .before .before .before .before .before .before .if3 .left)) (c .before .before .before .before .apply-change .ensures)
 

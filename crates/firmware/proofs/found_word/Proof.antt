@@ -5,31 +5,24 @@ use Rattle.firmware.specs.Words.{length-bound, length-word, refused-word
 use Rattle.firmware.proofs.found_word.Statement.{statement}
 use Rattle.firmware.proofs.found_word.Tie as tie
 
--- src/lib.rt:47:23
 enum-known-found : tie.Need-enum-known-found
 enum-known-found c = search needs
 
--- src/lib.rt:47:29
 mul-result : tie.Need-mul-result
 mul-result c = let h = length-bound _ _ (c .before .found .given .1) (c .before .before .before .pre) in omega arith
 
--- src/lib.rt:48:24
 enum-known-found-2 : tie.Need-enum-known-found-2
 enum-known-found-2 c = search needs
 
--- src/lib.rt:48:36
 refusal-number-requires : tie.Need-refusal-number-requires
 refusal-number-requires c κs = search needs
 
--- src/lib.rt:48:36
 cast-result : tie.Need-cast-result
 cast-result c = search needs
 
--- src/lib.rt:42:1
 returns : tie.Need-returns
 returns c = length-word _ _ (c .before .found .given .1)
 
--- src/lib.rt:42:1
 returns-2 : tie.Need-returns-2
 returns-2 c = refused-word _ _ _ (c .before .before .found2 .given .1) (c .refusal-number .ensures .0) (c .refusal-number .ensures .1)
 

@@ -4,23 +4,18 @@ use Rattle.firmware.specs.Words.{done-number, refused-number}
 use Rattle.firmware.proofs.outcome_number.Statement.{statement}
 use Rattle.firmware.proofs.outcome_number.Tie as tie
 
--- src/lib.rt:36:26
 enum-told : tie.Need-enum-told
 enum-told c = search needs
 
--- src/lib.rt:37:26
 enum-known-outcome : tie.Need-enum-known-outcome
 enum-known-outcome c = search needs
 
--- src/lib.rt:37:38
 refusal-number-requires : tie.Need-refusal-number-requires
 refusal-number-requires c κs = search needs
 
--- src/lib.rt:32:1
 returns : tie.Need-returns
 returns c = done-number _ (c .enum-told .given .1)
 
--- src/lib.rt:32:1
 returns-2 : tie.Need-returns-2
 returns-2 c = refused-number _ _ _ (c .before .before .outcome .given .1) (c .refusal-number .ensures .0)
 

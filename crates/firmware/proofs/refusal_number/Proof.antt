@@ -6,83 +6,63 @@ use Rattle.firmware.specs.Words.{numbered}
 use Rattle.firmware.proofs.refusal_number.Statement.{statement}
 use Rattle.firmware.proofs.refusal_number.Tie as tie
 
--- src/lib.rt:19:28
 enum-told : tie.Need-enum-told
 enum-told c = search needs
 
--- src/lib.rt:20:29
 enum-told-2 : tie.Need-enum-told-2
 enum-told-2 c = search needs
 
--- src/lib.rt:21:31
 enum-told-3 : tie.Need-enum-told-3
 enum-told-3 c = search needs
 
--- src/lib.rt:22:31
 enum-told-4 : tie.Need-enum-told-4
 enum-told-4 c = search needs
 
--- src/lib.rt:23:33
 enum-told-5 : tie.Need-enum-told-5
 enum-told-5 c = search needs
 
--- src/lib.rt:24:33
 enum-told-6 : tie.Need-enum-told-6
 enum-told-6 c = search needs
 
--- src/lib.rt:25:28
 enum-told-7 : tie.Need-enum-told-7
 enum-told-7 c = search needs
 
--- src/lib.rt:26:28
 enum-told-8 : tie.Need-enum-told-8
 enum-told-8 c = search needs
 
--- src/lib.rt:27:38
 enum-told-9 : tie.Need-enum-told-9
 enum-told-9 c = search needs
 
--- src/lib.rt:28:26
 enum-told-10 : tie.Need-enum-told-10
 enum-told-10 c = search needs
 
--- src/lib.rt:15:1
 returns : tie.Need-returns
 returns c = (numbered _ _ _ (c .enum-told .given .1) (unfold refusalNumber in refl), search needs)
 
--- src/lib.rt:15:1
 returns-2 : tie.Need-returns-2
 returns-2 c = (numbered _ _ _ (c .enum-told2 .given .1) (unfold refusalNumber in refl), search needs)
 
--- src/lib.rt:15:1
 returns-3 : tie.Need-returns-3
 returns-3 c = (numbered _ _ _ (c .enum-told3 .given .1) (unfold refusalNumber in refl), search needs)
 
--- src/lib.rt:15:1
 returns-4 : tie.Need-returns-4
 returns-4 c = (numbered _ _ _ (c .enum-told4 .given .1) (unfold refusalNumber in refl), search needs)
 
--- src/lib.rt:15:1
 returns-5 : tie.Need-returns-5
 returns-5 c = (numbered _ _ _ (c .enum-told5 .given .1) (unfold refusalNumber in refl), search needs)
 
--- src/lib.rt:15:1
 returns-6 : tie.Need-returns-6
 returns-6 c = (numbered _ _ _ (c .enum-told6 .given .1) (unfold refusalNumber in refl), search needs)
 
--- src/lib.rt:15:1
 returns-7 : tie.Need-returns-7
 returns-7 c = (numbered _ _ _ (c .enum-told7 .given .1) (unfold refusalNumber in refl), search needs)
 
--- src/lib.rt:15:1
 returns-8 : tie.Need-returns-8
 returns-8 c = (numbered _ _ _ (c .enum-told8 .given .1) (unfold refusalNumber in refl), search needs)
 
--- src/lib.rt:15:1
 returns-9 : tie.Need-returns-9
 returns-9 c = (numbered _ _ _ (c .enum-told9 .given .1) (unfold refusalNumber in refl), search needs)
 
--- src/lib.rt:15:1
 returns-10 : tie.Need-returns-10
 returns-10 c = (numbered _ _ _ (c .enum-told10 .given .1) (unfold refusalNumber in refl), search needs)
 

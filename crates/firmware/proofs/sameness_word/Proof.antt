@@ -4,35 +4,27 @@ use Rattle.firmware.specs.Words.{same-word, different-word, refused-same
 use Rattle.firmware.proofs.sameness_word.Statement.{statement}
 use Rattle.firmware.proofs.sameness_word.Tie as tie
 
--- src/lib.rt:58:27
 enum-told : tie.Need-enum-told
 enum-told c = search needs
 
--- src/lib.rt:59:32
 enum-told-2 : tie.Need-enum-told-2
 enum-told-2 c = search needs
 
--- src/lib.rt:60:27
 enum-known-sameness : tie.Need-enum-known-sameness
 enum-known-sameness c = search needs
 
--- src/lib.rt:60:39
 refusal-number-requires : tie.Need-refusal-number-requires
 refusal-number-requires c κs = search needs
 
--- src/lib.rt:60:39
 cast-result : tie.Need-cast-result
 cast-result c = search needs
 
--- src/lib.rt:54:1
 returns : tie.Need-returns
 returns c = same-word _ (c .enum-told .given .1)
 
--- src/lib.rt:54:1
 returns-2 : tie.Need-returns-2
 returns-2 c = different-word _ (c .enum-told2 .given .1)
 
--- src/lib.rt:54:1
 returns-3 : tie.Need-returns-3
 returns-3 c = refused-sameness _ _ _ (c .before .before .sameness .given .1) (c .refusal-number .ensures .0) (c .refusal-number .ensures .1)
 

@@ -4,23 +4,18 @@ use Rattle.firmware.specs.Words.{number-meets}
 use Rattle.firmware.proofs.splicelog_drop.Statement.{statement}
 use Rattle.firmware.proofs.splicelog_drop.Tie as tie
 
--- src/lib.rt:103:20
 drop-requires : tie.Need-drop-requires
 drop-requires c κs = search needs
 
--- src/lib.rt:103:5
 outcome-number-requires : tie.Need-outcome-number-requires
 outcome-number-requires c κs = search needs
 
--- src/lib.rt:99:1
 same-length : tie.Need-same-length
 same-length c = search needs
 
--- src/lib.rt:99:1
 same-length-2 : tie.Need-same-length-2
 same-length-2 c = search needs
 
--- src/lib.rt:99:1
 returns : tie.Need-returns
 returns c = number-meets _ _ _ _ _ _ (c .before .before .before .before .before .drop .ensures) (c .outcome-number .ensures)
 

@@ -3,23 +3,18 @@ use Rattle.firmware.specs.Words.{number-meets}
 use Rattle.firmware.proofs.splicelog_flush.Statement.{statement}
 use Rattle.firmware.proofs.splicelog_flush.Tie as tie
 
--- src/lib.rt:131:20
 flush-requires : tie.Need-flush-requires
 flush-requires c κs = search needs
 
--- src/lib.rt:131:5
 outcome-number-requires : tie.Need-outcome-number-requires
 outcome-number-requires c κs = search needs
 
--- src/lib.rt:127:1
 same-length : tie.Need-same-length
 same-length c = search needs
 
--- src/lib.rt:127:1
 same-length-2 : tie.Need-same-length-2
 same-length-2 c = search needs
 
--- src/lib.rt:127:1
 returns : tie.Need-returns
 returns c = number-meets _ _ _ _ _ _ (c .before .before .before .before .before .flush .ensures) (c .outcome-number .ensures)
 

@@ -4,19 +4,15 @@ use Rattle.firmware.specs.Words.{word-meets}
 use Rattle.firmware.proofs.splicelog_next.Statement.{statement}
 use Rattle.firmware.proofs.splicelog_next.Tie as tie
 
--- src/lib.rt:70:16
 next-requires : tie.Need-next-requires
 next-requires c κs = search needs
 
--- src/lib.rt:70:5
 found-word-requires : tie.Need-found-word-requires
 found-word-requires c κs = search needs
 
--- src/lib.rt:66:1
 same-length : tie.Need-same-length
 same-length c = search needs
 
--- src/lib.rt:66:1
 returns : tie.Need-returns
 returns c = word-meets _ _ _ _ _ (c .before .before .before .next .ensures .0) (c .found-word .ensures)
 

@@ -6,15 +6,12 @@ use native.Mathlib.Omega.{arith}
 use Rattle.insertion.proofs.insert_row.Statement.{statement}
 use Rattle.insertion.proofs.insert_row.Tie as tie
 
--- src/lib.rt:60:9
 place-of-requires : tie.Need-place-of-requires
 place-of-requires c κs = search needs
 
--- src/lib.rt:61:5
 move-rows-requires : tie.Need-move-rows-requires
 move-rows-requires c κs = search needs
 
--- src/lib.rt:62:5
 put-row-requires : tie.Need-put-row-requires
 put-row-requires c κs =
     let a = c .before .before .before .before .before .before .before .before .before .before .args in
@@ -23,11 +20,9 @@ put-row-requires c κs =
     let f = fit-front (a .area .now) i (a .m) (h .0) (omega arith) (omega arith) _ (c .before .before .before .move-rows .ensures) in
     (f, omega arith, omega arith, omega arith)
 
--- src/lib.rt:56:1
 same-length : tie.Need-same-length
 same-length c = search needs
 
--- src/lib.rt:56:1
 returns : tie.Need-returns
 returns c =
     let a = c .before .before .before .before .before .before .before .before .before .before .before .before .before .args in

@@ -15,50 +15,39 @@ Inv-loop area₀ i m start at₀ area at = (i * 128 ≤ at) × (at ≤ m * 128) 
 abbrev μ-loop : tie.MeasureT-loop
 μ-loop area₀ i m start at₀ area at = at
 
--- src/lib.rt:47:17
 mul-start : tie.Need-mul-start Inv-loop μ-loop
 mul-start c = search needs
 
--- src/lib.rt:48:18
 mul-at : tie.Need-mul-at Inv-loop μ-loop
 mul-at c = search needs
 
--- src/lib.rt:49:5
 loop-holds : tie.Need-loop-holds Inv-loop μ-loop
 loop-holds c = (omega arith, omega arith, refl, move-none _ _)
 
--- src/lib.rt:50:14
 sub-at : tie.Need-sub-at Inv-loop μ-loop
 sub-at c = search needs
 
--- src/lib.rt:51:26
 slice-read-area : tie.Need-slice-read-area Inv-loop μ-loop
 slice-read-area c = search needs
 
--- src/lib.rt:51:14
 add-area : tie.Need-add-area Inv-loop μ-loop
 add-area c = search needs
 
--- src/lib.rt:51:9
 slice-write-area : tie.Need-slice-write-area Inv-loop μ-loop
 slice-write-area c = search needs
 
--- src/lib.rt:49:5
 loop-less : tie.Need-loop-less Inv-loop μ-loop
 loop-less c = search needs
 
--- src/lib.rt:49:5
 loop-again : tie.Need-loop-again Inv-loop μ-loop
 loop-again c =
     let a = c .before .before .before .args in
     let l = c .before .before .loop in
     (omega arith, omega arith, (simp length-set) ∙ l .inv .2, move-one (a .area .now) (l .area) (a .m * 128) (l .at) (omega arith) (omega arith) (omega arith) (l .inv .3))
 
--- src/lib.rt:43:1
 same-length : tie.Need-same-length Inv-loop μ-loop
 same-length c = search needs
 
--- src/lib.rt:43:1
 returns : tie.Need-returns Inv-loop μ-loop
 returns c = move-all (c .before .before .args .area .now) (c .before .loop .area) (c .before .before .args .i) (c .before .before .args .m) (c .before .loop .at) (omega arith) (omega arith) (c .before .loop .inv .3)
 

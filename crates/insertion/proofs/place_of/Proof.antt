@@ -16,31 +16,24 @@ Inv-loop area from m path low₀ high₀ low high = (from ≤ low) × (low ≤ f
 abbrev μ-loop : tie.MeasureT-loop
 μ-loop area from m path low₀ high₀ low high = high - low
 
--- src/lib.rt:31:5
 loop-holds : tie.Need-loop-holds Inv-loop μ-loop
 loop-holds c = let a = c .before .before .args in let h = place-most (a .area .now) (a .from) (a .m) (a .path .now) (omega arith) in (omega arith, omega arith, omega arith, omega arith)
 
--- src/lib.rt:32:29
 sub-middle : tie.Need-sub-middle Inv-loop μ-loop
 sub-middle c = search needs
 
--- src/lib.rt:32:22
 add-middle : tie.Need-add-middle Inv-loop μ-loop
 add-middle c = search needs
 
--- src/lib.rt:33:12
 row-precedes-requires : tie.Need-row-precedes-requires Inv-loop μ-loop
 row-precedes-requires c κs = (c .before .before .before .before .pre .0, omega arith)
 
--- src/lib.rt:34:19
 add-low : tie.Need-add-low Inv-loop μ-loop
 add-low c = search needs
 
--- src/lib.rt:31:5
 loop-less : tie.Need-loop-less Inv-loop μ-loop
 loop-less c = search needs
 
--- src/lib.rt:31:5
 loop-again : tie.Need-loop-again Inv-loop μ-loop
 loop-again c =
     let a = c .before .before .before .before .before .before .args in
@@ -48,11 +41,9 @@ loop-again c =
     let h = place-behind (a .area .now) (a .from) (a .m) (a .path .now) (l .low + (l .high - l .low) / 2) (omega arith) (omega arith) (c .before .before .before .before .before .before .pre .2) (sym (c .before .row-precedes .ensures) ∙ c .if1 .taken) in
     (omega arith, omega arith, omega arith, omega arith)
 
--- src/lib.rt:31:5
 loop-less-2 : tie.Need-loop-less-2 Inv-loop μ-loop
 loop-less-2 c = search needs
 
--- src/lib.rt:31:5
 loop-again-2 : tie.Need-loop-again-2 Inv-loop μ-loop
 loop-again-2 c =
     let a = c .before .before .before .before .before .before .args in
@@ -60,7 +51,6 @@ loop-again-2 c =
     let h = place-upto (a .area .now) (a .from) (a .m) (a .path .now) (l .low + (l .high - l .low) / 2) (omega arith) (omega arith) (sym (c .before .row-precedes .ensures) ∙ c .if1 .left) in
     (omega arith, omega arith, omega arith, omega arith)
 
--- src/lib.rt:25:1
 returns : tie.Need-returns Inv-loop μ-loop
 returns c = (omega arith, omega arith, omega arith)
 

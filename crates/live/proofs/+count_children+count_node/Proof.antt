@@ -123,7 +123,6 @@ first-next : (t : ℕ) (c : count-node-lts.After-known-told (
     → NextChild (c .before .before .before .before .before .before .before .before .before .before .before .before .before .before .before .args .store .now) (c .before .before .before .before .before .before .before .before .before .before .before .before .before .before .before .args .num * 1024 + 8) (c .before .before .before .before .before .before .before .before .before .before .before .before .before .before .before .args .num * 1024 + 8 + c .before .before .before .before .before .before .u16-at .result) (c .before .first .given .0 .0) (c .before .first .given .0 .1 .0) (c .before .first .given .0 .1 .1 .0)
 first-next t c = pends-child _ _ _ _ _ _ _ (c .before .before .before .read-child .ensures) (c .before .first .given .1)
 
--- src/lib.rt:283:5
 count-children-loop-holds : (t : ℕ) → count-children-lts.Need-loop-holds (
   read-child-reads.Asked,
   read-child-reads.Learnt,
@@ -134,7 +133,6 @@ count-children-loop-holds : (t : ℕ) → count-children-lts.Need-loop-holds (
 ) (count-children-at t) count-children.Post count-children-Inv-loop count-children-μ-loop
 count-children-loop-holds t c = ((c .before .before .pre .1) .ends, (c .before .before .pre .1) .place, omega arith, (c .before .before .pre .1) .reads, walk-start _)
 
--- src/lib.rt:286:42
 count-kids-read-child-requires : (t : ℕ) → count-children-lts.Need-read-child-requires (
   read-child-reads.Asked,
   read-child-reads.Learnt,
@@ -145,7 +143,6 @@ count-kids-read-child-requires : (t : ℕ) → count-children-lts.Need-read-chil
 ) (count-children-at t) count-children.Post count-children-Inv-loop count-children-μ-loop
 count-kids-read-child-requires t c κs = c .loop .inv .0
 
--- src/lib.rt:286:28
 count-children-enum-known-k : (t : ℕ) → count-children-lts.Need-enum-known-k (
   read-child-reads.Asked,
   read-child-reads.Learnt,
@@ -156,7 +153,6 @@ count-children-enum-known-k : (t : ℕ) → count-children-lts.Need-enum-known-k
 ) (count-children-at t) count-children.Post count-children-Inv-loop count-children-μ-loop
 count-children-enum-known-k t c = search needs
 
--- src/lib.rt:287:62
 count-children-enum-told : (t : ℕ) → count-children-lts.Need-enum-told (
   read-child-reads.Asked,
   read-child-reads.Learnt,
@@ -167,7 +163,6 @@ count-children-enum-told : (t : ℕ) → count-children-lts.Need-enum-told (
 ) (count-children-at t) count-children.Post count-children-Inv-loop count-children-μ-loop
 count-children-enum-told t c = search needs
 
--- src/lib.rt:287:62
 count-children-sub-count-node : (t : ℕ) → count-children-lts.Need-sub-count-node (
   read-child-reads.Asked,
   read-child-reads.Learnt,
@@ -178,7 +173,6 @@ count-children-sub-count-node : (t : ℕ) → count-children-lts.Need-sub-count-
 ) (count-children-at t) count-children.Post count-children-Inv-loop count-children-μ-loop
 count-children-sub-count-node t c = let w = c .before .before .before .loop .inv .1 in omega arith
 
--- src/lib.rt:287:62
 count-children-part-count-node-start : (t : ℕ) → count-children-lts.Need-part-count-node-start (
   read-child-reads.Asked,
   read-child-reads.Learnt,
@@ -189,7 +183,6 @@ count-children-part-count-node-start : (t : ℕ) → count-children-lts.Need-par
 ) (count-children-at t) count-children.Post count-children-Inv-loop count-children-μ-loop
 count-children-part-count-node-start t c = let w = c .before .before .before .loop .inv .1 in omega arith
 
--- src/lib.rt:287:62
 count-children-part-count-node-end : (t : ℕ) → count-children-lts.Need-part-count-node-end (
   read-child-reads.Asked,
   read-child-reads.Learnt,
@@ -200,7 +193,6 @@ count-children-part-count-node-end : (t : ℕ) → count-children-lts.Need-part-
 ) (count-children-at t) count-children.Post count-children-Inv-loop count-children-μ-loop
 count-children-part-count-node-end t c = let w = c .before .before .before .loop .inv .1 in omega arith
 
--- src/lib.rt:287:17
 count-children-count-node-requires : (t : ℕ) → count-children-lts.Need-count-node-requires (
   read-child-reads.Asked,
   read-child-reads.Learnt,
@@ -211,7 +203,6 @@ count-children-count-node-requires : (t : ℕ) → count-children-lts.Need-count
 ) (count-children-at t) count-children.Post count-children-Inv-loop count-children-μ-loop
 count-children-count-node-requires t c κs = (omega arith, child-ready (c .before .before .before .before .before .before .before .args .store .now) (c .before .before .before .before .before .before .before .args .level) (c .before .before .before .before .loop .num) (part (c .before .before .before .before .before .before .before .args .store .now) (c .before .before .before .before .loop .low)) (kidsE (listed (c .before .before .before .before .before .before .before .args .store .now) (c .before .before .before .before .loop .c .at) (c .before .before .before .before .loop .c .end))) (c .before .before .before .before .before .before .before .args .prefix) (c .before .before .before .before .before .before .before .args .trail) (c .before .before .before .before .loop .inv .3) ((c .before .before .before .before .before .before .before .pre .1) .room) ((c .before .before .before .before .before .before .before .pre .1) .trail) ((c .before .before .before .before .before .before .before .pre .1) .deep))
 
--- src/lib.rt:288:13
 count-children-capped-sum-requires : (t : ℕ) → count-children-lts.Need-capped-sum-requires (
   read-child-reads.Asked,
   read-child-reads.Learnt,
@@ -222,7 +213,6 @@ count-children-capped-sum-requires : (t : ℕ) → count-children-lts.Need-cappe
 ) (count-children-at t) count-children.Post count-children-Inv-loop count-children-μ-loop
 count-children-capped-sum-requires t c κs = search needs
 
--- src/lib.rt:288:13
 count-children-returns : (t : ℕ) → count-children-lts.Need-returns (
   read-child-reads.Asked,
   read-child-reads.Learnt,
@@ -233,7 +223,6 @@ count-children-returns : (t : ℕ) → count-children-lts.Need-returns (
 ) (count-children-at t) count-children.Post count-children-Inv-loop count-children-μ-loop
 count-children-returns t c = (walk-last (λ j. treeAt (c .before .before .before .before .before .before .before .before .before .args .level) (c .before .before .before .before .before .before .before .before .before .args .store .now) j) (passing (c .before .before .before .before .before .before .before .before .before .args .store .now) (c .before .before .before .before .before .before .before .before .before .args .trail)) (pathIn (c .before .before .before .before .before .before .before .before .before .args .prefix)) (c .before .before .before .before .before .before .before .before .before .args .hi .now) (c .before .before .before .before .before .before .loop .num) (part (c .before .before .before .before .before .before .before .before .before .args .store .now) (c .before .before .before .before .before .before .loop .low)) _ (c .before .before .before .before .before .before .loop .total) (c .before .count-node .result) _ _ (pends-end _ _ _ _ (c .before .before .before .before .before .read-child .ensures) (c .before .before .before .enum-told .given .1)) (c .before .count-node .ensures .0) (c .capped-sum .ensures .0) (c .before .before .before .before .before .before .loop .inv .4), c .capped-sum .ensures .1)
 
--- src/lib.rt:292:55
 count-children-sub-count-node-2 : (t : ℕ) → count-children-lts.Need-sub-count-node-2 (
   read-child-reads.Asked,
   read-child-reads.Learnt,
@@ -244,7 +233,6 @@ count-children-sub-count-node-2 : (t : ℕ) → count-children-lts.Need-sub-coun
 ) (count-children-at t) count-children.Post count-children-Inv-loop count-children-μ-loop
 count-children-sub-count-node-2 t c = let w = c .before .before .before .before .loop .inv .1 in omega arith
 
--- src/lib.rt:292:55
 count-children-part-count-node-start-2 : (t : ℕ) → count-children-lts.Need-part-count-node-start-2 (
   read-child-reads.Asked,
   read-child-reads.Learnt,
@@ -255,7 +243,6 @@ count-children-part-count-node-start-2 : (t : ℕ) → count-children-lts.Need-p
 ) (count-children-at t) count-children.Post count-children-Inv-loop count-children-μ-loop
 count-children-part-count-node-start-2 t c = let w = c .before .before .before .before .loop .inv .1 in omega arith
 
--- src/lib.rt:292:55
 count-children-part-count-node-end-2 : (t : ℕ) → count-children-lts.Need-part-count-node-end-2 (
   read-child-reads.Asked,
   read-child-reads.Learnt,
@@ -266,7 +253,6 @@ count-children-part-count-node-end-2 : (t : ℕ) → count-children-lts.Need-par
 ) (count-children-at t) count-children.Post count-children-Inv-loop count-children-μ-loop
 count-children-part-count-node-end-2 t c = let w = c .before .before .before .before .loop .inv .1 in omega arith
 
--- src/lib.rt:292:69
 count-children-sub-count-node-3 : (t : ℕ) → count-children-lts.Need-sub-count-node-3 (
   read-child-reads.Asked,
   read-child-reads.Learnt,
@@ -277,7 +263,6 @@ count-children-sub-count-node-3 : (t : ℕ) → count-children-lts.Need-sub-coun
 ) (count-children-at t) count-children.Post count-children-Inv-loop count-children-μ-loop
 count-children-sub-count-node-3 t c = let n = kid-next t (c .before) in let w = n .place in omega arith
 
--- src/lib.rt:292:69
 count-children-part-count-node-start-3 : (t : ℕ) → count-children-lts.Need-part-count-node-start-3 (
   read-child-reads.Asked,
   read-child-reads.Learnt,
@@ -288,7 +273,6 @@ count-children-part-count-node-start-3 : (t : ℕ) → count-children-lts.Need-p
 ) (count-children-at t) count-children.Post count-children-Inv-loop count-children-μ-loop
 count-children-part-count-node-start-3 t c = let n = kid-next t (c .before) in let w = n .place in omega arith
 
--- src/lib.rt:292:69
 count-children-part-count-node-end-3 : (t : ℕ) → count-children-lts.Need-part-count-node-end-3 (
   read-child-reads.Asked,
   read-child-reads.Learnt,
@@ -299,7 +283,6 @@ count-children-part-count-node-end-3 : (t : ℕ) → count-children-lts.Need-par
 ) (count-children-at t) count-children.Post count-children-Inv-loop count-children-μ-loop
 count-children-part-count-node-end-3 t c = let n = kid-next t (c .before) in let w = n .place in omega arith
 
--- src/lib.rt:292:13
 count-children-count-node-requires-2 : (t : ℕ) → count-children-lts.Need-count-node-requires-2 (
   read-child-reads.Asked,
   read-child-reads.Learnt,
@@ -310,7 +293,6 @@ count-children-count-node-requires-2 : (t : ℕ) → count-children-lts.Need-cou
 ) (count-children-at t) count-children.Post count-children-Inv-loop count-children-μ-loop
 count-children-count-node-requires-2 t c κs = (omega arith, child-ready (c .before .before .before .before .before .before .before .before .before .args .store .now) (c .before .before .before .before .before .before .before .before .before .args .level) (c .before .before .before .before .before .before .loop .num) (part (c .before .before .before .before .before .before .before .before .before .args .store .now) (c .before .before .before .before .before .before .loop .low)) (kidsE (listed (c .before .before .before .before .before .before .before .before .before .args .store .now) (c .before .before .before .before .before .before .loop .c .at) (c .before .before .before .before .before .before .loop .c .end))) (c .before .before .before .before .before .before .before .before .before .args .prefix) (c .before .before .before .before .before .before .before .before .before .args .trail) (c .before .before .before .before .before .before .loop .inv .3) ((c .before .before .before .before .before .before .before .before .before .pre .1) .room) ((c .before .before .before .before .before .before .before .before .before .pre .1) .trail) ((c .before .before .before .before .before .before .before .before .before .pre .1) .deep))
 
--- src/lib.rt:293:9
 count-children-capped-sum-requires-2 : (t : ℕ) → count-children-lts.Need-capped-sum-requires-2 (
   read-child-reads.Asked,
   read-child-reads.Learnt,
@@ -321,7 +303,6 @@ count-children-capped-sum-requires-2 : (t : ℕ) → count-children-lts.Need-cap
 ) (count-children-at t) count-children.Post count-children-Inv-loop count-children-μ-loop
 count-children-capped-sum-requires-2 t c κs = search needs
 
--- src/lib.rt:283:5
 count-children-loop-less : (t : ℕ) → count-children-lts.Need-loop-less (
   read-child-reads.Asked,
   read-child-reads.Learnt,
@@ -332,7 +313,6 @@ count-children-loop-less : (t : ℕ) → count-children-lts.Need-loop-less (
 ) (count-children-at t) count-children.Post count-children-Inv-loop count-children-μ-loop
 count-children-loop-less t c = let n = kid-next t (c .before .before .before .before) in omega arith
 
--- src/lib.rt:283:5
 count-children-loop-again : (t : ℕ) → count-children-lts.Need-loop-again (
   read-child-reads.Asked,
   read-child-reads.Learnt,
@@ -350,7 +330,6 @@ count-children-loop-again t c =
       walk-on (λ j. treeAt (c .before .before .before .before .before .before .before .before .before .before .before .args .level) (c .before .before .before .before .before .before .before .before .before .before .before .args .store .now) j) (passing (c .before .before .before .before .before .before .before .before .before .before .before .args .store .now) (c .before .before .before .before .before .before .before .before .before .before .before .args .trail)) (pathIn (c .before .before .before .before .before .before .before .before .before .before .before .args .prefix)) (c .before .before .before .before .before .before .before .before .before .before .before .args .hi .now) (c .before .before .before .before .before .before .before .before .loop .num) (part (c .before .before .before .before .before .before .before .before .before .before .before .args .store .now) (c .before .before .before .before .before .before .before .before .loop .low)) (c .before .before .before .before .before .k .given .0 .0) (part (c .before .before .before .before .before .before .before .before .before .before .before .args .store .now) (c .before .before .before .before .before .k .given .0 .1 .0)) _ (kidsE (listed (c .before .before .before .before .before .before .before .before .before .before .before .args .store .now) ((c .before .before .before .before .before .k .given .0 .1 .1 .0) .at) ((c .before .before .before .before .before .k .given .0 .1 .1 .0) .end))) (c .before .before .before .before .before .before .before .before .loop .total) (c .before .count-node2 .result) _ _ (n .lists) (c .before .count-node2 .ensures .0) (c .capped-sum2 .ensures .0) (c .before .before .before .before .before .before .before .before .loop .inv .4),
     )
 
--- src/lib.rt:251:9
 count-node-common-length-requires : (t : ℕ) → count-node-lts.Need-common-length-requires (
   common-length-reads.Asked,
   common-length-reads.Learnt,
@@ -371,7 +350,6 @@ count-node-common-length-requires : (t : ℕ) → count-node-lts.Need-common-len
 ) (count-node-at t) count-node.Post
 count-node-common-length-requires t c κs = search needs
 
--- src/lib.rt:252:16
 count-node-sub-room : (t : ℕ) → count-node-lts.Need-sub-room (
   common-length-reads.Asked,
   common-length-reads.Learnt,
@@ -392,7 +370,6 @@ count-node-sub-room : (t : ℕ) → count-node-lts.Need-sub-room (
 ) (count-node-at t) count-node.Post
 count-node-sub-room t c = let r = (c .before .before .before .before .before .pre .1) .room in omega arith
 
--- src/lib.rt:254:9
 count-node-returns : (t : ℕ) → count-node-lts.Need-returns (
   common-length-reads.Asked,
   common-length-reads.Learnt,
@@ -413,7 +390,6 @@ count-node-returns : (t : ℕ) → count-node-lts.Need-returns (
 ) (count-node-at t) count-node.Post
 count-node-returns t c = let p : length ((c .before .before .before .before .before .before .args .prefix) .bytes) ≡ 64 = search needs in let r = (c .before .before .before .before .before .before .pre .1) .room in (node-long (c .before .before .before .before .before .before .args .store .now) (c .before .before .before .before .before .before .args .level) (c .before .before .before .before .before .before .args .num) (c .before .before .before .before .before .before .args .prefix) (c .before .before .before .before .before .before .args .trail) (c .before .before .before .before .before .before .pre .1) (c .before .before .before .before .before .before .args .lo .now) (c .before .before .before .before .before .before .args .hi .now) (c .before .before .common-length .result) (c .before .before .common-length .ensures .0) (omega arith) (omega arith), omega arith)
 
--- src/lib.rt:256:44
 count-node-sub-extend : (t : ℕ) → count-node-lts.Need-sub-extend (
   common-length-reads.Asked,
   common-length-reads.Learnt,
@@ -434,7 +410,6 @@ count-node-sub-extend : (t : ℕ) → count-node-lts.Need-sub-extend (
 ) (count-node-at t) count-node.Post
 count-node-sub-extend t c = search needs
 
--- src/lib.rt:256:44
 count-node-part-extend-start : (t : ℕ) → count-node-lts.Need-part-extend-start (
   common-length-reads.Asked,
   common-length-reads.Learnt,
@@ -455,7 +430,6 @@ count-node-part-extend-start : (t : ℕ) → count-node-lts.Need-part-extend-sta
 ) (count-node-at t) count-node.Post
 count-node-part-extend-start t c = search needs
 
--- src/lib.rt:256:44
 count-node-part-extend-end : (t : ℕ) → count-node-lts.Need-part-extend-end (
   common-length-reads.Asked,
   common-length-reads.Learnt,
@@ -476,7 +450,6 @@ count-node-part-extend-end : (t : ℕ) → count-node-lts.Need-part-extend-end (
 ) (count-node-at t) count-node.Post
 count-node-part-extend-end t c = search needs
 
--- src/lib.rt:256:9
 count-node-extend-requires : (t : ℕ) → count-node-lts.Need-extend-requires (
   common-length-reads.Asked,
   common-length-reads.Learnt,
@@ -497,7 +470,6 @@ count-node-extend-requires : (t : ℕ) → count-node-lts.Need-extend-requires (
 ) (count-node-at t) count-node.Post
 count-node-extend-requires t c κs = let l : length (take ((c .before .before .before .common-length .result) - 0) (c .before .before .before .before .before .before .before .args .lo .now)) ≡ (c .before .before .before .common-length .result) - 0 = length-take-le ((c .before .before .before .common-length .result) - 0) (c .before .before .before .before .before .before .before .args .lo .now) (omega arith) in let r = (c .before .before .before .before .before .before .before .pre .1) .room in omega arith
 
--- src/lib.rt:257:14
 count-node-mul-at : (t : ℕ) → count-node-lts.Need-mul-at (
   common-length-reads.Asked,
   common-length-reads.Learnt,
@@ -518,7 +490,6 @@ count-node-mul-at : (t : ℕ) → count-node-lts.Need-mul-at (
 ) (count-node-at t) count-node.Post
 count-node-mul-at t c = let w = node-inside (c .before .before .before .before .before .before .before .before .args .store .now) (c .before .before .before .before .before .before .before .before .args .num) (c .before .before .before .before .before .before .before .before .args .level) ((c .before .before .before .before .before .before .before .before .pre .1) .reads) in omega arith
 
--- src/lib.rt:258:9
 count-node-u16-at-requires : (t : ℕ) → count-node-lts.Need-u16-at-requires (
   common-length-reads.Asked,
   common-length-reads.Learnt,
@@ -539,7 +510,6 @@ count-node-u16-at-requires : (t : ℕ) → count-node-lts.Need-u16-at-requires (
 ) (count-node-at t) count-node.Post
 count-node-u16-at-requires t c κs = let w = node-inside (c .before .before .before .before .before .before .before .before .args .store .now) (c .before .before .before .before .before .before .before .before .args .num) (c .before .before .before .before .before .before .before .before .args .level) ((c .before .before .before .before .before .before .before .before .pre .1) .reads) in omega arith
 
--- src/lib.rt:259:16
 count-node-add-from : (t : ℕ) → count-node-lts.Need-add-from (
   common-length-reads.Asked,
   common-length-reads.Learnt,
@@ -560,7 +530,6 @@ count-node-add-from : (t : ℕ) → count-node-lts.Need-add-from (
 ) (count-node-at t) count-node.Post
 count-node-add-from t c = let w = node-inside (c .before .before .before .before .before .before .before .before .before .args .store .now) (c .before .before .before .before .before .before .before .before .before .args .num) (c .before .before .before .before .before .before .before .before .before .args .level) ((c .before .before .before .before .before .before .before .before .before .pre .1) .reads) in omega arith
 
--- src/lib.rt:260:15
 count-node-add-end : (t : ℕ) → count-node-lts.Need-add-end (
   common-length-reads.Asked,
   common-length-reads.Learnt,
@@ -581,7 +550,6 @@ count-node-add-end : (t : ℕ) → count-node-lts.Need-add-end (
 ) (count-node-at t) count-node.Post
 count-node-add-end t c = let w = node-inside (c .before .before .before .before .before .before .before .before .before .args .store .now) (c .before .before .before .before .before .before .before .before .before .args .num) (c .before .before .before .before .before .before .before .before .before .args .level) ((c .before .before .before .before .before .before .before .before .before .pre .1) .reads) in omega arith
 
--- src/lib.rt:261:9
 count-node-count-entries-requires : (t : ℕ) → count-node-lts.Need-count-entries-requires (
   common-length-reads.Asked,
   common-length-reads.Learnt,
@@ -602,7 +570,6 @@ count-node-count-entries-requires : (t : ℕ) → count-node-lts.Need-count-entr
 ) (count-node-at t) count-node.Post
 count-node-count-entries-requires t c κs = let w = node-inside (c .before .before .before .before .before .before .before .before .before .args .store .now) (c .before .before .before .before .before .before .before .before .before .args .num) (c .before .before .before .before .before .before .before .before .before .args .level) ((c .before .before .before .before .before .before .before .before .before .pre .1) .reads) in let l : length (take ((c .before .before .before .before .before .common-length .result) - 0) (c .before .before .before .before .before .before .before .before .before .args .lo .now)) ≡ (c .before .before .before .before .before .common-length .result) - 0 = length-take-le ((c .before .before .before .before .before .common-length .result) - 0) (c .before .before .before .before .before .before .before .before .before .args .lo .now) (omega arith) in let r = (c .before .before .before .before .before .before .before .before .before .pre .1) .room in (omega arith, omega arith, omega arith, trail-wider (c .before .before .before .before .before .before .before .before .before .args .store .now) ((c .before .before .before .before .before .before .before .before .before .args .prefix) .len) ((c .before .extend .result) .len) (c .before .before .before .before .before .before .before .before .before .args .trail) (omega arith) ((c .before .before .before .before .before .before .before .before .before .pre .1) .trail))
 
--- src/lib.rt:263:9
 count-node-returns-2 : (t : ℕ) → count-node-lts.Need-returns-2 (
   common-length-reads.Asked,
   common-length-reads.Learnt,
@@ -623,7 +590,6 @@ count-node-returns-2 : (t : ℕ) → count-node-lts.Need-returns-2 (
 ) (count-node-at t) count-node.Post
 count-node-returns-2 t c = let w = node-inside (c .before .before .before .before .before .before .before .before .before .before .before .args .store .now) (c .before .before .before .before .before .before .before .before .before .before .before .args .num) (c .before .before .before .before .before .before .before .before .before .before .before .args .level) ((c .before .before .before .before .before .before .before .before .before .before .before .pre .1) .reads) in (node-leaf (c .before .before .before .before .before .before .before .before .before .before .before .args .store .now) (c .before .before .before .before .before .before .before .before .before .before .before .args .level) (c .before .before .before .before .before .before .before .before .before .before .before .args .num) (c .before .before .before .before .before .before .before .before .before .before .before .args .prefix) (c .before .before .before .before .before .before .before .before .before .before .before .args .trail) (c .before .before .before .before .before .before .before .before .before .before .before .pre .1) (c .before .before .before .before .before .before .before .before .before .before .before .args .lo .now) (c .before .before .before .before .before .before .before .before .before .before .before .args .hi .now) (c .before .before .before .before .before .before .before .common-length .result) (c .before .before .before .before .before .before .before .common-length .ensures .0) (c .before .before .before .extend .result) (c .before .before .before .extend .ensures .0) (c .before .before .u16-at .result) (c .before .count-entries .result) (c .before .before .u16-at .ensures .0) (c .before .count-entries .ensures .0) (omega arith) (omega arith), omega arith)
 
--- src/lib.rt:265:46
 count-node-read-child-requires : (t : ℕ) → count-node-lts.Need-read-child-requires (
   common-length-reads.Asked,
   common-length-reads.Learnt,
@@ -644,7 +610,6 @@ count-node-read-child-requires : (t : ℕ) → count-node-lts.Need-read-child-re
 ) (count-node-at t) count-node.Post
 count-node-read-child-requires t c κs = let w = node-inside (c .before .before .before .before .before .before .before .before .before .before .before .args .store .now) (c .before .before .before .before .before .before .before .before .before .before .before .args .num) (c .before .before .before .before .before .before .before .before .before .before .before .args .level) ((c .before .before .before .before .before .before .before .before .before .before .before .pre .1) .reads) in omega arith
 
--- src/lib.rt:265:24
 count-node-enum-known-first : (t : ℕ) → count-node-lts.Need-enum-known-first (
   common-length-reads.Asked,
   common-length-reads.Learnt,
@@ -665,7 +630,6 @@ count-node-enum-known-first : (t : ℕ) → count-node-lts.Need-enum-known-first
 ) (count-node-at t) count-node.Post
 count-node-enum-known-first t c = search needs
 
--- src/lib.rt:266:9
 count-node-enum-told : (t : ℕ) → count-node-lts.Need-enum-told (
   common-length-reads.Asked,
   common-length-reads.Learnt,
@@ -686,7 +650,6 @@ count-node-enum-told : (t : ℕ) → count-node-lts.Need-enum-told (
 ) (count-node-at t) count-node.Post
 count-node-enum-told t c = search needs
 
--- src/lib.rt:266:9
 count-node-returns-3 : (t : ℕ) → count-node-lts.Need-returns-3 (
   common-length-reads.Asked,
   common-length-reads.Learnt,
@@ -707,7 +670,6 @@ count-node-returns-3 : (t : ℕ) → count-node-lts.Need-returns-3 (
 ) (count-node-at t) count-node.Post
 count-node-returns-3 t c = let w = node-inside (c .before .before .before .before .before .before .before .before .before .before .before .before .before .before .args .store .now) (c .before .before .before .before .before .before .before .before .before .before .before .before .before .before .args .num) (c .before .before .before .before .before .before .before .before .before .before .before .before .before .before .args .level) ((c .before .before .before .before .before .before .before .before .before .before .before .before .before .before .pre .1) .reads) in (node-bare (c .before .before .before .before .before .before .before .before .before .before .before .before .before .before .args .store .now) (c .before .before .before .before .before .before .before .before .before .before .before .before .before .before .args .level) (c .before .before .before .before .before .before .before .before .before .before .before .before .before .before .args .num) (c .before .before .before .before .before .before .before .before .before .before .before .before .before .before .args .prefix) (c .before .before .before .before .before .before .before .before .before .before .before .before .before .before .args .trail) (c .before .before .before .before .before .before .before .before .before .before .before .before .before .before .pre .1) (c .before .before .before .before .before .before .before .before .before .before .before .before .before .before .args .lo .now) (c .before .before .before .before .before .before .before .before .before .before .before .before .before .before .args .hi .now) (c .before .before .before .before .before .before .before .before .before .before .common-length .result) (c .before .before .before .before .before .before .before .before .before .before .common-length .ensures .0) (c .before .before .before .before .before .before .extend .result) (c .before .before .before .before .before .before .extend .ensures .0) (c .before .before .before .before .before .u16-at .result) (c .before .before .before .before .count-entries .result) (c .before .before .before .before .before .u16-at .ensures .0) (c .before .before .before .before .count-entries .ensures .0) (omega arith) (omega arith) (pends-end _ _ _ _ (c .before .before .read-child .ensures) (c .enum-told .given .1)), omega arith)
 
--- src/lib.rt:269:9
 count-node-lengthen-trail-requires : (t : ℕ) → count-node-lts.Need-lengthen-trail-requires (
   common-length-reads.Asked,
   common-length-reads.Learnt,
@@ -728,7 +690,6 @@ count-node-lengthen-trail-requires : (t : ℕ) → count-node-lts.Need-lengthen-
 ) (count-node-at t) count-node.Post
 count-node-lengthen-trail-requires t c κs = let l : length (take ((c .before .before .before .before .before .before .before .before .before .before .before .common-length .result) - 0) (c .before .before .before .before .before .before .before .before .before .before .before .before .before .before .before .args .lo .now)) ≡ (c .before .before .before .before .before .before .before .before .before .before .before .common-length .result) - 0 = length-take-le ((c .before .before .before .before .before .before .before .before .before .before .before .common-length .result) - 0) (c .before .before .before .before .before .before .before .before .before .before .before .before .before .before .before .args .lo .now) (omega arith) in let d = (c .before .before .before .before .before .before .before .before .before .before .before .before .before .before .before .pre .1) .deep in (omega arith, trail-wider (c .before .before .before .before .before .before .before .before .before .before .before .before .before .before .before .args .store .now) ((c .before .before .before .before .before .before .before .before .before .before .before .before .before .before .before .args .prefix) .len) ((c .before .before .before .before .before .before .before .extend .result) .len) (c .before .before .before .before .before .before .before .before .before .before .before .before .before .before .before .args .trail) (omega arith) ((c .before .before .before .before .before .before .before .before .before .before .before .before .before .before .before .pre .1) .trail), node-above (c .before .before .before .before .before .before .before .before .before .before .before .before .before .before .before .args .store .now) (c .before .before .before .before .before .before .before .before .before .before .before .before .before .before .before .args .level) (c .before .before .before .before .before .before .before .before .before .before .before .before .before .before .before .args .num) ((c .before .before .before .before .before .before .before .extend .result) .len) ((c .before .before .before .before .before .before .before .before .before .before .before .before .before .before .before .pre .1) .reads))
 
--- src/lib.rt:270:51
 count-node-sub-count-children : (t : ℕ) → count-node-lts.Need-sub-count-children (
   common-length-reads.Asked,
   common-length-reads.Learnt,
@@ -749,7 +710,6 @@ count-node-sub-count-children : (t : ℕ) → count-node-lts.Need-sub-count-chil
 ) (count-node-at t) count-node.Post
 count-node-sub-count-children t c = search needs
 
--- src/lib.rt:270:68
 count-node-sub-count-children-2 : (t : ℕ) → count-node-lts.Need-sub-count-children-2 (
   common-length-reads.Asked,
   common-length-reads.Learnt,
@@ -770,7 +730,6 @@ count-node-sub-count-children-2 : (t : ℕ) → count-node-lts.Need-sub-count-ch
 ) (count-node-at t) count-node.Post
 count-node-sub-count-children-2 t c = search needs
 
--- src/lib.rt:270:68
 count-node-part-count-children-start : (t : ℕ) → count-node-lts.Need-part-count-children-start (
   common-length-reads.Asked,
   common-length-reads.Learnt,
@@ -791,7 +750,6 @@ count-node-part-count-children-start : (t : ℕ) → count-node-lts.Need-part-co
 ) (count-node-at t) count-node.Post
 count-node-part-count-children-start t c = search needs
 
--- src/lib.rt:270:68
 count-node-part-count-children-end : (t : ℕ) → count-node-lts.Need-part-count-children-end (
   common-length-reads.Asked,
   common-length-reads.Learnt,
@@ -812,7 +770,6 @@ count-node-part-count-children-end : (t : ℕ) → count-node-lts.Need-part-coun
 ) (count-node-at t) count-node.Post
 count-node-part-count-children-end t c = search needs
 
--- src/lib.rt:270:9
 count-node-count-children-requires : (t : ℕ) → count-node-lts.Need-count-children-requires (
   common-length-reads.Asked,
   common-length-reads.Learnt,
@@ -835,7 +792,6 @@ count-node-count-children-requires t c κs =
     let q = c .before .before .before .before .before .before .before .before .before .before .before .before .before .before .before .before .before .pre .0 in let m = c .before .before .before .before .before .before .before .before .before .before .before .before .before .common-length .ensures .1 in let g = c .before .before .before .before .before .before .before .before .before .before .before .if1 .left in let x = c .before .before .before .before .before .before .before .before .before .extend .ensures .1 in let v = c .before .before .before .before .before .before .if2 .left in let w = node-inside (c .before .before .before .before .before .before .before .before .before .before .before .before .before .before .before .before .before .args .store .now) (c .before .before .before .before .before .before .before .before .before .before .before .before .before .before .before .before .before .args .num) (c .before .before .before .before .before .before .before .before .before .before .before .before .before .before .before .before .before .args .level) ((c .before .before .before .before .before .before .before .before .before .before .before .before .before .before .before .before .before .pre .1) .reads) in let l : length (take ((c .before .before .before .before .before .before .before .before .before .before .before .before .before .common-length .result) - 0) (c .before .before .before .before .before .before .before .before .before .before .before .before .before .before .before .before .before .args .lo .now)) ≡ (c .before .before .before .before .before .before .before .before .before .before .before .before .before .common-length .result) - 0 = length-take-le ((c .before .before .before .before .before .before .before .before .before .before .before .before .before .common-length .result) - 0) (c .before .before .before .before .before .before .before .before .before .before .before .before .before .before .before .before .before .args .lo .now) (omega arith) in let r = (c .before .before .before .before .before .before .before .before .before .before .before .before .before .before .before .before .before .pre .1) .room in let n = first-next t (c .before .before) in
     (omega arith, kids-ready (c .before .before .before .before .before .before .before .before .before .before .before .before .before .before .before .before .before .args .store .now) (c .before .before .before .before .before .before .before .before .before .before .before .before .before .before .before .before .before .args .level) (c .before .before .before .before .before .before .before .before .before .before .before .before .before .before .before .before .before .args .num) (c .before .before .before .before .before .before .before .before .before .before .before .before .before .before .before .before .before .args .prefix) (c .before .before .before .before .before .before .before .before .before .before .before .before .before .before .before .before .before .args .trail) (c .before .before .before .before .before .before .before .before .before .before .before .before .before .before .before .before .before .pre .1) (c .before .before .before .before .before .before .before .before .before .before .before .before .before .before .before .before .before .args .lo .now) (c .before .before .before .before .before .before .before .before .before .before .before .before .before .before .before .before .before .args .hi .now) (c .before .before .before .before .before .before .before .before .before .before .before .before .before .common-length .result) (c .before .before .before .before .before .before .before .before .before .before .before .before .before .common-length .ensures .0) (c .before .before .before .before .before .before .before .before .before .extend .result) (c .before .before .before .before .before .before .before .before .before .extend .ensures .0) (c .before .before .before .before .before .before .before .before .u16-at .result) (c .before .before .before .before .before .before .before .count-entries .result) (c .before .before .before .before .before .before .before .before .u16-at .ensures .0) (c .before .before .before .before .before .before .before .count-entries .ensures .0) (omega arith) (c .before .before .before .first .given .0 .0) (c .before .before .before .first .given .0 .1 .0) (c .before .before .before .first .given .0 .1 .1 .0) (first-next t (c .before .before)) (c .before .lengthen-trail .result) (c .before .lengthen-trail .ensures) (omega arith) (omega arith))
 
--- src/lib.rt:271:5
 count-node-capped-sum-requires : (t : ℕ) → count-node-lts.Need-capped-sum-requires (
   common-length-reads.Asked,
   common-length-reads.Learnt,
@@ -856,7 +812,6 @@ count-node-capped-sum-requires : (t : ℕ) → count-node-lts.Need-capped-sum-re
 ) (count-node-at t) count-node.Post
 count-node-capped-sum-requires t c κs = search needs
 
--- src/lib.rt:247:1
 count-node-returns-4 : (t : ℕ) → count-node-lts.Need-returns-4 (
   common-length-reads.Asked,
   common-length-reads.Learnt,

@@ -5,11 +5,9 @@ use native.Mathlib.Omega.{arith}
 use Rattle.live.proofs.as_number.Statement.{statement}
 use Rattle.live.proofs.as_number.Tie as tie
 
--- src/lib.rt:146:9
 returns : tie.Need-returns
 returns c = (one-yes _ (c .if1 .taken), omega arith)
 
--- src/lib.rt:142:1
 returns-2 : tie.Need-returns-2
 returns-2 c = (one-not _ (c .if1 .left), omega arith)
 

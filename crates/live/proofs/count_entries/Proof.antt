@@ -23,47 +23,36 @@ abbrev μ-loop : tie.MeasureT-loop
 next-is : (c : tie.After-known-told Inv-loop μ-loop) → Next (c .before .before .before .before .before .before .before .before .args .store .now) (c .before .before .before .before .before .before .loop .c .at) (c .before .before .before .before .before .before .loop .c .end) (c .before .e .given .0 .0) (c .before .e .given .0 .1 .0)
 next-is c = step-read-is _ _ _ _ _ _ (c .before .before .before .step .ensures) (c .before .e .given .1)
 
--- src/lib.rt:158:5
 loop-holds : tie.Need-loop-holds Inv-loop μ-loop
 loop-holds c = (refl, search needs, omega arith, omega arith)
 
--- src/lib.rt:159:35
 step-requires : tie.Need-step-requires Inv-loop μ-loop
 step-requires c κs = omega arith
 
--- src/lib.rt:159:24
 enum-known-e : tie.Need-enum-known-e Inv-loop μ-loop
 enum-known-e c = search needs
 
--- src/lib.rt:160:13
 enum-told : tie.Need-enum-told Inv-loop μ-loop
 enum-told c = search needs
 
--- src/lib.rt:160:13
 returns : tie.Need-returns Inv-loop μ-loop
 returns c = (count-end _ _ _ _ _ (step-bad-is _ _ _ _ (c .before .before .step .ensures) (c .enum-told .given .1) .1) (c .before .before .before .before .before .loop .inv .3), omega arith)
 
--- src/lib.rt:162:27
 entry-decides-requires : tie.Need-entry-decides-requires Inv-loop μ-loop
 entry-decides-requires c κs = let n = next-is (c) in (c .before .before .before .before .before .before .before .before .pre .2, c .before .before .before .before .before .before .before .before .pre .3, entry-wider (c .before .before .before .before .before .before .loop .c .at) (c .before .before .before .before .before .before .loop .c .end) 0 (length (c .before .before .before .before .before .before .before .before .args .store .now)) (c .before .e .given .0 .0) (omega arith) (omega arith) (n .reachable), omega arith)
 
--- src/lib.rt:162:17
 as-number-requires : tie.Need-as-number-requires Inv-loop μ-loop
 as-number-requires c κs = search needs
 
--- src/lib.rt:162:13
 add-n : tie.Need-add-n Inv-loop μ-loop
 add-n c = let n = next-is (c .before .before) in omega arith
 
--- src/lib.rt:158:5
 loop-less : tie.Need-loop-less Inv-loop μ-loop
 loop-less c = let n = next-is (c .before .before) in omega arith
 
--- src/lib.rt:158:5
 loop-again : tie.Need-loop-again Inv-loop μ-loop
 loop-again c = let n = next-is (c .before .before) in (n .ends ∙ c .before .before .before .before .before .before .before .before .loop .inv .0, omega arith, omega arith, count-step _ _ (c .before .before .before .before .before .before .before .before .before .before .args .store .now) (c .before .before .before .e .given .0 .0) _ _ _ _ _ (c .before .entry-decides .result) (n .lists) (c .before .entry-decides .ensures) (c .as-number .ensures .0) (c .before .before .before .before .before .before .before .before .loop .inv .3))
 
--- src/lib.rt:152:1
 returns-2 : tie.Need-returns-2 Inv-loop μ-loop
 returns-2 c = (count-end _ _ _ _ _ (listed-end _ _ _ (omega arith)) (c .before .before .loop .inv .3), omega arith)
 

@@ -13,47 +13,36 @@ use Rattle.live.proofs.entry_decides.Tie as tie
 place-in : (c : tie.After-known-told) → Within 0 (length (c .before .before .before .before .args .store .now)) (c .before .e .given .0 .0)
 place-in c = subst (EntryWithin 0 (length (c .before .before .before .before .args .store .now))) (c .before .e .given .1) (c .before .before .before .before .pre .2) .0
 
--- src/lib.rt:132:21
 enum-known-e : tie.Need-enum-known-e
 enum-known-e c = search needs
 
--- src/lib.rt:135:43
 sub-is-live : tie.Need-sub-is-live
 sub-is-live c = let w = place-in c in omega arith
 
--- src/lib.rt:135:43
 part-is-live-start : tie.Need-part-is-live-start
 part-is-live-start c = let w = place-in c in omega arith
 
--- src/lib.rt:135:43
 part-is-live-end : tie.Need-part-is-live-end
 part-is-live-end c = let w = place-in c in omega arith
 
--- src/lib.rt:135:13
 is-live-requires : tie.Need-is-live-requires
 is-live-requires c κs = search needs
 
--- src/lib.rt:137:31
 enum-told : tie.Need-enum-told
 enum-told c = search needs
 
--- src/lib.rt:138:24
 enum-known-e-2 : tie.Need-enum-known-e-2
 enum-known-e-2 c = search needs
 
--- src/lib.rt:138:30
 message-decides-requires : tie.Need-message-decides-requires
 message-decides-requires c κs = (c .before .before .before .before .pre .0, c .before .before .before .before .pre .1, message-places _ _ _ (c .before .before .before .before .pre .2) (c .before .e2 .given .1), c .before .before .before .before .pre .3)
 
--- src/lib.rt:127:1
 returns : tie.Need-returns
 returns c = pair-decides _ _ _ _ _ _ _ _ (c .before .before .before .e .given .1) (c .is-live .ensures)
 
--- src/lib.rt:127:1
 returns-2 : tie.Need-returns-2
 returns-2 c = child-decides _ _ _ _ _ _ _ (c .enum-told .given .1)
 
--- src/lib.rt:127:1
 returns-3 : tie.Need-returns-3
 returns-3 c = message-decides _ _ _ _ _ _ _ (c .before .before .e2 .given .1) (c .message-decides .ensures)
 

@@ -9,42 +9,33 @@ use borrow.Author.Needs.{needs}
 use Rattle.live.proofs.is_live.Statement.{statement}
 use Rattle.live.proofs.is_live.Tie as tie
 
--- src/lib.rt:91:16
 sub-room : tie.Need-sub-room
 sub-room c = search needs
 
--- src/lib.rt:93:9
 returns : tie.Need-returns
 returns c = let h : length (c .before .before .before .before .args .prefix .bytes) ≡ 64 = search needs in key-long _ (c .before .before .before .before .args .prefix) (c .before .before .before .before .args .trail) _ (omega arith) (omega arith)
 
--- src/lib.rt:96:9
 returns-2 : tie.Need-returns-2
 returns-2 c = let h : length (c .before .before .before .before .before .before .args .prefix .bytes) ≡ 64 = search needs in key-free _ (c .before .before .before .before .before .before .args .prefix) (c .before .before .before .before .before .before .args .trail) _ (omega arith) (omega arith) (omega arith)
 
--- src/lib.rt:98:9
 extend-requires : tie.Need-extend-requires
 extend-requires c κs = search needs
 
--- src/lib.rt:101:27
 sub-is-visible : tie.Need-sub-is-visible
 sub-is-visible c = search needs
 
--- src/lib.rt:101:27
 part-is-visible-start : tie.Need-part-is-visible-start
 part-is-visible-start c = search needs
 
--- src/lib.rt:101:27
 part-is-visible-end : tie.Need-part-is-visible-end
 part-is-visible-end c = let h : length (c .before .before .extend .result .bytes) ≡ 64 = search needs in let p : length (c .before .before .before .before .before .before .before .before .before .args .prefix .bytes) ≡ 64 = search needs in omega arith
 
--- src/lib.rt:101:5
 is-visible-requires : tie.Need-is-visible-requires
 is-visible-requires c κs =
     let p : length (c .before .before .before .before .before .before .before .before .before .before .args .prefix .bytes) ≡ 64 = search needs in
     let l = key-length (c .before .before .before .before .before .before .before .before .before .before .args .prefix) (c .before .before .before .extend .result) _ (omega arith) (c .before .before .before .extend .ensures .0) in
     (omega arith, trail-wider _ (c .before .before .before .before .before .before .before .before .before .before .args .prefix .len) _ _ (omega arith) (c .before .before .before .before .before .before .before .before .before .before .pre .1))
 
--- src/lib.rt:87:1
 returns-3 : tie.Need-returns-3
 returns-3 c = key-passes _ (c .before .before .before .before .before .before .before .before .before .before .before .args .prefix) (c .before .before .before .before .extend .result) (c .before .before .before .before .before .before .before .before .before .before .before .args .trail) _ _ _ _ refl refl (c .before .before .before .before .extend .ensures .0) (c .is-visible .ensures)
 

@@ -5,31 +5,24 @@ use borrow.Author.Needs.{needs}
 use Rattle.live.proofs.is_silent.Statement.{statement}
 use Rattle.live.proofs.is_silent.Tie as tie
 
--- src/lib.rt:48:9
 newest-requires : tie.Need-newest-requires
 newest-requires c κs = search needs
 
--- src/lib.rt:50:26
 enum-told : tie.Need-enum-told
 enum-told c = search needs
 
--- src/lib.rt:51:24
 enum-told-2 : tie.Need-enum-told-2
 enum-told-2 c = search needs
 
--- src/lib.rt:52:28
 enum-told-3 : tie.Need-enum-told-3
 enum-told-3 c = search needs
 
--- src/lib.rt:44:1
 returns : tie.Need-returns
 returns c = heard-silent _ _ _ (c .before .before .newest .ensures) (c .enum-told .given .1)
 
--- src/lib.rt:44:1
 returns-2 : tie.Need-returns-2
 returns-2 c = heard-gone _ _ _ (c .before .before .newest .ensures) (c .enum-told2 .given .1)
 
--- src/lib.rt:44:1
 returns-3 : tie.Need-returns-3
 returns-3 c = heard-value _ _ _ (c .before .before .newest .ensures) _ (c .enum-told3 .given .1)
 

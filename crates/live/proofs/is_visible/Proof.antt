@@ -15,59 +15,45 @@ Inv-loop store path nodes lifts d₀ d = (d ≤ d₀) × (d₀ ≤ 8) × (passes
 abbrev μ-loop : tie.MeasureT-loop
 μ-loop store path nodes lifts d₀ d = d
 
--- src/lib.rt:75:5
 loop-holds : tie.Need-loop-holds Inv-loop μ-loop
 loop-holds c = (omega arith, search needs, refl)
 
--- src/lib.rt:76:9
 sub-d : tie.Need-sub-d Inv-loop μ-loop
 sub-d c = search needs
 
--- src/lib.rt:77:19
 mul-num : tie.Need-mul-num Inv-loop μ-loop
 mul-num c = search needs
 
--- src/lib.rt:77:19
 array-read-num : tie.Need-array-read-num Inv-loop μ-loop
 array-read-num c = search needs
 
--- src/lib.rt:78:17
 mul-k : tie.Need-mul-k Inv-loop μ-loop
 mul-k c = search needs
 
--- src/lib.rt:78:17
 array-read-k : tie.Need-array-read-k Inv-loop μ-loop
 array-read-k c = search needs
 
--- src/lib.rt:79:37
 sub-is-node-silent : tie.Need-sub-is-node-silent Inv-loop μ-loop
 sub-is-node-silent c = let a = c .before .before .before .before .before .before .pre .1 .each (c .before .loop .d - 1) (omega arith) in omega arith
 
--- src/lib.rt:79:37
 part-is-node-silent-start : tie.Need-part-is-node-silent-start Inv-loop μ-loop
 part-is-node-silent-start c = let a = c .before .before .before .before .before .before .pre .1 .each (c .before .loop .d - 1) (omega arith) in omega arith
 
--- src/lib.rt:79:37
 part-is-node-silent-end : tie.Need-part-is-node-silent-end Inv-loop μ-loop
 part-is-node-silent-end c = search needs
 
--- src/lib.rt:79:13
 is-node-silent-requires : tie.Need-is-node-silent-requires Inv-loop μ-loop
 is-node-silent-requires c κs = let a = c .before .before .before .before .before .before .before .pre .1 .each (c .before .before .loop .d - 1) (omega arith) in (a .inside, a .fits)
 
--- src/lib.rt:80:13
 returns : tie.Need-returns Inv-loop μ-loop
 returns c = trail-hears _ _ _ _ _ _ _ (omega arith) (c .before .before .before .before .loop .inv .2) (c .before .is-node-silent .ensures) (c .if1 .taken)
 
--- src/lib.rt:75:5
 loop-less : tie.Need-loop-less Inv-loop μ-loop
 loop-less c = search needs
 
--- src/lib.rt:75:5
 loop-again : tie.Need-loop-again Inv-loop μ-loop
 loop-again c = (omega arith, omega arith, trail-quiet _ _ _ _ _ _ _ (omega arith) (c .before .before .before .before .loop .inv .2) (c .before .is-node-silent .ensures) (c .if1 .left))
 
--- src/lib.rt:68:1
 returns-2 : tie.Need-returns-2 Inv-loop μ-loop
 returns-2 c = trail-over _ _ _ _ _ _ (omega arith) (omega arith) (c .before .loop .inv .2)
 

@@ -7,35 +7,27 @@ use borrow.Author.Needs.{needs}
 use Rattle.live.proofs.lengthen_trail.Statement.{statement}
 use Rattle.live.proofs.lengthen_trail.Tie as tie
 
--- src/lib.rt:212:14
 mul-at : tie.Need-mul-at
 mul-at c = search needs
 
--- src/lib.rt:213:9
 u16-at-requires : tie.Need-u16-at-requires
 u16-at-requires c κs = search needs
 
--- src/lib.rt:214:16
 add-from : tie.Need-add-from
 add-from c = search needs
 
--- src/lib.rt:215:35
 add-has-messages : tie.Need-add-has-messages
 add-has-messages c = search needs
 
--- src/lib.rt:215:9
 has-messages-requires : tie.Need-has-messages-requires
 has-messages-requires c κs = search needs
 
--- src/lib.rt:216:9
 returns : tie.Need-returns
 returns c = same-trail _ _ _ _ (c .before .before .before .before .pre .1) (c .before .before .before .before .pre .0) _ _ (c .before .before .u16-at .ensures .0) (c .before .has-messages .ensures) (c .if1 .taken)
 
--- src/lib.rt:218:5
 push-requires : tie.Need-push-requires
 push-requires c κs = search needs
 
--- src/lib.rt:208:1
 returns-2 : tie.Need-returns-2
 returns-2 c =
     let n : length (c .before .before .before .before .before .args .trail .nodes) ≡ 8 = search needs in

@@ -7,35 +7,27 @@ use borrow.Author.Needs.{needs}
 use Rattle.live.proofs.live_count.Statement.{statement}
 use Rattle.live.proofs.live_count.Tie as tie
 
--- src/lib.rt:305:9
 u16-at-requires : tie.Need-u16-at-requires
 u16-at-requires c κs = let l = one-node (c .before .args .store .now) (c .before .pre) in omega arith
 
--- src/lib.rt:306:9
 u16-at-requires-2 : tie.Need-u16-at-requires-2
 u16-at-requires-2 c κs = let l = one-node (c .before .before .args .store .now) (c .before .before .pre) in omega arith
 
--- src/lib.rt:314:45
 sub-count-node : tie.Need-sub-count-node
 sub-count-node c = search needs
 
--- src/lib.rt:314:45
 part-count-node-start : tie.Need-part-count-node-start
 part-count-node-start c = search needs
 
--- src/lib.rt:314:45
 part-count-node-end : tie.Need-part-count-node-end
 part-count-node-end c = search needs
 
--- src/lib.rt:314:56
 slice-aggregate-count-node : tie.Need-slice-aggregate-count-node
 slice-aggregate-count-node c = search needs
 
--- src/lib.rt:314:5
 count-node-requires : tie.Need-count-node-requires
 count-node-requires c κs = root-ready (c .before .before .before .before .before .before .args .store .now) (c .before .before .before .before .before .before .pre) _ _ (c .before .before .before .before .u16-at .ensures .0) (c .before .before .before .u16-at2 .ensures .0) _ _ refl refl
 
--- src/lib.rt:301:1
 returns : tie.Need-returns
 returns c = root-counts (c .before .before .before .before .before .before .before .args .store .now) (c .before .before .before .before .before .before .before .pre) _ _ (c .before .before .before .before .before .u16-at .ensures .0) (c .before .before .before .before .u16-at2 .ensures .0) _ _ _ _ refl refl refl (c .count-node .ensures .0)
 

@@ -12,63 +12,48 @@ use Rattle.live.proofs.message_decides.Tie as tie
 place-in : (c : tie.After-known-told) → Within 0 (length (c .before .before .before .before .args .store .now)) (c .before .m .given .0 .0)
 place-in c = put-places _ _ _ _ (c .before .before .before .before .pre .2) (c .before .m .given .1) .0
 
--- src/lib.rt:111:22
 enum-known-m : tie.Need-enum-known-m
 enum-known-m c = search needs
 
--- src/lib.rt:116:42
 sub-is-silent : tie.Need-sub-is-silent
 sub-is-silent c = let w = place-in c in omega arith
 
--- src/lib.rt:116:42
 part-is-silent-start : tie.Need-part-is-silent-start
 part-is-silent-start c = let w = place-in c in omega arith
 
--- src/lib.rt:116:42
 part-is-silent-end : tie.Need-part-is-silent-end
 part-is-silent-end c = let w = place-in c in omega arith
 
--- src/lib.rt:116:17
 is-silent-requires : tie.Need-is-silent-requires
 is-silent-requires c κs = search needs
 
--- src/lib.rt:117:17
 returns : tie.Need-returns
 returns c = put-hidden _ _ _ _ _ _ _ _ (c .before .before .before .before .m .given .1) (c .before .is-silent .ensures) (c .if1 .taken)
 
--- src/lib.rt:119:43
 sub-is-live : tie.Need-sub-is-live
 sub-is-live c = let w = place-in (c .before .before .before) in omega arith
 
--- src/lib.rt:119:43
 part-is-live-start : tie.Need-part-is-live-start
 part-is-live-start c = let w = place-in (c .before .before .before) in omega arith
 
--- src/lib.rt:119:43
 part-is-live-end : tie.Need-part-is-live-end
 part-is-live-end c = let w = place-in (c .before .before .before) in omega arith
 
--- src/lib.rt:119:13
 is-live-requires : tie.Need-is-live-requires
 is-live-requires c κs = search needs
 
--- src/lib.rt:121:29
 enum-told : tie.Need-enum-told
 enum-told c = search needs
 
--- src/lib.rt:122:30
 enum-told-2 : tie.Need-enum-told-2
 enum-told-2 c = search needs
 
--- src/lib.rt:106:1
 returns-2 : tie.Need-returns-2
 returns-2 c = put-decides _ _ _ _ _ _ _ _ _ (c .before .before .before .before .before .before .m .given .1) (c .before .before .before .is-silent .ensures) (c .before .before .if1 .left) (c .is-live .ensures)
 
--- src/lib.rt:106:1
 returns-3 : tie.Need-returns-3
 returns-3 c = drop-decides _ _ _ _ _ _ (c .enum-told .given .1)
 
--- src/lib.rt:106:1
 returns-4 : tie.Need-returns-4
 returns-4 c = clear-decides _ _ _ _ _ _ (c .enum-told2 .given .1)
 

@@ -11,39 +11,30 @@ use Rattle.live.proofs.read_child.Tie as tie
 next-is : (c : tie.After-known-told) → Next (c .before .before .before .before .before .args .store .now) (c .before .before .before .before .before .args .c .at) (c .before .before .before .before .before .args .c .end) (c .before .e .given .0 .0) (c .before .e .given .0 .1 .0)
 next-is c = step-read-is _ _ _ _ _ _ (c .before .before .before .step .ensures) (c .before .e .given .1)
 
--- src/lib.rt:237:31
 step-requires : tie.Need-step-requires
 step-requires c κs = search needs
 
--- src/lib.rt:237:20
 enum-known-e : tie.Need-enum-known-e
 enum-known-e c = search needs
 
--- src/lib.rt:238:9
 enum-told : tie.Need-enum-told
 enum-told c = search needs
 
--- src/lib.rt:238:9
 returns : tie.Need-returns
 returns c = child-bad _ _ _ (step-bad-is _ _ _ _ (c .before .before .step .ensures) (c .enum-told .given .1) .1)
 
--- src/lib.rt:240:25
 kid-of-requires : tie.Need-kid-of-requires
 kid-of-requires c κs = search needs
 
--- src/lib.rt:240:17
 enum-known-k : tie.Need-enum-known-k
 enum-known-k c = search needs
 
--- src/lib.rt:241:9
 enum-told-2 : tie.Need-enum-told-2
 enum-told-2 c = search needs
 
--- src/lib.rt:241:9
 returns-2 : tie.Need-returns-2
 returns-2 c = child-other _ _ _ _ _ (next-is (c .before .before .before)) (sym (c .before .before .kid-of .ensures) ∙ c .enum-told2 .given .1)
 
--- src/lib.rt:233:1
 returns-3 : tie.Need-returns-3
 returns-3 c = child-next _ _ _ _ _ _ _ (c .before .before .before .before .before .before .before .before .before .pre) (next-is (c .before .before .before .before)) (sym (c .before .before .before .kid-of .ensures) ∙ c .before .k .given .1)
 

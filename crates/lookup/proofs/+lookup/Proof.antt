@@ -25,7 +25,6 @@ lookup-at t = and 3 lookup-kinds.ps (is 3 lookup-kinds.ps μ-lookup t) lookup.Pr
 abbrev lookup-below : ℕ → In 3 lookup-kinds.ps
 lookup-below t = and 3 lookup-kinds.ps (falls 3 lookup-kinds.ps _<_ μ-lookup t) lookup.Pre
 
--- src/lib.rt:20:14
 lookup-mul-at : (t : ℕ) → lookup-lts.Need-mul-at (
   u16-at-reads.Asked,
   u16-at-reads.Learnt,
@@ -42,7 +41,6 @@ lookup-mul-at : (t : ℕ) → lookup-lts.Need-mul-at (
 ) (lookup-at t) lookup.Post
 lookup-mul-at t c = let w = node-inside (c .before .before .before .args .store .now) (c .before .before .before .args .num) (c .before .before .before .args .level) (c .before .before .before .pre .1) in omega arith
 
--- src/lib.rt:21:9
 lookup-u16-at-requires : (t : ℕ) → lookup-lts.Need-u16-at-requires (
   u16-at-reads.Asked,
   u16-at-reads.Learnt,
@@ -59,7 +57,6 @@ lookup-u16-at-requires : (t : ℕ) → lookup-lts.Need-u16-at-requires (
 ) (lookup-at t) lookup.Post
 lookup-u16-at-requires t c κs = let w = node-inside (c .before .before .before .args .store .now) (c .before .before .before .args .num) (c .before .before .before .args .level) (c .before .before .before .pre .1) in omega arith
 
--- src/lib.rt:22:16
 lookup-add-from : (t : ℕ) → lookup-lts.Need-add-from (
   u16-at-reads.Asked,
   u16-at-reads.Learnt,
@@ -76,7 +73,6 @@ lookup-add-from : (t : ℕ) → lookup-lts.Need-add-from (
 ) (lookup-at t) lookup.Post
 lookup-add-from t c = let w = node-inside (c .before .before .before .before .args .store .now) (c .before .before .before .before .args .num) (c .before .before .before .before .args .level) (c .before .before .before .before .pre .1) in omega arith
 
--- src/lib.rt:23:15
 lookup-add-end : (t : ℕ) → lookup-lts.Need-add-end (
   u16-at-reads.Asked,
   u16-at-reads.Learnt,
@@ -93,7 +89,6 @@ lookup-add-end : (t : ℕ) → lookup-lts.Need-add-end (
 ) (lookup-at t) lookup.Post
 lookup-add-end t c = let w = node-inside (c .before .before .before .before .args .store .now) (c .before .before .before .before .args .num) (c .before .before .before .before .args .level) (c .before .before .before .before .pre .1) in omega arith
 
--- src/lib.rt:25:9
 lookup-find-requires : (t : ℕ) → lookup-lts.Need-find-requires (
   u16-at-reads.Asked,
   u16-at-reads.Learnt,
@@ -110,7 +105,6 @@ lookup-find-requires : (t : ℕ) → lookup-lts.Need-find-requires (
 ) (lookup-at t) lookup.Post
 lookup-find-requires t c κs = let w = node-inside (c .before .before .before .before .before .args .store .now) (c .before .before .before .before .before .args .num) (c .before .before .before .before .before .args .level) (c .before .before .before .before .before .pre .1) in omega arith
 
--- src/lib.rt:25:9
 lookup-returns : (t : ℕ) → lookup-lts.Need-returns (
   u16-at-reads.Asked,
   u16-at-reads.Learnt,
@@ -127,7 +121,6 @@ lookup-returns : (t : ℕ) → lookup-lts.Need-returns (
 ) (lookup-at t) lookup.Post
 lookup-returns t c = look-leaf (c .before .before .before .before .before .before .args .store .now) (c .before .before .before .before .before .before .args .num) (c .before .before .before .before .before .before .args .level) (c .before .before .before .before .before .before .pre .1) (c .before .before .before .before .before .before .args .hi .now) (c .before .before .before .before .before .before .args .rest .now) (c .before .before .u16-at .result) (c .before .before .u16-at .ensures .0) (omega arith) _ (c .find .ensures)
 
--- src/lib.rt:27:9
 lookup-newest-requires : (t : ℕ) → lookup-lts.Need-newest-requires (
   u16-at-reads.Asked,
   u16-at-reads.Learnt,
@@ -144,7 +137,6 @@ lookup-newest-requires : (t : ℕ) → lookup-lts.Need-newest-requires (
 ) (lookup-at t) lookup.Post
 lookup-newest-requires t c κs = let w = node-inside (c .before .before .before .before .before .args .store .now) (c .before .before .before .before .before .args .num) (c .before .before .before .before .before .args .level) (c .before .before .before .before .before .pre .1) in omega arith
 
--- src/lib.rt:29:22
 lookup-enum-known-m : (t : ℕ) → lookup-lts.Need-enum-known-m (
   u16-at-reads.Asked,
   u16-at-reads.Learnt,
@@ -161,7 +153,6 @@ lookup-enum-known-m : (t : ℕ) → lookup-lts.Need-enum-known-m (
 ) (lookup-at t) lookup.Post
 lookup-enum-known-m t c = search needs
 
--- src/lib.rt:30:24
 lookup-enum-told : (t : ℕ) → lookup-lts.Need-enum-told (
   u16-at-reads.Asked,
   u16-at-reads.Learnt,
@@ -178,7 +169,6 @@ lookup-enum-told : (t : ℕ) → lookup-lts.Need-enum-told (
 ) (lookup-at t) lookup.Post
 lookup-enum-told t c = search needs
 
--- src/lib.rt:32:17
 lookup-enum-told-2 : (t : ℕ) → lookup-lts.Need-enum-told-2 (
   u16-at-reads.Asked,
   u16-at-reads.Learnt,
@@ -195,7 +185,6 @@ lookup-enum-told-2 : (t : ℕ) → lookup-lts.Need-enum-told-2 (
 ) (lookup-at t) lookup.Post
 lookup-enum-told-2 t c = search needs
 
--- src/lib.rt:32:17
 lookup-owner-of-requires : (t : ℕ) → lookup-lts.Need-owner-of-requires (
   u16-at-reads.Asked,
   u16-at-reads.Learnt,
@@ -212,7 +201,6 @@ lookup-owner-of-requires : (t : ℕ) → lookup-lts.Need-owner-of-requires (
 ) (lookup-at t) lookup.Post
 lookup-owner-of-requires t c κs = let w = node-inside (c .before .before .before .before .before .before .before .before .args .store .now) (c .before .before .before .before .before .before .before .before .args .num) (c .before .before .before .before .before .before .before .before .args .level) (c .before .before .before .before .before .before .before .before .pre .1) in omega arith
 
--- src/lib.rt:34:30
 lookup-enum-known-o : (t : ℕ) → lookup-lts.Need-enum-known-o (
   u16-at-reads.Asked,
   u16-at-reads.Learnt,
@@ -229,7 +217,6 @@ lookup-enum-known-o : (t : ℕ) → lookup-lts.Need-enum-known-o (
 ) (lookup-at t) lookup.Post
 lookup-enum-known-o t c = search needs
 
--- src/lib.rt:39:42
 lookup-sub-common-length : (t : ℕ) → lookup-lts.Need-sub-common-length (
   u16-at-reads.Asked,
   u16-at-reads.Learnt,
@@ -246,7 +233,6 @@ lookup-sub-common-length : (t : ℕ) → lookup-lts.Need-sub-common-length (
 ) (lookup-at t) lookup.Post
 lookup-sub-common-length t c = let w = inner-places _ _ _ _ _ _ _ (c .before .before .before .owner-of .ensures) (c .before .o .given .1) in omega arith
 
--- src/lib.rt:39:42
 lookup-part-common-length-start : (t : ℕ) → lookup-lts.Need-part-common-length-start (
   u16-at-reads.Asked,
   u16-at-reads.Learnt,
@@ -263,7 +249,6 @@ lookup-part-common-length-start : (t : ℕ) → lookup-lts.Need-part-common-leng
 ) (lookup-at t) lookup.Post
 lookup-part-common-length-start t c = let w = inner-places _ _ _ _ _ _ _ (c .before .before .before .owner-of .ensures) (c .before .o .given .1) in omega arith
 
--- src/lib.rt:39:42
 lookup-part-common-length-end : (t : ℕ) → lookup-lts.Need-part-common-length-end (
   u16-at-reads.Asked,
   u16-at-reads.Learnt,
@@ -280,7 +265,6 @@ lookup-part-common-length-end : (t : ℕ) → lookup-lts.Need-part-common-length
 ) (lookup-at t) lookup.Post
 lookup-part-common-length-end t c = let w = inner-places _ _ _ _ _ _ _ (c .before .before .before .owner-of .ensures) (c .before .o .given .1) in omega arith
 
--- src/lib.rt:39:56
 lookup-sub-common-length-2 : (t : ℕ) → lookup-lts.Need-sub-common-length-2 (
   u16-at-reads.Asked,
   u16-at-reads.Learnt,
@@ -297,7 +281,6 @@ lookup-sub-common-length-2 : (t : ℕ) → lookup-lts.Need-sub-common-length-2 (
 ) (lookup-at t) lookup.Post
 lookup-sub-common-length-2 t c = let w = inner-places _ _ _ _ _ _ _ (c .before .before .before .before .owner-of .ensures) (c .before .before .o .given .1) in omega arith
 
--- src/lib.rt:39:56
 lookup-part-common-length-start-2 : (t : ℕ) → lookup-lts.Need-part-common-length-start-2 (
   u16-at-reads.Asked,
   u16-at-reads.Learnt,
@@ -314,7 +297,6 @@ lookup-part-common-length-start-2 : (t : ℕ) → lookup-lts.Need-part-common-le
 ) (lookup-at t) lookup.Post
 lookup-part-common-length-start-2 t c = let w = inner-places _ _ _ _ _ _ _ (c .before .before .before .before .owner-of .ensures) (c .before .before .o .given .1) in omega arith
 
--- src/lib.rt:39:56
 lookup-part-common-length-end-2 : (t : ℕ) → lookup-lts.Need-part-common-length-end-2 (
   u16-at-reads.Asked,
   u16-at-reads.Learnt,
@@ -331,7 +313,6 @@ lookup-part-common-length-end-2 : (t : ℕ) → lookup-lts.Need-part-common-leng
 ) (lookup-at t) lookup.Post
 lookup-part-common-length-end-2 t c = let w = inner-places _ _ _ _ _ _ _ (c .before .before .before .before .owner-of .ensures) (c .before .before .o .given .1) in omega arith
 
--- src/lib.rt:39:25
 lookup-common-length-requires : (t : ℕ) → lookup-lts.Need-common-length-requires (
   u16-at-reads.Asked,
   u16-at-reads.Learnt,
@@ -348,7 +329,6 @@ lookup-common-length-requires : (t : ℕ) → lookup-lts.Need-common-length-requ
 ) (lookup-at t) lookup.Post
 lookup-common-length-requires t c κs = search needs
 
--- src/lib.rt:40:29
 lookup-add-z : (t : ℕ) → lookup-lts.Need-add-z (
   u16-at-reads.Asked,
   u16-at-reads.Learnt,
@@ -365,7 +345,6 @@ lookup-add-z : (t : ℕ) → lookup-lts.Need-add-z (
 ) (lookup-at t) lookup.Post
 lookup-add-z t c = let w = inner-places _ _ _ _ _ _ _ (c .before .before .before .before .before .before .owner-of .ensures) (c .before .before .before .before .o .given .1) in let l = cut-length (c .before .before .before .before .before .before .before .before .before .before .before .before .before .before .before .args .store .now) ((c .before .before .before .before .o .given .0 .1 .1 .0) .start) ((c .before .before .before .before .o .given .0 .1 .1 .0) .stop) (omega arith) (omega arith) in omega arith
 
--- src/lib.rt:41:42
 lookup-sub-lookup : (t : ℕ) → lookup-lts.Need-sub-lookup (
   u16-at-reads.Asked,
   u16-at-reads.Learnt,
@@ -382,7 +361,6 @@ lookup-sub-lookup : (t : ℕ) → lookup-lts.Need-sub-lookup (
 ) (lookup-at t) lookup.Post
 lookup-sub-lookup t c = search needs
 
--- src/lib.rt:41:53
 lookup-sub-lookup-2 : (t : ℕ) → lookup-lts.Need-sub-lookup-2 (
   u16-at-reads.Asked,
   u16-at-reads.Learnt,
@@ -399,7 +377,6 @@ lookup-sub-lookup-2 : (t : ℕ) → lookup-lts.Need-sub-lookup-2 (
 ) (lookup-at t) lookup.Post
 lookup-sub-lookup-2 t c = let w = inner-places _ _ _ _ _ _ _ (c .before .before .before .before .before .before .owner-of .ensures) (c .before .before .before .before .o .given .1) in let l = cut-length (c .before .before .before .before .before .before .before .before .before .before .before .before .before .before .before .args .store .now) ((c .before .before .before .before .o .given .0 .1 .1 .0) .start) ((c .before .before .before .before .o .given .0 .1 .1 .0) .stop) (omega arith) (omega arith) in omega arith
 
--- src/lib.rt:41:53
 lookup-part-lookup-start : (t : ℕ) → lookup-lts.Need-part-lookup-start (
   u16-at-reads.Asked,
   u16-at-reads.Learnt,
@@ -416,7 +393,6 @@ lookup-part-lookup-start : (t : ℕ) → lookup-lts.Need-part-lookup-start (
 ) (lookup-at t) lookup.Post
 lookup-part-lookup-start t c = let w = inner-places _ _ _ _ _ _ _ (c .before .before .before .before .before .before .owner-of .ensures) (c .before .before .before .before .o .given .1) in let l = cut-length (c .before .before .before .before .before .before .before .before .before .before .before .before .before .before .before .args .store .now) ((c .before .before .before .before .o .given .0 .1 .1 .0) .start) ((c .before .before .before .before .o .given .0 .1 .1 .0) .stop) (omega arith) (omega arith) in omega arith
 
--- src/lib.rt:41:53
 lookup-part-lookup-end : (t : ℕ) → lookup-lts.Need-part-lookup-end (
   u16-at-reads.Asked,
   u16-at-reads.Learnt,
@@ -433,7 +409,6 @@ lookup-part-lookup-end : (t : ℕ) → lookup-lts.Need-part-lookup-end (
 ) (lookup-at t) lookup.Post
 lookup-part-lookup-end t c = let w = inner-places _ _ _ _ _ _ _ (c .before .before .before .before .before .before .owner-of .ensures) (c .before .before .before .before .o .given .1) in let l = cut-length (c .before .before .before .before .before .before .before .before .before .before .before .before .before .before .before .args .store .now) ((c .before .before .before .before .o .given .0 .1 .1 .0) .start) ((c .before .before .before .before .o .given .0 .1 .1 .0) .stop) (omega arith) (omega arith) in omega arith
 
--- src/lib.rt:41:67
 lookup-sub-lookup-3 : (t : ℕ) → lookup-lts.Need-sub-lookup-3 (
   u16-at-reads.Asked,
   u16-at-reads.Learnt,
@@ -450,7 +425,6 @@ lookup-sub-lookup-3 : (t : ℕ) → lookup-lts.Need-sub-lookup-3 (
 ) (lookup-at t) lookup.Post
 lookup-sub-lookup-3 t c = let l = inner-short (c .before .before .before .before .before .before .before .before .before .before .before .before .before .before .before .before .args .store .now) (c .before .before .before .before .before .before .before .before .before .before .before .before .before .before .before .before .args .num) (c .before .before .before .before .before .before .before .before .before .before .before .before .before .before .before .before .args .level) (c .before .before .before .before .before .before .before .before .before .before .before .before .before .before .before .before .pre .1) (c .before .before .before .before .before .before .before .before .before .before .before .before .before .before .before .before .args .hi .now) (c .before .before .before .before .before .before .before .before .before .before .before .before .before .before .before .before .args .rest .now) (c .before .before .before .before .before .before .before .before .before .before .before .before .u16-at .result) (c .before .before .before .before .before .before .before .before .before .before .before .before .u16-at .ensures .0) (omega arith) (c .before .before .before .before .before .before .before .before .before .before .newest .result) (c .before .before .before .before .before .before .before .before .before .before .newest .ensures) (c .before .before .before .before .before .before .before .before .enum-told2 .given .1) (c .before .before .before .before .before .before .before .owner-of .result) (c .before .before .before .before .before .before .before .owner-of .ensures) (c .before .before .before .before .before .o .given .0 .0) (c .before .before .before .before .before .o .given .0 .1 .0) (c .before .before .before .before .before .o .given .0 .1 .1 .0) (c .before .before .before .before .before .o .given .1) (c .before .common-length .result) (c .before .common-length .ensures .0) in omega arith
 
--- src/lib.rt:41:67
 lookup-part-lookup-start-2 : (t : ℕ) → lookup-lts.Need-part-lookup-start-2 (
   u16-at-reads.Asked,
   u16-at-reads.Learnt,
@@ -467,7 +441,6 @@ lookup-part-lookup-start-2 : (t : ℕ) → lookup-lts.Need-part-lookup-start-2 (
 ) (lookup-at t) lookup.Post
 lookup-part-lookup-start-2 t c = let l = inner-short (c .before .before .before .before .before .before .before .before .before .before .before .before .before .before .before .before .args .store .now) (c .before .before .before .before .before .before .before .before .before .before .before .before .before .before .before .before .args .num) (c .before .before .before .before .before .before .before .before .before .before .before .before .before .before .before .before .args .level) (c .before .before .before .before .before .before .before .before .before .before .before .before .before .before .before .before .pre .1) (c .before .before .before .before .before .before .before .before .before .before .before .before .before .before .before .before .args .hi .now) (c .before .before .before .before .before .before .before .before .before .before .before .before .before .before .before .before .args .rest .now) (c .before .before .before .before .before .before .before .before .before .before .before .before .u16-at .result) (c .before .before .before .before .before .before .before .before .before .before .before .before .u16-at .ensures .0) (omega arith) (c .before .before .before .before .before .before .before .before .before .before .newest .result) (c .before .before .before .before .before .before .before .before .before .before .newest .ensures) (c .before .before .before .before .before .before .before .before .enum-told2 .given .1) (c .before .before .before .before .before .before .before .owner-of .result) (c .before .before .before .before .before .before .before .owner-of .ensures) (c .before .before .before .before .before .o .given .0 .0) (c .before .before .before .before .before .o .given .0 .1 .0) (c .before .before .before .before .before .o .given .0 .1 .1 .0) (c .before .before .before .before .before .o .given .1) (c .before .common-length .result) (c .before .common-length .ensures .0) in omega arith
 
--- src/lib.rt:41:67
 lookup-part-lookup-end-2 : (t : ℕ) → lookup-lts.Need-part-lookup-end-2 (
   u16-at-reads.Asked,
   u16-at-reads.Learnt,
@@ -484,7 +457,6 @@ lookup-part-lookup-end-2 : (t : ℕ) → lookup-lts.Need-part-lookup-end-2 (
 ) (lookup-at t) lookup.Post
 lookup-part-lookup-end-2 t c = search needs
 
--- src/lib.rt:41:21
 lookup-lookup-requires : (t : ℕ) → lookup-lts.Need-lookup-requires (
   u16-at-reads.Asked,
   u16-at-reads.Learnt,
@@ -501,7 +473,6 @@ lookup-lookup-requires : (t : ℕ) → lookup-lts.Need-lookup-requires (
 ) (lookup-at t) lookup.Post
 lookup-lookup-requires t c κs = (omega arith, inner-usable (c .before .before .before .before .before .before .before .before .before .before .before .before .before .before .before .before .before .args .store .now) (c .before .before .before .before .before .before .before .before .before .before .before .before .before .before .before .before .before .args .num) (c .before .before .before .before .before .before .before .before .before .before .before .before .before .before .before .before .before .args .level) (c .before .before .before .before .before .before .before .before .before .before .before .before .before .before .before .before .before .pre .1) (c .before .before .before .before .before .before .before .before .before .before .before .before .before .before .before .before .before .args .hi .now) (c .before .before .before .before .before .before .before .before .before .before .before .before .before .before .before .before .before .args .rest .now) (c .before .before .before .before .before .before .before .before .before .before .before .before .before .u16-at .result) (c .before .before .before .before .before .before .before .before .before .before .before .before .before .u16-at .ensures .0) (omega arith) (c .before .before .before .before .before .before .before .before .before .before .before .newest .result) (c .before .before .before .before .before .before .before .before .before .before .before .newest .ensures) (c .before .before .before .before .before .before .before .before .before .enum-told2 .given .1) (c .before .before .before .before .before .before .before .before .owner-of .result) (c .before .before .before .before .before .before .before .before .owner-of .ensures) (c .before .before .before .before .before .before .o .given .0 .0) (c .before .before .before .before .before .before .o .given .0 .1 .0) (c .before .before .before .before .before .before .o .given .0 .1 .1 .0) (c .before .before .before .before .before .before .o .given .1))
 
--- src/lib.rt:43:29
 lookup-enum-known-o-2 : (t : ℕ) → lookup-lts.Need-enum-known-o-2 (
   u16-at-reads.Asked,
   u16-at-reads.Learnt,
@@ -518,7 +489,6 @@ lookup-enum-known-o-2 : (t : ℕ) → lookup-lts.Need-enum-known-o-2 (
 ) (lookup-at t) lookup.Post
 lookup-enum-known-o-2 t c = search needs
 
--- src/lib.rt:46:42
 lookup-sub-common-length-3 : (t : ℕ) → lookup-lts.Need-sub-common-length-3 (
   u16-at-reads.Asked,
   u16-at-reads.Learnt,
@@ -535,7 +505,6 @@ lookup-sub-common-length-3 : (t : ℕ) → lookup-lts.Need-sub-common-length-3 (
 ) (lookup-at t) lookup.Post
 lookup-sub-common-length-3 t c = let w = last-places _ _ _ _ _ _ (c .before .before .before .owner-of .ensures) (c .before .o2 .given .1) in omega arith
 
--- src/lib.rt:46:42
 lookup-part-common-length-start-3 : (t : ℕ) → lookup-lts.Need-part-common-length-start-3 (
   u16-at-reads.Asked,
   u16-at-reads.Learnt,
@@ -552,7 +521,6 @@ lookup-part-common-length-start-3 : (t : ℕ) → lookup-lts.Need-part-common-le
 ) (lookup-at t) lookup.Post
 lookup-part-common-length-start-3 t c = let w = last-places _ _ _ _ _ _ (c .before .before .before .owner-of .ensures) (c .before .o2 .given .1) in omega arith
 
--- src/lib.rt:46:42
 lookup-part-common-length-end-3 : (t : ℕ) → lookup-lts.Need-part-common-length-end-3 (
   u16-at-reads.Asked,
   u16-at-reads.Learnt,
@@ -569,7 +537,6 @@ lookup-part-common-length-end-3 : (t : ℕ) → lookup-lts.Need-part-common-leng
 ) (lookup-at t) lookup.Post
 lookup-part-common-length-end-3 t c = let w = last-places _ _ _ _ _ _ (c .before .before .before .owner-of .ensures) (c .before .o2 .given .1) in omega arith
 
--- src/lib.rt:46:25
 lookup-common-length-requires-2 : (t : ℕ) → lookup-lts.Need-common-length-requires-2 (
   u16-at-reads.Asked,
   u16-at-reads.Learnt,
@@ -586,7 +553,6 @@ lookup-common-length-requires-2 : (t : ℕ) → lookup-lts.Need-common-length-re
 ) (lookup-at t) lookup.Post
 lookup-common-length-requires-2 t c κs = search needs
 
--- src/lib.rt:47:42
 lookup-sub-lookup-4 : (t : ℕ) → lookup-lts.Need-sub-lookup-4 (
   u16-at-reads.Asked,
   u16-at-reads.Learnt,
@@ -603,7 +569,6 @@ lookup-sub-lookup-4 : (t : ℕ) → lookup-lts.Need-sub-lookup-4 (
 ) (lookup-at t) lookup.Post
 lookup-sub-lookup-4 t c = search needs
 
--- src/lib.rt:47:53
 lookup-sub-lookup-5 : (t : ℕ) → lookup-lts.Need-sub-lookup-5 (
   u16-at-reads.Asked,
   u16-at-reads.Learnt,
@@ -620,7 +585,6 @@ lookup-sub-lookup-5 : (t : ℕ) → lookup-lts.Need-sub-lookup-5 (
 ) (lookup-at t) lookup.Post
 lookup-sub-lookup-5 t c = search needs
 
--- src/lib.rt:47:53
 lookup-part-lookup-start-3 : (t : ℕ) → lookup-lts.Need-part-lookup-start-3 (
   u16-at-reads.Asked,
   u16-at-reads.Learnt,
@@ -637,7 +601,6 @@ lookup-part-lookup-start-3 : (t : ℕ) → lookup-lts.Need-part-lookup-start-3 (
 ) (lookup-at t) lookup.Post
 lookup-part-lookup-start-3 t c = search needs
 
--- src/lib.rt:47:53
 lookup-part-lookup-end-3 : (t : ℕ) → lookup-lts.Need-part-lookup-end-3 (
   u16-at-reads.Asked,
   u16-at-reads.Learnt,
@@ -654,7 +617,6 @@ lookup-part-lookup-end-3 : (t : ℕ) → lookup-lts.Need-part-lookup-end-3 (
 ) (lookup-at t) lookup.Post
 lookup-part-lookup-end-3 t c = search needs
 
--- src/lib.rt:47:63
 lookup-sub-lookup-6 : (t : ℕ) → lookup-lts.Need-sub-lookup-6 (
   u16-at-reads.Asked,
   u16-at-reads.Learnt,
@@ -671,7 +633,6 @@ lookup-sub-lookup-6 : (t : ℕ) → lookup-lts.Need-sub-lookup-6 (
 ) (lookup-at t) lookup.Post
 lookup-sub-lookup-6 t c = let l = last-short (c .before .before .before .before .before .before .before .before .before .before .before .before .before .before .before .args .store .now) (c .before .before .before .before .before .before .before .before .before .before .before .before .before .before .before .args .num) (c .before .before .before .before .before .before .before .before .before .before .before .before .before .before .before .args .level) (c .before .before .before .before .before .before .before .before .before .before .before .before .before .before .before .pre .1) (c .before .before .before .before .before .before .before .before .before .before .before .before .before .before .before .args .hi .now) (c .before .before .before .before .before .before .before .before .before .before .before .before .before .before .before .args .rest .now) (c .before .before .before .before .before .before .before .before .before .before .before .u16-at .result) (c .before .before .before .before .before .before .before .before .before .before .before .u16-at .ensures .0) (omega arith) (c .before .before .before .before .before .before .before .before .before .newest .result) (c .before .before .before .before .before .before .before .before .before .newest .ensures) (c .before .before .before .before .before .before .before .enum-told2 .given .1) (c .before .before .before .before .before .before .owner-of .result) (c .before .before .before .before .before .before .owner-of .ensures) (c .before .before .before .before .o2 .given .0 .0) (c .before .before .before .before .o2 .given .0 .1 .0) (c .before .before .before .before .o2 .given .1) (c .before .common-length2 .result) (c .before .common-length2 .ensures .0) in omega arith
 
--- src/lib.rt:47:63
 lookup-part-lookup-start-4 : (t : ℕ) → lookup-lts.Need-part-lookup-start-4 (
   u16-at-reads.Asked,
   u16-at-reads.Learnt,
@@ -688,7 +649,6 @@ lookup-part-lookup-start-4 : (t : ℕ) → lookup-lts.Need-part-lookup-start-4 (
 ) (lookup-at t) lookup.Post
 lookup-part-lookup-start-4 t c = let l = last-short (c .before .before .before .before .before .before .before .before .before .before .before .before .before .before .before .args .store .now) (c .before .before .before .before .before .before .before .before .before .before .before .before .before .before .before .args .num) (c .before .before .before .before .before .before .before .before .before .before .before .before .before .before .before .args .level) (c .before .before .before .before .before .before .before .before .before .before .before .before .before .before .before .pre .1) (c .before .before .before .before .before .before .before .before .before .before .before .before .before .before .before .args .hi .now) (c .before .before .before .before .before .before .before .before .before .before .before .before .before .before .before .args .rest .now) (c .before .before .before .before .before .before .before .before .before .before .before .u16-at .result) (c .before .before .before .before .before .before .before .before .before .before .before .u16-at .ensures .0) (omega arith) (c .before .before .before .before .before .before .before .before .before .newest .result) (c .before .before .before .before .before .before .before .before .before .newest .ensures) (c .before .before .before .before .before .before .before .enum-told2 .given .1) (c .before .before .before .before .before .before .owner-of .result) (c .before .before .before .before .before .before .owner-of .ensures) (c .before .before .before .before .o2 .given .0 .0) (c .before .before .before .before .o2 .given .0 .1 .0) (c .before .before .before .before .o2 .given .1) (c .before .common-length2 .result) (c .before .common-length2 .ensures .0) in omega arith
 
--- src/lib.rt:47:63
 lookup-part-lookup-end-4 : (t : ℕ) → lookup-lts.Need-part-lookup-end-4 (
   u16-at-reads.Asked,
   u16-at-reads.Learnt,
@@ -705,7 +665,6 @@ lookup-part-lookup-end-4 : (t : ℕ) → lookup-lts.Need-part-lookup-end-4 (
 ) (lookup-at t) lookup.Post
 lookup-part-lookup-end-4 t c = search needs
 
--- src/lib.rt:47:21
 lookup-lookup-requires-2 : (t : ℕ) → lookup-lts.Need-lookup-requires-2 (
   u16-at-reads.Asked,
   u16-at-reads.Learnt,
@@ -722,7 +681,6 @@ lookup-lookup-requires-2 : (t : ℕ) → lookup-lts.Need-lookup-requires-2 (
 ) (lookup-at t) lookup.Post
 lookup-lookup-requires-2 t c κs = (omega arith, last-usable (c .before .before .before .before .before .before .before .before .before .before .before .before .before .before .before .before .args .store .now) (c .before .before .before .before .before .before .before .before .before .before .before .before .before .before .before .before .args .num) (c .before .before .before .before .before .before .before .before .before .before .before .before .before .before .before .before .args .level) (c .before .before .before .before .before .before .before .before .before .before .before .before .before .before .before .before .pre .1) (c .before .before .before .before .before .before .before .before .before .before .before .before .before .before .before .before .args .hi .now) (c .before .before .before .before .before .before .before .before .before .before .before .before .before .before .before .before .args .rest .now) (c .before .before .before .before .before .before .before .before .before .before .before .before .u16-at .result) (c .before .before .before .before .before .before .before .before .before .before .before .before .u16-at .ensures .0) (omega arith) (c .before .before .before .before .before .before .before .before .before .before .newest .result) (c .before .before .before .before .before .before .before .before .before .before .newest .ensures) (c .before .before .before .before .before .before .before .before .enum-told2 .given .1) (c .before .before .before .before .before .before .before .owner-of .result) (c .before .before .before .before .before .before .before .owner-of .ensures) (c .before .before .before .before .before .o2 .given .0 .0) (c .before .before .before .before .before .o2 .given .0 .1 .0) (c .before .before .before .before .before .o2 .given .1))
 
--- src/lib.rt:49:34
 lookup-enum-told-3 : (t : ℕ) → lookup-lts.Need-enum-told-3 (
   u16-at-reads.Asked,
   u16-at-reads.Learnt,
@@ -739,7 +697,6 @@ lookup-enum-told-3 : (t : ℕ) → lookup-lts.Need-enum-told-3 (
 ) (lookup-at t) lookup.Post
 lookup-enum-told-3 t c = search needs
 
--- src/lib.rt:16:1
 lookup-returns-2 : (t : ℕ) → lookup-lts.Need-returns-2 (
   u16-at-reads.Asked,
   u16-at-reads.Learnt,
@@ -756,7 +713,6 @@ lookup-returns-2 : (t : ℕ) → lookup-lts.Need-returns-2 (
 ) (lookup-at t) lookup.Post
 lookup-returns-2 t c = look-value (c .before .before .before .before .before .before .before .before .before .args .store .now) (c .before .before .before .before .before .before .before .before .before .args .num) (c .before .before .before .before .before .before .before .before .before .args .level) (c .before .before .before .before .before .before .before .before .before .pre .1) (c .before .before .before .before .before .before .before .before .before .args .hi .now) (c .before .before .before .before .before .before .before .before .before .args .rest .now) (c .before .before .before .before .before .u16-at .result) (c .before .before .before .before .before .u16-at .ensures .0) (omega arith) (c .before .before .before .newest .result) (c .before .before .before .newest .ensures) _ (c .before .m .given .1)
 
--- src/lib.rt:16:1
 lookup-returns-3 : (t : ℕ) → lookup-lts.Need-returns-3 (
   u16-at-reads.Asked,
   u16-at-reads.Learnt,
@@ -773,7 +729,6 @@ lookup-returns-3 : (t : ℕ) → lookup-lts.Need-returns-3 (
 ) (lookup-at t) lookup.Post
 lookup-returns-3 t c = look-gone (c .before .before .before .before .before .before .before .before .args .store .now) (c .before .before .before .before .before .before .before .before .args .num) (c .before .before .before .before .before .before .before .before .args .level) (c .before .before .before .before .before .before .before .before .pre .1) (c .before .before .before .before .before .before .before .before .args .hi .now) (c .before .before .before .before .before .before .before .before .args .rest .now) (c .before .before .before .before .u16-at .result) (c .before .before .before .before .u16-at .ensures .0) (omega arith) (c .before .before .newest .result) (c .before .before .newest .ensures) (c .enum-told .given .1)
 
--- src/lib.rt:16:1
 lookup-returns-4 : (t : ℕ) → lookup-lts.Need-returns-4 (
   u16-at-reads.Asked,
   u16-at-reads.Learnt,
@@ -791,7 +746,6 @@ lookup-returns-4 : (t : ℕ) → lookup-lts.Need-returns-4 (
 lookup-returns-4 t c = let w = inner-places _ _ _ _ _ _ _ (c .before .before .before .before .before .before .before .before .before .owner-of .ensures) (c .before .before .before .before .before .before .before .o .given .1) in let l = cut-length (c .before .before .before .before .before .before .before .before .before .before .before .before .before .before .before .before .before .before .args .store .now) ((c .before .before .before .before .before .before .before .o .given .0 .1 .1 .0) .start) ((c .before .before .before .before .before .before .before .o .given .0 .1 .1 .0) .stop) (omega arith) (omega arith) in
     look-inner (c .before .before .before .before .before .before .before .before .before .before .before .before .before .before .before .before .before .before .args .store .now) (c .before .before .before .before .before .before .before .before .before .before .before .before .before .before .before .before .before .before .args .num) (c .before .before .before .before .before .before .before .before .before .before .before .before .before .before .before .before .before .before .args .level) (c .before .before .before .before .before .before .before .before .before .before .before .before .before .before .before .before .before .before .pre .1) (c .before .before .before .before .before .before .before .before .before .before .before .before .before .before .before .before .before .before .args .hi .now) (c .before .before .before .before .before .before .before .before .before .before .before .before .before .before .before .before .before .before .args .rest .now) (c .before .before .before .before .before .before .before .before .before .before .before .before .before .before .u16-at .result) (c .before .before .before .before .before .before .before .before .before .before .before .before .before .before .u16-at .ensures .0) (omega arith) (c .before .before .before .before .before .before .before .before .before .before .before .before .newest .result) (c .before .before .before .before .before .before .before .before .before .before .before .before .newest .ensures) (c .before .before .before .before .before .before .before .before .before .before .enum-told2 .given .1) (c .before .before .before .before .before .before .before .before .before .owner-of .result) (c .before .before .before .before .before .before .before .before .before .owner-of .ensures) (c .before .before .before .before .before .before .before .o .given .0 .0) (c .before .before .before .before .before .before .before .o .given .0 .1 .0) (c .before .before .before .before .before .before .before .o .given .0 .1 .1 .0) (c .before .before .before .before .before .before .before .o .given .1) (c .before .before .before .common-length .result) (c .before .before .before .common-length .ensures .0) (omega arith) _ (c .lookup .ensures)
 
--- src/lib.rt:16:1
 lookup-returns-5 : (t : ℕ) → lookup-lts.Need-returns-5 (
   u16-at-reads.Asked,
   u16-at-reads.Learnt,
@@ -808,7 +762,6 @@ lookup-returns-5 : (t : ℕ) → lookup-lts.Need-returns-5 (
 ) (lookup-at t) lookup.Post
 lookup-returns-5 t c = look-last (c .before .before .before .before .before .before .before .before .before .before .before .before .before .before .before .before .before .args .store .now) (c .before .before .before .before .before .before .before .before .before .before .before .before .before .before .before .before .before .args .num) (c .before .before .before .before .before .before .before .before .before .before .before .before .before .before .before .before .before .args .level) (c .before .before .before .before .before .before .before .before .before .before .before .before .before .before .before .before .before .pre .1) (c .before .before .before .before .before .before .before .before .before .before .before .before .before .before .before .before .before .args .hi .now) (c .before .before .before .before .before .before .before .before .before .before .before .before .before .before .before .before .before .args .rest .now) (c .before .before .before .before .before .before .before .before .before .before .before .before .before .u16-at .result) (c .before .before .before .before .before .before .before .before .before .before .before .before .before .u16-at .ensures .0) (omega arith) (c .before .before .before .before .before .before .before .before .before .before .before .newest .result) (c .before .before .before .before .before .before .before .before .before .before .before .newest .ensures) (c .before .before .before .before .before .before .before .before .before .enum-told2 .given .1) (c .before .before .before .before .before .before .before .before .owner-of .result) (c .before .before .before .before .before .before .before .before .owner-of .ensures) (c .before .before .before .before .before .before .o2 .given .0 .0) (c .before .before .before .before .before .before .o2 .given .0 .1 .0) (c .before .before .before .before .before .before .o2 .given .1) (c .before .before .before .common-length2 .result) (c .before .before .before .common-length2 .ensures .0) _ (c .lookup2 .ensures)
 
--- src/lib.rt:16:1
 lookup-returns-6 : (t : ℕ) → lookup-lts.Need-returns-6 (
   u16-at-reads.Asked,
   u16-at-reads.Learnt,

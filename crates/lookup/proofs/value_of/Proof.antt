@@ -5,23 +5,18 @@ use borrow.Author.Needs.{needs}
 use Rattle.lookup.proofs.value_of.Statement.{statement}
 use Rattle.lookup.proofs.value_of.Tie as tie
 
--- src/lib.rt:60:9
 u16-at-requires : tie.Need-u16-at-requires
 u16-at-requires c κs = let l = long-enough (c .before .before .args .store .now) (c .before .before .pre) in omega arith
 
--- src/lib.rt:61:9
 u16-at-requires-2 : tie.Need-u16-at-requires-2
 u16-at-requires-2 c κs = let l = long-enough (c .before .before .before .args .store .now) (c .before .before .before .pre) in omega arith
 
--- src/lib.rt:63:33
 slice-aggregate-lookup : tie.Need-slice-aggregate-lookup
 slice-aggregate-lookup c = search needs
 
--- src/lib.rt:63:5
 lookup-requires : tie.Need-lookup-requires
 lookup-requires c κs = root-usable (c .before .before .before .before .before .args .store .now) _ _ (c .before .before .before .before .before .pre) (c .before .before .u16-at .ensures .0) (c .before .u16-at2 .ensures .0)
 
--- src/lib.rt:56:1
 returns : tie.Need-returns
 returns c = finds-as _ _ _ _ (root-answers (c .before .before .before .before .before .before .args .store .now) _ _ _ (c .before .before .before .before .before .before .pre) (c .before .before .before .u16-at .ensures .0) (c .before .before .u16-at2 .ensures .0)) (c .lookup .ensures)
 

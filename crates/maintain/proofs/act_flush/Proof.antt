@@ -4,47 +4,36 @@ use Rattle.maintain.specs.Steps.{pushed-passed, pushed-flushes, unpushed
 use Rattle.maintain.proofs.act_flush.Statement.{statement}
 use Rattle.maintain.proofs.act_flush.Tie as tie
 
--- src/lib.rt:80:9
 push-down-requires : tie.Need-push-down-requires
 push-down-requires c κs = (c .before .before .before .pre .0 .whole, c .before .before .before .pre .0 .is-sound, c .before .before .before .pre .1)
 
--- src/lib.rt:82:46
 enum-told : tie.Need-enum-told
 enum-told c = search needs
 
--- src/lib.rt:82:25
 rebuild-unless-requires : tie.Need-rebuild-unless-requires
 rebuild-unless-requires c κs = pushed-passed _ _ _ _ (c .before .before .before .before .before .before .before .before .before .before .pre .0) (done-is _ _ _ _ (c .before .before .before .before .before .before .push-down .ensures) (c .before .before .enum-told .given .1))
 
--- src/lib.rt:83:49
 enum-told-2 : tie.Need-enum-told-2
 enum-told-2 c = search needs
 
--- src/lib.rt:83:27
 rebuild-unless-requires-2 : tie.Need-rebuild-unless-requires-2
 rebuild-unless-requires-2 c κs = unpushed-passed _ _ _ (c .before .before .before .before .before .before .before .before .before .before .pre .0) (no-room-is _ _ _ _ (c .before .before .before .before .before .before .push-down .ensures) (c .before .before .enum-told2 .given .1))
 
--- src/lib.rt:76:1
 same-length : tie.Need-same-length
 same-length c = search needs
 
--- src/lib.rt:76:1
 same-length-2 : tie.Need-same-length-2
 same-length-2 c = search needs
 
--- src/lib.rt:76:1
 returns : tie.Need-returns
 returns c = pushed-flushes _ _ _ _ _ _ (done-is _ _ _ _ (c .before .before .before .before .before .before .before .before .before .before .before .push-down .ensures) (c .before .before .before .before .before .before .before .enum-told .given .1)) (c .before .before .before .before .rebuild-unless .ensures)
 
--- src/lib.rt:76:1
 same-length-3 : tie.Need-same-length-3
 same-length-3 c = search needs
 
--- src/lib.rt:76:1
 same-length-4 : tie.Need-same-length-4
 same-length-4 c = search needs
 
--- src/lib.rt:76:1
 returns-2 : tie.Need-returns-2
 returns-2 c = unpushed-flushes _ _ _ _ _ _ (no-room-is _ _ _ _ (c .before .before .before .before .before .before .before .before .before .before .before .push-down .ensures) (c .before .before .before .before .before .before .before .enum-told2 .given .1)) (c .before .before .before .before .rebuild-unless2 .ensures)
 

@@ -5,23 +5,18 @@ use Rattle.make.specs.Steps.{make-refused, make-done, room}
 use Rattle.make.proofs.make.Statement.{statement}
 use Rattle.make.proofs.make.Tie as tie
 
--- src/lib.rt:32:9
 whole-nodes-requires : tie.Need-whole-nodes-requires
 whole-nodes-requires c κs = search needs
 
--- src/lib.rt:33:9
 returns : tie.Need-returns
 returns c = search (needs, make-refused, not-true)
 
--- src/lib.rt:35:5
 write-empty-requires : tie.Need-write-empty-requires
 write-empty-requires c κs = room _ _ (c .before .before .whole-nodes .ensures) (not-false _ (c .before .if1 .left))
 
--- src/lib.rt:28:1
 same-length : tie.Need-same-length
 same-length c = search needs
 
--- src/lib.rt:28:1
 returns-2 : tie.Need-returns-2
 returns-2 c = search (needs, make-done, not-false)
 

@@ -5,47 +5,36 @@ use Rattle.make.specs.Steps.{writes-empty}
 use Rattle.make.proofs.write_empty.Statement.{statement}
 use Rattle.make.proofs.write_empty.Tie as tie
 
--- src/lib.rt:16:31
 mul-fill-at : tie.Need-mul-fill-at
 mul-fill-at c = search needs
 
--- src/lib.rt:16:5
 fill-at-requires : tie.Need-fill-at-requires
 fill-at-requires c κs = search needs
 
--- src/lib.rt:18:5
 put-u16-requires : tie.Need-put-u16-requires
 put-u16-requires c κs = search needs
 
--- src/lib.rt:19:5
 put-u16-requires-2 : tie.Need-put-u16-requires-2
 put-u16-requires-2 c κs = search needs
 
--- src/lib.rt:20:5
 put-u16-requires-3 : tie.Need-put-u16-requires-3
 put-u16-requires-3 c κs = search needs
 
--- src/lib.rt:21:5
 put-u16-requires-4 : tie.Need-put-u16-requires-4
 put-u16-requires-4 c κs = search needs
 
--- src/lib.rt:22:5
 put-u16-requires-5 : tie.Need-put-u16-requires-5
 put-u16-requires-5 c κs = search needs
 
--- src/lib.rt:24:5
 put-u16-requires-6 : tie.Need-put-u16-requires-6
 put-u16-requires-6 c κs = search needs
 
--- src/lib.rt:25:5
 put-u16-requires-7 : tie.Need-put-u16-requires-7
 put-u16-requires-7 c κs = search needs
 
--- src/lib.rt:12:1
 same-length : tie.Need-same-length
 same-length c = search needs
 
--- src/lib.rt:12:1
 returns : tie.Need-returns
 returns c =
     writes-empty (c .before .before .before .before .before .before .before .before .before .before .before .before .before .before .before .before .before .before .before .before .before .before .before .before .before .before .before .before .before .before .before .before .before .args .store .now) _ _ _ _ _ _ _ _ (c .before .before .before .before .before .before .before .before .before .before .before .before .before .before .before .before .before .before .before .before .before .before .before .before .before .before .before .before .before .before .before .before .before .args .n) (omega arith) (omega arith)

@@ -5,35 +5,27 @@ use borrow.Author.Needs.{needs}
 use Rattle.node.proofs.parted.Statement.{statement}
 use Rattle.node.proofs.parted.Tie as tie
 
--- src/lib.rt:50:8
 sub-if1 : tie.Need-sub-if1
 sub-if1 c = search needs
 
--- src/lib.rt:51:9
 returns : tie.Need-returns
 returns c = let A = c .before .before .args in split-bad _ _ _ (keyed-short (A .s .now) (A .start) (A .stop) (omega arith) (omega arith) (omega arith))
 
--- src/lib.rt:53:9
 u16-at-requires : tie.Need-u16-at-requires
 u16-at-requires c κs = search needs
 
--- src/lib.rt:54:16
 add-body : tie.Need-add-body
 add-body c = search needs
 
--- src/lib.rt:55:8
 sub-if2 : tie.Need-sub-if2
 sub-if2 c = search needs
 
--- src/lib.rt:56:9
 returns-2 : tie.Need-returns-2
 returns-2 c = let A = c .before .before .before .before .args in split-bad _ _ _ (keyed-long (A .s .now) (A .start) (A .stop) (omega arith) (omega arith) (omega arith) (omega arith))
 
--- src/lib.rt:58:15
 add-t6 : tie.Need-add-t6
 add-t6 c = search needs
 
--- src/lib.rt:46:1
 returns-3 : tie.Need-returns-3
 returns-3 c = let A = c .before .before .before .before .args in split-at _ _ _ _ (omega arith) (omega arith) (keyed-at (A .s .now) (A .start) (A .stop) (omega arith) (omega arith) (omega arith) (c .before .u16-at .result) (omega arith) (omega arith))
 

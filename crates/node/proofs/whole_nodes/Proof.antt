@@ -3,19 +3,15 @@ use Rattle.node.specs.Whole.{ragged, too-few, whole-by}
 use Rattle.node.proofs.whole_nodes.Statement.{statement}
 use Rattle.node.proofs.whole_nodes.Tie as tie
 
--- src/lib.rt:14:8
 mul-if1 : tie.Need-mul-if1
 mul-if1 c = search needs
 
--- src/lib.rt:15:9
 returns : tie.Need-returns
 returns c = search (needs, ragged)
 
--- src/lib.rt:18:9
 returns-2 : tie.Need-returns-2
 returns-2 c = search (needs, too-few)
 
--- src/lib.rt:10:1
 returns-3 : tie.Need-returns-3
 returns-3 c = search (needs, whole-by)
 

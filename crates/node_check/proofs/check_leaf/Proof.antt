@@ -34,60 +34,47 @@ places-in c =
     let w = pair-places (c .before .before .before .before .before .before .before .before .before .before .loop .c .at) (c .before .before .before .before .before .before .before .before .before .before .loop .c .end) (c .before .before .before .before .before .e .given .0 .0) _ _ (pair-is-of c) (n .reachable) in
     (record { low = omega arith; rises = omega arith; high = omega arith }, record { low = omega arith; rises = omega arith; high = omega arith })
 
--- src/lib.rt:61:5
 loop-holds : tie.Need-loop-holds Inv-loop μ-loop
 loop-holds c = (refl, start-fits _, leaf-start _ _ _ _ _)
 
--- src/lib.rt:62:35
 step-requires : tie.Need-step-requires Inv-loop μ-loop
 step-requires c κs = omega arith
 
--- src/lib.rt:62:24
 enum-known-e : tie.Need-enum-known-e Inv-loop μ-loop
 enum-known-e c = search needs
 
--- src/lib.rt:63:13
 enum-told : tie.Need-enum-told Inv-loop μ-loop
 enum-told c = search needs
 
--- src/lib.rt:63:13
 returns : tie.Need-returns Inv-loop μ-loop
 returns c = leaf-bad _ _ _ _ _ _ (step-bad-is _ _ _ _ (c .before .before .step .ensures) (c .enum-told .given .1) .0 (omega arith)) (c .before .before .before .before .before .loop .inv .2)
 
--- src/lib.rt:65:30
 pair-of-requires : tie.Need-pair-of-requires Inv-loop μ-loop
 pair-of-requires c κs = search needs
 
--- src/lib.rt:65:22
 enum-known-p : tie.Need-enum-known-p Inv-loop μ-loop
 enum-known-p c = search needs
 
--- src/lib.rt:66:13
 enum-told-2 : tie.Need-enum-told-2 Inv-loop μ-loop
 enum-told-2 c = search needs
 
--- src/lib.rt:66:13
 returns-2 : tie.Need-returns-2 Inv-loop μ-loop
 returns-2 c = leaf-other _ _ _ _ _ _ _ _ _ (next-is (c .before .before .before) .first) (sym (c .before .before .pair-of .ensures) ∙ c .enum-told2 .given .1) (c .before .before .before .before .before .before .before .before .before .loop .inv .2)
 
--- src/lib.rt:68:13
 row-good-requires : tie.Need-row-good-requires Inv-loop μ-loop
 row-good-requires c κs =
     let n = next-is (c .before .before .before .before) in
     let w = places-in c in
     (c .before .before .before .before .before .before .before .before .before .before .loop .inv .1, w .0, w .1)
 
--- src/lib.rt:69:13
 returns-3 : tie.Need-returns-3 Inv-loop μ-loop
 returns-3 c =
     let n = next-is (c .before .before .before .before .before .before) in
     leaf-stop _ _ _ _ _ _ _ _ _ _ _ (c .before .row-good .result) (n .first) (pair-is-of (c .before .before)) (c .before .row-good .ensures) (not-true _ (c .if2 .taken)) (c .before .before .before .before .before .before .before .before .before .before .before .before .loop .inv .2)
 
--- src/lib.rt:61:5
 loop-less : tie.Need-loop-less Inv-loop μ-loop
 loop-less c = let n = next-is (c .before .before .before .before .before .before) in omega arith
 
--- src/lib.rt:61:5
 loop-again : tie.Need-loop-again Inv-loop μ-loop
 loop-again c =
     let n = next-is (c .before .before .before .before .before .before) in (
@@ -96,7 +83,6 @@ loop-again c =
       leaf-on _ _ _ _ _ _ _ _ _ _ _ (c .before .row-good .result) (n .first) (pair-is-of (c .before .before)) (c .before .row-good .ensures) (not-false _ (c .if2 .left)) (c .before .before .before .before .before .before .before .before .before .before .before .before .loop .inv .2),
     )
 
--- src/lib.rt:55:1
 returns-4 : tie.Need-returns-4 Inv-loop μ-loop
 returns-4 c = leaf-end _ _ _ _ _ _ (entries-end _ _ _ (omega arith)) (c .before .before .loop .inv .2)
 

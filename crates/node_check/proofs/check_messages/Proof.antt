@@ -26,60 +26,47 @@ next-is c = step-read-is _ _ _ _ _ _ (c .before .before .before .step .ensures) 
 note-is-of : (c : tie.After-known-told2 Inv-loop μ-loop) → noteIs (c .before .before .before .before .before .e .given .0 .0) ≡ Note.Of (c .before .m .given .0 .0)
 note-is-of c = sym (c .before .before .before .note-of .ensures) ∙ c .before .m .given .1
 
--- src/lib.rt:141:5
 loop-holds : tie.Need-loop-holds Inv-loop μ-loop
 loop-holds c = (refl, refl)
 
--- src/lib.rt:142:35
 step-requires : tie.Need-step-requires Inv-loop μ-loop
 step-requires c κs = omega arith
 
--- src/lib.rt:142:24
 enum-known-e : tie.Need-enum-known-e Inv-loop μ-loop
 enum-known-e c = search needs
 
--- src/lib.rt:143:13
 enum-told : tie.Need-enum-told Inv-loop μ-loop
 enum-told c = search needs
 
--- src/lib.rt:143:13
 returns : tie.Need-returns Inv-loop μ-loop
 returns c = notes-bad _ _ _ _ _ (step-bad-is _ _ _ _ (c .before .before .step .ensures) (c .enum-told .given .1) .0 (omega arith)) (c .before .before .before .before .before .loop .inv .1)
 
--- src/lib.rt:145:27
 note-of-requires : tie.Need-note-of-requires Inv-loop μ-loop
 note-of-requires c κs = search needs
 
--- src/lib.rt:145:22
 enum-known-m : tie.Need-enum-known-m Inv-loop μ-loop
 enum-known-m c = search needs
 
--- src/lib.rt:146:13
 enum-told-2 : tie.Need-enum-told-2 Inv-loop μ-loop
 enum-told-2 c = search needs
 
--- src/lib.rt:146:13
 returns-2 : tie.Need-returns-2 Inv-loop μ-loop
 returns-2 c = notes-other _ _ _ _ _ _ _ _ (next-is (c .before .before .before) .first) (sym (c .before .before .note-of .ensures) ∙ c .enum-told2 .given .1) (c .before .before .before .before .before .before .before .before .before .loop .inv .1)
 
--- src/lib.rt:148:13
 message-good-requires : tie.Need-message-good-requires Inv-loop μ-loop
 message-good-requires c κs =
     let n = next-is (c .before .before .before .before) in
     note-places 0 (length (c .before .before .before .before .before .before .before .before .before .before .before .before .before .before .args .s .now)) (c .before .before .before .before .before .e .given .0 .0) _ (note-is-of c)
     (entry-wider (c .before .before .before .before .before .before .before .before .before .before .loop .c .at) (c .before .before .before .before .before .before .before .before .before .before .loop .c .end) 0 (length (c .before .before .before .before .before .before .before .before .before .before .before .before .before .before .args .s .now)) (c .before .before .before .before .before .e .given .0 .0) (omega arith) (omega arith) (n .reachable))
 
--- src/lib.rt:149:13
 returns-3 : tie.Need-returns-3 Inv-loop μ-loop
 returns-3 c =
     let n = next-is (c .before .before .before .before .before .before) in
     notes-stop _ _ _ _ _ _ _ _ _ (c .before .message-good .result) (n .first) (note-is-of (c .before .before)) (c .before .message-good .ensures) (not-true _ (c .if2 .taken)) (c .before .before .before .before .before .before .before .before .before .before .before .before .loop .inv .1)
 
--- src/lib.rt:141:5
 loop-less : tie.Need-loop-less Inv-loop μ-loop
 loop-less c = let n = next-is (c .before .before .before .before .before .before) in omega arith
 
--- src/lib.rt:141:5
 loop-again : tie.Need-loop-again Inv-loop μ-loop
 loop-again c =
     let n = next-is (c .before .before .before .before .before .before) in (
@@ -87,7 +74,6 @@ loop-again c =
       notes-on _ _ _ _ _ _ _ _ _ (c .before .message-good .result) (n .first) (note-is-of (c .before .before)) (c .before .message-good .ensures) (not-false _ (c .if2 .left)) (c .before .before .before .before .before .before .before .before .before .before .before .before .loop .inv .1),
     )
 
--- src/lib.rt:136:1
 returns-4 : tie.Need-returns-4 Inv-loop μ-loop
 returns-4 c = notes-end _ _ _ _ _ (entries-end _ _ _ (omega arith)) (c .before .before .loop .inv .1)
 

@@ -9,35 +9,27 @@ use Rattle.node_check.proofs.follows_on.Tie as tie
 prev-in : (c : tie.After-known-told) → Within 0 (length (c .before .before .before .before .before .args .s .now)) (c .before .prev .given .0 .0)
 prev-in c = prev-place _ (c .before .before .before .before .before .args .prev) _ (c .before .before .before .before .before .pre) (c .before .prev .given .1)
 
--- src/lib.rt:26:19
 enum-known-prev : tie.Need-enum-known-prev
 enum-known-prev c = search needs
 
--- src/lib.rt:27:9
 enum-told : tie.Need-enum-told
 enum-told c = search needs
 
--- src/lib.rt:27:9
 returns : tie.Need-returns
 returns c = start-follows _ _ _ (c .enum-told .given .1)
 
--- src/lib.rt:31:22
 sub-precedes : tie.Need-sub-precedes
 sub-precedes c = let w = prev-in c in omega arith
 
--- src/lib.rt:31:22
 part-precedes-start : tie.Need-part-precedes-start
 part-precedes-start c = let w = prev-in c in omega arith
 
--- src/lib.rt:31:22
 part-precedes-end : tie.Need-part-precedes-end
 part-precedes-end c = let w = prev-in c in omega arith
 
--- src/lib.rt:31:5
 precedes-requires : tie.Need-precedes-requires
 precedes-requires c κs = search needs
 
--- src/lib.rt:22:1
 returns-2 : tie.Need-returns-2
 returns-2 c = key-follows _ _ _ _ _ (c .before .before .before .prev .given .1) (c .precedes .ensures)
 

@@ -17,127 +17,96 @@ drop-in c = drop-places _ (c .before .before .before .before .before .before .ar
 clear-in : (c : tie.After-known-told3) → Within 0 (length (c .before .before .before .before .before .before .args .s .now)) (c .before .m3 .given .0 .0)
 clear-in c = clear-places _ (c .before .before .before .before .before .before .args .m) _ (c .before .before .before .before .before .before .pre) (c .before .m3 .given .1)
 
--- src/lib.rt:103:22
 enum-known-m : tie.Need-enum-known-m
 enum-known-m c = search needs
 
--- src/lib.rt:108:21
 sub-if1 : tie.Need-sub-if1
 sub-if1 c = let w = put-in c in omega arith
 
--- src/lib.rt:109:17
 returns : tie.Need-returns
 returns c = put-long _ _ _ (c .before .before .before .before .before .before .before .args .s .now) (c .before .before .before .before .before .before .before .args .m) (c .before .before .m .given .0 .0) (c .before .before .m .given .0 .1 .0) (c .before .before .m .given .1) (put-in (c .before) .1) (omega arith)
 
--- src/lib.rt:111:39
 sub-owned : tie.Need-sub-owned
 sub-owned c = let w = put-in (c .before) in omega arith
 
--- src/lib.rt:111:39
 part-owned-start : tie.Need-part-owned-start
 part-owned-start c = let w = put-in (c .before) in omega arith
 
--- src/lib.rt:111:39
 part-owned-end : tie.Need-part-owned-end
 part-owned-end c = let w = put-in (c .before) in omega arith
 
--- src/lib.rt:111:17
 owned-requires : tie.Need-owned-requires
 owned-requires c κs = search needs
 
--- src/lib.rt:112:17
 returns-2 : tie.Need-returns-2
 returns-2 c = put-out _ _ _ (c .before .before .before .before .before .before .before .before .before .before .args .s .now) (c .before .before .before .before .before .before .before .before .before .before .args .m) (c .before .before .before .before .before .m .given .0 .0) (c .before .before .before .before .before .m .given .0 .1 .0) (c .before .before .before .before .before .m .given .1) (put-in (c .before .before .before .before) .1) (c .before .owned .result) (c .before .owned .ensures) (not-true _ (c .if2 .taken))
 
--- src/lib.rt:114:32
 sub-goes-on : tie.Need-sub-goes-on
 sub-goes-on c = let w = put-in (c .before .before .before .before) in omega arith
 
--- src/lib.rt:114:32
 part-goes-on-start : tie.Need-part-goes-on-start
 part-goes-on-start c = let w = put-in (c .before .before .before .before) in omega arith
 
--- src/lib.rt:114:32
 part-goes-on-end : tie.Need-part-goes-on-end
 part-goes-on-end c = let w = put-in (c .before .before .before .before) in omega arith
 
--- src/lib.rt:114:13
 goes-on-requires : tie.Need-goes-on-requires
 goes-on-requires c κs = search needs
 
--- src/lib.rt:116:23
 enum-known-m-2 : tie.Need-enum-known-m-2
 enum-known-m-2 c = search needs
 
--- src/lib.rt:119:39
 sub-owned-2 : tie.Need-sub-owned-2
 sub-owned-2 c = let w = drop-in c in omega arith
 
--- src/lib.rt:119:39
 part-owned-start-2 : tie.Need-part-owned-start-2
 part-owned-start-2 c = let w = drop-in c in omega arith
 
--- src/lib.rt:119:39
 part-owned-end-2 : tie.Need-part-owned-end-2
 part-owned-end-2 c = let w = drop-in c in omega arith
 
--- src/lib.rt:119:17
 owned-requires-2 : tie.Need-owned-requires-2
 owned-requires-2 c κs = search needs
 
--- src/lib.rt:120:17
 returns-3 : tie.Need-returns-3
 returns-3 c = drop-out _ _ _ (c .before .before .before .before .before .before .before .before .before .args .s .now) (c .before .before .before .before .before .before .before .before .before .args .m) (c .before .before .before .before .m2 .given .0 .0) (c .before .before .before .before .m2 .given .1) (c .before .owned2 .result) (c .before .owned2 .ensures) (not-true _ (c .if3 .taken))
 
--- src/lib.rt:122:32
 sub-goes-on-2 : tie.Need-sub-goes-on-2
 sub-goes-on-2 c = let w = drop-in (c .before .before .before) in omega arith
 
--- src/lib.rt:122:32
 part-goes-on-start-2 : tie.Need-part-goes-on-start-2
 part-goes-on-start-2 c = let w = drop-in (c .before .before .before) in omega arith
 
--- src/lib.rt:122:32
 part-goes-on-end-2 : tie.Need-part-goes-on-end-2
 part-goes-on-end-2 c = let w = drop-in (c .before .before .before) in omega arith
 
--- src/lib.rt:122:13
 goes-on-requires-2 : tie.Need-goes-on-requires-2
 goes-on-requires-2 c κs = search needs
 
--- src/lib.rt:124:24
 enum-known-m-3 : tie.Need-enum-known-m-3
 enum-known-m-3 c = search needs
 
--- src/lib.rt:128:17
 returns-4 : tie.Need-returns-4
 returns-4 c = clear-all _ _ _ (c .before .before .before .before .before .before .before .args .s .now) (c .before .before .before .before .before .before .before .args .m) (c .before .before .m3 .given .0 .0) (c .before .before .m3 .given .1) (omega arith)
 
--- src/lib.rt:130:32
 sub-goes-on-3 : tie.Need-sub-goes-on-3
 sub-goes-on-3 c = let w = clear-in (c .before) in omega arith
 
--- src/lib.rt:130:32
 part-goes-on-start-3 : tie.Need-part-goes-on-start-3
 part-goes-on-start-3 c = let w = clear-in (c .before) in omega arith
 
--- src/lib.rt:130:32
 part-goes-on-end-3 : tie.Need-part-goes-on-end-3
 part-goes-on-end-3 c = let w = clear-in (c .before) in omega arith
 
--- src/lib.rt:130:13
 goes-on-requires-3 : tie.Need-goes-on-requires-3
 goes-on-requires-3 c κs = search needs
 
--- src/lib.rt:98:1
 returns-5 : tie.Need-returns-5
 returns-5 c = put-shape _ _ _ (c .before .before .before .before .before .before .before .before .before .before .before .before .args .s .now) (c .before .before .before .before .before .before .before .before .before .before .before .before .args .m) (c .before .before .before .before .before .before .before .m .given .0 .0) (c .before .before .before .before .before .before .before .m .given .0 .1 .0) (c .before .before .before .before .before .before .before .m .given .1) (put-in (c .before .before .before .before .before .before) .1) (omega arith) (c .before .before .before .owned .result) _ (c .before .before .before .owned .ensures) (not-false _ (c .before .before .if2 .left)) (c .goes-on .ensures)
 
--- src/lib.rt:98:1
 returns-6 : tie.Need-returns-6
 returns-6 c = drop-shape _ _ _ (c .before .before .before .before .before .before .before .before .before .before .before .args .s .now) (c .before .before .before .before .before .before .before .before .before .before .before .args .m) (c .before .before .before .before .before .before .m2 .given .0 .0) (c .before .before .before .before .before .before .m2 .given .1) (c .before .before .before .owned2 .result) _ (c .before .before .before .owned2 .ensures) (not-false _ (c .before .before .if3 .left)) (c .goes-on2 .ensures)
 
--- src/lib.rt:98:1
 returns-7 : tie.Need-returns-7
 returns-7 c = clear-shape _ _ _ (c .before .before .before .before .before .before .before .before .before .args .s .now) (c .before .before .before .before .before .before .before .before .before .args .m) (c .before .before .before .before .m3 .given .0 .0) (c .before .before .before .before .m3 .given .1) (clear-in (c .before .before .before)) (omega arith) _ (c .goes-on3 .ensures)
 

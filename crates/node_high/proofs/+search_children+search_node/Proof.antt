@@ -93,7 +93,6 @@ first-next : (t : ℕ) (c : search-node-lts.After-known-told (
 ) (search-node-at t) search-node.Post) → NextChild (c .before .before .before .before .before .before .before .before .before .before .before .before .args .store .now) (c .before .before .before .before .before .before .before .before .before .before .before .before .args .cur * 1024 + 8) (c .before .before .before .before .before .before .before .before .before .before .before .before .args .cur * 1024 + 8 + c .before .before .before .before .u16-at .result) (c .before .first .given .0 .0) (c .before .first .given .0 .1 .0) (c .before .first .given .0 .1 .1 .0)
 first-next t c = pends-child _ _ _ _ _ _ _ (c .before .before .before .read-child .ensures) (c .before .first .given .1)
 
--- src/lib.rt:85:5
 search-children-loop-holds : (t : ℕ) → search-children-lts.Need-loop-holds (
   read-child-reads.Asked,
   read-child-reads.Learnt,
@@ -102,7 +101,6 @@ search-children-loop-holds : (t : ℕ) → search-children-lts.Need-loop-holds (
 ) (search-children-at t) search-children.Post search-children-Inv-loop search-children-μ-loop
 search-children-loop-holds t c = ((c .before .before .before .pre .1) .ends, (c .before .before .before .pre .1) .place, refl, (c .before .before .before .pre .1) .reads, refl)
 
--- src/lib.rt:88:42
 search-children-read-child-requires : (t : ℕ) → search-children-lts.Need-read-child-requires (
   read-child-reads.Asked,
   read-child-reads.Learnt,
@@ -111,7 +109,6 @@ search-children-read-child-requires : (t : ℕ) → search-children-lts.Need-rea
 ) (search-children-at t) search-children.Post search-children-Inv-loop search-children-μ-loop
 search-children-read-child-requires t c κs = c .loop .inv .0
 
--- src/lib.rt:88:28
 search-children-enum-known-k : (t : ℕ) → search-children-lts.Need-enum-known-k (
   read-child-reads.Asked,
   read-child-reads.Learnt,
@@ -120,7 +117,6 @@ search-children-enum-known-k : (t : ℕ) → search-children-lts.Need-enum-known
 ) (search-children-at t) search-children.Post search-children-Inv-loop search-children-μ-loop
 search-children-enum-known-k t c = search needs
 
--- src/lib.rt:89:51
 search-children-enum-told : (t : ℕ) → search-children-lts.Need-enum-told (
   read-child-reads.Asked,
   read-child-reads.Learnt,
@@ -129,7 +125,6 @@ search-children-enum-told : (t : ℕ) → search-children-lts.Need-enum-told (
 ) (search-children-at t) search-children.Post search-children-Inv-loop search-children-μ-loop
 search-children-enum-told t c = search needs
 
--- src/lib.rt:89:51
 search-children-sub-search-node : (t : ℕ) → search-children-lts.Need-sub-search-node (
   read-child-reads.Asked,
   read-child-reads.Learnt,
@@ -138,7 +133,6 @@ search-children-sub-search-node : (t : ℕ) → search-children-lts.Need-sub-sea
 ) (search-children-at t) search-children.Post search-children-Inv-loop search-children-μ-loop
 search-children-sub-search-node t c = let w = c .before .before .before .loop .inv .1 in omega arith
 
--- src/lib.rt:89:51
 search-children-part-search-node-start : (t : ℕ) → search-children-lts.Need-part-search-node-start (
   read-child-reads.Asked,
   read-child-reads.Learnt,
@@ -147,7 +141,6 @@ search-children-part-search-node-start : (t : ℕ) → search-children-lts.Need-
 ) (search-children-at t) search-children.Post search-children-Inv-loop search-children-μ-loop
 search-children-part-search-node-start t c = let w = c .before .before .before .loop .inv .1 in omega arith
 
--- src/lib.rt:89:51
 search-children-part-search-node-end : (t : ℕ) → search-children-lts.Need-part-search-node-end (
   read-child-reads.Asked,
   read-child-reads.Learnt,
@@ -156,7 +149,6 @@ search-children-part-search-node-end : (t : ℕ) → search-children-lts.Need-pa
 ) (search-children-at t) search-children.Post search-children-Inv-loop search-children-μ-loop
 search-children-part-search-node-end t c = let w = c .before .before .before .loop .inv .1 in omega arith
 
--- src/lib.rt:89:13
 search-children-search-node-requires : (t : ℕ) → search-children-lts.Need-search-node-requires (
   read-child-reads.Asked,
   read-child-reads.Learnt,
@@ -165,7 +157,6 @@ search-children-search-node-requires : (t : ℕ) → search-children-lts.Need-se
 ) (search-children-at t) search-children.Post search-children-Inv-loop search-children-μ-loop
 search-children-search-node-requires t c κs = (omega arith, first-usable (nodesOf (length (c .before .before .before .before .before .before .before .before .before .args .store .now))) (λ j. treeAt (c .before .before .before .before .before .before .before .before .before .args .level) (c .before .before .before .before .before .before .before .before .before .args .store .now) j) (kid (c .before .before .before .before .before .loop .cur) (part (c .before .before .before .before .before .before .before .before .before .args .store .now) (c .before .before .before .before .before .loop .low))) (kidsE (listed (c .before .before .before .before .before .before .before .before .before .args .store .now) (c .before .before .before .before .before .loop .c .at) (c .before .before .before .before .before .loop .c .end))) (c .before .before .before .before .before .loop .inv .3))
 
--- src/lib.rt:89:13
 search-children-same-length : (t : ℕ) → search-children-lts.Need-same-length (
   read-child-reads.Asked,
   read-child-reads.Learnt,
@@ -174,7 +165,6 @@ search-children-same-length : (t : ℕ) → search-children-lts.Need-same-length
 ) (search-children-at t) search-children.Post search-children-Inv-loop search-children-μ-loop
 search-children-same-length t c = search needs
 
--- src/lib.rt:89:13
 search-children-returns : (t : ℕ) → search-children-lts.Need-returns (
   read-child-reads.Asked,
   read-child-reads.Learnt,
@@ -183,7 +173,6 @@ search-children-returns : (t : ℕ) → search-children-lts.Need-returns (
 ) (search-children-at t) search-children.Post search-children-Inv-loop search-children-μ-loop
 search-children-returns t c = at-last (c .before .before .before .before .before .before .before .before .before .before .before .before .args .num) (λ j. treeAt (c .before .before .before .before .before .before .before .before .before .before .before .before .args .level) (c .before .before .before .before .before .before .before .before .before .before .before .before .args .store .now) j) (c .before .before .before .before .before .before .before .before .before .before .before .before .args .hi .now) (c .before .before .before .before .before .before .before .before .loop .cur) (part (c .before .before .before .before .before .before .before .before .before .before .before .before .args .store .now) (c .before .before .before .before .before .before .before .before .loop .low)) (kidsE (listed (c .before .before .before .before .before .before .before .before .before .before .before .before .args .store .now) (c .before .before .before .before .before .before .before .before .loop .c .at) (c .before .before .before .before .before .before .before .before .loop .c .end))) _ (c .before .before .before .before .before .before .before .before .loop .inv .4) _ _ (pends-end _ _ _ _ (c .before .before .before .before .before .before .before .read-child .ensures) (c .before .before .before .before .before .enum-told .given .1)) (c .before .before .search-node .ensures)
 
--- src/lib.rt:93:48
 search-children-sub-search-node-2 : (t : ℕ) → search-children-lts.Need-sub-search-node-2 (
   read-child-reads.Asked,
   read-child-reads.Learnt,
@@ -192,7 +181,6 @@ search-children-sub-search-node-2 : (t : ℕ) → search-children-lts.Need-sub-s
 ) (search-children-at t) search-children.Post search-children-Inv-loop search-children-μ-loop
 search-children-sub-search-node-2 t c = let w = c .before .before .before .before .loop .inv .1 in omega arith
 
--- src/lib.rt:93:48
 search-children-part-search-node-start-2 :
     (t : ℕ) → search-children-lts.Need-part-search-node-start-2 (
       read-child-reads.Asked,
@@ -202,7 +190,6 @@ search-children-part-search-node-start-2 :
     ) (search-children-at t) search-children.Post search-children-Inv-loop search-children-μ-loop
 search-children-part-search-node-start-2 t c = let w = c .before .before .before .before .loop .inv .1 in omega arith
 
--- src/lib.rt:93:48
 search-children-part-search-node-end-2 : (t : ℕ) → search-children-lts.Need-part-search-node-end-2 (
   read-child-reads.Asked,
   read-child-reads.Learnt,
@@ -211,7 +198,6 @@ search-children-part-search-node-end-2 : (t : ℕ) → search-children-lts.Need-
 ) (search-children-at t) search-children.Post search-children-Inv-loop search-children-μ-loop
 search-children-part-search-node-end-2 t c = let w = c .before .before .before .before .loop .inv .1 in omega arith
 
--- src/lib.rt:93:62
 search-children-sub-search-node-3 : (t : ℕ) → search-children-lts.Need-sub-search-node-3 (
   read-child-reads.Asked,
   read-child-reads.Learnt,
@@ -220,7 +206,6 @@ search-children-sub-search-node-3 : (t : ℕ) → search-children-lts.Need-sub-s
 ) (search-children-at t) search-children.Post search-children-Inv-loop search-children-μ-loop
 search-children-sub-search-node-3 t c = let n = kid-next t (c .before) in let w = n .place in omega arith
 
--- src/lib.rt:93:62
 search-children-part-search-node-start-3 :
     (t : ℕ) → search-children-lts.Need-part-search-node-start-3 (
       read-child-reads.Asked,
@@ -230,7 +215,6 @@ search-children-part-search-node-start-3 :
     ) (search-children-at t) search-children.Post search-children-Inv-loop search-children-μ-loop
 search-children-part-search-node-start-3 t c = let n = kid-next t (c .before) in let w = n .place in omega arith
 
--- src/lib.rt:93:62
 search-children-part-search-node-end-3 : (t : ℕ) → search-children-lts.Need-part-search-node-end-3 (
   read-child-reads.Asked,
   read-child-reads.Learnt,
@@ -239,7 +223,6 @@ search-children-part-search-node-end-3 : (t : ℕ) → search-children-lts.Need-
 ) (search-children-at t) search-children.Post search-children-Inv-loop search-children-μ-loop
 search-children-part-search-node-end-3 t c = let n = kid-next t (c .before) in let w = n .place in omega arith
 
--- src/lib.rt:93:13
 search-children-search-node-requires-2 : (t : ℕ) → search-children-lts.Need-search-node-requires-2 (
   read-child-reads.Asked,
   read-child-reads.Learnt,
@@ -256,7 +239,6 @@ search-children-enum-told-2 : (t : ℕ) → search-children-lts.Need-enum-told-2
 ) (search-children-at t) search-children.Post search-children-Inv-loop search-children-μ-loop
 search-children-enum-told-2 t c = search needs
 
--- src/lib.rt:95:13
 search-children-enum-told-3 : (t : ℕ) → search-children-lts.Need-enum-told-3 (
   read-child-reads.Asked,
   read-child-reads.Learnt,
@@ -265,7 +247,6 @@ search-children-enum-told-3 : (t : ℕ) → search-children-lts.Need-enum-told-3
 ) (search-children-at t) search-children.Post search-children-Inv-loop search-children-μ-loop
 search-children-enum-told-3 t c = search needs
 
--- src/lib.rt:95:13
 search-children-same-length-2 : (t : ℕ) → search-children-lts.Need-same-length-2 (
   read-child-reads.Asked,
   read-child-reads.Learnt,
@@ -274,7 +255,6 @@ search-children-same-length-2 : (t : ℕ) → search-children-lts.Need-same-leng
 ) (search-children-at t) search-children.Post search-children-Inv-loop search-children-μ-loop
 search-children-same-length-2 t c = search needs
 
--- src/lib.rt:95:13
 search-children-returns-2 : (t : ℕ) → search-children-lts.Need-returns-2 (
   read-child-reads.Asked,
   read-child-reads.Learnt,
@@ -283,7 +263,6 @@ search-children-returns-2 : (t : ℕ) → search-children-lts.Need-returns-2 (
 ) (search-children-at t) search-children.Post search-children-Inv-loop search-children-μ-loop
 search-children-returns-2 t c = let n = kid-next t (c .before .before .before .before .before .before .before .before) in is-here (c .before .before .before .before .before .before .before .before .before .before .before .before .before .before .before .before .args .num) (λ j. treeAt (c .before .before .before .before .before .before .before .before .before .before .before .before .before .before .before .before .args .level) (c .before .before .before .before .before .before .before .before .before .before .before .before .before .before .before .before .args .store .now) j) (c .before .before .before .before .before .before .before .before .before .before .before .before .before .before .before .before .args .hi .now) (c .before .before .before .before .before .before .before .before .before .before .before .before .loop .cur) (part (c .before .before .before .before .before .before .before .before .before .before .before .before .before .before .before .before .args .store .now) (c .before .before .before .before .before .before .before .before .before .before .before .before .loop .low)) (kidsE (listed (c .before .before .before .before .before .before .before .before .before .before .before .before .before .before .before .before .args .store .now) (c .before .before .before .before .before .before .before .before .before .before .before .before .loop .c .at) (c .before .before .before .before .before .before .before .before .before .before .before .before .loop .c .end))) _ (c .before .before .before .before .before .before .before .before .before .before .before .before .loop .inv .4) (c .before .before .before .before .before .before .before .before .before .k .given .0 .0) (part (c .before .before .before .before .before .before .before .before .before .before .before .before .before .before .before .before .args .store .now) (c .before .before .before .before .before .before .before .before .before .k .given .0 .1 .0)) (kidsE (listed (c .before .before .before .before .before .before .before .before .before .before .before .before .before .before .before .before .args .store .now) (c .before .before .before .before .before .before .before .before .before .k .given .0 .1 .1 .0 .at) (c .before .before .before .before .before .before .before .before .before .k .given .0 .1 .1 .0 .end))) (n .lists) _ _ _ (c .before .before .before .before .search-node2 .ensures) (c .enum-told3 .given .1)
 
--- src/lib.rt:85:5
 search-children-loop-less : (t : ℕ) → search-children-lts.Need-loop-less (
   read-child-reads.Asked,
   read-child-reads.Learnt,
@@ -292,7 +271,6 @@ search-children-loop-less : (t : ℕ) → search-children-lts.Need-loop-less (
 ) (search-children-at t) search-children.Post search-children-Inv-loop search-children-μ-loop
 search-children-loop-less t c = let n = kid-next t (c .before .before .before .before .before .before .before .before) in omega arith
 
--- src/lib.rt:85:5
 search-children-loop-again : (t : ℕ) → search-children-lts.Need-loop-again (
   read-child-reads.Asked,
   read-child-reads.Learnt,
@@ -301,7 +279,6 @@ search-children-loop-again : (t : ℕ) → search-children-lts.Need-loop-again (
 ) (search-children-at t) search-children.Post search-children-Inv-loop search-children-μ-loop
 search-children-loop-again t c = let n = kid-next t (c .before .before .before .before .before .before .before .before) in (omega arith, n .place, search needs, later-usable (nodesOf (length (c .before .before .before .before .before .before .before .before .before .before .before .before .before .before .before .before .args .store .now))) (λ j. treeAt (c .before .before .before .before .before .before .before .before .before .before .before .before .before .before .before .before .args .level) (c .before .before .before .before .before .before .before .before .before .before .before .before .before .before .before .before .args .store .now) j) (kid (c .before .before .before .before .before .before .before .before .before .before .before .before .loop .cur) (part (c .before .before .before .before .before .before .before .before .before .before .before .before .before .before .before .before .args .store .now) (c .before .before .before .before .before .before .before .before .before .before .before .before .loop .low))) _ _ (n .lists) (c .before .before .before .before .before .before .before .before .before .before .before .before .loop .inv .3), not-here (c .before .before .before .before .before .before .before .before .before .before .before .before .before .before .before .before .args .num) (λ j. treeAt (c .before .before .before .before .before .before .before .before .before .before .before .before .before .before .before .before .args .level) (c .before .before .before .before .before .before .before .before .before .before .before .before .before .before .before .before .args .store .now) j) (c .before .before .before .before .before .before .before .before .before .before .before .before .before .before .before .before .args .hi .now) (c .before .before .before .before .before .before .before .before .before .before .before .before .loop .cur) (part (c .before .before .before .before .before .before .before .before .before .before .before .before .before .before .before .before .args .store .now) (c .before .before .before .before .before .before .before .before .before .before .before .before .loop .low)) (kidsE (listed (c .before .before .before .before .before .before .before .before .before .before .before .before .before .before .before .before .args .store .now) (c .before .before .before .before .before .before .before .before .before .before .before .before .loop .c .at) (c .before .before .before .before .before .before .before .before .before .before .before .before .loop .c .end))) _ (c .before .before .before .before .before .before .before .before .before .before .before .before .loop .inv .4) (c .before .before .before .before .before .before .before .before .before .k .given .0 .0) (part (c .before .before .before .before .before .before .before .before .before .before .before .before .before .before .before .before .args .store .now) (c .before .before .before .before .before .before .before .before .before .k .given .0 .1 .0)) (kidsE (listed (c .before .before .before .before .before .before .before .before .before .before .before .before .before .before .before .before .args .store .now) (c .before .before .before .before .before .before .before .before .before .k .given .0 .1 .1 .0 .at) (c .before .before .before .before .before .before .before .before .before .k .given .0 .1 .1 .0 .end))) (n .lists) _ _ (c .before .before .before .before .search-node2 .ensures) (c .enum-told2 .given .1))
 
--- src/lib.rt:51:9
 search-node-returns : (t : ℕ) → search-node-lts.Need-returns (
   common-length-reads.Asked,
   common-length-reads.Learnt,
@@ -316,7 +293,6 @@ search-node-returns : (t : ℕ) → search-node-lts.Need-returns (
 ) (search-node-at t) search-node.Post
 search-node-returns t c = seen-missing _ _ (high-leaf (c .before .before .before .before .before .args .num) (c .before .before .before .before .before .args .level) (c .before .before .before .before .before .args .store .now) (c .before .before .before .before .before .args .cur) (c .before .before .before .before .before .args .lo .now) (c .before .before .before .before .before .args .hi .now) (omega arith))
 
--- src/lib.rt:53:9
 search-node-common-length-requires : (t : ℕ) → search-node-lts.Need-common-length-requires (
   common-length-reads.Asked,
   common-length-reads.Learnt,
@@ -331,7 +307,6 @@ search-node-common-length-requires : (t : ℕ) → search-node-lts.Need-common-l
 ) (search-node-at t) search-node.Post
 search-node-common-length-requires t c κs = search needs
 
--- src/lib.rt:55:45
 search-node-sub-keep-high : (t : ℕ) → search-node-lts.Need-sub-keep-high (
   common-length-reads.Asked,
   common-length-reads.Learnt,
@@ -346,7 +321,6 @@ search-node-sub-keep-high : (t : ℕ) → search-node-lts.Need-sub-keep-high (
 ) (search-node-at t) search-node.Post
 search-node-sub-keep-high t c = search needs
 
--- src/lib.rt:55:45
 search-node-part-keep-high-start : (t : ℕ) → search-node-lts.Need-part-keep-high-start (
   common-length-reads.Asked,
   common-length-reads.Learnt,
@@ -361,7 +335,6 @@ search-node-part-keep-high-start : (t : ℕ) → search-node-lts.Need-part-keep-
 ) (search-node-at t) search-node.Post
 search-node-part-keep-high-start t c = search needs
 
--- src/lib.rt:55:45
 search-node-part-keep-high-end : (t : ℕ) → search-node-lts.Need-part-keep-high-end (
   common-length-reads.Asked,
   common-length-reads.Learnt,
@@ -376,7 +349,6 @@ search-node-part-keep-high-end : (t : ℕ) → search-node-lts.Need-part-keep-hi
 ) (search-node-at t) search-node.Post
 search-node-part-keep-high-end t c = search needs
 
--- src/lib.rt:55:30
 search-node-keep-high-requires : (t : ℕ) → search-node-lts.Need-keep-high-requires (
   common-length-reads.Asked,
   common-length-reads.Learnt,
@@ -391,7 +363,6 @@ search-node-keep-high-requires : (t : ℕ) → search-node-lts.Need-keep-high-re
 ) (search-node-at t) search-node.Post
 search-node-keep-high-requires t c κs = search needs
 
--- src/lib.rt:55:9
 search-node-same-length : (t : ℕ) → search-node-lts.Need-same-length (
   common-length-reads.Asked,
   common-length-reads.Learnt,
@@ -406,7 +377,6 @@ search-node-same-length : (t : ℕ) → search-node-lts.Need-same-length (
 ) (search-node-at t) search-node.Post
 search-node-same-length t c = search needs
 
--- src/lib.rt:55:9
 search-node-returns-2 : (t : ℕ) → search-node-lts.Need-returns-2 (
   common-length-reads.Asked,
   common-length-reads.Learnt,
@@ -421,7 +391,6 @@ search-node-returns-2 : (t : ℕ) → search-node-lts.Need-returns-2 (
 ) (search-node-at t) search-node.Post
 search-node-returns-2 t c = node-found (c .before .before .before .before .before .before .before .before .before .before .before .before .args .num) (c .before .before .before .before .before .before .before .before .before .before .before .before .args .level) (c .before .before .before .before .before .before .before .before .before .before .before .before .args .store .now) (c .before .before .before .before .before .before .before .before .before .before .before .before .args .cur) (c .before .before .before .before .before .before .before .before .before .before .before .before .pre .1) (omega arith) (c .before .before .before .before .before .before .before .before .before .before .before .before .args .lo .now) (c .before .before .before .before .before .before .before .before .before .before .before .before .args .hi .now) (c .before .before .before .before .before .before .common-length .result) (c .before .before .before .before .before .before .common-length .ensures .0) (omega arith) _ _ (c .before .before .keep-high .ensures)
 
--- src/lib.rt:57:14
 search-node-mul-at : (t : ℕ) → search-node-lts.Need-mul-at (
   common-length-reads.Asked,
   common-length-reads.Learnt,
@@ -436,7 +405,6 @@ search-node-mul-at : (t : ℕ) → search-node-lts.Need-mul-at (
 ) (search-node-at t) search-node.Post
 search-node-mul-at t c = let w = node-inside (c .before .before .before .before .before .before .before .args .store .now) (c .before .before .before .before .before .before .before .args .cur) (c .before .before .before .before .before .before .before .args .level) (c .before .before .before .before .before .before .before .pre .1) in omega arith
 
--- src/lib.rt:58:9
 search-node-u16-at-requires : (t : ℕ) → search-node-lts.Need-u16-at-requires (
   common-length-reads.Asked,
   common-length-reads.Learnt,
@@ -451,7 +419,6 @@ search-node-u16-at-requires : (t : ℕ) → search-node-lts.Need-u16-at-requires
 ) (search-node-at t) search-node.Post
 search-node-u16-at-requires t c κs = let w = node-inside (c .before .before .before .before .before .before .before .args .store .now) (c .before .before .before .before .before .before .before .args .cur) (c .before .before .before .before .before .before .before .args .level) (c .before .before .before .before .before .before .before .pre .1) in omega arith
 
--- src/lib.rt:59:16
 search-node-add-from : (t : ℕ) → search-node-lts.Need-add-from (
   common-length-reads.Asked,
   common-length-reads.Learnt,
@@ -466,7 +433,6 @@ search-node-add-from : (t : ℕ) → search-node-lts.Need-add-from (
 ) (search-node-at t) search-node.Post
 search-node-add-from t c = let w = node-inside (c .before .before .before .before .before .before .before .before .args .store .now) (c .before .before .before .before .before .before .before .before .args .cur) (c .before .before .before .before .before .before .before .before .args .level) (c .before .before .before .before .before .before .before .before .pre .1) in omega arith
 
--- src/lib.rt:60:15
 search-node-add-end : (t : ℕ) → search-node-lts.Need-add-end (
   common-length-reads.Asked,
   common-length-reads.Learnt,
@@ -481,7 +447,6 @@ search-node-add-end : (t : ℕ) → search-node-lts.Need-add-end (
 ) (search-node-at t) search-node.Post
 search-node-add-end t c = let w = node-inside (c .before .before .before .before .before .before .before .before .args .store .now) (c .before .before .before .before .before .before .before .before .args .cur) (c .before .before .before .before .before .before .before .before .args .level) (c .before .before .before .before .before .before .before .before .pre .1) in omega arith
 
--- src/lib.rt:61:46
 search-node-read-child-requires : (t : ℕ) → search-node-lts.Need-read-child-requires (
   common-length-reads.Asked,
   common-length-reads.Learnt,
@@ -496,7 +461,6 @@ search-node-read-child-requires : (t : ℕ) → search-node-lts.Need-read-child-
 ) (search-node-at t) search-node.Post
 search-node-read-child-requires t c κs = let w = node-inside (c .before .before .before .before .before .before .before .before .args .store .now) (c .before .before .before .before .before .before .before .before .args .cur) (c .before .before .before .before .before .before .before .before .args .level) (c .before .before .before .before .before .before .before .before .pre .1) in omega arith
 
--- src/lib.rt:61:24
 search-node-enum-known-first : (t : ℕ) → search-node-lts.Need-enum-known-first (
   common-length-reads.Asked,
   common-length-reads.Learnt,
@@ -511,7 +475,6 @@ search-node-enum-known-first : (t : ℕ) → search-node-lts.Need-enum-known-fir
 ) (search-node-at t) search-node.Post
 search-node-enum-known-first t c = search needs
 
--- src/lib.rt:63:9
 search-node-enum-told : (t : ℕ) → search-node-lts.Need-enum-told (
   common-length-reads.Asked,
   common-length-reads.Learnt,
@@ -526,7 +489,6 @@ search-node-enum-told : (t : ℕ) → search-node-lts.Need-enum-told (
 ) (search-node-at t) search-node.Post
 search-node-enum-told t c = search needs
 
--- src/lib.rt:63:9
 search-node-returns-3 : (t : ℕ) → search-node-lts.Need-returns-3 (
   common-length-reads.Asked,
   common-length-reads.Learnt,
@@ -541,7 +503,6 @@ search-node-returns-3 : (t : ℕ) → search-node-lts.Need-returns-3 (
 ) (search-node-at t) search-node.Post
 search-node-returns-3 t c = node-bare (c .before .before .before .before .before .before .before .before .before .before .before .args .num) (c .before .before .before .before .before .before .before .before .before .before .before .args .level) (c .before .before .before .before .before .before .before .before .before .before .before .args .store .now) (c .before .before .before .before .before .before .before .before .before .before .before .args .cur) (c .before .before .before .before .before .before .before .before .before .before .before .pre .1) (omega arith) (c .before .before .before .before .before .before .before .before .before .before .before .args .lo .now) (c .before .before .before .before .before .before .before .before .before .before .before .args .hi .now) (c .before .before .before .before .before .common-length .result) (c .before .before .before .before .before .common-length .ensures .0) (λ h. omega arith) (c .before .before .before .u16-at .result) (c .before .before .before .u16-at .ensures .0) _ (pends-end _ _ _ _ (c .before .before .read-child .ensures) (c .enum-told .given .1))
 
--- src/lib.rt:65:48
 search-node-sub-search-children : (t : ℕ) → search-node-lts.Need-sub-search-children (
   common-length-reads.Asked,
   common-length-reads.Learnt,
@@ -556,7 +517,6 @@ search-node-sub-search-children : (t : ℕ) → search-node-lts.Need-sub-search-
 ) (search-node-at t) search-node.Post
 search-node-sub-search-children t c = search needs
 
--- src/lib.rt:65:59
 search-node-sub-search-children-2 : (t : ℕ) → search-node-lts.Need-sub-search-children-2 (
   common-length-reads.Asked,
   common-length-reads.Learnt,
@@ -571,7 +531,6 @@ search-node-sub-search-children-2 : (t : ℕ) → search-node-lts.Need-sub-searc
 ) (search-node-at t) search-node.Post
 search-node-sub-search-children-2 t c = search needs
 
--- src/lib.rt:65:59
 search-node-part-search-children-start : (t : ℕ) → search-node-lts.Need-part-search-children-start (
   common-length-reads.Asked,
   common-length-reads.Learnt,
@@ -586,7 +545,6 @@ search-node-part-search-children-start : (t : ℕ) → search-node-lts.Need-part
 ) (search-node-at t) search-node.Post
 search-node-part-search-children-start t c = search needs
 
--- src/lib.rt:65:59
 search-node-part-search-children-end : (t : ℕ) → search-node-lts.Need-part-search-children-end (
   common-length-reads.Asked,
   common-length-reads.Learnt,
@@ -601,7 +559,6 @@ search-node-part-search-children-end : (t : ℕ) → search-node-lts.Need-part-s
 ) (search-node-at t) search-node.Post
 search-node-part-search-children-end t c = search needs
 
--- src/lib.rt:65:5
 search-node-search-children-requires : (t : ℕ) → search-node-lts.Need-search-children-requires (
   common-length-reads.Asked,
   common-length-reads.Learnt,
@@ -616,7 +573,6 @@ search-node-search-children-requires : (t : ℕ) → search-node-lts.Need-search
 ) (search-node-at t) search-node.Post
 search-node-search-children-requires t c κs = let w = node-inside (c .before .before .before .before .before .before .before .before .before .before .before .before .before .before .args .store .now) (c .before .before .before .before .before .before .before .before .before .before .before .before .before .before .args .cur) (c .before .before .before .before .before .before .before .before .before .before .before .before .before .before .args .level) (c .before .before .before .before .before .before .before .before .before .before .before .before .before .before .pre .1) in let n = first-next t (c .before .before) in (omega arith, kids-ready (c .before .before .before .before .before .before .before .before .before .before .before .before .before .before .args .num) (c .before .before .before .before .before .before .before .before .before .before .before .before .before .before .args .level) (c .before .before .before .before .before .before .before .before .before .before .before .before .before .before .args .store .now) (c .before .before .before .before .before .before .before .before .before .before .before .before .before .before .args .cur) (c .before .before .before .before .before .before .before .before .before .before .before .before .before .before .pre .1) (omega arith) (c .before .before .before .before .before .before .before .before .before .before .before .before .before .before .args .lo .now) (c .before .before .before .before .before .before .before .before .before .before .before .before .before .before .args .hi .now) (c .before .before .before .before .before .before .before .before .common-length .result) (c .before .before .before .before .before .before .before .before .common-length .ensures .0) (λ h. omega arith) (c .before .before .before .before .before .before .u16-at .result) (c .before .before .before .before .before .before .u16-at .ensures .0) _ _ _ n (omega arith))
 
--- src/lib.rt:38:1
 search-node-same-length-2 : (t : ℕ) → search-node-lts.Need-same-length-2 (
   common-length-reads.Asked,
   common-length-reads.Learnt,
@@ -631,7 +587,6 @@ search-node-same-length-2 : (t : ℕ) → search-node-lts.Need-same-length-2 (
 ) (search-node-at t) search-node.Post
 search-node-same-length-2 t c = search needs
 
--- src/lib.rt:38:1
 search-node-returns-4 : (t : ℕ) → search-node-lts.Need-returns-4 (
   common-length-reads.Asked,
   common-length-reads.Learnt,

@@ -8,39 +8,30 @@ use borrow.Author.Needs.{needs}
 use Rattle.node_high.proofs.find_high.Statement.{statement}
 use Rattle.node_high.proofs.find_high.Tie as tie
 
--- src/lib.rt:108:9
 u16-at-requires : tie.Need-u16-at-requires
 u16-at-requires c κs = let l = long-enough (c .before .before .args .store .now) (c .before .before .pre) in omega arith
 
--- src/lib.rt:109:9
 u16-at-requires-2 : tie.Need-u16-at-requires-2
 u16-at-requires-2 c κs = let l = long-enough (c .before .before .before .args .store .now) (c .before .before .before .pre) in omega arith
 
--- src/lib.rt:112:38
 sub-search-node : tie.Need-sub-search-node
 sub-search-node c = search needs
 
--- src/lib.rt:112:38
 part-search-node-start : tie.Need-part-search-node-start
 part-search-node-start c = search needs
 
--- src/lib.rt:112:38
 part-search-node-end : tie.Need-part-search-node-end
 part-search-node-end c = search needs
 
--- src/lib.rt:112:49
 slice-aggregate-search-node : tie.Need-slice-aggregate-search-node
 slice-aggregate-search-node c = search needs
 
--- src/lib.rt:112:5
 search-node-requires : tie.Need-search-node-requires
 search-node-requires c κs = root-usable (c .before .before .before .before .before .before .before .before .args .store .now) _ _ (c .before .before .before .before .before .before .before .before .pre) (c .before .before .before .before .before .u16-at .ensures .0) (c .before .before .before .before .u16-at2 .ensures .0)
 
--- src/lib.rt:104:1
 same-length : tie.Need-same-length
 same-length c = search needs
 
--- src/lib.rt:104:1
 returns : tie.Need-returns
 returns c = root-seen (c .before .before .before .before .before .before .before .before .before .before .before .args .num) (c .before .before .before .before .before .before .before .before .before .before .before .args .store .now) _ _ _ _ _ (c .before .before .before .before .before .before .before .before .before .before .before .pre) (c .before .before .before .before .before .before .before .before .u16-at .ensures .0) (c .before .before .before .before .before .before .before .u16-at2 .ensures .0) refl (c .before .before .search-node .ensures)
 

@@ -6,19 +6,15 @@ use borrow.Author.Needs.{needs}
 use Rattle.node_high.proofs.keep_high.Statement.{statement}
 use Rattle.node_high.proofs.keep_high.Tie as tie
 
--- src/lib.rt:31:9
 returns : tie.Need-returns
 returns c = held-not (c .before .before .before .args .out .now) (c .before .before .before .args .high .now) (omega arith)
 
--- src/lib.rt:33:5
 copy-at-requires : tie.Need-copy-at-requires
 copy-at-requires c κs = search needs
 
--- src/lib.rt:27:1
 same-length : tie.Need-same-length
 same-length c = search needs
 
--- src/lib.rt:27:1
 returns-2 : tie.Need-returns-2
 returns-2 c = held-put (c .before .before .before .before .before .before .before .args .out .now) (c .before .before .before .before .before .before .before .args .high .now) _ (c .before .before .copy-at .ensures)
 

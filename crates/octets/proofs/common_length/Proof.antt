@@ -15,46 +15,37 @@ Inv-loop a b i₀ i = (i ≤ length a) × (i ≤ length b) × (length (shared a 
 abbrev μ-loop : tie.MeasureT-loop
 μ-loop a b i₀ i = length a - i
 
--- src/lib.rt:26:5
 loop-holds : tie.Need-loop-holds Inv-loop μ-loop
 loop-holds c = (omega arith, omega arith, omega arith)
 
--- src/lib.rt:28:13
 returns : tie.Need-returns Inv-loop μ-loop
 returns c =
     let A = c .before .before .before .args in
     (omega (arith, shared-second (A .a .now) (A .b .now) (c .before .before .loop .i) (omega arith)), omega arith, omega arith)
 
--- src/lib.rt:30:12
 shared-slice-read-if2 : tie.Need-shared-slice-read-if2 Inv-loop μ-loop
 shared-slice-read-if2 c = search needs
 
--- src/lib.rt:30:20
 shared-slice-read-if2-2 : tie.Need-shared-slice-read-if2-2 Inv-loop μ-loop
 shared-slice-read-if2-2 c = search needs
 
--- src/lib.rt:31:13
 returns-2 : tie.Need-returns-2 Inv-loop μ-loop
 returns-2 c =
     let A = c .before .before .before .before .before .before .args in
     (omega (arith, shared-stop (A .a .now) (A .b .now) (c .before .before .before .before .before .loop .i) (omega arith) (omega arith) (c .if2 .taken)), omega arith, omega arith)
 
--- src/lib.rt:33:9
 add-i : tie.Need-add-i Inv-loop μ-loop
 add-i c = search needs
 
--- src/lib.rt:26:5
 loop-less : tie.Need-loop-less Inv-loop μ-loop
 loop-less c = search needs
 
--- src/lib.rt:26:5
 loop-again : tie.Need-loop-again Inv-loop μ-loop
 loop-again c =
     let A = c .before .before .before .before .before .before .args in
     let e = shared-step (A .a .now) (A .b .now) (c .before .before .before .before .before .loop .i) (omega arith) (omega arith) (c .if2 .left) in
     (omega arith, omega arith, rw add-one (omega (arith, e)))
 
--- src/lib.rt:22:1
 returns-3 : tie.Need-returns-3 Inv-loop μ-loop
 returns-3 c =
     let A = c .before .before .args in

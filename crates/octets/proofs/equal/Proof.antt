@@ -4,15 +4,12 @@ use borrow.Author.Needs.{needs}
 use Rattle.octets.proofs.equal.Statement.{statement}
 use Rattle.octets.proofs.equal.Tie as tie
 
--- src/lib.rt:49:9
 returns : tie.Need-returns
 returns c = not-equal _ _ (λ h. omega arith)
 
--- src/lib.rt:51:5
 common-length-requires : tie.Need-common-length-requires
 common-length-requires c κs = search needs
 
--- src/lib.rt:45:1
 returns-2 : tie.Need-returns-2
 returns-2 c = equal-by _ _ _ (c .common-length .ensures .0) (omega arith)
 

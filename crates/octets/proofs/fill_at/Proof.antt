@@ -13,35 +13,27 @@ Inv-loop page₀ at count byte i₀ page i = (i ≤ count) × (length page ≡ l
 abbrev μ-loop : tie.MeasureT-loop
 μ-loop page₀ at count byte i₀ page i = count - i
 
--- src/lib.rt:138:5
 loop-holds : tie.Need-loop-holds Inv-loop μ-loop
 loop-holds c = (omega arith, refl, sym (put-nil _ _))
 
--- src/lib.rt:139:14
 add-page : tie.Need-add-page Inv-loop μ-loop
 add-page c = search needs
 
--- src/lib.rt:139:9
 slice-write-page : tie.Need-slice-write-page Inv-loop μ-loop
 slice-write-page c = search needs
 
--- src/lib.rt:140:13
 add-i : tie.Need-add-i Inv-loop μ-loop
 add-i c = search needs
 
--- src/lib.rt:138:5
 loop-less : tie.Need-loop-less Inv-loop μ-loop
 loop-less c = search needs
 
--- src/lib.rt:138:5
 loop-again : tie.Need-loop-again Inv-loop μ-loop
 loop-again c = (search needs, search needs, search (needs, fill-more))
 
--- src/lib.rt:133:1
 same-length : tie.Need-same-length Inv-loop μ-loop
 same-length c = search needs
 
--- src/lib.rt:133:1
 returns : tie.Need-returns Inv-loop μ-loop
 returns c = search (needs, fill-done)
 

@@ -3,19 +3,15 @@ use borrow.Author.Needs.{needs}
 use Rattle.octets.proofs.owned.Statement.{statement}
 use Rattle.octets.proofs.owned.Tie as tie
 
--- src/lib.rt:73:8
 precedes-requires : tie.Need-precedes-requires
 precedes-requires c κs = search needs
 
--- src/lib.rt:74:9
 returns : tie.Need-returns
 returns c = owned-low _ _ _ (c .before .precedes .result) (c .before .precedes .ensures) (c .if1 .taken)
 
--- src/lib.rt:76:5
 precedes-requires-2 : tie.Need-precedes-requires-2
 precedes-requires-2 c κs = search needs
 
--- src/lib.rt:70:1
 returns-2 : tie.Need-returns-2
 returns-2 c = owned-high _ _ _ (c .before .before .precedes .result) _ (c .before .before .precedes .ensures) (c .before .if1 .left) (c .precedes2 .ensures)
 

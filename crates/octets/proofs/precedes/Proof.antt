@@ -4,27 +4,21 @@ use borrow.Author.Needs.{needs}
 use Rattle.octets.proofs.precedes.Statement.{statement}
 use Rattle.octets.proofs.precedes.Tie as tie
 
--- src/lib.rt:58:9
 common-length-requires : tie.Need-common-length-requires
 common-length-requires c κs = search needs
 
--- src/lib.rt:60:9
 returns : tie.Need-returns
 returns c = no-by _ _ _ (c .before .common-length .ensures .0) (omega arith)
 
--- src/lib.rt:63:9
 returns-2 : tie.Need-returns-2
 returns-2 c = yes-by _ _ _ (c .before .before .common-length .ensures .0) (omega arith) (omega arith)
 
--- src/lib.rt:65:5
 shared-slice-read-result : tie.Need-shared-slice-read-result
 shared-slice-read-result c = search needs
 
--- src/lib.rt:65:12
 shared-slice-read-result-2 : tie.Need-shared-slice-read-result-2
 shared-slice-read-result-2 c = search needs
 
--- src/lib.rt:55:1
 returns-3 : tie.Need-returns-3
 returns-3 c = at-by _ _ _ (c .before .before .before .before .common-length .ensures .0) (omega arith) (omega arith)
 

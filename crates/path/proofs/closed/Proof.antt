@@ -4,31 +4,24 @@ use borrow.Author.Needs.{needs}
 use Rattle.path.proofs.closed.Statement.{statement}
 use Rattle.path.proofs.closed.Tie as tie
 
--- src/lib.rt:66:24
 enum-known-sh : tie.Need-enum-known-sh
 enum-known-sh c = search needs
 
--- src/lib.rt:67:9
 enum-told : tie.Need-enum-told
 enum-told c = search needs
 
--- src/lib.rt:67:9
 returns : tie.Need-returns
 returns c = closed-dead _ (c .enum-told .given .1)
 
--- src/lib.rt:70:9
 returns-2 : tie.Need-returns-2
 returns-2 c = closed-long _ _ _ _ (c .before .before .sh .given .1) (omega arith)
 
--- src/lib.rt:73:9
 returns-3 : tie.Need-returns-3
 returns-3 c = closed-none _ _ _ _ (c .before .before .before .sh .given .1) (omega arith) (omega arith)
 
--- src/lib.rt:76:9
 returns-4 : tie.Need-returns-4
 returns-4 c = closed-many _ _ _ _ (c .before .before .before .before .sh .given .1) (omega arith) (omega arith) (omega arith)
 
--- src/lib.rt:63:1
 returns-5 : tie.Need-returns-5
 returns-5 c = closed-is _ _ _ _ (c .before .before .before .before .sh .given .1) (omega arith) (omega arith) (omega arith)
 

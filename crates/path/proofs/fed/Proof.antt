@@ -4,71 +4,54 @@ use borrow.Author.Needs.{needs}
 use Rattle.path.proofs.fed.Statement.{statement}
 use Rattle.path.proofs.fed.Tie as tie
 
--- src/lib.rt:17:24
 enum-known-sh : tie.Need-enum-known-sh
 enum-known-sh c = search needs
 
--- src/lib.rt:18:9
 enum-told : tie.Need-enum-told
 enum-told c = search needs
 
--- src/lib.rt:18:9
 returns : tie.Need-returns
 returns c = dead-fed _ _ (c .enum-told .given .1)
 
--- src/lib.rt:21:9
 returns-2 : tie.Need-returns-2
 returns-2 c = fed-long _ _ _ _ _ (c .before .before .sh .given .1) (omega arith)
 
--- src/lib.rt:25:13
 returns-3 : tie.Need-returns-3
 returns-3 c = fed-empty _ _ _ _ _ (c .before .before .before .before .sh .given .1) (omega arith) (omega arith) (omega arith)
 
--- src/lib.rt:28:13
 returns-4 : tie.Need-returns-4
 returns-4 c = fed-wide _ _ _ _ _ (c .before .before .before .before .before .sh .given .1) (omega arith) (omega arith) (omega arith)
 
--- src/lib.rt:31:13
 returns-5 : tie.Need-returns-5
 returns-5 c = fed-many _ _ _ _ _ (c .before .before .before .before .before .before .sh .given .1) (omega arith) (omega arith) (omega arith) (omega arith) (omega arith)
 
--- src/lib.rt:33:31
 add-t8 : tie.Need-add-t8
 add-t8 c = search needs
 
--- src/lib.rt:33:44
 add-t9 : tie.Need-add-t9
 add-t9 c = search needs
 
--- src/lib.rt:33:9
 returns-6 : tie.Need-returns-6
 returns-6 c = fed-end _ _ _ _ _ (c .before .before .before .before .before .before .sh .given .1) (omega arith) (omega arith) (omega arith) (omega arith) (omega arith)
 
--- src/lib.rt:36:9
 returns-7 : tie.Need-returns-7
 returns-7 c = fed-low _ _ _ _ _ (c .before .before .before .before .sh .given .1) (omega arith) (λ h. omega arith) (omega arith)
 
--- src/lib.rt:39:9
 returns-8 : tie.Need-returns-8
 returns-8 c = fed-high _ _ _ _ _ (c .before .before .before .before .before .sh .given .1) (omega arith) (λ h. omega arith) (omega arith) (omega arith)
 
--- src/lib.rt:42:9
 returns-9 : tie.Need-returns-9
 returns-9 c = fed-slash _ _ _ _ _ (c .before .before .before .before .before .before .sh .given .1) (omega arith) (λ h. omega arith) (omega arith) (omega arith) (omega arith)
 
--- src/lib.rt:45:9
 returns-10 : tie.Need-returns-10
 returns-10 c = fed-full _ _ _ _ _ (c .before .before .before .before .before .before .before .sh .given .1) (omega arith) (λ h. omega arith) (omega arith) (omega arith) (λ h. omega arith) (omega arith)
 
--- src/lib.rt:47:26
 add-t10 : tie.Need-add-t10
 add-t10 c = search needs
 
--- src/lib.rt:47:36
 add-t11 : tie.Need-add-t11
 add-t11 c = search needs
 
--- src/lib.rt:14:1
 returns-11 : tie.Need-returns-11
 returns-11 c = fed-on _ _ _ _ _ (c .before .before .before .before .before .before .before .sh .given .1) (omega arith) (λ h. omega arith) (omega arith) (omega arith) (λ h. omega arith) (omega arith)
 

@@ -3,15 +3,12 @@ use borrow.Author.Needs.{needs}
 use Rattle.path.proofs.goes_on.Statement.{statement}
 use Rattle.path.proofs.goes_on.Tie as tie
 
--- src/lib.rt:85:12
 feed-requires : tie.Need-feed-requires
 feed-requires c κs = search needs
 
--- src/lib.rt:85:5
 closed-requires : tie.Need-closed-requires
 closed-requires c κs = search needs
 
--- src/lib.rt:82:1
 returns : tie.Need-returns
 returns c = goes-is _ (c .before .feed .result) _ _ (c .before .feed .ensures) (c .closed .ensures)
 

@@ -6,31 +6,24 @@ use borrow.Author.Needs.{needs}
 use Rattle.push.proofs.clear_messages.Statement.{statement}
 use Rattle.push.proofs.clear_messages.Tie as tie
 
--- src/lib.rt:96:29
 slice-aggregate-emit-children : tie.Need-slice-aggregate-emit-children
 slice-aggregate-emit-children c = search needs
 
--- src/lib.rt:96:9
 emit-children-requires : tie.Need-emit-children-requires
 emit-children-requires c κs = search needs
 
--- src/lib.rt:97:37
 slice-aggregate-write-page : tie.Need-slice-aggregate-write-page
 slice-aggregate-write-page c = search needs
 
--- src/lib.rt:97:58
 sub-write-page : tie.Need-sub-write-page
 sub-write-page c = search needs
 
--- src/lib.rt:97:5
 write-page-requires : tie.Need-write-page-requires
 write-page-requires c κs = search needs
 
--- src/lib.rt:91:1
 same-length : tie.Need-same-length
 same-length c = search needs
 
--- src/lib.rt:91:1
 returns : tie.Need-returns
 unfolding zerosOf
 returns c = node-emptied (c .before .before .before .before .before .before .before .before .before .before .before .args .store .now) _ _ (c .before .before .before .before .before .before .before .before .before .before .before .args .num) (c .before .before .before .before .before .before .before .before .before .before .before .args .level) _ _ (c .before .before .before .before .before .before .before .before .before .before .before .pre .3) (c .before .before .before .before .before .before .before .emit-children .ensures .0) (c .before .before .before .before .before .before .before .emit-children .ensures .1) (c .before .before .before .write-page .ensures)

@@ -29,51 +29,39 @@ abbrev μ-loop : tie.MeasureT-loop
 kid-next : (c : tie.After-known-told Inv-loop μ-loop) → NextChild (c .before .before .before .before .before .before .before .args .node .now) (c .before .before .before .before .loop .c .at) (c .before .before .before .before .loop .c .end) (c .before .k .given .0 .0) (c .before .k .given .0 .1 .0) (c .before .k .given .0 .1 .1 .0)
 kid-next c = pends-child _ _ _ _ _ _ _ (c .before .before .before .read-child .ensures) (c .before .k .given .1)
 
--- src/lib.rt:79:5
 loop-holds : tie.Need-loop-holds Inv-loop μ-loop
 loop-holds c = (omega arith, refl, c .before .before .pre .3, refl, refl)
 
--- src/lib.rt:80:42
 read-child-requires : tie.Need-read-child-requires Inv-loop μ-loop
 read-child-requires c κs = c .loop .inv .0
 
--- src/lib.rt:80:28
 enum-known-k : tie.Need-enum-known-k Inv-loop μ-loop
 enum-known-k c = search needs
 
--- src/lib.rt:81:13
 enum-told : tie.Need-enum-told Inv-loop μ-loop
 enum-told c = search needs
 
--- src/lib.rt:81:13
 same-length : tie.Need-same-length Inv-loop μ-loop
 same-length c = c .before .before .before .loop .inv .1
 
--- src/lib.rt:81:13
 returns : tie.Need-returns Inv-loop μ-loop
 returns c = let z = children-none _ (pends-end _ _ _ _ (c .before .before .read-child .ensures) (c .enum-told .given .1)) in (line-end _ _ _ _ _ _ z (c .before .before .before .loop .inv .4), line-ends _ _ (childBytes (kidsE (listed (c .before .before .before .before .before .before .args .node .now) 8 (c .before .before .before .before .before .before .args .stop)))) (childBytes (kidsE (listed (c .before .before .before .before .before .before .args .node .now) (c .before .before .before .loop .c .at) (c .before .before .before .loop .c .end)))) z (c .before .before .before .loop .inv .3))
 
--- src/lib.rt:85:45
 sub-emit-child : tie.Need-sub-emit-child Inv-loop μ-loop
 sub-emit-child c = let n = kid-next (c .before) in let w = n .place in omega arith
 
--- src/lib.rt:85:45
 part-emit-child-start : tie.Need-part-emit-child-start Inv-loop μ-loop
 part-emit-child-start c = let n = kid-next (c .before) in let w = n .place in omega arith
 
--- src/lib.rt:85:45
 part-emit-child-end : tie.Need-part-emit-child-end Inv-loop μ-loop
 part-emit-child-end c = let n = kid-next (c .before) in let w = n .place in omega arith
 
--- src/lib.rt:85:9
 emit-child-requires : tie.Need-emit-child-requires Inv-loop μ-loop
 emit-child-requires c κs = let n = kid-next (c .before .before) in let z = child-length (c .before .before .before .k .given .0 .0) (part (c .before .before .before .before .before .before .before .before .before .args .node .now) (c .before .before .before .k .given .0 .1 .0)) in let f = line-fits (c .before .before .before .before .before .before .before .before .before .args .page .now) (c .before .before .before .before .before .before .loop .page) (c .before .before .before .before .before .before .loop .page) (c .before .before .before .before .before .before .before .before .before .args .at) (c .before .before .before .before .before .before .loop .to) 0 (childBytes (kidsE (listed (c .before .before .before .before .before .before .before .before .before .args .node .now) 8 (c .before .before .before .before .before .before .before .before .before .args .stop)))) (childBytes (kidsE (listed (c .before .before .before .before .before .before .before .before .before .args .node .now) (c .before .before .before .before .before .before .loop .c .at) (c .before .before .before .before .before .before .loop .c .end)))) (bytesOf (child (c .before .before .before .k .given .0 .0) (part (c .before .before .before .before .before .before .before .before .before .args .node .now) (c .before .before .before .k .given .0 .1 .0)))) (childBytes (kidsE (listed (c .before .before .before .before .before .before .before .before .before .args .node .now) (c .before .before .before .k .given .0 .1 .1 .0 .at) (c .before .before .before .k .given .0 .1 .1 .0 .end)))) (children-cons _ _ _ (n .lists)) (c .before .before .before .before .before .before .loop .inv .3) (c .before .before .before .before .before .before .before .before .before .pre .1) (c .before .before .before .before .before .before .loop .inv .1) in (omega arith, omega arith, small-first _ _ _ (n .lists) (c .before .before .before .before .before .before .loop .inv .2))
 
--- src/lib.rt:79:5
 loop-less : tie.Need-loop-less Inv-loop μ-loop
 loop-less c = let n = kid-next (c .before .before .before .before .before) in omega arith
 
--- src/lib.rt:79:5
 loop-again : tie.Need-loop-again Inv-loop μ-loop
 loop-again c = let n = kid-next (c .before .before .before .before .before) in let z = children-cons _ _ _ (n .lists) in let e = as-child _ _ _ _ (c .before .before .emit-child .ensures .1) in (omega arith, search needs, small-later _ _ _ (n .lists) (c .before .before .before .before .before .before .before .before .before .loop .inv .2), line-length (c .before .before .before .before .before .before .before .before .before .before .before .before .args .page .now) (c .before .before .before .before .before .before .before .before .before .loop .page) (c .before .before .before .before .before .before .before .before .before .loop .page) (c .before .before .before .before .before .before .before .before .before .before .before .before .args .at) (c .before .before .before .before .before .before .before .before .before .loop .to) (c .before .before .emit-child .result) (childBytes (kidsE (listed (c .before .before .before .before .before .before .before .before .before .before .before .before .args .node .now) 8 (c .before .before .before .before .before .before .before .before .before .before .before .before .args .stop)))) (childBytes (kidsE (listed (c .before .before .before .before .before .before .before .before .before .before .before .before .args .node .now) (c .before .before .before .before .before .before .before .before .before .loop .c .at) (c .before .before .before .before .before .before .before .before .before .loop .c .end)))) (bytesOf (child (c .before .before .before .before .before .before .k .given .0 .0) (part (c .before .before .before .before .before .before .before .before .before .before .before .before .args .node .now) (c .before .before .before .before .before .before .k .given .0 .1 .0)))) (childBytes (kidsE (listed (c .before .before .before .before .before .before .before .before .before .before .before .before .args .node .now) (c .before .before .before .before .before .before .k .given .0 .1 .1 .0 .at) (c .before .before .before .before .before .before .k .given .0 .1 .1 .0 .end)))) z (c .before .before .before .before .before .before .before .before .before .loop .inv .3) e, line-on (c .before .before .before .before .before .before .before .before .before .before .before .before .args .page .now) (c .before .before .before .before .before .before .before .before .before .loop .page) _ (c .before .before .before .before .before .before .before .before .before .before .before .before .args .at) (c .before .before .before .before .before .before .before .before .before .loop .to) (c .before .before .emit-child .result) (childBytes (kidsE (listed (c .before .before .before .before .before .before .before .before .before .before .before .before .args .node .now) 8 (c .before .before .before .before .before .before .before .before .before .before .before .before .args .stop)))) (childBytes (kidsE (listed (c .before .before .before .before .before .before .before .before .before .before .before .before .args .node .now) (c .before .before .before .before .before .before .before .before .before .loop .c .at) (c .before .before .before .before .before .before .before .before .before .loop .c .end)))) (bytesOf (child (c .before .before .before .before .before .before .k .given .0 .0) (part (c .before .before .before .before .before .before .before .before .before .before .before .before .args .node .now) (c .before .before .before .before .before .before .k .given .0 .1 .0)))) (childBytes (kidsE (listed (c .before .before .before .before .before .before .before .before .before .before .before .before .args .node .now) (c .before .before .before .before .before .before .k .given .0 .1 .1 .0 .at) (c .before .before .before .before .before .before .k .given .0 .1 .1 .0 .end)))) z (c .before .before .before .before .before .before .before .before .before .loop .inv .3) (c .before .before .before .before .before .before .before .before .before .before .before .before .pre .1) (c .before .before .before .before .before .before .before .before .before .loop .inv .1) e (c .before .before .emit-child .ensures .0) (c .before .before .before .before .before .before .before .before .before .loop .inv .4))
 

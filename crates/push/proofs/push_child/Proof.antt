@@ -8,39 +8,30 @@ use borrow.Author.Needs.{needs}
 use Rattle.push.proofs.push_child.Statement.{statement}
 use Rattle.push.proofs.push_child.Tie as tie
 
--- src/lib.rt:36:38
 mul-u16-at : tie.Need-mul-u16-at
 mul-u16-at c = let i = room-inside (listed (c .before .before .before .before .before .args .node .now) 8 (c .before .before .before .before .before .args .stop)) (c .before .before .before .before .before .args .num) (c .before .before .before .before .before .args .lo .now) (c .before .before .before .before .before .args .hi .now) (c .before .before .before .before .before .args .store .now) (c .before .before .before .before .before .pre .2) in omega arith
 
--- src/lib.rt:36:38
 add-u16-at : tie.Need-add-u16-at
 add-u16-at c = let i = room-inside (listed (c .before .before .before .before .before .args .node .now) 8 (c .before .before .before .before .before .args .stop)) (c .before .before .before .before .before .args .num) (c .before .before .before .before .before .args .lo .now) (c .before .before .before .before .before .args .hi .now) (c .before .before .before .before .before .args .store .now) (c .before .before .before .before .before .pre .2) in omega arith
 
--- src/lib.rt:36:9
 u16-at-requires : tie.Need-u16-at-requires
 u16-at-requires c κs = let i = room-inside (listed (c .before .before .before .before .before .args .node .now) 8 (c .before .before .before .before .before .args .stop)) (c .before .before .before .before .before .args .num) (c .before .before .before .before .before .args .lo .now) (c .before .before .before .before .before .args .hi .now) (c .before .before .before .before .before .args .store .now) (c .before .before .before .before .before .pre .2) in omega arith
 
--- src/lib.rt:38:9
 push-leaf-requires : tie.Need-push-leaf-requires
 push-leaf-requires c κs = search needs
 
--- src/lib.rt:39:9
 same-length : tie.Need-same-length
 same-length c = search needs
 
--- src/lib.rt:39:9
 returns : tie.Need-returns
 returns c = leaf-child (listed (c .before .before .before .before .before .before .before .before .before .before .before .args .node .now) 8 (c .before .before .before .before .before .before .before .before .before .before .before .args .stop)) (c .before .before .before .before .before .before .before .before .before .before .before .args .num) (c .before .before .before .before .before .before .before .before .before .before .before .args .lo .now) (c .before .before .before .before .before .before .before .before .before .before .before .args .hi .now) (c .before .before .before .before .before .before .before .before .before .before .before .args .store .now) _ (c .before .before .before .before .before .u16-at .result) (c .before .before .before .before .before .u16-at .ensures .0) (omega arith) (c .before .before .push-leaf .ensures)
 
--- src/lib.rt:41:5
 push-interior-requires : tie.Need-push-interior-requires
 push-interior-requires c κs = search needs
 
--- src/lib.rt:32:1
 same-length-2 : tie.Need-same-length-2
 same-length-2 c = search needs
 
--- src/lib.rt:32:1
 returns-2 : tie.Need-returns-2
 returns-2 c = interior-child (listed (c .before .before .before .before .before .before .before .before .before .before .before .args .node .now) 8 (c .before .before .before .before .before .before .before .before .before .before .before .args .stop)) (c .before .before .before .before .before .before .before .before .before .before .before .args .num) (c .before .before .before .before .before .before .before .before .before .before .before .args .lo .now) (c .before .before .before .before .before .before .before .before .before .before .before .args .hi .now) (c .before .before .before .before .before .before .before .before .before .before .before .args .store .now) _ (c .before .before .before .before .before .u16-at .result) (c .before .before .before .before .before .u16-at .ensures .0) (λ h. omega arith) (c .before .before .push-interior .ensures)
 

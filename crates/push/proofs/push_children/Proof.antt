@@ -31,95 +31,72 @@ first-next c = pends-child _ _ _ _ _ _ _ (c .before .before .before .read-child 
 kid-next : (c : tie.After-known-told2 Inv-loop μ-loop) → NextChild (c .before .before .before .before .before .before .before .before .before .before .before .before .args .node .now) (c .before .before .before .before .loop .c .at) (c .before .before .before .before .loop .c .end) (c .before .k .given .0 .0) (c .before .k .given .0 .1 .0) (c .before .k .given .0 .1 .1 .0)
 kid-next c = pends-child _ _ _ _ _ _ _ (c .before .before .before .read-child2 .ensures) (c .before .k .given .1)
 
--- src/lib.rt:49:47
 read-child-requires : tie.Need-read-child-requires Inv-loop μ-loop
 read-child-requires c κs = search needs
 
--- src/lib.rt:49:24
 enum-known-first : tie.Need-enum-known-first Inv-loop μ-loop
 enum-known-first c = search needs
 
--- src/lib.rt:51:9
 enum-told : tie.Need-enum-told Inv-loop μ-loop
 enum-told c = search needs
 
--- src/lib.rt:51:9
 returns : tie.Need-returns Inv-loop μ-loop
 returns c = takes-none (listed (c .before .before .before .before .before .before .args .node .now) 8 (c .before .before .before .before .before .before .args .stop)) (kidsE (listed (c .before .before .before .before .before .before .args .node .now) 8 (c .before .before .before .before .before .before .args .stop))) (c .before .before .before .before .before .before .args .hi .now) (c .before .before .before .before .before .before .args .store .now) (pends-end _ _ _ _ (c .before .before .read-child .ensures) (c .enum-told .given .1))
 
--- src/lib.rt:56:5
 loop-holds : tie.Need-loop-holds Inv-loop μ-loop
 loop-holds c = let n = first-next c in (omega arith, n .place, refl, ap (λ l. once (kidNumbers l)) (sym (n .lists)) ∙ c .before .before .before .before .before .before .before .pre .3, ap (λ l. allHaveRoom (listed (c .before .before .before .before .before .before .before .args .node .now) 8 (c .before .before .before .before .before .before .before .args .stop)) l (c .before .before .before .before .before .before .before .args .hi .now) (c .before .before .before .before .before .before .before .args .store .now)) (sym (n .lists)) ∙ c .before .before .before .before .before .before .before .pre .2, ap (λ l. eachTakes (childTakes (listed (c .before .before .before .before .before .before .before .args .node .now) 8 (c .before .before .before .before .before .before .before .args .stop))) l (c .before .before .before .before .before .before .before .args .hi .now) (c .before .before .before .before .before .before .before .args .store .now)) (sym (n .lists)))
 
--- src/lib.rt:59:42
 read-child-requires-2 : tie.Need-read-child-requires-2 Inv-loop μ-loop
 read-child-requires-2 c κs = c .loop .inv .0
 
--- src/lib.rt:59:28
 enum-known-k : tie.Need-enum-known-k Inv-loop μ-loop
 enum-known-k c = search needs
 
--- src/lib.rt:60:24
 enum-told-2 : tie.Need-enum-told-2 Inv-loop μ-loop
 enum-told-2 c = search needs
 
--- src/lib.rt:60:48
 sub-push-child : tie.Need-sub-push-child Inv-loop μ-loop
 sub-push-child c = let w = c .before .before .before .before .loop .inv .1 in omega arith
 
--- src/lib.rt:60:48
 part-push-child-start : tie.Need-part-push-child-start Inv-loop μ-loop
 part-push-child-start c = let w = c .before .before .before .before .loop .inv .1 in omega arith
 
--- src/lib.rt:60:48
 part-push-child-end : tie.Need-part-push-child-end Inv-loop μ-loop
 part-push-child-end c = let w = c .before .before .before .before .loop .inv .1 in omega arith
 
--- src/lib.rt:60:13
 push-child-requires : tie.Need-push-child-requires Inv-loop μ-loop
 push-child-requires c κs = (c .before .before .before .before .before .before .before .before .before .before .before .before .before .pre .0, c .before .before .before .before .before .before .before .before .before .before .before .before .before .pre .1, last-room (listed (c .before .before .before .before .before .before .before .before .before .before .before .before .before .args .node .now) 8 (c .before .before .before .before .before .before .before .before .before .before .before .before .before .args .stop)) (c .before .before .before .before .before .before .before .before .before .before .before .before .before .args .hi .now) (c .before .before .before .before .before .loop .store) (c .before .before .before .before .before .loop .store) (c .before .before .before .before .before .loop .num) (part (c .before .before .before .before .before .before .before .before .before .before .before .before .before .args .node .now) (c .before .before .before .before .before .loop .low)) (kidsE (listed (c .before .before .before .before .before .before .before .before .before .before .before .before .before .args .node .now) (c .before .before .before .before .before .loop .c .at) (c .before .before .before .before .before .loop .c .end))) (pends-end _ _ _ _ (c .before .before .before .before .read-child2 .ensures) (c .before .before .enum-told2 .given .1)) (c .before .before .before .before .before .loop .inv .4))
 
--- src/lib.rt:61:13
 same-length : tie.Need-same-length Inv-loop μ-loop
 same-length c = search needs
 
--- src/lib.rt:61:13
 returns-2 : tie.Need-returns-2 Inv-loop μ-loop
 returns-2 c = last-takes (listed (c .before .before .before .before .before .before .before .before .before .before .before .before .before .before .before .before .args .node .now) 8 (c .before .before .before .before .before .before .before .before .before .before .before .before .before .before .before .before .args .stop)) (c .before .before .before .before .before .before .before .before .before .before .before .before .before .before .before .before .args .hi .now) (c .before .before .before .before .before .before .before .before .loop .store) _ (c .before .before .before .before .before .before .before .before .loop .num) (part (c .before .before .before .before .before .before .before .before .before .before .before .before .before .before .before .before .args .node .now) (c .before .before .before .before .before .before .before .before .loop .low)) (kidsE (listed (c .before .before .before .before .before .before .before .before .before .before .before .before .before .before .before .before .args .node .now) (c .before .before .before .before .before .before .before .before .loop .c .at) (c .before .before .before .before .before .before .before .before .loop .c .end))) _ (pends-end _ _ _ _ (c .before .before .before .before .before .before .before .read-child2 .ensures) (c .before .before .before .before .before .enum-told2 .given .1)) (c .before .before .push-child .ensures) (c .before .before .before .before .before .before .before .before .loop .inv .5)
 
--- src/lib.rt:65:44
 sub-push-child-2 : tie.Need-sub-push-child-2 Inv-loop μ-loop
 sub-push-child-2 c = let w = c .before .before .before .before .before .loop .inv .1 in omega arith
 
--- src/lib.rt:65:44
 part-push-child-start-2 : tie.Need-part-push-child-start-2 Inv-loop μ-loop
 part-push-child-start-2 c = let w = c .before .before .before .before .before .loop .inv .1 in omega arith
 
--- src/lib.rt:65:44
 part-push-child-end-2 : tie.Need-part-push-child-end-2 Inv-loop μ-loop
 part-push-child-end-2 c = let w = c .before .before .before .before .before .loop .inv .1 in omega arith
 
--- src/lib.rt:65:57
 sub-push-child-3 : tie.Need-sub-push-child-3 Inv-loop μ-loop
 sub-push-child-3 c = let n = kid-next (c .before .before) in let w = n .place in omega arith
 
--- src/lib.rt:65:57
 part-push-child-start-3 : tie.Need-part-push-child-start-3 Inv-loop μ-loop
 part-push-child-start-3 c = let n = kid-next (c .before .before) in let w = n .place in omega arith
 
--- src/lib.rt:65:57
 part-push-child-end-3 : tie.Need-part-push-child-end-3 Inv-loop μ-loop
 part-push-child-end-3 c = let n = kid-next (c .before .before) in let w = n .place in omega arith
 
--- src/lib.rt:65:9
 push-child-requires-2 : tie.Need-push-child-requires-2 Inv-loop μ-loop
 push-child-requires-2 c κs = let n = kid-next (c .before .before .before) in (c .before .before .before .before .before .before .before .before .before .before .before .before .before .before .before .pre .0, c .before .before .before .before .before .before .before .before .before .before .before .before .before .before .before .pre .1, next-room (listed (c .before .before .before .before .before .before .before .before .before .before .before .before .before .before .before .args .node .now) 8 (c .before .before .before .before .before .before .before .before .before .before .before .before .before .before .before .args .stop)) (c .before .before .before .before .before .before .before .before .before .before .before .before .before .before .before .args .hi .now) (c .before .before .before .before .before .before .before .loop .store) (c .before .before .before .before .before .before .before .loop .store) (c .before .before .before .before .before .before .before .loop .num) (part (c .before .before .before .before .before .before .before .before .before .before .before .before .before .before .before .args .node .now) (c .before .before .before .before .before .before .before .loop .low)) (kidsE (listed (c .before .before .before .before .before .before .before .before .before .before .before .before .before .before .before .args .node .now) (c .before .before .before .before .before .before .before .loop .c .at) (c .before .before .before .before .before .before .before .loop .c .end))) (c .before .before .before .before .k .given .0 .0) (part (c .before .before .before .before .before .before .before .before .before .before .before .before .before .before .before .args .node .now) (c .before .before .before .before .k .given .0 .1 .0)) (kidsE (listed (c .before .before .before .before .before .before .before .before .before .before .before .before .before .before .before .args .node .now) (c .before .before .before .before .k .given .0 .1 .1 .0 .at) (c .before .before .before .before .k .given .0 .1 .1 .0 .end))) (n .lists) (c .before .before .before .before .before .before .before .loop .inv .4))
 
--- src/lib.rt:56:5
 loop-less : tie.Need-loop-less Inv-loop μ-loop
 loop-less c = let n = kid-next (c .before .before .before .before .before .before) in omega arith
 
--- src/lib.rt:56:5
 loop-again : tie.Need-loop-again Inv-loop μ-loop
 loop-again c = let n = kid-next (c .before .before .before .before .before .before) in (omega arith, n .place, search needs, next-once (listed (c .before .before .before .before .before .before .before .before .before .before .before .before .before .before .before .before .before .before .args .node .now) 8 (c .before .before .before .before .before .before .before .before .before .before .before .before .before .before .before .before .before .before .args .stop)) (c .before .before .before .before .before .before .before .before .before .before .before .before .before .before .before .before .before .before .args .hi .now) (c .before .before .before .before .before .before .before .before .before .before .loop .store) (c .before .before .before .before .before .before .before .before .before .before .loop .store) (c .before .before .before .before .before .before .before .before .before .before .loop .num) (part (c .before .before .before .before .before .before .before .before .before .before .before .before .before .before .before .before .before .before .args .node .now) (c .before .before .before .before .before .before .before .before .before .before .loop .low)) (kidsE (listed (c .before .before .before .before .before .before .before .before .before .before .before .before .before .before .before .before .before .before .args .node .now) (c .before .before .before .before .before .before .before .before .before .before .loop .c .at) (c .before .before .before .before .before .before .before .before .before .before .loop .c .end))) (c .before .before .before .before .before .before .before .k .given .0 .0) (part (c .before .before .before .before .before .before .before .before .before .before .before .before .before .before .before .before .before .before .args .node .now) (c .before .before .before .before .before .before .before .k .given .0 .1 .0)) (kidsE (listed (c .before .before .before .before .before .before .before .before .before .before .before .before .before .before .before .before .before .before .args .node .now) (c .before .before .before .before .before .before .before .k .given .0 .1 .1 .0 .at) (c .before .before .before .before .before .before .before .k .given .0 .1 .1 .0 .end))) (n .lists) (c .before .before .before .before .before .before .before .before .before .before .loop .inv .3), next-rooms (listed (c .before .before .before .before .before .before .before .before .before .before .before .before .before .before .before .before .before .before .args .node .now) 8 (c .before .before .before .before .before .before .before .before .before .before .before .before .before .before .before .before .before .before .args .stop)) (c .before .before .before .before .before .before .before .before .before .before .before .before .before .before .before .before .before .before .args .hi .now) (c .before .before .before .before .before .before .before .before .before .before .loop .store) _ (c .before .before .before .before .before .before .before .before .before .before .loop .num) (part (c .before .before .before .before .before .before .before .before .before .before .before .before .before .before .before .before .before .before .args .node .now) (c .before .before .before .before .before .before .before .before .before .before .loop .low)) (kidsE (listed (c .before .before .before .before .before .before .before .before .before .before .before .before .before .before .before .before .before .before .args .node .now) (c .before .before .before .before .before .before .before .before .before .before .loop .c .at) (c .before .before .before .before .before .before .before .before .before .before .loop .c .end))) (c .before .before .before .before .before .before .before .k .given .0 .0) (part (c .before .before .before .before .before .before .before .before .before .before .before .before .before .before .before .before .before .before .args .node .now) (c .before .before .before .before .before .before .before .k .given .0 .1 .0)) (kidsE (listed (c .before .before .before .before .before .before .before .before .before .before .before .before .before .before .before .before .before .before .args .node .now) (c .before .before .before .before .before .before .before .k .given .0 .1 .1 .0 .at) (c .before .before .before .before .before .before .before .k .given .0 .1 .1 .0 .end))) (n .lists) (c .before .before .before .before .before .before .before .before .before .before .loop .inv .3) (c .before .before .before .before .before .before .before .before .before .before .loop .inv .4) (c .before .before .push-child2 .ensures), next-takes (listed (c .before .before .before .before .before .before .before .before .before .before .before .before .before .before .before .before .before .before .args .node .now) 8 (c .before .before .before .before .before .before .before .before .before .before .before .before .before .before .before .before .before .before .args .stop)) (c .before .before .before .before .before .before .before .before .before .before .before .before .before .before .before .before .before .before .args .hi .now) (c .before .before .before .before .before .before .before .before .before .before .loop .store) _ (c .before .before .before .before .before .before .before .before .before .before .loop .num) (part (c .before .before .before .before .before .before .before .before .before .before .before .before .before .before .before .before .before .before .args .node .now) (c .before .before .before .before .before .before .before .before .before .before .loop .low)) (kidsE (listed (c .before .before .before .before .before .before .before .before .before .before .before .before .before .before .before .before .before .before .args .node .now) (c .before .before .before .before .before .before .before .before .before .before .loop .c .at) (c .before .before .before .before .before .before .before .before .before .before .loop .c .end))) (c .before .before .before .before .before .before .before .k .given .0 .0) (part (c .before .before .before .before .before .before .before .before .before .before .before .before .before .before .before .before .before .before .args .node .now) (c .before .before .before .before .before .before .before .k .given .0 .1 .0)) (kidsE (listed (c .before .before .before .before .before .before .before .before .before .before .before .before .before .before .before .before .before .before .args .node .now) (c .before .before .before .before .before .before .before .k .given .0 .1 .1 .0 .at) (c .before .before .before .before .before .before .before .k .given .0 .1 .1 .0 .end))) (n .lists) _ (c .before .before .push-child2 .ensures) (c .before .before .before .before .before .before .before .before .before .before .loop .inv .5))
 

@@ -6,59 +6,45 @@ use borrow.Author.Needs.{needs}
 use Rattle.push.proofs.push_down.Statement.{statement}
 use Rattle.push.proofs.push_down.Tie as tie
 
--- src/lib.rt:130:61
 slice-aggregate-find-high : tie.Need-slice-aggregate-find-high
 slice-aggregate-find-high c = search needs
 
--- src/lib.rt:130:28
 find-high-requires : tie.Need-find-high-requires
 find-high-requires c κs = search needs
 
--- src/lib.rt:130:23
 enum-known-n : tie.Need-enum-known-n
 enum-known-n c = search needs
 
--- src/lib.rt:131:9
 enum-told : tie.Need-enum-told
 enum-told c = search needs
 
--- src/lib.rt:131:9
 same-length : tie.Need-same-length
 same-length c = search needs
 
--- src/lib.rt:131:9
 returns : tie.Need-returns
 returns c = no-room _ _
 
--- src/lib.rt:134:9
 same-length-2 : tie.Need-same-length-2
 same-length-2 c = search needs
 
--- src/lib.rt:134:9
 returns-2 : tie.Need-returns-2
 returns-2 c = no-room _ _
 
--- src/lib.rt:136:27
 sub-push-node : tie.Need-sub-push-node
 sub-push-node c = search needs
 
--- src/lib.rt:136:27
 part-push-node-start : tie.Need-part-push-node-start
 part-push-node-start c = search needs
 
--- src/lib.rt:136:27
 part-push-node-end : tie.Need-part-push-node-end
 part-push-node-end c = search needs
 
--- src/lib.rt:136:5
 push-node-requires : tie.Need-push-node-requires
 push-node-requires c κs = pushable (c .before .before .before .before .before .before .before .before .before .before .before .before .args .store .now) (c .before .before .before .before .before .before .before .before .before .before .before .before .args .num) _ _ _ (c .before .before .before .before .before .before .before .before .before .before .before .before .pre .0) (c .before .before .before .before .before .before .before .before .before .before .before .before .pre .1) (c .before .before .before .before .before .before .before .before .before .before .before .before .pre .2) (c .before .before .before .before .before .before .before .before .find-high .ensures) (c .before .before .before .before .before .n .given .1) (omega arith)
 
--- src/lib.rt:125:1
 same-length-3 : tie.Need-same-length-3
 same-length-3 c = search needs
 
--- src/lib.rt:125:1
 returns-3 : tie.Need-returns-3
 returns-3 c = search needs
 

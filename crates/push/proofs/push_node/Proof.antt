@@ -7,106 +7,81 @@ use borrow.Author.Needs.{needs}
 use Rattle.push.proofs.push_node.Statement.{statement}
 use Rattle.push.proofs.push_node.Tie as tie
 
--- src/lib.rt:105:14
 mul-at : tie.Need-mul-at
 mul-at c = let i = node-in (c .before .before .args .store .now) (c .before .before .args .num) (c .before .before .args .hi .now) (c .before .before .pre) in let f = node-short (c .before .before .args .store .now) (c .before .before .args .num) (c .before .before .args .hi .now) (c .before .before .pre) in omega arith
 
--- src/lib.rt:106:9
 u16-at-requires : tie.Need-u16-at-requires
 u16-at-requires c κs = let i = node-in (c .before .before .before .args .store .now) (c .before .before .before .args .num) (c .before .before .before .args .hi .now) (c .before .before .before .pre) in let f = node-short (c .before .before .before .args .store .now) (c .before .before .before .args .num) (c .before .before .before .args .hi .now) (c .before .before .before .pre) in omega arith
 
--- src/lib.rt:107:39
 add-u16-at : tie.Need-add-u16-at
 add-u16-at c = let i = node-in (c .before .before .before .before .before .args .store .now) (c .before .before .before .before .before .args .num) (c .before .before .before .before .before .args .hi .now) (c .before .before .before .before .before .pre) in let f = node-short (c .before .before .before .before .before .args .store .now) (c .before .before .before .before .before .args .num) (c .before .before .before .before .before .args .hi .now) (c .before .before .before .before .before .pre) in omega arith
 
--- src/lib.rt:107:9
 u16-at-requires-2 : tie.Need-u16-at-requires-2
 u16-at-requires-2 c κs = let i = node-in (c .before .before .before .before .before .args .store .now) (c .before .before .before .before .before .args .num) (c .before .before .before .before .before .args .hi .now) (c .before .before .before .before .before .pre) in let f = node-short (c .before .before .before .before .before .args .store .now) (c .before .before .before .before .before .args .num) (c .before .before .before .before .before .args .hi .now) (c .before .before .before .before .before .pre) in omega arith
 
--- src/lib.rt:108:16
 add-stop : tie.Need-add-stop
 add-stop c = search needs
 
--- src/lib.rt:109:15
 add-end : tie.Need-add-end
 add-end c = let i = node-in (c .before .before .before .before .before .before .args .store .now) (c .before .before .before .before .before .before .args .num) (c .before .before .before .before .before .before .args .hi .now) (c .before .before .before .before .before .before .pre) in let f = node-short (c .before .before .before .before .before .before .args .store .now) (c .before .before .before .before .before .before .args .num) (c .before .before .before .before .before .before .args .hi .now) (c .before .before .before .before .before .before .pre) in omega arith
 
--- src/lib.rt:111:21
 slice-aggregate-copy-at : tie.Need-slice-aggregate-copy-at
 slice-aggregate-copy-at c = search needs
 
--- src/lib.rt:111:35
 sub-copy-at : tie.Need-sub-copy-at
 sub-copy-at c = search needs
 
--- src/lib.rt:111:35
 part-copy-at-start : tie.Need-part-copy-at-start
 part-copy-at-start c = search needs
 
--- src/lib.rt:111:35
 part-copy-at-end : tie.Need-part-copy-at-end
 part-copy-at-end c = let i = node-in (c .before .before .before .before .before .before .before .before .args .store .now) (c .before .before .before .before .before .before .before .before .args .num) (c .before .before .before .before .before .before .before .before .args .hi .now) (c .before .before .before .before .before .before .before .before .pre) in let f = node-short (c .before .before .before .before .before .before .before .before .args .store .now) (c .before .before .before .before .before .before .before .before .args .num) (c .before .before .before .before .before .before .before .before .args .hi .now) (c .before .before .before .before .before .before .before .before .pre) in omega arith
 
--- src/lib.rt:111:5
 copy-at-requires : tie.Need-copy-at-requires
 copy-at-requires c κs = search needs
 
--- src/lib.rt:112:28
 slice-aggregate-has-messages : tie.Need-slice-aggregate-has-messages
 slice-aggregate-has-messages c = search needs
 
--- src/lib.rt:112:9
 has-messages-requires : tie.Need-has-messages-requires
 has-messages-requires c κs = let i = node-in (c .before .before .before .before .before .before .before .before .before .before .before .before .args .store .now) (c .before .before .before .before .before .before .before .before .before .before .before .before .args .num) (c .before .before .before .before .before .before .before .before .before .before .before .before .args .hi .now) (c .before .before .before .before .before .before .before .before .before .before .before .before .pre) in let f = node-short (c .before .before .before .before .before .before .before .before .before .before .before .before .args .store .now) (c .before .before .before .before .before .before .before .before .before .before .before .before .args .num) (c .before .before .before .before .before .before .before .before .before .before .before .before .args .hi .now) (c .before .before .before .before .before .before .before .before .before .before .before .before .pre) in omega arith
 
--- src/lib.rt:113:9
 same-length : tie.Need-same-length
 same-length c = search needs
 
--- src/lib.rt:113:9
 returns : tie.Need-returns
 unfolding zerosOf
 returns c = silent (c .before .before .before .before .before .before .before .before .before .before .before .before .before .before .args .store .now) (c .before .before .before .before .before .before .before .before .before .before .before .before .before .before .args .num) (c .before .before .before .before .before .before .before .before .before .before .before .before .before .before .args .hi .now) (c .before .before .before .before .before .before .before .before .before .before .before .before .before .before .pre) (c .before .before .before .before .before .before .before .before .before .before .u16-at .result) (c .before .before .before .before .before .before .before .before .before .before .u16-at .ensures .0) _ (c .before .before .before .before .copy-at .ensures) _ (c .before .has-messages .ensures) (c .if1 .taken)
 
--- src/lib.rt:115:30
 slice-aggregate-all-fit : tie.Need-slice-aggregate-all-fit
 slice-aggregate-all-fit c = search needs
 
--- src/lib.rt:115:9
 all-fit-requires : tie.Need-all-fit-requires
 all-fit-requires c κs = let i = node-in (c .before .before .before .before .before .before .before .before .before .before .before .before .before .before .before .before .args .store .now) (c .before .before .before .before .before .before .before .before .before .before .before .before .before .before .before .before .args .num) (c .before .before .before .before .before .before .before .before .before .before .before .before .before .before .before .before .args .hi .now) (c .before .before .before .before .before .before .before .before .before .before .before .before .before .before .before .before .pre) in let f = node-short (c .before .before .before .before .before .before .before .before .before .before .before .before .before .before .before .before .args .store .now) (c .before .before .before .before .before .before .before .before .before .before .before .before .before .before .before .before .args .num) (c .before .before .before .before .before .before .before .before .before .before .before .before .before .before .before .before .args .hi .now) (c .before .before .before .before .before .before .before .before .before .before .before .before .before .before .before .before .pre) in (omega arith, omega arith)
 
--- src/lib.rt:116:9
 same-length-2 : tie.Need-same-length-2
 same-length-2 c = search needs
 
--- src/lib.rt:116:9
 returns-2 : tie.Need-returns-2
 returns-2 c = no-room _ _
 
--- src/lib.rt:118:26
 slice-aggregate-push-children : tie.Need-slice-aggregate-push-children
 slice-aggregate-push-children c = search needs
 
--- src/lib.rt:118:5
 push-children-requires : tie.Need-push-children-requires
 unfolding zerosOf
 push-children-requires c κs = let i = node-in (c .before .before .before .before .before .before .before .before .before .before .before .before .before .before .before .before .before .before .before .before .args .store .now) (c .before .before .before .before .before .before .before .before .before .before .before .before .before .before .before .before .before .before .before .before .args .num) (c .before .before .before .before .before .before .before .before .before .before .before .before .before .before .before .before .before .before .before .before .args .hi .now) (c .before .before .before .before .before .before .before .before .before .before .before .before .before .before .before .before .before .before .before .before .pre) in let f = node-short (c .before .before .before .before .before .before .before .before .before .before .before .before .before .before .before .before .before .before .before .before .args .store .now) (c .before .before .before .before .before .before .before .before .before .before .before .before .before .before .before .before .before .before .before .before .args .num) (c .before .before .before .before .before .before .before .before .before .before .before .before .before .before .before .before .before .before .before .before .args .hi .now) (c .before .before .before .before .before .before .before .before .before .before .before .before .before .before .before .before .before .before .before .before .pre) in (omega arith, omega arith, rooms (c .before .before .before .before .before .before .before .before .before .before .before .before .before .before .before .before .before .before .before .before .args .store .now) (c .before .before .before .before .before .before .before .before .before .before .before .before .before .before .before .before .before .before .before .before .args .num) (c .before .before .before .before .before .before .before .before .before .before .before .before .before .before .before .before .before .before .before .before .args .hi .now) (c .before .before .before .before .before .before .before .before .before .before .before .before .before .before .before .before .before .before .before .before .pre) (c .before .before .before .before .before .before .before .before .before .before .before .before .before .before .before .before .u16-at .result) (c .before .before .before .before .before .before .before .before .before .before .before .before .before .before .before .before .u16-at .ensures .0) _ (c .before .before .before .before .before .before .before .before .before .before .copy-at .ensures) (c .before .before .before .all-fit .result) (c .before .before .before .all-fit .ensures) (c .before .before .if2 .left), apart (c .before .before .before .before .before .before .before .before .before .before .before .before .before .before .before .before .before .before .before .before .args .store .now) (c .before .before .before .before .before .before .before .before .before .before .before .before .before .before .before .before .before .before .before .before .args .num) (c .before .before .before .before .before .before .before .before .before .before .before .before .before .before .before .before .before .before .before .before .args .hi .now) (c .before .before .before .before .before .before .before .before .before .before .before .before .before .before .before .before .before .before .before .before .pre) (c .before .before .before .before .before .before .before .before .before .before .before .before .before .before .before .before .u16-at .result) (c .before .before .before .before .before .before .before .before .before .before .before .before .before .before .before .before .u16-at .ensures .0) _ (c .before .before .before .before .before .before .before .before .before .before .copy-at .ensures))
 
--- src/lib.rt:119:32
 slice-aggregate-clear-messages : tie.Need-slice-aggregate-clear-messages
 slice-aggregate-clear-messages c = search needs
 
--- src/lib.rt:119:5
 clear-messages-requires : tie.Need-clear-messages-requires
 unfolding zerosOf
 clear-messages-requires c κs = let i = node-in (c .before .before .before .before .before .before .before .before .before .before .before .before .before .before .before .before .before .before .before .before .before .before .before .before .before .args .store .now) (c .before .before .before .before .before .before .before .before .before .before .before .before .before .before .before .before .before .before .before .before .before .before .before .before .before .args .num) (c .before .before .before .before .before .before .before .before .before .before .before .before .before .before .before .before .before .before .before .before .before .before .before .before .before .args .hi .now) (c .before .before .before .before .before .before .before .before .before .before .before .before .before .before .before .before .before .before .before .before .before .before .before .before .before .pre) in let f = node-short (c .before .before .before .before .before .before .before .before .before .before .before .before .before .before .before .before .before .before .before .before .before .before .before .before .before .args .store .now) (c .before .before .before .before .before .before .before .before .before .before .before .before .before .before .before .before .before .before .before .before .before .before .before .before .before .args .num) (c .before .before .before .before .before .before .before .before .before .before .before .before .before .before .before .before .before .before .before .before .before .before .before .before .before .args .hi .now) (c .before .before .before .before .before .before .before .before .before .before .before .before .before .before .before .before .before .before .before .before .before .before .before .before .before .pre) in let w = stays-long (c .before .before .before .before .before .before .before .before .before .before .before .before .before .before .before .before .before .before .before .before .before .before .before .before .before .args .store .now) (c .before .before .before .before .before .before .before .before .before .before .before .before .before .before .before .before .before .before .before .before .before .before .before .before .before .args .num) (c .before .before .before .before .before .before .before .before .before .before .before .before .before .before .before .before .before .before .before .before .before .before .before .before .before .args .hi .now) (c .before .before .before .before .before .before .before .before .before .before .before .before .before .before .before .before .before .before .before .before .before .before .before .before .before .pre) (c .before .before .before .before .before .before .before .before .before .before .before .before .before .before .before .before .before .before .before .before .before .u16-at .result) (c .before .before .before .before .before .before .before .before .before .before .before .before .before .before .before .before .before .before .before .before .before .u16-at .ensures .0) _ (c .before .before .before .before .before .before .before .before .before .before .before .before .before .before .before .copy-at .ensures) (c .before .before .before .before .before .before .before .before .all-fit .result) (c .before .before .before .before .before .before .before .before .all-fit .ensures) (c .before .before .before .before .before .before .before .if2 .left) _ (c .before .before .before .before .push-children .ensures) in (omega arith, omega arith, omega arith, children-short (c .before .before .before .before .before .before .before .before .before .before .before .before .before .before .before .before .before .before .before .before .before .before .before .before .before .args .store .now) (c .before .before .before .before .before .before .before .before .before .before .before .before .before .before .before .before .before .before .before .before .before .before .before .before .before .args .num) (c .before .before .before .before .before .before .before .before .before .before .before .before .before .before .before .before .before .before .before .before .before .before .before .before .before .args .hi .now) (c .before .before .before .before .before .before .before .before .before .before .before .before .before .before .before .before .before .before .before .before .before .before .before .before .before .pre) (c .before .before .before .before .before .before .before .before .before .before .before .before .before .before .before .before .before .before .before .before .before .u16-at .result) (c .before .before .before .before .before .before .before .before .before .before .before .before .before .before .before .before .before .before .before .before .before .u16-at .ensures .0) _ (c .before .before .before .before .before .before .before .before .before .before .before .before .before .before .before .copy-at .ensures), small (c .before .before .before .before .before .before .before .before .before .before .before .before .before .before .before .before .before .before .before .before .before .before .before .before .before .args .store .now) (c .before .before .before .before .before .before .before .before .before .before .before .before .before .before .before .before .before .before .before .before .before .before .before .before .before .args .num) (c .before .before .before .before .before .before .before .before .before .before .before .before .before .before .before .before .before .before .before .before .before .before .before .before .before .args .hi .now) (c .before .before .before .before .before .before .before .before .before .before .before .before .before .before .before .before .before .before .before .before .before .before .before .before .before .pre) (c .before .before .before .before .before .before .before .before .before .before .before .before .before .before .before .before .before .before .before .before .before .u16-at .result) (c .before .before .before .before .before .before .before .before .before .before .before .before .before .before .before .before .before .before .before .before .before .u16-at .ensures .0) _ (c .before .before .before .before .before .before .before .before .before .before .before .before .before .before .before .copy-at .ensures) (c .before .before .before .before .before .before .before .before .all-fit .result) (c .before .before .before .before .before .before .before .before .all-fit .ensures) (c .before .before .before .before .before .before .before .if2 .left))
 
--- src/lib.rt:101:1
 same-length-3 : tie.Need-same-length-3
 same-length-3 c = search needs
 
--- src/lib.rt:101:1
 returns-3 : tie.Need-returns-3
 unfolding zerosOf
 returns-3 c = all-done (c .before .before .before .before .before .before .before .before .before .before .before .before .before .before .before .before .before .before .before .before .before .before .before .before .before .before .before .before .args .store .now) (c .before .before .before .before .before .before .before .before .before .before .before .before .before .before .before .before .before .before .before .before .before .before .before .before .before .before .before .before .args .num) (c .before .before .before .before .before .before .before .before .before .before .before .before .before .before .before .before .before .before .before .before .before .before .before .before .before .before .before .before .args .hi .now) (c .before .before .before .before .before .before .before .before .before .before .before .before .before .before .before .before .before .before .before .before .before .before .before .before .before .before .before .before .pre) (c .before .before .before .before .before .before .before .before .before .before .before .before .before .before .before .before .before .before .before .before .before .before .before .before .u16-at .result) (c .before .before .before .before .before .before .before .before .before .before .before .before .before .before .before .before .before .before .before .before .before .before .before .before .u16-at .ensures .0) _ (c .before .before .before .before .before .before .before .before .before .before .before .before .before .before .before .before .before .before .copy-at .ensures) (c .before .before .before .before .before .before .before .before .before .before .before .all-fit .result) (c .before .before .before .before .before .before .before .before .before .before .before .all-fit .ensures) (c .before .before .before .before .before .before .before .before .before .before .if2 .left) (c .before .before .before .before .before .before .before .before .before .before .before .before .before .before .before .before .before .before .before .before .before .before .u16-at2 .result) (c .before .before .before .before .before .before .before .before .before .before .before .before .before .before .before .before .before .before .before .before .before .before .u16-at2 .ensures .0) _ _ (c .before .before .before .before .before .before .before .push-children .ensures) (c .before .before .clear-messages .ensures)

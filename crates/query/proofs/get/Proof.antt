@@ -8,75 +8,57 @@ use Rattle.query.specs.Steps.{get-path, get-short, get-room, value-there
 use Rattle.query.proofs.get.Statement.{statement}
 use Rattle.query.proofs.get.Tie as tie
 
--- src/lib.rt:18:9
 whole-nodes-requires : tie.Need-whole-nodes-requires
 whole-nodes-requires c κs = search needs
 
--- src/lib.rt:19:9
 returns : tie.Need-returns
 returns c = (ragged-store (c .before .before .before .before .before .args .store .now) (get (c .before .before .before .before .before .args .path .now)) (c .before .before .before .before .before .args .buffer .now) _ (c .before .whole-nodes .ensures) (not-true _ (c .if1 .taken)), refused-short _)
 
--- src/lib.rt:21:9
 is-sound-requires : tie.Need-is-sound-requires
 is-sound-requires c κs = sym (c .before .whole-nodes .ensures) ∙ not-false _ (c .if1 .left)
 
--- src/lib.rt:22:9
 returns-2 : tie.Need-returns-2
 returns-2 c = (unsound-store (c .before .before .before .before .before .before .before .args .store .now) (get (c .before .before .before .before .before .before .before .args .path .now)) (c .before .before .before .before .before .before .before .args .buffer .now) _ (c .before .before .before .whole-nodes .ensures) (not-false _ (c .before .before .if1 .left)) _ (c .before .is-sound .ensures) (not-true _ (c .if2 .taken)), refused-short _)
 
--- src/lib.rt:24:9
 is-path-requires : tie.Need-is-path-requires
 is-path-requires c κs = search needs
 
--- src/lib.rt:25:9
 returns-3 : tie.Need-returns-3
 returns-3 c = (malformed-path (c .before .before .before .before .before .before .before .before .before .args .store .now) (get (c .before .before .before .before .before .before .before .before .before .args .path .now)) (c .before .before .before .before .before .before .before .before .before .args .buffer .now) _ (c .before .before .before .before .before .whole-nodes .ensures) (not-false _ (c .before .before .before .before .if1 .left)) _ (c .before .before .before .is-sound .ensures) (not-false _ (c .before .before .if2 .left)) _ (get-path _ _ (c .before .is-path .ensures)) (not-true _ (c .if3 .taken)), refused-short _)
 
--- src/lib.rt:28:9
 returns-4 : tie.Need-returns-4
 returns-4 c = (short-buffer (c .before .before .before .before .before .before .before .before .before .before .args .store .now) (get (c .before .before .before .before .before .before .before .before .before .before .args .path .now)) (c .before .before .before .before .before .before .before .before .before .before .args .buffer .now) _ (c .before .before .before .before .before .before .whole-nodes .ensures) (not-false _ (c .before .before .before .before .before .if1 .left)) _ (c .before .before .before .before .is-sound .ensures) (not-false _ (c .before .before .before .if2 .left)) _ (get-path _ _ (c .before .before .is-path .ensures)) (not-false _ (c .before .if3 .left)) (get-short (c .before .before .before .before .before .before .before .before .before .before .args .path .now) (c .before .before .before .before .before .before .before .before .before .before .args .buffer .now) (omega arith)), refused-short _)
 
--- src/lib.rt:30:9
 value-of-requires : tie.Need-value-of-requires
 value-of-requires c κs = sym (c .before .before .before .before .is-sound .ensures) ∙ not-false _ (c .before .before .before .if2 .left)
 
--- src/lib.rt:31:30
 enum-known-found : tie.Need-enum-known-found
 enum-known-found c = search needs
 
--- src/lib.rt:32:31
 enum-told : tie.Need-enum-told
 enum-told c = search needs
 
--- src/lib.rt:32:9
 returns-5 : tie.Need-returns-5
 returns-5 c = (nothing-there (c .before .before .before .before .before .before .before .before .before .before .before .before .before .args .store .now) (get (c .before .before .before .before .before .before .before .before .before .before .before .before .before .args .path .now)) (c .before .before .before .before .before .before .before .before .before .before .before .before .before .args .buffer .now) _ (c .before .before .before .before .before .before .before .before .before .whole-nodes .ensures) (not-false _ (c .before .before .before .before .before .before .before .before .if1 .left)) _ (c .before .before .before .before .before .before .before .is-sound .ensures) (not-false _ (c .before .before .before .before .before .before .if2 .left)) _ (get-path _ _ (c .before .before .before .before .before .is-path .ensures)) (not-false _ (c .before .before .before .before .if3 .left)) (get-room (c .before .before .before .before .before .before .before .before .before .before .before .before .before .args .path .now) (c .before .before .before .before .before .before .before .before .before .before .before .before .before .args .buffer .now) (omega arith)) (value-absent _ _ _ (sym (c .before .before .before .before .before .before .before .is-sound .ensures) ∙ not-false _ (c .before .before .before .before .before .before .if2 .left)) (c .before .before .value-of .ensures) (c .enum-told .given .1)), refused-short _)
 
--- src/lib.rt:36:32
 sub-copy-at : tie.Need-sub-copy-at
 sub-copy-at c = let v = value-there _ (c .before .before .before .before .before .before .before .before .before .before .before .before .before .before .before .args .path .now) _ _ (sym (c .before .before .before .before .before .before .before .before .before .is-sound .ensures) ∙ not-false _ (c .before .before .before .before .before .before .before .before .if2 .left)) (c .before .before .before .before .value-of .ensures) (c .before .before .found .given .1) in omega (arith, v .rising)
 
--- src/lib.rt:36:32
 part-copy-at-start : tie.Need-part-copy-at-start
 part-copy-at-start c = let v = value-there _ (c .before .before .before .before .before .before .before .before .before .before .before .before .before .before .before .args .path .now) _ _ (sym (c .before .before .before .before .before .before .before .before .before .is-sound .ensures) ∙ not-false _ (c .before .before .before .before .before .before .before .before .if2 .left)) (c .before .before .before .before .value-of .ensures) (c .before .before .found .given .1) in omega (arith, v .rising, v .inside)
 
--- src/lib.rt:36:32
 part-copy-at-end : tie.Need-part-copy-at-end
 part-copy-at-end c = let v = value-there _ (c .before .before .before .before .before .before .before .before .before .before .before .before .before .before .before .args .path .now) _ _ (sym (c .before .before .before .before .before .before .before .before .before .is-sound .ensures) ∙ not-false _ (c .before .before .before .before .before .before .before .before .if2 .left)) (c .before .before .before .before .value-of .ensures) (c .before .before .found .given .1) in omega (arith, v .rising, v .inside)
 
--- src/lib.rt:36:5
 copy-at-requires : tie.Need-copy-at-requires
 copy-at-requires c κs = let v = value-there _ (c .before .before .before .before .before .before .before .before .before .before .before .before .before .before .before .before .args .path .now) _ _ (sym (c .before .before .before .before .before .before .before .before .before .before .is-sound .ensures) ∙ not-false _ (c .before .before .before .before .before .before .before .before .before .if2 .left)) (c .before .before .before .before .before .value-of .ensures) (c .before .before .before .found .given .1) in omega (arith, v .size, v .short)
 
--- src/lib.rt:37:19
 sub-t9 : tie.Need-sub-t9
 sub-t9 c = let v = value-there _ (c .before .before .before .before .before .before .before .before .before .before .before .before .before .before .before .before .before .before .before .args .path .now) _ _ (sym (c .before .before .before .before .before .before .before .before .before .before .before .before .before .is-sound .ensures) ∙ not-false _ (c .before .before .before .before .before .before .before .before .before .before .before .before .if2 .left)) (c .before .before .before .before .before .before .before .before .value-of .ensures) (c .before .before .before .before .before .before .found .given .1) in omega (arith, v .rising)
 
--- src/lib.rt:15:1
 same-length : tie.Need-same-length
 same-length c = search needs
 
--- src/lib.rt:15:1
 returns-6 : tie.Need-returns-6
 returns-6 c = let v = value-there _ (c .before .before .before .before .before .before .before .before .before .before .before .before .before .before .before .before .before .before .before .args .path .now) _ _ (sym (c .before .before .before .before .before .before .before .before .before .before .before .before .before .is-sound .ensures) ∙ not-false _ (c .before .before .before .before .before .before .before .before .before .before .before .before .if2 .left)) (c .before .before .before .before .before .before .before .before .value-of .ensures) (c .before .before .before .before .before .before .found .given .1) in (something-there (c .before .before .before .before .before .before .before .before .before .before .before .before .before .before .before .before .before .before .before .args .store .now) (get (c .before .before .before .before .before .before .before .before .before .before .before .before .before .before .before .before .before .before .before .args .path .now)) (c .before .before .before .before .before .before .before .before .before .before .before .before .before .before .before .before .before .before .before .args .buffer .now) _ (c .before .before .before .before .before .before .before .before .before .before .before .before .before .before .before .whole-nodes .ensures) (not-false _ (c .before .before .before .before .before .before .before .before .before .before .before .before .before .before .if1 .left)) _ (c .before .before .before .before .before .before .before .before .before .before .before .before .before .is-sound .ensures) (not-false _ (c .before .before .before .before .before .before .before .before .before .before .before .before .if2 .left)) _ (get-path _ _ (c .before .before .before .before .before .before .before .before .before .before .before .is-path .ensures)) (not-false _ (c .before .before .before .before .before .before .before .before .before .before .if3 .left)) (get-room (c .before .before .before .before .before .before .before .before .before .before .before .before .before .before .before .before .before .before .before .args .path .now) (c .before .before .before .before .before .before .before .before .before .before .before .before .before .before .before .before .before .before .before .args .buffer .now) (omega arith)) _ _ _ (v .there) (sym (v .size)) (c .before .before .copy-at .ensures), found-short _ (omega (arith, v .short)))
 

@@ -9,63 +9,48 @@ use Rattle.query.specs.Steps.{next-short, next-room, path-absent, path-t
 use Rattle.query.proofs.next.Statement.{statement}
 use Rattle.query.proofs.next.Tie as tie
 
--- src/lib.rt:57:9
 whole-nodes-requires : tie.Need-whole-nodes-requires
 whole-nodes-requires c κs = search needs
 
--- src/lib.rt:58:9
 returns : tie.Need-returns
 returns c = (ragged-store (c .before .before .before .before .before .before .args .store .now) (next (c .before .before .before .before .before .before .args .path .now) (c .before .before .before .before .before .before .args .after .now)) (c .before .before .before .before .before .before .args .buffer .now) _ (c .before .whole-nodes .ensures) (not-true _ (c .if1 .taken)), refused-short _)
 
--- src/lib.rt:60:9
 is-sound-requires : tie.Need-is-sound-requires
 is-sound-requires c κs = sym (c .before .whole-nodes .ensures) ∙ not-false _ (c .if1 .left)
 
--- src/lib.rt:61:9
 returns-2 : tie.Need-returns-2
 returns-2 c = (unsound-store (c .before .before .before .before .before .before .before .before .args .store .now) (next (c .before .before .before .before .before .before .before .before .args .path .now) (c .before .before .before .before .before .before .before .before .args .after .now)) (c .before .before .before .before .before .before .before .before .args .buffer .now) _ (c .before .before .before .whole-nodes .ensures) (not-false _ (c .before .before .if1 .left)) _ (c .before .is-sound .ensures) (not-true _ (c .if2 .taken)), refused-short _)
 
--- src/lib.rt:63:9
 paths-fit-requires : tie.Need-paths-fit-requires
 paths-fit-requires c κs = search needs
 
--- src/lib.rt:64:9
 returns-3 : tie.Need-returns-3
 returns-3 c = (malformed-path (c .before .before .before .before .before .before .before .before .before .before .args .store .now) (next (c .before .before .before .before .before .before .before .before .before .before .args .path .now) (c .before .before .before .before .before .before .before .before .before .before .args .after .now)) (c .before .before .before .before .before .before .before .before .before .before .args .buffer .now) _ (c .before .before .before .before .before .whole-nodes .ensures) (not-false _ (c .before .before .before .before .if1 .left)) _ (c .before .before .before .is-sound .ensures) (not-false _ (c .before .before .if2 .left)) _ (c .before .paths-fit .ensures) (not-true _ (c .if3 .taken)), refused-short _)
 
--- src/lib.rt:67:9
 returns-4 : tie.Need-returns-4
 returns-4 c = (short-buffer (c .before .before .before .before .before .before .before .before .before .before .before .args .store .now) (next (c .before .before .before .before .before .before .before .before .before .before .before .args .path .now) (c .before .before .before .before .before .before .before .before .before .before .before .args .after .now)) (c .before .before .before .before .before .before .before .before .before .before .before .args .buffer .now) _ (c .before .before .before .before .before .before .whole-nodes .ensures) (not-false _ (c .before .before .before .before .before .if1 .left)) _ (c .before .before .before .before .is-sound .ensures) (not-false _ (c .before .before .before .if2 .left)) _ (c .before .before .paths-fit .ensures) (not-false _ (c .before .if3 .left)) (next-short (c .before .before .before .before .before .before .before .before .before .before .before .args .path .now) (c .before .before .before .before .before .before .before .before .before .before .before .args .after .now) (c .before .before .before .before .before .before .before .before .before .before .before .args .buffer .now) (omega arith)), refused-short _)
 
--- src/lib.rt:69:9
 next-path-requires : tie.Need-next-path-requires
 next-path-requires c κs = sym (c .before .before .before .before .is-sound .ensures) ∙ not-false _ (c .before .before .before .if2 .left)
 
--- src/lib.rt:72:9
 returns-5 : tie.Need-returns-5
 returns-5 c = (nothing-there (c .before .before .before .before .before .before .before .before .before .before .before .before .before .args .store .now) (next (c .before .before .before .before .before .before .before .before .before .before .before .before .before .args .path .now) (c .before .before .before .before .before .before .before .before .before .before .before .before .before .args .after .now)) (c .before .before .before .before .before .before .before .before .before .before .before .before .before .args .buffer .now) _ (c .before .before .before .before .before .before .before .before .whole-nodes .ensures) (not-false _ (c .before .before .before .before .before .before .before .if1 .left)) _ (c .before .before .before .before .before .before .is-sound .ensures) (not-false _ (c .before .before .before .before .before .if2 .left)) _ (c .before .before .before .before .paths-fit .ensures) (not-false _ (c .before .before .before .if3 .left)) (next-room (c .before .before .before .before .before .before .before .before .before .before .before .before .before .args .path .now) (c .before .before .before .before .before .before .before .before .before .before .before .before .before .args .after .now) (c .before .before .before .before .before .before .before .before .before .before .before .before .before .args .buffer .now) (omega arith)) (path-absent _ _ _ _ (c .before .next-path .ensures) (omega arith)), refused-short _)
 
--- src/lib.rt:75:32
 sub-copy-at : tie.Need-sub-copy-at
 sub-copy-at c = search needs
 
--- src/lib.rt:75:32
 part-copy-at-start : tie.Need-part-copy-at-start
 part-copy-at-start c = search needs
 
--- src/lib.rt:75:32
 part-copy-at-end : tie.Need-part-copy-at-end
 part-copy-at-end c = let h : length (c .before .before .before .before .next-path .result .bytes) ≡ 64 = search needs in omega arith
 
--- src/lib.rt:75:5
 copy-at-requires : tie.Need-copy-at-requires
 copy-at-requires c κs = search needs
 
--- src/lib.rt:54:1
 same-length : tie.Need-same-length
 same-length c = search needs
 
--- src/lib.rt:54:1
 returns-6 : tie.Need-returns-6
 returns-6 c = (something-there (c .before .before .before .before .before .before .before .before .before .before .before .before .before .before .before .before .before .before .before .before .args .store .now) (next (c .before .before .before .before .before .before .before .before .before .before .before .before .before .before .before .before .before .before .before .before .args .path .now) (c .before .before .before .before .before .before .before .before .before .before .before .before .before .before .before .before .before .before .before .before .args .after .now)) (c .before .before .before .before .before .before .before .before .before .before .before .before .before .before .before .before .before .before .before .before .args .buffer .now) _ (c .before .before .before .before .before .before .before .before .before .before .before .before .before .before .before .whole-nodes .ensures) (not-false _ (c .before .before .before .before .before .before .before .before .before .before .before .before .before .before .if1 .left)) _ (c .before .before .before .before .before .before .before .before .before .before .before .before .before .is-sound .ensures) (not-false _ (c .before .before .before .before .before .before .before .before .before .before .before .before .if2 .left)) _ (c .before .before .before .before .before .before .before .before .before .before .before .paths-fit .ensures) (not-false _ (c .before .before .before .before .before .before .before .before .before .before .if3 .left)) (next-room (c .before .before .before .before .before .before .before .before .before .before .before .before .before .before .before .before .before .before .before .before .args .path .now) (c .before .before .before .before .before .before .before .before .before .before .before .before .before .before .before .before .before .before .before .before .args .after .now) (c .before .before .before .before .before .before .before .before .before .before .before .before .before .before .before .before .before .before .before .before .args .buffer .now) (omega arith)) _ _ _ (path-there _ _ _ _ (c .before .before .before .before .before .before .before .before .next-path .ensures) (omega arith)) (sym (taken-size _ _ (let h : length (c .before .before .before .before .before .before .before .before .next-path .result .bytes) ≡ 64 = search needs in omega arith))) (c .before .before .copy-at .ensures), found-short _ (omega arith))
 

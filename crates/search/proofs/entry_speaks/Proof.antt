@@ -4,31 +4,24 @@ use Rattle.search.specs.Hear.{message-places, pair-silent, child-silent,
 use Rattle.search.proofs.entry_speaks.Statement.{statement}
 use Rattle.search.proofs.entry_speaks.Tie as tie
 
--- src/lib.rt:55:30
 enum-told : tie.Need-enum-told
 enum-told c = search needs
 
--- src/lib.rt:56:31
 enum-told-2 : tie.Need-enum-told-2
 enum-told-2 c = search needs
 
--- src/lib.rt:57:24
 enum-known-e : tie.Need-enum-known-e
 enum-known-e c = search needs
 
--- src/lib.rt:57:30
 message-speaks-requires : tie.Need-message-speaks-requires
 message-speaks-requires c κs = message-places _ (c .before .before .before .before .before .args .e) _ (c .before .before .before .before .before .pre) (c .before .e .given .1)
 
--- src/lib.rt:50:1
 returns : tie.Need-returns
 returns c = pair-silent _ _ _ _ _ (c .enum-told .given .1)
 
--- src/lib.rt:50:1
 returns-2 : tie.Need-returns-2
 returns-2 c = child-silent _ _ _ _ _ (c .enum-told2 .given .1)
 
--- src/lib.rt:50:1
 returns-3 : tie.Need-returns-3
 returns-3 c = message-on _ _ _ _ _ (c .before .before .e .given .1) (c .message-speaks .ensures)
 

@@ -24,59 +24,45 @@ pair-is-of c = sym (c .before .before .before .pair-of .ensures) ∙ c .before .
 places-in : (c : tie.After-known-told2 Inv-loop μ-loop) → Within (c .before .before .before .before .before .before .before .before .before .before .loop .c .at) (c .before .before .before .before .before .before .before .before .before .before .loop .c .end) (c .before .p .given .0 .0) × Within (c .before .before .before .before .before .before .before .before .before .before .loop .c .at) (c .before .before .before .before .before .before .before .before .before .before .loop .c .end) (c .before .p .given .0 .1 .0)
 places-in c = pair-places _ _ (c .before .before .before .before .before .e .given .0 .0) _ _ (pair-is-of c) (next-is (c .before .before .before .before) .reachable)
 
--- src/lib.rt:103:5
 loop-holds : tie.Need-loop-holds Inv-loop μ-loop
 loop-holds c = (refl, refl)
 
--- src/lib.rt:104:35
 step-requires : tie.Need-step-requires Inv-loop μ-loop
 step-requires c κs = omega arith
 
--- src/lib.rt:104:24
 enum-known-e : tie.Need-enum-known-e Inv-loop μ-loop
 enum-known-e c = search needs
 
--- src/lib.rt:105:13
 enum-told : tie.Need-enum-told Inv-loop μ-loop
 enum-told c = search needs
 
--- src/lib.rt:105:13
 returns : tie.Need-returns Inv-loop μ-loop
 returns c = nothing-is _ _ (find-end _ _ _ (step-bad-is _ _ _ _ (c .before .before .step .ensures) (c .enum-told .given .1) .1) (c .before .before .before .before .before .loop .inv .1))
 
--- src/lib.rt:107:30
 pair-of-requires : tie.Need-pair-of-requires Inv-loop μ-loop
 pair-of-requires c κs = search needs
 
--- src/lib.rt:107:22
 enum-known-p : tie.Need-enum-known-p Inv-loop μ-loop
 enum-known-p c = search needs
 
--- src/lib.rt:108:13
 enum-told-2 : tie.Need-enum-told-2 Inv-loop μ-loop
 enum-told-2 c = search needs
 
--- src/lib.rt:108:13
 returns-2 : tie.Need-returns-2 Inv-loop μ-loop
 returns-2 c = nothing-is _ _ (find-other _ _ _ _ _ _ (next-is (c .before .before .before) .lists) (sym (c .before .before .pair-of .ensures) ∙ c .enum-told2 .given .1) (c .before .before .before .before .before .before .before .before .before .loop .inv .1))
 
--- src/lib.rt:112:32
 sub-equal : tie.Need-sub-equal Inv-loop μ-loop
 sub-equal c = let w = places-in c in omega arith
 
--- src/lib.rt:112:32
 part-equal-start : tie.Need-part-equal-start Inv-loop μ-loop
 part-equal-start c = let w = places-in c in omega arith
 
--- src/lib.rt:112:32
 part-equal-end : tie.Need-part-equal-end Inv-loop μ-loop
 part-equal-end c = let n = next-is (c .before .before .before .before) in let w = places-in c in omega arith
 
--- src/lib.rt:112:12
 equal-requires : tie.Need-equal-requires Inv-loop μ-loop
 equal-requires c κs = search needs
 
--- src/lib.rt:113:13
 returns-3 : tie.Need-returns-3 Inv-loop μ-loop
 returns-3 c =
     let w = places-in (c .before .before .before) in
@@ -84,17 +70,14 @@ returns-3 c =
     value-is _ _ _ (find-here _ _ _ _ _ _ _ _ (c .before .equal .result) (n .lists) (pair-is-of (c .before .before .before)) (c .before .equal .ensures) (c .if2 .taken) (c .before .before .before .before .before .before .before .before .before .before .before .before .before .loop .inv .1))
     (record { low = omega arith; rises = omega arith; high = omega arith })
 
--- src/lib.rt:103:5
 loop-less : tie.Need-loop-less Inv-loop μ-loop
 loop-less c = let n = next-is (c .before .before .before .before .before .before .before) in omega arith
 
--- src/lib.rt:103:5
 loop-again : tie.Need-loop-again Inv-loop μ-loop
 loop-again c =
     let n = next-is (c .before .before .before .before .before .before .before) in
     (n .ends ∙ c .before .before .before .before .before .before .before .before .before .before .before .before .before .loop .inv .0, find-on _ _ _ _ _ _ _ _ (c .before .equal .result) (n .lists) (pair-is-of (c .before .before .before)) (c .before .equal .ensures) (c .if2 .left) (c .before .before .before .before .before .before .before .before .before .before .before .before .before .loop .inv .1))
 
--- src/lib.rt:98:1
 returns-4 : tie.Need-returns-4 Inv-loop μ-loop
 returns-4 c = nothing-is _ _ (find-end _ _ _ (listed-end _ _ _ (omega arith)) (c .before .before .loop .inv .1))
 

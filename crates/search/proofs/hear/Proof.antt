@@ -3,31 +3,24 @@ use borrow.Author.Needs.{needs}
 use Rattle.search.proofs.hear.Statement.{statement}
 use Rattle.search.proofs.hear.Tie as tie
 
--- src/lib.rt:54:30
 enum-told : tie.Need-enum-told
 enum-told c = search needs
 
--- src/lib.rt:55:31
 enum-told-2 : tie.Need-enum-told-2
 enum-told-2 c = search needs
 
--- src/lib.rt:56:24
 enum-known-e : tie.Need-enum-known-e
 enum-known-e c = search needs
 
--- src/lib.rt:56:30
 hear-message-requires : tie.Need-hear-message-requires
 hear-message-requires c κs = (c .before .before .before .before .before .pre .0, message-places _ (c .before .before .before .before .before .args .e) _ (c .before .before .before .before .before .pre .1) (c .before .e .given .1))
 
--- src/lib.rt:49:1
 returns : tie.Need-returns
 returns c = as-entry _ _ _ _ _ _ (c .enum-told .given .1) (hear-pair _ _ _ _ _ (c .before .before .before .before .pre .0))
 
--- src/lib.rt:49:1
 returns-2 : tie.Need-returns-2
 returns-2 c = as-entry _ _ _ _ _ _ (c .enum-told2 .given .1) (hear-child _ _ _ _ _ (c .before .before .before .before .pre .0))
 
--- src/lib.rt:49:1
 returns-3 : tie.Need-returns-3
 returns-3 c = as-entry _ _ _ _ _ _ (c .before .before .e .given .1) (hear-on _ _ _ _ _ (c .hear-message .ensures))
 

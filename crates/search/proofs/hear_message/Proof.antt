@@ -16,87 +16,66 @@ drop-in c = drop-places _ (c .before .before .before .before .before .args .m) _
 clear-in : (c : tie.After-known-told3) → Within 0 (length (c .before .before .before .before .before .args .s .now)) (c .before .m3 .given .0 .0)
 clear-in c = clear-places _ (c .before .before .before .before .before .args .m) _ (c .before .before .before .before .before .pre .1) (c .before .m3 .given .1)
 
--- src/lib.rt:31:22
 enum-known-m : tie.Need-enum-known-m
 enum-known-m c = search needs
 
--- src/lib.rt:34:30
 sub-equal : tie.Need-sub-equal
 sub-equal c = let w = put-in c in omega arith
 
--- src/lib.rt:34:30
 part-equal-start : tie.Need-part-equal-start
 part-equal-start c = let w = put-in c in omega arith
 
--- src/lib.rt:34:30
 part-equal-end : tie.Need-part-equal-end
 part-equal-end c = let w = put-in c in omega arith
 
--- src/lib.rt:34:16
 equal-requires : tie.Need-equal-requires
 equal-requires c κs = search needs
 
--- src/lib.rt:36:23
 enum-known-m-2 : tie.Need-enum-known-m-2
 enum-known-m-2 c = search needs
 
--- src/lib.rt:39:30
 sub-equal-2 : tie.Need-sub-equal-2
 sub-equal-2 c = let w = drop-in c in omega arith
 
--- src/lib.rt:39:30
 part-equal-start-2 : tie.Need-part-equal-start-2
 part-equal-start-2 c = let w = drop-in c in omega arith
 
--- src/lib.rt:39:30
 part-equal-end-2 : tie.Need-part-equal-end-2
 part-equal-end-2 c = let w = drop-in c in omega arith
 
--- src/lib.rt:39:16
 equal-requires-2 : tie.Need-equal-requires-2
 equal-requires-2 c κs = search needs
 
--- src/lib.rt:41:24
 enum-known-m-3 : tie.Need-enum-known-m-3
 enum-known-m-3 c = search needs
 
--- src/lib.rt:44:31
 sub-begins-with : tie.Need-sub-begins-with
 sub-begins-with c = let w = clear-in c in omega arith
 
--- src/lib.rt:44:31
 part-begins-with-start : tie.Need-part-begins-with-start
 part-begins-with-start c = let w = clear-in c in omega arith
 
--- src/lib.rt:44:31
 part-begins-with-end : tie.Need-part-begins-with-end
 part-begins-with-end c = let w = clear-in c in omega arith
 
--- src/lib.rt:44:16
 begins-with-requires : tie.Need-begins-with-requires
 begins-with-requires c κs = search needs
 
--- src/lib.rt:26:1
 returns : tie.Need-returns
 returns c = as-message _ _ _ _ _ _ (c .before .before .before .before .m .given .1) (put-yes _ _ _ _ _ (c .before .equal .result) (c .before .equal .ensures) (c .if1 .taken) (put-in (c .before .before .before) .1))
 
--- src/lib.rt:26:1
 returns-2 : tie.Need-returns-2
 returns-2 c = as-message _ _ _ _ _ _ (c .before .before .before .before .m .given .1) (put-no _ _ _ _ _ (c .before .equal .result) (c .before .equal .ensures) (c .if1 .left) (c .before .before .before .before .before .before .before .before .pre .0))
 
--- src/lib.rt:26:1
 returns-3 : tie.Need-returns-3
 returns-3 c = as-message _ _ _ _ _ _ (c .before .before .before .before .m2 .given .1) (drop-yes _ _ _ _ (c .before .equal2 .result) (c .before .equal2 .ensures) (c .if2 .taken))
 
--- src/lib.rt:26:1
 returns-4 : tie.Need-returns-4
 returns-4 c = as-message _ _ _ _ _ _ (c .before .before .before .before .m2 .given .1) (drop-no _ _ _ _ (c .before .equal2 .result) (c .before .equal2 .ensures) (c .if2 .left) (c .before .before .before .before .before .before .before .before .pre .0))
 
--- src/lib.rt:26:1
 returns-5 : tie.Need-returns-5
 returns-5 c = as-message _ _ _ _ _ _ (c .before .before .before .before .m3 .given .1) (clear-yes _ _ _ _ (c .before .begins-with .result) (c .before .begins-with .ensures) (c .if3 .taken))
 
--- src/lib.rt:26:1
 returns-6 : tie.Need-returns-6
 returns-6 c = as-message _ _ _ _ _ _ (c .before .before .before .before .m3 .given .1) (clear-no _ _ _ _ (c .before .begins-with .result) (c .before .begins-with .ensures) (c .if3 .left) (c .before .before .before .before .before .before .before .before .pre .0))
 

@@ -3,27 +3,21 @@ use borrow.Author.Needs.{needs}
 use Rattle.search.proofs.last_of.Statement.{statement}
 use Rattle.search.proofs.last_of.Tie as tie
 
--- src/lib.rt:149:22
 sub-owned : tie.Need-sub-owned
 sub-owned c = search needs
 
--- src/lib.rt:149:22
 part-owned-start : tie.Need-part-owned-start
 part-owned-start c = search needs
 
--- src/lib.rt:149:22
 part-owned-end : tie.Need-part-owned-end
 part-owned-end c = search needs
 
--- src/lib.rt:149:8
 owned-requires : tie.Need-owned-requires
 owned-requires c κs = search needs
 
--- src/lib.rt:150:9
 returns : tie.Need-returns
 returns c = last-yes _ _ _ _ _ (c .before .owned .result) (c .before .owned .ensures) (c .if1 .taken) (c .before .before .before .before .before .before .pre)
 
--- src/lib.rt:143:1
 returns-2 : tie.Need-returns-2
 returns-2 c = last-no _ _ _ _ (c .before .before .before .before .before .before .args .low) (c .before .owned .result) (c .before .owned .ensures) (c .if1 .left)
 

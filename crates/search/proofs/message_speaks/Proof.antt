@@ -17,75 +17,57 @@ drop-in c = drop-places _ (c .before .before .before .before .before .args .m) _
 clear-in : (c : tie.After-known-told3) → Within 0 (length (c .before .before .before .before .before .args .s .now)) (c .before .m3 .given .0 .0)
 clear-in c = clear-places _ (c .before .before .before .before .before .args .m) _ (c .before .before .before .before .before .pre) (c .before .m3 .given .1)
 
--- src/lib.rt:32:22
 enum-known-m : tie.Need-enum-known-m
 enum-known-m c = search needs
 
--- src/lib.rt:35:27
 sub-equal : tie.Need-sub-equal
 sub-equal c = let w = put-in c in omega arith
 
--- src/lib.rt:35:27
 part-equal-start : tie.Need-part-equal-start
 part-equal-start c = let w = put-in c in omega arith
 
--- src/lib.rt:35:27
 part-equal-end : tie.Need-part-equal-end
 part-equal-end c = let w = put-in c in omega arith
 
--- src/lib.rt:35:13
 equal-requires : tie.Need-equal-requires
 equal-requires c κs = search needs
 
--- src/lib.rt:37:23
 enum-known-m-2 : tie.Need-enum-known-m-2
 enum-known-m-2 c = search needs
 
--- src/lib.rt:40:27
 sub-equal-2 : tie.Need-sub-equal-2
 sub-equal-2 c = let w = drop-in c in omega arith
 
--- src/lib.rt:40:27
 part-equal-start-2 : tie.Need-part-equal-start-2
 part-equal-start-2 c = let w = drop-in c in omega arith
 
--- src/lib.rt:40:27
 part-equal-end-2 : tie.Need-part-equal-end-2
 part-equal-end-2 c = let w = drop-in c in omega arith
 
--- src/lib.rt:40:13
 equal-requires-2 : tie.Need-equal-requires-2
 equal-requires-2 c κs = search needs
 
--- src/lib.rt:42:24
 enum-known-m-3 : tie.Need-enum-known-m-3
 enum-known-m-3 c = search needs
 
--- src/lib.rt:45:33
 sub-begins-with : tie.Need-sub-begins-with
 sub-begins-with c = let w = clear-in c in omega arith
 
--- src/lib.rt:45:33
 part-begins-with-start : tie.Need-part-begins-with-start
 part-begins-with-start c = let w = clear-in c in omega arith
 
--- src/lib.rt:45:33
 part-begins-with-end : tie.Need-part-begins-with-end
 part-begins-with-end c = let w = clear-in c in omega arith
 
--- src/lib.rt:45:13
 begins-with-requires : tie.Need-begins-with-requires
 begins-with-requires c κs = search needs
 
--- src/lib.rt:27:1
 returns : tie.Need-returns
 returns c = put-speaks _ _ _ _ _ _ (c .before .before .before .m .given .1) (c .equal .ensures)
 
--- src/lib.rt:27:1
 returns-2 : tie.Need-returns-2
 returns-2 c = drop-speaks _ _ _ _ _ (c .before .before .before .m2 .given .1) (c .equal2 .ensures)
 
--- src/lib.rt:27:1
 returns-3 : tie.Need-returns-3
 returns-3 c = clear-speaks _ _ _ _ _ (c .before .before .before .m3 .given .1) (c .begins-with .ensures)
 

@@ -21,51 +21,39 @@ abbrev μ-loop : tie.MeasureT-loop
 next-is : (c : tie.After-known-told Inv-loop μ-loop) → Next (c .before .before .before .before .before .before .before .before .before .args .s .now) (c .before .before .before .before .before .before .loop .c .at) (c .before .before .before .before .before .before .loop .c .end) (c .before .e .given .0 .0) (c .before .e .given .0 .1 .0)
 next-is c = step-read-is _ _ _ _ _ _ (c .before .before .before .step .ensures) (c .before .e .given .1)
 
--- src/lib.rt:115:5
 loop-holds : tie.Need-loop-holds Inv-loop μ-loop
 loop-holds c = (refl, silent-fits _, hear-start _ _ _)
 
--- src/lib.rt:116:35
 step-requires : tie.Need-step-requires Inv-loop μ-loop
 step-requires c κs = omega arith
 
--- src/lib.rt:116:24
 enum-known-e : tie.Need-enum-known-e Inv-loop μ-loop
 enum-known-e c = search needs
 
--- src/lib.rt:117:13
 enum-told : tie.Need-enum-told Inv-loop μ-loop
 enum-told c = search needs
 
--- src/lib.rt:117:13
 returns : tie.Need-returns Inv-loop μ-loop
 returns c = record { meant = hear-end _ _ _ _ _ (step-bad-is _ _ _ _ (c .before .before .step .ensures) (c .enum-told .given .1) .1) (c .before .before .before .before .before .loop .inv .2); fits = c .before .before .before .before .before .loop .inv .1 }
 
--- src/lib.rt:120:13
 entry-speaks-requires : tie.Need-entry-speaks-requires Inv-loop μ-loop
 entry-speaks-requires c κs = let n = next-is c in entry-wider (c .before .before .before .before .before .before .loop .c .at) (c .before .before .before .before .before .before .loop .c .end) 0 (length (c .before .before .before .before .before .before .before .before .before .args .s .now)) (c .before .e .given .0 .0) (omega arith) (omega arith) (n .reachable)
 
--- src/lib.rt:115:5
 loop-less : tie.Need-loop-less Inv-loop μ-loop
 loop-less c = let n = next-is (c .before .before) in omega arith
 
--- src/lib.rt:115:5
 loop-again : tie.Need-loop-again Inv-loop μ-loop
 loop-again c = let n = next-is (c .before .before) in (n .ends ∙ c .before .before .before .before .before .before .before .before .loop .inv .0, c .before .before .before .before .before .before .before .before .loop .inv .1, silent-step _ _ _ (c .before .before .before .e .given .0 .0) _ _ _ _ (n .lists) (c .before .entry-speaks .ensures) (not-true _ (c .if2 .taken)) (c .before .before .before .before .before .before .before .before .loop .inv .2))
 
--- src/lib.rt:124:9
 hear-requires : tie.Need-hear-requires Inv-loop μ-loop
 hear-requires c κs = let n = next-is (c .before .before) in (c .before .before .before .before .before .before .before .before .loop .inv .1, entry-wider (c .before .before .before .before .before .before .before .before .loop .c .at) (c .before .before .before .before .before .before .before .before .loop .c .end) 0 (length (c .before .before .before .before .before .before .before .before .before .before .before .args .s .now)) (c .before .before .before .e .given .0 .0) (omega arith) (omega arith) (n .reachable))
 
--- src/lib.rt:115:5
 loop-less-2 : tie.Need-loop-less-2 Inv-loop μ-loop
 loop-less-2 c = let n = next-is (c .before .before .before) in omega arith
 
--- src/lib.rt:115:5
 loop-again-2 : tie.Need-loop-again-2 Inv-loop μ-loop
 loop-again-2 c = let n = next-is (c .before .before .before) in (n .ends ∙ c .before .before .before .before .before .before .before .before .before .loop .inv .0, c .hear .ensures .fits, hear-step _ _ _ _ _ _ _ _ (n .lists) (c .hear .ensures) (c .before .before .before .before .before .before .before .before .before .loop .inv .2))
 
--- src/lib.rt:109:1
 returns-2 : tie.Need-returns-2 Inv-loop μ-loop
 returns-2 c = record { meant = hear-end _ _ _ _ _ (listed-end _ _ _ (omega arith)) (c .before .before .loop .inv .2); fits = c .before .before .loop .inv .1 }
 

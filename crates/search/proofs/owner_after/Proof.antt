@@ -30,89 +30,68 @@ place-in c =
     let w = kid-place (c .before .before .before .before .before .before .before .before .before .before .loop .c .at) (c .before .before .before .before .before .before .before .before .before .before .loop .c .end) (c .before .before .before .before .before .e .given .0 .0) _ _ (kid-is-of c) (n .reachable) in
     record { low = omega arith; rises = omega arith; high = omega arith }
 
--- src/lib.rt:164:5
 loop-holds : tie.Need-loop-holds Inv-loop μ-loop
 loop-holds c = (refl, refl, c .before .before .before .pre .1, refl)
 
--- src/lib.rt:165:35
 step-requires : tie.Need-step-requires Inv-loop μ-loop
 step-requires c κs = omega arith
 
--- src/lib.rt:165:24
 enum-known-e : tie.Need-enum-known-e Inv-loop μ-loop
 enum-known-e c = search needs
 
--- src/lib.rt:166:13
 enum-told : tie.Need-enum-told Inv-loop μ-loop
 enum-told c = search needs
 
--- src/lib.rt:166:13
 last-of-requires : tie.Need-last-of-requires Inv-loop μ-loop
 last-of-requires c κs = c .before .before .before .before .before .loop .inv .2
 
--- src/lib.rt:166:13
 returns : tie.Need-returns Inv-loop μ-loop
 returns c = at-last _ _ _ _ (c .before .before .before .before .before .before .loop .low) _ _ _ (kids-none _ (step-bad-is _ _ _ _ (c .before .before .before .step .ensures) (c .before .enum-told .given .1) .1)) (c .before .before .before .before .before .before .loop .inv .3) (c .last-of .ensures)
 
--- src/lib.rt:168:29
 kid-of-requires : tie.Need-kid-of-requires Inv-loop μ-loop
 kid-of-requires c κs = search needs
 
--- src/lib.rt:168:21
 enum-known-k : tie.Need-enum-known-k Inv-loop μ-loop
 enum-known-k c = search needs
 
--- src/lib.rt:169:13
 enum-told-2 : tie.Need-enum-told-2 Inv-loop μ-loop
 enum-told-2 c = search needs
 
--- src/lib.rt:169:13
 last-of-requires-2 : tie.Need-last-of-requires-2 Inv-loop μ-loop
 last-of-requires-2 c κs = c .before .before .before .before .before .before .before .before .before .loop .inv .2
 
--- src/lib.rt:169:13
 returns-2 : tie.Need-returns-2 Inv-loop μ-loop
 returns-2 c = at-last _ _ _ _ (c .before .before .before .before .before .before .before .before .before .before .loop .low) _ _ _ (kids-other _ _ _ _ (next-is (c .before .before .before .before) .lists) (sym (c .before .before .before .kid-of .ensures) ∙ c .before .enum-told2 .given .1)) (c .before .before .before .before .before .before .before .before .before .before .loop .inv .3) (c .last-of2 .ensures)
 
--- src/lib.rt:175:26
 sub-owned : tie.Need-sub-owned Inv-loop μ-loop
 sub-owned c = let w = c .before .before .before .before .before .before .before .before .before .before .loop .inv .2 in omega arith
 
--- src/lib.rt:175:26
 part-owned-start : tie.Need-part-owned-start Inv-loop μ-loop
 part-owned-start c = let w = c .before .before .before .before .before .before .before .before .before .before .loop .inv .2 in omega arith
 
--- src/lib.rt:175:26
 part-owned-end : tie.Need-part-owned-end Inv-loop μ-loop
 part-owned-end c = let w = c .before .before .before .before .before .before .before .before .before .before .loop .inv .2 in omega arith
 
--- src/lib.rt:175:36
 sub-owned-2 : tie.Need-sub-owned-2 Inv-loop μ-loop
 sub-owned-2 c = let w = place-in (c .before) in omega arith
 
--- src/lib.rt:175:36
 part-owned-start-2 : tie.Need-part-owned-start-2 Inv-loop μ-loop
 part-owned-start-2 c = let w = place-in (c .before) in omega arith
 
--- src/lib.rt:175:36
 part-owned-end-2 : tie.Need-part-owned-end-2 Inv-loop μ-loop
 part-owned-end-2 c = let w = place-in (c .before) in omega arith
 
--- src/lib.rt:175:12
 owned-requires : tie.Need-owned-requires Inv-loop μ-loop
 owned-requires c κs = search needs
 
--- src/lib.rt:176:13
 returns-3 : tie.Need-returns-3 Inv-loop μ-loop
 returns-3 c =
     let n = next-is (c .before .before .before .before .before .before .before .before) in
     inner-yes _ _ _ _ (c .before .before .before .before .before .before .before .before .before .before .before .before .before .before .loop .low) _ _ _ _ _ (c .before .owned .result) (kids-more _ _ _ _ _ _ (n .lists) (kid-is-of (c .before .before .before .before))) (c .before .owned .ensures) (c .if2 .taken) (c .before .before .before .before .before .before .before .before .before .before .before .before .before .before .loop .inv .3) (c .before .before .before .before .before .before .before .before .before .before .before .before .before .before .loop .inv .2) (place-in (c .before .before .before .before))
 
--- src/lib.rt:164:5
 loop-less : tie.Need-loop-less Inv-loop μ-loop
 loop-less c = let n = next-is (c .before .before .before .before .before .before .before .before) in omega arith
 
--- src/lib.rt:164:5
 loop-again : tie.Need-loop-again Inv-loop μ-loop
 loop-again c =
     let n = next-is (c .before .before .before .before .before .before .before .before) in
@@ -123,11 +102,9 @@ loop-again c =
       inner-no _ _ _ _ (c .before .before .before .before .before .before .before .before .before .before .before .before .before .before .loop .low) _ (c .before .before .before .before .before .k .given .0 .1 .0) _ (kidsE (listed (c .before .before .before .before .before .before .before .before .before .before .before .before .before .before .before .before .before .before .args .s .now) (next .at) (next .end))) _ (c .before .owned .result) (kids-more _ _ _ _ _ _ (n .lists) (kid-is-of (c .before .before .before .before))) (c .before .owned .ensures) (c .if2 .left) (c .before .before .before .before .before .before .before .before .before .before .before .before .before .before .loop .inv .3),
     )
 
--- src/lib.rt:182:5
 last-of-requires-3 : tie.Need-last-of-requires-3 Inv-loop μ-loop
 last-of-requires-3 c κs = c .before .before .loop .inv .2
 
--- src/lib.rt:156:1
 returns-4 : tie.Need-returns-4 Inv-loop μ-loop
 returns-4 c = at-last _ _ _ _ (c .before .before .before .loop .low) _ _ _ (kids-none _ (listed-end _ _ _ (omega arith))) (c .before .before .before .loop .inv .3) (c .last-of3 .ensures)
 

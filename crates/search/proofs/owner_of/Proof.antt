@@ -20,43 +20,33 @@ place-in c =
     let w = kid-place (c .before .before .before .before .before .before .before .before .before .before .before .args .from) (c .before .before .before .before .before .before .before .before .before .before .before .args .end) (c .before .before .before .before .before .e .given .0 .0) _ _ (kid-is-of c) (n .reachable) in
     record { low = omega arith; rises = omega arith; high = omega arith }
 
--- src/lib.rt:191:31
 step-requires : tie.Need-step-requires
 step-requires c κs = search needs
 
--- src/lib.rt:191:20
 enum-known-e : tie.Need-enum-known-e
 enum-known-e c = search needs
 
--- src/lib.rt:192:9
 enum-told : tie.Need-enum-told
 enum-told c = search needs
 
--- src/lib.rt:192:9
 returns : tie.Need-returns
 returns c = nobody-is _ _ _ _ (kids-none _ (step-bad-is _ _ _ _ (c .before .before .step .ensures) (c .enum-told .given .1) .1))
 
--- src/lib.rt:194:25
 kid-of-requires : tie.Need-kid-of-requires
 kid-of-requires c κs = search needs
 
--- src/lib.rt:194:17
 enum-known-k : tie.Need-enum-known-k
 enum-known-k c = search needs
 
--- src/lib.rt:195:9
 enum-told-2 : tie.Need-enum-told-2
 enum-told-2 c = search needs
 
--- src/lib.rt:195:9
 returns-2 : tie.Need-returns-2
 returns-2 c = nobody-is _ _ _ _ (kids-other _ _ _ _ (next-is (c .before .before .before) .lists) (sym (c .before .before .kid-of .ensures) ∙ c .enum-told2 .given .1))
 
--- src/lib.rt:197:5
 owner-after-requires : tie.Need-owner-after-requires
 owner-after-requires c κs = let n = next-is (c .before .before .before .before) in (omega arith, place-in c)
 
--- src/lib.rt:186:1
 returns-3 : tie.Need-returns-3
 returns-3 c = as-kids _ _ _ _ _ _ (kids-more _ _ _ _ _ _ (next-is (c .before .before .before .before .before) .lists) (kid-is-of (c .before))) (c .owner-after .ensures)
 

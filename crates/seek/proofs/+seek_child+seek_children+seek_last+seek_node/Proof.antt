@@ -86,7 +86,6 @@ abbrev seek-node-below : ℕ → In 5 seek-node-kinds.ps
 seek-node-below t =
     and 5 seek-node-kinds.ps (falls 5 seek-node-kinds.ps _<_ μ-seek-node t) seek-node.Pre
 
--- src/lib.rt:221:8
 seek-child-is-far-requires : (t : ℕ) → seek-child-lts.Need-is-far-requires (
   is-far-reads.Asked,
   is-far-reads.Learnt,
@@ -99,7 +98,6 @@ seek-child-is-far-requires : (t : ℕ) → seek-child-lts.Need-is-far-requires (
 ) (seek-child-at t) seek-child.Post
 seek-child-is-far-requires t c κs = search needs
 
--- src/lib.rt:222:9
 seek-child-returns : (t : ℕ) → seek-child-lts.Need-returns (
   is-far-reads.Asked,
   is-far-reads.Learnt,
@@ -112,7 +110,6 @@ seek-child-returns : (t : ℕ) → seek-child-lts.Need-returns (
 ) (seek-child-at t) seek-child.Post
 seek-child-returns t c = skips-child (c .before .before .before .before .before .before .before .before .args .store .now) (c .before .before .before .before .before .before .before .before .args .pre .now) (c .before .before .before .before .before .before .before .before .args .low .now) (c .before .before .before .before .before .before .before .before .args .high .now) (c .before .before .before .before .before .before .before .before .args .level) (c .before .before .before .before .before .before .before .before .args .num) (c .before .before .before .before .before .before .before .before .pre .1) (c .before .before .before .before .before .before .before .before .args .below .now) (c .before .before .before .before .before .before .before .before .args .after .now) (bufferIs (c .before .before .before .before .before .before .before .before .args .best)) (c .before .is-far .result) (c .before .is-far .ensures) (c .if1 .taken)
 
--- src/lib.rt:224:9
 seek-child-common-length-requires : (t : ℕ) → seek-child-lts.Need-common-length-requires (
   is-far-reads.Asked,
   is-far-reads.Learnt,
@@ -125,7 +122,6 @@ seek-child-common-length-requires : (t : ℕ) → seek-child-lts.Need-common-len
 ) (seek-child-at t) seek-child.Post
 seek-child-common-length-requires t c κs = search needs
 
--- src/lib.rt:225:28
 seek-child-sub-join : (t : ℕ) → seek-child-lts.Need-sub-join (
   is-far-reads.Asked,
   is-far-reads.Learnt,
@@ -138,7 +134,6 @@ seek-child-sub-join : (t : ℕ) → seek-child-lts.Need-sub-join (
 ) (seek-child-at t) seek-child.Post
 seek-child-sub-join t c = search needs
 
--- src/lib.rt:225:28
 seek-child-part-join-start : (t : ℕ) → seek-child-lts.Need-part-join-start (
   is-far-reads.Asked,
   is-far-reads.Learnt,
@@ -151,7 +146,6 @@ seek-child-part-join-start : (t : ℕ) → seek-child-lts.Need-part-join-start (
 ) (seek-child-at t) seek-child.Post
 seek-child-part-join-start t c = search needs
 
--- src/lib.rt:225:28
 seek-child-part-join-end : (t : ℕ) → seek-child-lts.Need-part-join-end (
   is-far-reads.Asked,
   is-far-reads.Learnt,
@@ -164,7 +158,6 @@ seek-child-part-join-end : (t : ℕ) → seek-child-lts.Need-part-join-end (
 ) (seek-child-at t) seek-child.Post
 seek-child-part-join-end t c = search needs
 
--- src/lib.rt:225:9
 seek-child-join-requires : (t : ℕ) → seek-child-lts.Need-join-requires (
   is-far-reads.Asked,
   is-far-reads.Learnt,
@@ -177,7 +170,6 @@ seek-child-join-requires : (t : ℕ) → seek-child-lts.Need-join-requires (
 ) (seek-child-at t) seek-child.Post
 seek-child-join-requires t c κs = search needs
 
--- src/lib.rt:228:9
 seek-child-returns-2 : (t : ℕ) → seek-child-lts.Need-returns-2 (
   is-far-reads.Asked,
   is-far-reads.Learnt,
@@ -190,7 +182,6 @@ seek-child-returns-2 : (t : ℕ) → seek-child-lts.Need-returns-2 (
 ) (seek-child-at t) seek-child.Post
 seek-child-returns-2 t c = long-child (c .before .before .before .before .before .before .before .before .before .before .before .before .args .store .now) (c .before .before .before .before .before .before .before .before .before .before .before .before .args .pre .now) (c .before .before .before .before .before .before .before .before .before .before .before .before .args .low .now) (c .before .before .before .before .before .before .before .before .before .before .before .before .args .high .now) (c .before .before .before .before .before .before .before .before .before .before .before .before .args .level) (c .before .before .before .before .before .before .before .before .before .before .before .before .args .num) (c .before .before .before .before .before .before .before .before .before .before .before .before .pre .1) (c .before .before .before .before .before .before .before .before .before .before .before .before .args .below .now) (c .before .before .before .before .before .before .before .before .before .before .before .before .args .after .now) (bufferIs (c .before .before .before .before .before .before .before .before .before .before .before .before .args .best)) (c .before .before .before .common-length .result) (c .before .before .before .common-length .ensures .0) (c .before .join .result) (c .before .join .ensures) (omega arith)
 
--- src/lib.rt:231:34
 seek-child-sub-seek-node : (t : ℕ) → seek-child-lts.Need-sub-seek-node (
   is-far-reads.Asked,
   is-far-reads.Learnt,
@@ -203,7 +194,6 @@ seek-child-sub-seek-node : (t : ℕ) → seek-child-lts.Need-sub-seek-node (
 ) (seek-child-at t) seek-child.Post
 seek-child-sub-seek-node t c = search needs
 
--- src/lib.rt:231:34
 seek-child-part-seek-node-start : (t : ℕ) → seek-child-lts.Need-part-seek-node-start (
   is-far-reads.Asked,
   is-far-reads.Learnt,
@@ -216,7 +206,6 @@ seek-child-part-seek-node-start : (t : ℕ) → seek-child-lts.Need-part-seek-no
 ) (seek-child-at t) seek-child.Post
 seek-child-part-seek-node-start t c = search needs
 
--- src/lib.rt:231:34
 seek-child-part-seek-node-end : (t : ℕ) → seek-child-lts.Need-part-seek-node-end (
   is-far-reads.Asked,
   is-far-reads.Learnt,
@@ -229,7 +218,6 @@ seek-child-part-seek-node-end : (t : ℕ) → seek-child-lts.Need-part-seek-node
 ) (seek-child-at t) seek-child.Post
 seek-child-part-seek-node-end t c = let h : length (c .before .before .before .join .result .bytes) ≡ 64 = search needs in omega arith
 
--- src/lib.rt:231:44
 seek-child-sub-seek-node-2 : (t : ℕ) → seek-child-lts.Need-sub-seek-node-2 (
   is-far-reads.Asked,
   is-far-reads.Learnt,
@@ -242,7 +230,6 @@ seek-child-sub-seek-node-2 : (t : ℕ) → seek-child-lts.Need-sub-seek-node-2 (
 ) (seek-child-at t) seek-child.Post
 seek-child-sub-seek-node-2 t c = search needs
 
--- src/lib.rt:231:44
 seek-child-part-seek-node-start-2 : (t : ℕ) → seek-child-lts.Need-part-seek-node-start-2 (
   is-far-reads.Asked,
   is-far-reads.Learnt,
@@ -255,7 +242,6 @@ seek-child-part-seek-node-start-2 : (t : ℕ) → seek-child-lts.Need-part-seek-
 ) (seek-child-at t) seek-child.Post
 seek-child-part-seek-node-start-2 t c = search needs
 
--- src/lib.rt:231:44
 seek-child-part-seek-node-end-2 : (t : ℕ) → seek-child-lts.Need-part-seek-node-end-2 (
   is-far-reads.Asked,
   is-far-reads.Learnt,
@@ -268,7 +254,6 @@ seek-child-part-seek-node-end-2 : (t : ℕ) → seek-child-lts.Need-part-seek-no
 ) (seek-child-at t) seek-child.Post
 seek-child-part-seek-node-end-2 t c = search needs
 
--- src/lib.rt:231:5
 seek-child-seek-node-requires : (t : ℕ) → seek-child-lts.Need-seek-node-requires (
   is-far-reads.Asked,
   is-far-reads.Learnt,
@@ -281,7 +266,6 @@ seek-child-seek-node-requires : (t : ℕ) → seek-child-lts.Need-seek-node-requ
 ) (seek-child-at t) seek-child.Post
 seek-child-seek-node-requires t c κs = (omega arith, enters-ready (c .before .before .before .before .before .before .before .before .before .before .before .before .before .before .before .before .args .store .now) (c .before .before .before .before .before .before .before .before .before .before .before .before .before .before .before .before .args .pre .now) (c .before .before .before .before .before .before .before .before .before .before .before .before .before .before .before .before .args .low .now) (c .before .before .before .before .before .before .before .before .before .before .before .before .before .before .before .before .args .high .now) (c .before .before .before .before .before .before .before .before .before .before .before .before .before .before .before .before .args .level) (c .before .before .before .before .before .before .before .before .before .before .before .before .before .before .before .before .args .num) (c .before .before .before .before .before .before .before .before .before .before .before .before .before .before .before .before .pre .1) (c .before .before .before .before .before .before .before .before .before .before .before .before .before .before .before .before .args .below .now) (c .before .before .before .before .before .before .before .before .before .before .before .before .before .before .before .before .args .after .now) (bufferIs (c .before .before .before .before .before .before .before .before .before .before .before .before .before .before .before .before .args .best)) (c .before .before .before .before .before .before .before .common-length .result) (c .before .before .before .before .before .before .before .common-length .ensures .0) (c .before .before .before .before .before .join .result) (c .before .before .before .before .before .join .ensures) (omega arith))
 
--- src/lib.rt:217:1
 seek-child-returns-3 : (t : ℕ) → seek-child-lts.Need-returns-3 (
   is-far-reads.Asked,
   is-far-reads.Learnt,
@@ -304,7 +288,6 @@ seek-children-Inv-loop store first level hi pre below after end c₀ num₀ low�
 abbrev seek-children-μ-loop : seek-children-lts.MeasureT-loop
 seek-children-μ-loop store first level hi pre below after end c₀ num₀ low₀ best₀ c num low best = end - c .at
 
--- src/lib.rt:257:5
 seek-children-loop-holds : (t : ℕ) → seek-children-lts.Need-loop-holds (
   step-reads.Asked,
   step-reads.Learnt,
@@ -317,7 +300,6 @@ seek-children-loop-holds : (t : ℕ) → seek-children-lts.Need-loop-holds (
 ) (seek-children-at t) seek-children.Post seek-children-Inv-loop seek-children-μ-loop
 seek-children-loop-holds t c = (refl, refl, c .before .before .before .before .before .pre .1 .1, c .before .before .before .before .before .pre .1 .2, refl)
 
--- src/lib.rt:258:35
 seek-children-step-requires : (t : ℕ) → seek-children-lts.Need-step-requires (
   step-reads.Asked,
   step-reads.Learnt,
@@ -330,7 +312,6 @@ seek-children-step-requires : (t : ℕ) → seek-children-lts.Need-step-requires
 ) (seek-children-at t) seek-children.Post seek-children-Inv-loop seek-children-μ-loop
 seek-children-step-requires t c κs = omega arith
 
--- src/lib.rt:258:24
 seek-children-enum-known-e : (t : ℕ) → seek-children-lts.Need-enum-known-e (
   step-reads.Asked,
   step-reads.Learnt,
@@ -343,7 +324,6 @@ seek-children-enum-known-e : (t : ℕ) → seek-children-lts.Need-enum-known-e (
 ) (seek-children-at t) seek-children.Post seek-children-Inv-loop seek-children-μ-loop
 seek-children-enum-known-e t c = search needs
 
--- src/lib.rt:259:13
 seek-children-enum-told : (t : ℕ) → seek-children-lts.Need-enum-told (
   step-reads.Asked,
   step-reads.Learnt,
@@ -356,7 +336,6 @@ seek-children-enum-told : (t : ℕ) → seek-children-lts.Need-enum-told (
 ) (seek-children-at t) seek-children.Post seek-children-Inv-loop seek-children-μ-loop
 seek-children-enum-told t c = search needs
 
--- src/lib.rt:259:13
 seek-children-seek-last-requires : (t : ℕ) → seek-children-lts.Need-seek-last-requires (
   step-reads.Asked,
   step-reads.Learnt,
@@ -369,7 +348,6 @@ seek-children-seek-last-requires : (t : ℕ) → seek-children-lts.Need-seek-las
 ) (seek-children-at t) seek-children.Post seek-children-Inv-loop seek-children-μ-loop
 seek-children-seek-last-requires t c κs = (omega arith, (omega arith, c .before .before .before .before .before .loop .inv .2, last-ready (c .before .before .before .before .before .before .before .before .before .before .before .args .store .now) (c .before .before .before .before .before .before .before .before .before .before .before .args .below .now) (c .before .before .before .before .before .before .before .before .before .before .before .args .after .now) (c .before .before .before .before .before .before .before .before .before .before .before .args .pre .now) (c .before .before .before .before .before .before .before .before .before .before .before .args .hi .now) (c .before .before .before .before .before .before .before .before .before .before .before .args .level) (c .before .before .before .before .before .loop .num) (c .before .before .before .before .before .loop .low) (bufferIs (c .before .before .before .before .before .loop .best)) (listed (c .before .before .before .before .before .before .before .before .before .before .before .args .store .now) (c .before .before .before .before .before .loop .c .at) (c .before .before .before .before .before .loop .c .end)) (c .before .before .before .before .before .loop .inv .3) (kids-none _ (step-bad-is _ _ _ _ (c .before .before .step .ensures) (c .enum-told .given .1) .1))))
 
--- src/lib.rt:259:13
 seek-children-returns : (t : ℕ) → seek-children-lts.Need-returns (
   step-reads.Asked,
   step-reads.Learnt,
@@ -382,7 +360,6 @@ seek-children-returns : (t : ℕ) → seek-children-lts.Need-returns (
 ) (seek-children-at t) seek-children.Post seek-children-Inv-loop seek-children-μ-loop
 seek-children-returns t c = run-ends (c .before .before .before .before .before .before .before .before .before .before .before .before .args .store .now) (c .before .before .before .before .before .before .before .before .before .before .before .before .args .below .now) (c .before .before .before .before .before .before .before .before .before .before .before .before .args .after .now) (c .before .before .before .before .before .before .before .before .before .before .before .before .args .pre .now) (c .before .before .before .before .before .before .before .before .before .before .before .before .args .hi .now) (c .before .before .before .before .before .before .before .before .before .before .before .before .args .level) (c .before .before .before .before .before .before .loop .num) (c .before .before .before .before .before .before .loop .low) (bufferIs (c .before .before .before .before .before .before .loop .best)) (listed (c .before .before .before .before .before .before .before .before .before .before .before .before .args .store .now) (c .before .before .before .before .before .before .loop .c .at) (c .before .before .before .before .before .before .loop .c .end)) (c .before .before .before .before .before .before .loop .inv .3) _ (c .before .before .before .before .before .before .loop .inv .4) (kids-none _ (step-bad-is _ _ _ _ (c .before .before .before .step .ensures) (c .before .enum-told .given .1) .1)) _ (c .seek-last .ensures)
 
--- src/lib.rt:261:29
 seek-children-kid-of-requires : (t : ℕ) → seek-children-lts.Need-kid-of-requires (
   step-reads.Asked,
   step-reads.Learnt,
@@ -395,7 +372,6 @@ seek-children-kid-of-requires : (t : ℕ) → seek-children-lts.Need-kid-of-requ
 ) (seek-children-at t) seek-children.Post seek-children-Inv-loop seek-children-μ-loop
 seek-children-kid-of-requires t c κs = search needs
 
--- src/lib.rt:261:21
 seek-children-enum-known-k : (t : ℕ) → seek-children-lts.Need-enum-known-k (
   step-reads.Asked,
   step-reads.Learnt,
@@ -408,7 +384,6 @@ seek-children-enum-known-k : (t : ℕ) → seek-children-lts.Need-enum-known-k (
 ) (seek-children-at t) seek-children.Post seek-children-Inv-loop seek-children-μ-loop
 seek-children-enum-known-k t c = search needs
 
--- src/lib.rt:262:13
 seek-children-enum-told-2 : (t : ℕ) → seek-children-lts.Need-enum-told-2 (
   step-reads.Asked,
   step-reads.Learnt,
@@ -421,7 +396,6 @@ seek-children-enum-told-2 : (t : ℕ) → seek-children-lts.Need-enum-told-2 (
 ) (seek-children-at t) seek-children.Post seek-children-Inv-loop seek-children-μ-loop
 seek-children-enum-told-2 t c = search needs
 
--- src/lib.rt:262:13
 seek-children-seek-last-requires-2 : (t : ℕ) → seek-children-lts.Need-seek-last-requires-2 (
   step-reads.Asked,
   step-reads.Learnt,
@@ -436,7 +410,6 @@ seek-children-seek-last-requires-2 t c κs =
     let n = step-read-is (c .before .before .before .before .before .before .before .before .before .before .before .before .before .before .before .args .store .now) (c .before .before .before .before .before .before .before .before .before .loop .c .at) (c .before .before .before .before .before .before .before .before .before .loop .c .end) _ (c .before .before .before .before .e .given .0 .0) (c .before .before .before .before .e .given .0 .1 .0) (c .before .before .before .before .before .before .step .ensures) (c .before .before .before .before .e .given .1) in
     (omega arith, (omega arith, c .before .before .before .before .before .before .before .before .before .loop .inv .2, last-ready (c .before .before .before .before .before .before .before .before .before .before .before .before .before .before .before .args .store .now) (c .before .before .before .before .before .before .before .before .before .before .before .before .before .before .before .args .below .now) (c .before .before .before .before .before .before .before .before .before .before .before .before .before .before .before .args .after .now) (c .before .before .before .before .before .before .before .before .before .before .before .before .before .before .before .args .pre .now) (c .before .before .before .before .before .before .before .before .before .before .before .before .before .before .before .args .hi .now) (c .before .before .before .before .before .before .before .before .before .before .before .before .before .before .before .args .level) (c .before .before .before .before .before .before .before .before .before .loop .num) (c .before .before .before .before .before .before .before .before .before .loop .low) (bufferIs (c .before .before .before .before .before .before .before .before .before .loop .best)) (listed (c .before .before .before .before .before .before .before .before .before .before .before .before .before .before .before .args .store .now) (c .before .before .before .before .before .before .before .before .before .loop .c .at) (c .before .before .before .before .before .before .before .before .before .loop .c .end)) (c .before .before .before .before .before .before .before .before .before .loop .inv .3) (kids-other (c .before .before .before .before .e .given .0 .0) (c .before .before .before .before .before .before .before .before .before .before .before .before .before .before .before .args .store .now) _ _ (n .lists) (sym (c .before .before .kid-of .ensures) ∙ c .enum-told2 .given .1))))
 
--- src/lib.rt:262:13
 seek-children-returns-2 : (t : ℕ) → seek-children-lts.Need-returns-2 (
   step-reads.Asked,
   step-reads.Learnt,
@@ -451,7 +424,6 @@ seek-children-returns-2 t c =
     let n = step-read-is (c .before .before .before .before .before .before .before .before .before .before .before .before .before .before .before .before .args .store .now) (c .before .before .before .before .before .before .before .before .before .before .loop .c .at) (c .before .before .before .before .before .before .before .before .before .before .loop .c .end) _ (c .before .before .before .before .before .e .given .0 .0) (c .before .before .before .before .before .e .given .0 .1 .0) (c .before .before .before .before .before .before .before .step .ensures) (c .before .before .before .before .before .e .given .1) in
     run-ends (c .before .before .before .before .before .before .before .before .before .before .before .before .before .before .before .before .args .store .now) (c .before .before .before .before .before .before .before .before .before .before .before .before .before .before .before .before .args .below .now) (c .before .before .before .before .before .before .before .before .before .before .before .before .before .before .before .before .args .after .now) (c .before .before .before .before .before .before .before .before .before .before .before .before .before .before .before .before .args .pre .now) (c .before .before .before .before .before .before .before .before .before .before .before .before .before .before .before .before .args .hi .now) (c .before .before .before .before .before .before .before .before .before .before .before .before .before .before .before .before .args .level) (c .before .before .before .before .before .before .before .before .before .before .loop .num) (c .before .before .before .before .before .before .before .before .before .before .loop .low) (bufferIs (c .before .before .before .before .before .before .before .before .before .before .loop .best)) (listed (c .before .before .before .before .before .before .before .before .before .before .before .before .before .before .before .before .args .store .now) (c .before .before .before .before .before .before .before .before .before .before .loop .c .at) (c .before .before .before .before .before .before .before .before .before .before .loop .c .end)) (c .before .before .before .before .before .before .before .before .before .before .loop .inv .3) _ (c .before .before .before .before .before .before .before .before .before .before .loop .inv .4) (kids-other (c .before .before .before .before .before .e .given .0 .0) (c .before .before .before .before .before .before .before .before .before .before .before .before .before .before .before .before .args .store .now) _ _ (n .lists) (sym (c .before .before .before .kid-of .ensures) ∙ c .before .enum-told2 .given .1)) _ (c .seek-last2 .ensures)
 
--- src/lib.rt:268:46
 seek-children-sub-seek-child : (t : ℕ) → seek-children-lts.Need-sub-seek-child (
   step-reads.Asked,
   step-reads.Learnt,
@@ -464,7 +436,6 @@ seek-children-sub-seek-child : (t : ℕ) → seek-children-lts.Need-sub-seek-chi
 ) (seek-children-at t) seek-children.Post seek-children-Inv-loop seek-children-μ-loop
 seek-children-sub-seek-child t c = let w = c .before .before .before .before .before .before .before .before .before .before .loop .inv .2 in omega arith
 
--- src/lib.rt:268:46
 seek-children-part-seek-child-start : (t : ℕ) → seek-children-lts.Need-part-seek-child-start (
   step-reads.Asked,
   step-reads.Learnt,
@@ -477,7 +448,6 @@ seek-children-part-seek-child-start : (t : ℕ) → seek-children-lts.Need-part-
 ) (seek-children-at t) seek-children.Post seek-children-Inv-loop seek-children-μ-loop
 seek-children-part-seek-child-start t c = let w = c .before .before .before .before .before .before .before .before .before .before .loop .inv .2 in omega arith
 
--- src/lib.rt:268:46
 seek-children-part-seek-child-end : (t : ℕ) → seek-children-lts.Need-part-seek-child-end (
   step-reads.Asked,
   step-reads.Learnt,
@@ -490,7 +460,6 @@ seek-children-part-seek-child-end : (t : ℕ) → seek-children-lts.Need-part-se
 ) (seek-children-at t) seek-children.Post seek-children-Inv-loop seek-children-μ-loop
 seek-children-part-seek-child-end t c = let w = c .before .before .before .before .before .before .before .before .before .before .loop .inv .2 in omega arith
 
--- src/lib.rt:268:60
 seek-children-sub-seek-child-2 : (t : ℕ) → seek-children-lts.Need-sub-seek-child-2 (
   step-reads.Asked,
   step-reads.Learnt,
@@ -506,7 +475,6 @@ seek-children-sub-seek-child-2 t c =
     let w = kid-place (c .before .before .before .before .before .before .before .before .before .before .before .loop .c .at) (c .before .before .before .before .before .before .before .before .before .before .before .loop .c .end) (c .before .before .before .before .before .before .e .given .0 .0) (c .before .before .k .given .0 .0) (c .before .before .k .given .0 .1 .0) (sym (c .before .before .before .before .kid-of .ensures) ∙ c .before .before .k .given .1) (n .reachable) in
     omega arith
 
--- src/lib.rt:268:60
 seek-children-part-seek-child-start-2 : (t : ℕ) → seek-children-lts.Need-part-seek-child-start-2 (
   step-reads.Asked,
   step-reads.Learnt,
@@ -522,7 +490,6 @@ seek-children-part-seek-child-start-2 t c =
     let w = kid-place (c .before .before .before .before .before .before .before .before .before .before .before .loop .c .at) (c .before .before .before .before .before .before .before .before .before .before .before .loop .c .end) (c .before .before .before .before .before .before .e .given .0 .0) (c .before .before .k .given .0 .0) (c .before .before .k .given .0 .1 .0) (sym (c .before .before .before .before .kid-of .ensures) ∙ c .before .before .k .given .1) (n .reachable) in
     omega arith
 
--- src/lib.rt:268:60
 seek-children-part-seek-child-end-2 : (t : ℕ) → seek-children-lts.Need-part-seek-child-end-2 (
   step-reads.Asked,
   step-reads.Learnt,
@@ -538,7 +505,6 @@ seek-children-part-seek-child-end-2 t c =
     let w = kid-place (c .before .before .before .before .before .before .before .before .before .before .before .loop .c .at) (c .before .before .before .before .before .before .before .before .before .before .before .loop .c .end) (c .before .before .before .before .before .before .e .given .0 .0) (c .before .before .k .given .0 .0) (c .before .before .k .given .0 .1 .0) (sym (c .before .before .before .before .kid-of .ensures) ∙ c .before .before .k .given .1) (n .reachable) in
     omega arith
 
--- src/lib.rt:268:9
 seek-children-seek-child-requires : (t : ℕ) → seek-children-lts.Need-seek-child-requires (
   step-reads.Asked,
   step-reads.Learnt,
@@ -553,7 +519,6 @@ seek-children-seek-child-requires t c κs =
     let n = step-read-is (c .before .before .before .before .before .before .before .before .before .before .before .before .before .before .before .before .before .before .args .store .now) (c .before .before .before .before .before .before .before .before .before .before .before .before .loop .c .at) (c .before .before .before .before .before .before .before .before .before .before .before .before .loop .c .end) _ (c .before .before .before .before .before .before .before .e .given .0 .0) (c .before .before .before .before .before .before .before .e .given .0 .1 .0) (c .before .before .before .before .before .before .before .before .before .step .ensures) (c .before .before .before .before .before .before .before .e .given .1) in
     (omega arith, inner-ready (c .before .before .before .before .before .before .before .before .before .before .before .before .before .before .before .before .before .before .args .store .now) (c .before .before .before .before .before .before .before .before .before .before .before .before .before .before .before .before .before .before .args .below .now) (c .before .before .before .before .before .before .before .before .before .before .before .before .before .before .before .before .before .before .args .after .now) (c .before .before .before .before .before .before .before .before .before .before .before .before .before .before .before .before .before .before .args .pre .now) (c .before .before .before .before .before .before .before .before .before .before .before .before .before .before .before .before .before .before .args .hi .now) (c .before .before .before .before .before .before .before .before .before .before .before .before .before .before .before .before .before .before .args .level) (c .before .before .before .before .before .before .before .before .before .before .before .before .loop .num) (c .before .before .before .before .before .before .before .before .before .before .before .before .loop .low) (bufferIs (c .before .before .before .before .before .before .before .before .before .before .before .before .loop .best)) (listed (c .before .before .before .before .before .before .before .before .before .before .before .before .before .before .before .before .before .before .args .store .now) (c .before .before .before .before .before .before .before .before .before .before .before .before .loop .c .at) (c .before .before .before .before .before .before .before .before .before .before .before .before .loop .c .end)) (c .before .before .before .before .before .before .before .before .before .before .before .before .loop .inv .3) (c .before .before .before .before .before .before .before .e .given .0 .0) (c .before .before .before .k .given .0 .0) (c .before .before .before .k .given .0 .1 .0) (listed (c .before .before .before .before .before .before .before .before .before .before .before .before .before .before .before .before .before .before .args .store .now) (c .before .before .before .before .before .before .before .e .given .0 .1 .0 .at) (c .before .before .before .before .before .before .before .e .given .0 .1 .0 .end)) (n .lists) (sym (c .before .before .before .before .before .kid-of .ensures) ∙ c .before .before .before .k .given .1))
 
--- src/lib.rt:257:5
 seek-children-loop-less : (t : ℕ) → seek-children-lts.Need-loop-less (
   step-reads.Asked,
   step-reads.Learnt,
@@ -568,7 +533,6 @@ seek-children-loop-less t c =
     let n = step-read-is (c .before .before .before .before .before .before .before .before .before .before .before .before .before .before .before .before .before .before .before .args .store .now) (c .before .before .before .before .before .before .before .before .before .before .before .before .before .loop .c .at) (c .before .before .before .before .before .before .before .before .before .before .before .before .before .loop .c .end) _ (c .before .before .before .before .before .before .before .before .e .given .0 .0) (c .before .before .before .before .before .before .before .before .e .given .0 .1 .0) (c .before .before .before .before .before .before .before .before .before .before .step .ensures) (c .before .before .before .before .before .before .before .before .e .given .1) in
     omega arith
 
--- src/lib.rt:257:5
 seek-children-loop-again : (t : ℕ) → seek-children-lts.Need-loop-again (
   step-reads.Asked,
   step-reads.Learnt,
@@ -590,7 +554,6 @@ seek-children-loop-again t c =
       run-step (c .before .before .before .before .before .before .before .before .before .before .before .before .before .before .before .before .before .before .before .args .store .now) (c .before .before .before .before .before .before .before .before .before .before .before .before .before .before .before .before .before .before .before .args .below .now) (c .before .before .before .before .before .before .before .before .before .before .before .before .before .before .before .before .before .before .before .args .after .now) (c .before .before .before .before .before .before .before .before .before .before .before .before .before .before .before .before .before .before .before .args .pre .now) (c .before .before .before .before .before .before .before .before .before .before .before .before .before .before .before .before .before .before .before .args .hi .now) (c .before .before .before .before .before .before .before .before .before .before .before .before .before .before .before .before .before .before .before .args .level) (c .before .before .before .before .before .before .before .before .before .before .before .before .before .loop .num) (c .before .before .before .before .before .before .before .before .before .before .before .before .before .loop .low) (bufferIs (c .before .before .before .before .before .before .before .before .before .before .before .before .before .loop .best)) (listed (c .before .before .before .before .before .before .before .before .before .before .before .before .before .before .before .before .before .before .before .args .store .now) (c .before .before .before .before .before .before .before .before .before .before .before .before .before .loop .c .at) (c .before .before .before .before .before .before .before .before .before .before .before .before .before .loop .c .end)) (c .before .before .before .before .before .before .before .before .before .before .before .before .before .loop .inv .3) (c .before .before .before .before .before .before .before .before .e .given .0 .0) (c .before .before .before .before .k .given .0 .0) (c .before .before .before .before .k .given .0 .1 .0) (listed (c .before .before .before .before .before .before .before .before .before .before .before .before .before .before .before .before .before .before .before .args .store .now) (c .before .before .before .before .before .before .before .before .e .given .0 .1 .0 .at) (c .before .before .before .before .before .before .before .before .e .given .0 .1 .0 .end)) (n .lists) (sym (c .before .before .before .before .before .before .kid-of .ensures) ∙ c .before .before .before .before .k .given .1) _ (c .before .before .before .before .before .before .before .before .before .before .before .before .before .loop .inv .4) _ (c .seek-child .ensures),
     )
 
--- src/lib.rt:273:5
 seek-children-seek-last-requires-3 : (t : ℕ) → seek-children-lts.Need-seek-last-requires-3 (
   step-reads.Asked,
   step-reads.Learnt,
@@ -603,7 +566,6 @@ seek-children-seek-last-requires-3 : (t : ℕ) → seek-children-lts.Need-seek-l
 ) (seek-children-at t) seek-children.Post seek-children-Inv-loop seek-children-μ-loop
 seek-children-seek-last-requires-3 t c κs = (omega arith, (omega arith, c .before .before .loop .inv .2, last-ready (c .before .before .before .before .before .before .before .before .args .store .now) (c .before .before .before .before .before .before .before .before .args .below .now) (c .before .before .before .before .before .before .before .before .args .after .now) (c .before .before .before .before .before .before .before .before .args .pre .now) (c .before .before .before .before .before .before .before .before .args .hi .now) (c .before .before .before .before .before .before .before .before .args .level) (c .before .before .loop .num) (c .before .before .loop .low) (bufferIs (c .before .before .loop .best)) (listed (c .before .before .before .before .before .before .before .before .args .store .now) (c .before .before .loop .c .at) (c .before .before .loop .c .end)) (c .before .before .loop .inv .3) (kids-none _ (listed-end _ _ _ (omega arith)))))
 
--- src/lib.rt:248:1
 seek-children-returns-3 : (t : ℕ) → seek-children-lts.Need-returns-3 (
   step-reads.Asked,
   step-reads.Learnt,
@@ -616,7 +578,6 @@ seek-children-returns-3 : (t : ℕ) → seek-children-lts.Need-returns-3 (
 ) (seek-children-at t) seek-children.Post seek-children-Inv-loop seek-children-μ-loop
 seek-children-returns-3 t c = run-ends (c .before .before .before .before .before .before .before .before .before .args .store .now) (c .before .before .before .before .before .before .before .before .before .args .below .now) (c .before .before .before .before .before .before .before .before .before .args .after .now) (c .before .before .before .before .before .before .before .before .before .args .pre .now) (c .before .before .before .before .before .before .before .before .before .args .hi .now) (c .before .before .before .before .before .before .before .before .before .args .level) (c .before .before .before .loop .num) (c .before .before .before .loop .low) (bufferIs (c .before .before .before .loop .best)) (listed (c .before .before .before .before .before .before .before .before .before .args .store .now) (c .before .before .before .loop .c .at) (c .before .before .before .loop .c .end)) (c .before .before .before .loop .inv .3) _ (c .before .before .before .loop .inv .4) (kids-none _ (listed-end _ _ _ (omega arith))) _ (c .seek-last3 .ensures)
 
--- src/lib.rt:241:47
 seek-last-sub-seek-child : (t : ℕ) → seek-last-lts.Need-sub-seek-child (
   seek-child-below t,
   seek-child.Post,
@@ -625,7 +586,6 @@ seek-last-sub-seek-child : (t : ℕ) → seek-last-lts.Need-sub-seek-child (
 ) (seek-last-at t) seek-last.Post
 seek-last-sub-seek-child t c = let w = c .before .before .before .before .before .pre .1 .1 in omega arith
 
--- src/lib.rt:241:47
 seek-last-part-seek-child-start : (t : ℕ) → seek-last-lts.Need-part-seek-child-start (
   seek-child-below t,
   seek-child.Post,
@@ -634,7 +594,6 @@ seek-last-part-seek-child-start : (t : ℕ) → seek-last-lts.Need-part-seek-chi
 ) (seek-last-at t) seek-last.Post
 seek-last-part-seek-child-start t c = let w = c .before .before .before .before .before .pre .1 .1 in omega arith
 
--- src/lib.rt:241:47
 seek-last-part-seek-child-end : (t : ℕ) → seek-last-lts.Need-part-seek-child-end (
   seek-child-below t,
   seek-child.Post,
@@ -643,7 +602,6 @@ seek-last-part-seek-child-end : (t : ℕ) → seek-last-lts.Need-part-seek-child
 ) (seek-last-at t) seek-last.Post
 seek-last-part-seek-child-end t c = let w = c .before .before .before .before .before .pre .1 .1 in omega arith
 
--- src/lib.rt:241:9
 seek-last-seek-child-requires : (t : ℕ) → seek-last-lts.Need-seek-child-requires (
   seek-child-below t,
   seek-child.Post,
@@ -652,7 +610,6 @@ seek-last-seek-child-requires : (t : ℕ) → seek-last-lts.Need-seek-child-requ
 ) (seek-last-at t) seek-last.Post
 seek-last-seek-child-requires t c κs = (omega arith, c .before .before .before .before .before .before .pre .1 .2)
 
--- src/lib.rt:244:5
 seek-last-seek-entries-requires : (t : ℕ) → seek-last-lts.Need-seek-entries-requires (
   seek-child-below t,
   seek-child.Post,
@@ -661,7 +618,6 @@ seek-last-seek-entries-requires : (t : ℕ) → seek-last-lts.Need-seek-entries-
 ) (seek-last-at t) seek-last.Post
 seek-last-seek-entries-requires t c κs = (c .before .before .before .before .before .before .before .pre .1 .2 .whole, c .before .before .before .before .before .before .before .pre .1 .0)
 
--- src/lib.rt:235:1
 seek-last-returns : (t : ℕ) → seek-last-lts.Need-returns (
   seek-child-below t,
   seek-child.Post,
@@ -670,7 +626,6 @@ seek-last-returns : (t : ℕ) → seek-last-lts.Need-returns (
 ) (seek-last-at t) seek-last.Post
 seek-last-returns t c = last-child _ _ _ _ _ _ _ _ (c .before .before .before .before .before .before .before .before .args .low) _ _ _ (c .before .seek-child .ensures) (c .seek-entries .ensures)
 
--- src/lib.rt:281:14
 seek-node-mul-at : (t : ℕ) → seek-node-lts.Need-mul-at (
   u16-at-reads.Asked,
   u16-at-reads.Learnt,
@@ -685,7 +640,6 @@ seek-node-mul-at : (t : ℕ) → seek-node-lts.Need-mul-at (
 ) (seek-node-at t) seek-node.Post
 seek-node-mul-at t c = let w = node-inside (c .before .before .before .before .before .args .store .now) (c .before .before .before .before .before .args .num) (c .before .before .before .before .before .args .level) (c .before .before .before .before .before .pre .1 .usable) in omega arith
 
--- src/lib.rt:282:9
 seek-node-u16-at-requires : (t : ℕ) → seek-node-lts.Need-u16-at-requires (
   u16-at-reads.Asked,
   u16-at-reads.Learnt,
@@ -700,7 +654,6 @@ seek-node-u16-at-requires : (t : ℕ) → seek-node-lts.Need-u16-at-requires (
 ) (seek-node-at t) seek-node.Post
 seek-node-u16-at-requires t c κs = let w = node-inside (c .before .before .before .before .before .args .store .now) (c .before .before .before .before .before .args .num) (c .before .before .before .before .before .args .level) (c .before .before .before .before .before .pre .1 .usable) in omega arith
 
--- src/lib.rt:283:16
 seek-node-add-from : (t : ℕ) → seek-node-lts.Need-add-from (
   u16-at-reads.Asked,
   u16-at-reads.Learnt,
@@ -715,7 +668,6 @@ seek-node-add-from : (t : ℕ) → seek-node-lts.Need-add-from (
 ) (seek-node-at t) seek-node.Post
 seek-node-add-from t c = let w = node-inside (c .before .before .before .before .before .before .args .store .now) (c .before .before .before .before .before .before .args .num) (c .before .before .before .before .before .before .args .level) (c .before .before .before .before .before .before .pre .1 .usable) in omega arith
 
--- src/lib.rt:284:15
 seek-node-add-end : (t : ℕ) → seek-node-lts.Need-add-end (
   u16-at-reads.Asked,
   u16-at-reads.Learnt,
@@ -730,7 +682,6 @@ seek-node-add-end : (t : ℕ) → seek-node-lts.Need-add-end (
 ) (seek-node-at t) seek-node.Post
 seek-node-add-end t c = let w = node-inside (c .before .before .before .before .before .before .args .store .now) (c .before .before .before .before .before .before .args .num) (c .before .before .before .before .before .before .args .level) (c .before .before .before .before .before .before .pre .1 .usable) in omega arith
 
--- src/lib.rt:286:9
 seek-node-seek-entries-requires : (t : ℕ) → seek-node-lts.Need-seek-entries-requires (
   u16-at-reads.Asked,
   u16-at-reads.Learnt,
@@ -745,7 +696,6 @@ seek-node-seek-entries-requires : (t : ℕ) → seek-node-lts.Need-seek-entries-
 ) (seek-node-at t) seek-node.Post
 seek-node-seek-entries-requires t c κs = let w = node-inside (c .before .before .before .before .before .before .before .args .store .now) (c .before .before .before .before .before .before .before .args .num) (c .before .before .before .before .before .before .before .args .level) (c .before .before .before .before .before .before .before .pre .1 .usable) in (c .before .before .before .before .before .before .before .pre .1 .whole, omega arith)
 
--- src/lib.rt:286:9
 seek-node-returns : (t : ℕ) → seek-node-lts.Need-returns (
   u16-at-reads.Asked,
   u16-at-reads.Learnt,
@@ -760,7 +710,6 @@ seek-node-returns : (t : ℕ) → seek-node-lts.Need-returns (
 ) (seek-node-at t) seek-node.Post
 seek-node-returns t c = node-leaf (c .before .before .before .before .before .before .before .before .args .store .now) (c .before .before .before .before .before .before .before .before .args .pre .now) (c .before .before .before .before .before .before .before .before .args .hi .now) (c .before .before .before .before .before .before .before .before .args .level) (c .before .before .before .before .before .before .before .before .args .num) (c .before .before .before .before .before .before .before .before .pre .1) (c .before .before .before .before .before .before .before .before .args .below .now) (c .before .before .before .before .before .before .before .before .args .after .now) (bufferIs (c .before .before .before .before .before .before .before .before .args .best)) (c .before .before .u16-at .result) (c .before .before .u16-at .ensures .0) (omega arith) _ (c .seek-entries .ensures)
 
--- src/lib.rt:289:31
 seek-node-step-requires : (t : ℕ) → seek-node-lts.Need-step-requires (
   u16-at-reads.Asked,
   u16-at-reads.Learnt,
@@ -775,7 +724,6 @@ seek-node-step-requires : (t : ℕ) → seek-node-lts.Need-step-requires (
 ) (seek-node-at t) seek-node.Post
 seek-node-step-requires t c κs = let w = node-inside (c .before .before .before .before .before .before .before .args .store .now) (c .before .before .before .before .before .before .before .args .num) (c .before .before .before .before .before .before .before .args .level) (c .before .before .before .before .before .before .before .pre .1 .usable) in omega arith
 
--- src/lib.rt:289:20
 seek-node-enum-known-e : (t : ℕ) → seek-node-lts.Need-enum-known-e (
   u16-at-reads.Asked,
   u16-at-reads.Learnt,
@@ -790,7 +738,6 @@ seek-node-enum-known-e : (t : ℕ) → seek-node-lts.Need-enum-known-e (
 ) (seek-node-at t) seek-node.Post
 seek-node-enum-known-e t c = search needs
 
--- src/lib.rt:290:9
 seek-node-enum-told : (t : ℕ) → seek-node-lts.Need-enum-told (
   u16-at-reads.Asked,
   u16-at-reads.Learnt,
@@ -805,7 +752,6 @@ seek-node-enum-told : (t : ℕ) → seek-node-lts.Need-enum-told (
 ) (seek-node-at t) seek-node.Post
 seek-node-enum-told t c = search needs
 
--- src/lib.rt:290:9
 seek-node-seek-entries-requires-2 : (t : ℕ) → seek-node-lts.Need-seek-entries-requires-2 (
   u16-at-reads.Asked,
   u16-at-reads.Learnt,
@@ -820,7 +766,6 @@ seek-node-seek-entries-requires-2 : (t : ℕ) → seek-node-lts.Need-seek-entrie
 ) (seek-node-at t) seek-node.Post
 seek-node-seek-entries-requires-2 t c κs = let w = node-inside (c .before .before .before .before .before .before .before .before .before .before .args .store .now) (c .before .before .before .before .before .before .before .before .before .before .args .num) (c .before .before .before .before .before .before .before .before .before .before .args .level) (c .before .before .before .before .before .before .before .before .before .before .pre .1 .usable) in (c .before .before .before .before .before .before .before .before .before .before .pre .1 .whole, omega arith)
 
--- src/lib.rt:290:9
 seek-node-returns-2 : (t : ℕ) → seek-node-lts.Need-returns-2 (
   u16-at-reads.Asked,
   u16-at-reads.Learnt,
@@ -835,7 +780,6 @@ seek-node-returns-2 : (t : ℕ) → seek-node-lts.Need-returns-2 (
 ) (seek-node-at t) seek-node.Post
 seek-node-returns-2 t c = node-childless (c .before .before .before .before .before .before .before .before .before .before .before .args .store .now) (c .before .before .before .before .before .before .before .before .before .before .before .args .pre .now) (c .before .before .before .before .before .before .before .before .before .before .before .args .hi .now) (c .before .before .before .before .before .before .before .before .before .before .before .args .level) (c .before .before .before .before .before .before .before .before .before .before .before .args .num) (c .before .before .before .before .before .before .before .before .before .before .before .pre .1) (c .before .before .before .before .before .before .before .before .before .before .before .args .below .now) (c .before .before .before .before .before .before .before .before .before .before .before .args .after .now) (bufferIs (c .before .before .before .before .before .before .before .before .before .before .before .args .best)) (c .before .before .before .before .before .u16-at .result) (c .before .before .before .before .before .u16-at .ensures .0) (omega arith) (kids-none _ (step-bad-is _ _ _ _ (c .before .before .before .step .ensures) (c .before .enum-told .given .1) .1)) _ (c .seek-entries2 .ensures)
 
--- src/lib.rt:292:25
 seek-node-kid-of-requires : (t : ℕ) → seek-node-lts.Need-kid-of-requires (
   u16-at-reads.Asked,
   u16-at-reads.Learnt,
@@ -850,7 +794,6 @@ seek-node-kid-of-requires : (t : ℕ) → seek-node-lts.Need-kid-of-requires (
 ) (seek-node-at t) seek-node.Post
 seek-node-kid-of-requires t c κs = search needs
 
--- src/lib.rt:292:17
 seek-node-enum-known-k : (t : ℕ) → seek-node-lts.Need-enum-known-k (
   u16-at-reads.Asked,
   u16-at-reads.Learnt,
@@ -865,7 +808,6 @@ seek-node-enum-known-k : (t : ℕ) → seek-node-lts.Need-enum-known-k (
 ) (seek-node-at t) seek-node.Post
 seek-node-enum-known-k t c = search needs
 
--- src/lib.rt:293:9
 seek-node-enum-told-2 : (t : ℕ) → seek-node-lts.Need-enum-told-2 (
   u16-at-reads.Asked,
   u16-at-reads.Learnt,
@@ -880,7 +822,6 @@ seek-node-enum-told-2 : (t : ℕ) → seek-node-lts.Need-enum-told-2 (
 ) (seek-node-at t) seek-node.Post
 seek-node-enum-told-2 t c = search needs
 
--- src/lib.rt:293:9
 seek-node-seek-entries-requires-3 : (t : ℕ) → seek-node-lts.Need-seek-entries-requires-3 (
   u16-at-reads.Asked,
   u16-at-reads.Learnt,
@@ -895,7 +836,6 @@ seek-node-seek-entries-requires-3 : (t : ℕ) → seek-node-lts.Need-seek-entrie
 ) (seek-node-at t) seek-node.Post
 seek-node-seek-entries-requires-3 t c κs = let w = node-inside (c .before .before .before .before .before .before .before .before .before .before .before .before .before .before .args .store .now) (c .before .before .before .before .before .before .before .before .before .before .before .before .before .before .args .num) (c .before .before .before .before .before .before .before .before .before .before .before .before .before .before .args .level) (c .before .before .before .before .before .before .before .before .before .before .before .before .before .before .pre .1 .usable) in (c .before .before .before .before .before .before .before .before .before .before .before .before .before .before .pre .1 .whole, omega arith)
 
--- src/lib.rt:293:9
 seek-node-returns-3 : (t : ℕ) → seek-node-lts.Need-returns-3 (
   u16-at-reads.Asked,
   u16-at-reads.Learnt,
@@ -912,7 +852,6 @@ seek-node-returns-3 t c =
     let n = step-read-is _ _ _ _ (c .before .before .before .before .before .e .given .0 .0) (c .before .before .before .before .before .e .given .0 .1 .0) (c .before .before .before .before .before .before .before .step .ensures) (c .before .before .before .before .before .e .given .1) in
     node-childless (c .before .before .before .before .before .before .before .before .before .before .before .before .before .before .before .args .store .now) (c .before .before .before .before .before .before .before .before .before .before .before .before .before .before .before .args .pre .now) (c .before .before .before .before .before .before .before .before .before .before .before .before .before .before .before .args .hi .now) (c .before .before .before .before .before .before .before .before .before .before .before .before .before .before .before .args .level) (c .before .before .before .before .before .before .before .before .before .before .before .before .before .before .before .args .num) (c .before .before .before .before .before .before .before .before .before .before .before .before .before .before .before .pre .1) (c .before .before .before .before .before .before .before .before .before .before .before .before .before .before .before .args .below .now) (c .before .before .before .before .before .before .before .before .before .before .before .before .before .before .before .args .after .now) (bufferIs (c .before .before .before .before .before .before .before .before .before .before .before .before .before .before .before .args .best)) (c .before .before .before .before .before .before .before .before .before .u16-at .result) (c .before .before .before .before .before .before .before .before .before .u16-at .ensures .0) (omega arith) (kids-other (c .before .before .before .before .before .e .given .0 .0) (c .before .before .before .before .before .before .before .before .before .before .before .before .before .before .before .args .store .now) _ _ (n .lists) (sym (c .before .before .before .kid-of .ensures) ∙ c .before .enum-told2 .given .1)) _ (c .seek-entries3 .ensures)
 
--- src/lib.rt:295:38
 seek-node-sub-seek-children : (t : ℕ) → seek-node-lts.Need-sub-seek-children (
   u16-at-reads.Asked,
   u16-at-reads.Learnt,
@@ -927,7 +866,6 @@ seek-node-sub-seek-children : (t : ℕ) → seek-node-lts.Need-sub-seek-children
 ) (seek-node-at t) seek-node.Post
 seek-node-sub-seek-children t c = omega arith
 
--- src/lib.rt:295:5
 seek-node-seek-children-requires : (t : ℕ) → seek-node-lts.Need-seek-children-requires (
   u16-at-reads.Asked,
   u16-at-reads.Learnt,
@@ -946,7 +884,6 @@ seek-node-seek-children-requires t c κs =
     let p = kid-place _ _ (c .before .before .before .before .before .e .given .0 .0) (c .before .k .given .0 .0) (c .before .k .given .0 .1 .0) (sym (c .before .before .before .kid-of .ensures) ∙ c .before .k .given .1) (n .reachable) in
     (omega arith, (omega arith, record { low = omega arith; rises = omega arith; high = omega arith }, node-ready (c .before .before .before .before .before .before .before .before .before .before .before .before .before .before .before .args .store .now) (c .before .before .before .before .before .before .before .before .before .before .before .before .before .before .before .args .pre .now) (c .before .before .before .before .before .before .before .before .before .before .before .before .before .before .before .args .hi .now) (c .before .before .before .before .before .before .before .before .before .before .before .before .before .before .before .args .level) (c .before .before .before .before .before .before .before .before .before .before .before .before .before .before .before .args .num) (c .before .before .before .before .before .before .before .before .before .before .before .before .before .before .before .pre .1) (c .before .before .before .before .before .before .before .before .before .before .before .before .before .before .before .args .below .now) (c .before .before .before .before .before .before .before .before .before .before .before .before .before .before .before .args .after .now) (bufferIs (c .before .before .before .before .before .before .before .before .before .before .before .before .before .before .before .args .best)) (c .before .before .before .before .before .before .before .before .before .u16-at .result) (c .before .before .before .before .before .before .before .before .before .u16-at .ensures .0) (omega arith) (c .before .before .before .before .before .e .given .0 .0) (c .before .k .given .0 .0) (c .before .k .given .0 .1 .0) (listed (c .before .before .before .before .before .before .before .before .before .before .before .before .before .before .before .args .store .now) (c .before .before .before .before .before .e .given .0 .1 .0 .at) (c .before .before .before .before .before .e .given .0 .1 .0 .end)) (n .lists) (sym (c .before .before .before .kid-of .ensures) ∙ c .before .k .given .1)))
 
--- src/lib.rt:277:1
 seek-node-returns-4 : (t : ℕ) → seek-node-lts.Need-returns-4 (
   u16-at-reads.Asked,
   u16-at-reads.Learnt,

@@ -17,39 +17,30 @@ Inv-loop s q₀ i₀ q i = (i ≤ length s) × (length (q .bytes) ≡ 64) × (ap
 abbrev μ-loop : tie.MeasureT-loop
 μ-loop s q₀ i₀ q i = length s - i
 
--- src/lib.rt:40:5
 loop-holds : tie.Need-loop-holds Inv-loop μ-loop
 loop-holds c = (search needs, search needs, refl)
 
--- src/lib.rt:44:13
 returns : tie.Need-returns Inv-loop μ-loop
 returns c = extend-full (c .before .before .loop .q) (c .before .before .before .args .s .now) (c .before .before .loop .i) _ (c .before .before .loop .inv .1) (c .before .before .loop .inv .2) (omega arith) (omega arith)
 
--- src/lib.rt:46:23
 shared-slice-read-q : tie.Need-shared-slice-read-q Inv-loop μ-loop
 shared-slice-read-q c = search needs
 
--- src/lib.rt:46:9
 element-write-q : tie.Need-element-write-q Inv-loop μ-loop
 element-write-q c = search needs
 
--- src/lib.rt:47:17
 add-q : tie.Need-add-q Inv-loop μ-loop
 add-q c = search needs
 
--- src/lib.rt:48:9
 add-i : tie.Need-add-i Inv-loop μ-loop
 add-i c = search needs
 
--- src/lib.rt:40:5
 loop-less : tie.Need-loop-less Inv-loop μ-loop
 loop-less c = search needs
 
--- src/lib.rt:40:5
 loop-again : tie.Need-loop-again Inv-loop μ-loop
 loop-again c = (search needs, simp length-set (c .before .before .before .loop .inv .1), extend-step (c .before .before .before .loop .q) (c .before .before .before .before .args .s .now) (c .before .before .before .loop .i) _ (c .before .before .before .loop .inv .1) (c .before .before .before .loop .inv .2) (omega arith) (omega arith))
 
--- src/lib.rt:35:1
 returns-2 : tie.Need-returns-2 Inv-loop μ-loop
 returns-2 c = extend-end (c .before .loop .q) (c .before .before .args .s .now) (c .before .loop .i) _ (c .before .loop .inv .1) (c .before .loop .inv .2) (omega arith)
 

@@ -7,27 +7,21 @@ use borrow.Author.Needs.{needs}
 use Rattle.seek.proofs.is_better.Statement.{statement}
 use Rattle.seek.proofs.is_better.Tie as tie
 
--- src/lib.rt:101:9
 returns : tie.Need-returns
 returns c = better-none (c .before .before .before .args .best) _ (omega arith)
 
--- src/lib.rt:104:29
 sub-joined-precedes : tie.Need-sub-joined-precedes
 sub-joined-precedes c = search needs
 
--- src/lib.rt:104:29
 part-joined-precedes-start : tie.Need-part-joined-precedes-start
 part-joined-precedes-start c = search needs
 
--- src/lib.rt:104:29
 part-joined-precedes-end : tie.Need-part-joined-precedes-end
 part-joined-precedes-end c = let h : length (c .before .before .before .before .before .args .best .bytes) ≡ 64 = search needs in omega arith
 
--- src/lib.rt:104:5
 joined-precedes-requires : tie.Need-joined-precedes-requires
 joined-precedes-requires c κs = search needs
 
--- src/lib.rt:96:1
 returns-2 : tie.Need-returns-2
 returns-2 c = better-some (c .before .before .before .before .before .before .before .args .best) _ _ (omega arith) (c .joined-precedes .ensures)
 

@@ -4,43 +4,33 @@ use borrow.Author.Needs.{needs}
 use Rattle.seek.proofs.is_far.Statement.{statement}
 use Rattle.seek.proofs.is_far.Tie as tie
 
--- src/lib.rt:124:9
 precedes-joined-requires : tie.Need-precedes-joined-requires
 precedes-joined-requires c κs = search needs
 
--- src/lib.rt:125:9
 returns : tie.Need-returns
 returns c = far-early _ _ _ _ _ _ (c .before .precedes-joined .ensures) (c .if1 .taken)
 
--- src/lib.rt:127:9
 is-better-requires : tie.Need-is-better-requires
 is-better-requires c κs = search needs
 
--- src/lib.rt:128:9
 returns-2 : tie.Need-returns-2
 returns-2 c = far-late _ _ _ _ _ _ (c .before .before .before .precedes-joined .ensures) (c .before .before .if1 .left) _ (c .before .is-better .ensures) (c .if2 .taken)
 
--- src/lib.rt:130:9
 precedes-joined-requires-2 : tie.Need-precedes-joined-requires-2
 precedes-joined-requires-2 c κs = search needs
 
--- src/lib.rt:131:9
 returns-3 : tie.Need-returns-3
 returns-3 c = far-under _ _ _ _ _ _ (c .before .before .before .before .before .precedes-joined .ensures) (c .before .before .before .before .if1 .left) _ (c .before .before .before .is-better .ensures) (c .before .before .if2 .left) _ (c .before .precedes-joined2 .ensures) (c .if3 .taken)
 
--- src/lib.rt:133:9
 precedes-joined-requires-3 : tie.Need-precedes-joined-requires-3
 precedes-joined-requires-3 c κs = search needs
 
--- src/lib.rt:134:9
 returns-4 : tie.Need-returns-4
 returns-4 c = far-inside _ _ _ _ _ _ (c .before .before .before .before .before .before .before .precedes-joined .ensures) (c .before .before .before .before .before .before .if1 .left) _ (c .before .before .before .before .before .is-better .ensures) (c .before .before .before .before .if2 .left) _ (c .before .before .before .precedes-joined2 .ensures) (c .before .before .if3 .left) _ (c .before .precedes-joined3 .ensures) (c .if4 .taken)
 
--- src/lib.rt:136:6
 starts-joined-requires : tie.Need-starts-joined-requires
 starts-joined-requires c κs = search needs
 
--- src/lib.rt:121:1
 returns-5 : tie.Need-returns-5
 returns-5 c = far-past _ _ _ _ _ _ (c .before .before .before .before .before .before .before .before .precedes-joined .ensures) (c .before .before .before .before .before .before .before .if1 .left) _ (c .before .before .before .before .before .before .is-better .ensures) (c .before .before .before .before .before .if2 .left) _ (c .before .before .before .before .precedes-joined2 .ensures) (c .before .before .before .if3 .left) _ (c .before .before .precedes-joined3 .ensures) (c .before .if4 .left) _ (c .starts-joined .ensures)
 

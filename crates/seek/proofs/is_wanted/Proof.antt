@@ -4,27 +4,21 @@ use borrow.Author.Needs.{needs}
 use Rattle.seek.proofs.is_wanted.Statement.{statement}
 use Rattle.seek.proofs.is_wanted.Tie as tie
 
--- src/lib.rt:111:9
 precedes-joined-requires : tie.Need-precedes-joined-requires
 precedes-joined-requires c κs = search needs
 
--- src/lib.rt:112:9
 returns : tie.Need-returns
 returns c = wanted-early _ _ _ _ _ (c .before .precedes-joined .ensures) (c .if1 .taken)
 
--- src/lib.rt:114:9
 starts-joined-requires : tie.Need-starts-joined-requires
 starts-joined-requires c κs = search needs
 
--- src/lib.rt:115:9
 returns-2 : tie.Need-returns-2
 returns-2 c = wanted-apart _ _ _ _ _ (c .before .before .before .precedes-joined .ensures) (c .before .before .if1 .left) _ (c .before .starts-joined .ensures) (c .if2 .taken)
 
--- src/lib.rt:117:5
 is-better-requires : tie.Need-is-better-requires
 is-better-requires c κs = search needs
 
--- src/lib.rt:108:1
 returns-3 : tie.Need-returns-3
 returns-3 c = wanted-last _ _ _ _ _ (c .before .before .before .before .precedes-joined .ensures) (c .before .before .before .if1 .left) _ (c .before .before .starts-joined .ensures) (c .before .if2 .left) _ (c .is-better .ensures)
 

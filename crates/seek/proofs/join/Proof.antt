@@ -5,15 +5,12 @@ use borrow.Author.Needs.{needs}
 use Rattle.seek.proofs.join.Statement.{statement}
 use Rattle.seek.proofs.join.Tie as tie
 
--- src/lib.rt:58:9
 extend-requires : tie.Need-extend-requires
 extend-requires c κs = search needs
 
--- src/lib.rt:59:5
 extend-requires-2 : tie.Need-extend-requires-2
 extend-requires-2 c κs = search needs
 
--- src/lib.rt:54:1
 returns : tie.Need-returns
 returns c = join-is _ (c .before .extend .result) _ _ _ refl (c .before .extend .ensures) (c .extend2 .ensures)
 

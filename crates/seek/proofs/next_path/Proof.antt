@@ -8,35 +8,27 @@ use borrow.Author.Needs.{needs}
 use Rattle.seek.proofs.next_path.Statement.{statement}
 use Rattle.seek.proofs.next_path.Tie as tie
 
--- src/lib.rt:303:9
 u16-at-requires : tie.Need-u16-at-requires
 u16-at-requires c κs = let l = long-enough (c .before .before .before .args .store .now) (c .before .before .before .pre) in omega arith
 
--- src/lib.rt:304:9
 u16-at-requires-2 : tie.Need-u16-at-requires-2
 u16-at-requires-2 c κs = let l = long-enough (c .before .before .before .before .args .store .now) (c .before .before .before .before .pre) in omega arith
 
--- src/lib.rt:307:36
 sub-seek-node : tie.Need-sub-seek-node
 sub-seek-node c = search needs
 
--- src/lib.rt:307:36
 part-seek-node-start : tie.Need-part-seek-node-start
 part-seek-node-start c = search needs
 
--- src/lib.rt:307:36
 part-seek-node-end : tie.Need-part-seek-node-end
 part-seek-node-end c = search needs
 
--- src/lib.rt:307:50
 slice-aggregate-seek-node : tie.Need-slice-aggregate-seek-node
 slice-aggregate-seek-node c = search needs
 
--- src/lib.rt:307:5
 seek-node-requires : tie.Need-seek-node-requires
 seek-node-requires c κs = root-ready (c .before .before .before .before .before .before .before .args .store .now) _ _ (c .before .before .before .before .before .before .before .pre) (c .before .before .before .u16-at .ensures .0) (c .before .before .u16-at2 .ensures .0)
 
--- src/lib.rt:299:1
 returns : tie.Need-returns
 returns c = root-next (c .before .before .before .before .before .before .before .before .args .store .now) _ _ (c .before .before .before .before .before .before .before .before .pre) (c .before .before .before .before .u16-at .ensures .0) (c .before .before .before .u16-at2 .ensures .0) _ _ _ (omega arith) _ (c .seek-node .ensures)
 

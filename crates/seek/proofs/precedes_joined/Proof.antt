@@ -6,35 +6,27 @@ use borrow.Author.Needs.{needs}
 use Rattle.seek.proofs.precedes_joined.Statement.{statement}
 use Rattle.seek.proofs.precedes_joined.Tie as tie
 
--- src/lib.rt:77:8
 begins-with-requires : tie.Need-begins-with-requires
 begins-with-requires c κs = search needs
 
--- src/lib.rt:79:33
 sub-precedes : tie.Need-sub-precedes
 sub-precedes c = let h = short-yes (c .before .before .before .before .before .args .pre .now) (c .before .before .before .before .before .args .s .now) (c .before .before .before .before .before .args .t .now) (c .before .begins-with .result) (c .before .begins-with .result) (c .before .begins-with .ensures) (c .if1 .taken) in omega arith
 
--- src/lib.rt:79:33
 part-precedes-start : tie.Need-part-precedes-start
 part-precedes-start c = let h = short-yes (c .before .before .before .before .before .args .pre .now) (c .before .before .before .before .before .args .s .now) (c .before .before .before .before .before .args .t .now) (c .before .begins-with .result) (c .before .begins-with .result) (c .before .begins-with .ensures) (c .if1 .taken) in omega arith
 
--- src/lib.rt:79:33
 part-precedes-end : tie.Need-part-precedes-end
 part-precedes-end c = search needs
 
--- src/lib.rt:79:9
 precedes-requires : tie.Need-precedes-requires
 precedes-requires c κs = search needs
 
--- src/lib.rt:79:9
 returns : tie.Need-returns
 returns c = after-yes (c .before .before .before .before .before .before .before .args .pre .now) (c .before .before .before .before .before .before .before .args .s .now) (c .before .before .before .before .before .before .before .args .t .now) (c .before .before .before .begins-with .result) _ (c .before .before .before .begins-with .ensures) (c .before .before .if1 .taken) (c .precedes .ensures)
 
--- src/lib.rt:81:5
 precedes-requires-2 : tie.Need-precedes-requires-2
 precedes-requires-2 c κs = search needs
 
--- src/lib.rt:74:1
 returns-2 : tie.Need-returns-2
 returns-2 c = after-no (c .before .before .before .before .before .before .args .pre .now) (c .before .before .before .before .before .before .args .s .now) (c .before .before .before .before .before .before .args .t .now) (c .before .before .begins-with .result) _ (c .before .before .begins-with .ensures) (c .before .if1 .left) (c .precedes2 .ensures)
 

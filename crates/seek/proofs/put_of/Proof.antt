@@ -4,27 +4,21 @@ use borrow.Author.Needs.{needs}
 use Rattle.seek.proofs.put_of.Statement.{statement}
 use Rattle.seek.proofs.put_of.Tie as tie
 
--- src/lib.rt:169:22
 enum-known-m : tie.Need-enum-known-m
 enum-known-m c = search needs
 
--- src/lib.rt:170:29
 enum-told : tie.Need-enum-told
 enum-told c = search needs
 
--- src/lib.rt:171:30
 enum-told-2 : tie.Need-enum-told-2
 enum-told-2 c = search needs
 
--- src/lib.rt:165:1
 returns : tie.Need-returns
 returns c = put-at _ _ _ (c .before .m .given .1)
 
--- src/lib.rt:165:1
 returns-2 : tie.Need-returns-2
 returns-2 c = drop-other _ _ (c .enum-told .given .1)
 
--- src/lib.rt:165:1
 returns-3 : tie.Need-returns-3
 returns-3 c = clear-other _ _ (c .enum-told2 .given .1)
 

@@ -24,43 +24,34 @@ abbrev μ-loop : tie.MeasureT-loop
 next-is : (c : tie.After-known-told Inv-loop μ-loop) → Next (c .before .before .before .before .before .before .before .before .before .before .before .args .store .now) (c .before .before .before .before .before .before .loop .c .at) (c .before .before .before .before .before .before .loop .c .end) (c .before .e .given .0 .0) (c .before .e .given .0 .1 .0)
 next-is c = step-read-is _ _ _ _ _ _ (c .before .before .before .step .ensures) (c .before .e .given .1)
 
--- src/lib.rt:205:5
 loop-holds : tie.Need-loop-holds Inv-loop μ-loop
 loop-holds c = (refl, refl)
 
--- src/lib.rt:206:35
 step-requires : tie.Need-step-requires Inv-loop μ-loop
 step-requires c κs = omega arith
 
--- src/lib.rt:206:24
 enum-known-e : tie.Need-enum-known-e Inv-loop μ-loop
 enum-known-e c = search needs
 
--- src/lib.rt:207:13
 enum-told : tie.Need-enum-told Inv-loop μ-loop
 enum-told c = search needs
 
--- src/lib.rt:207:13
 returns : tie.Need-returns Inv-loop μ-loop
 returns c = entries-end _ _ _ _ _ _ _ (c .before .before .before .before .before .loop .inv .1) (step-bad-is _ _ _ _ (c .before .before .step .ensures) (c .enum-told .given .1) .1)
 
--- src/lib.rt:209:9
 try-entry-requires : tie.Need-try-entry-requires Inv-loop μ-loop
 try-entry-requires c κs =
     let n = next-is c in
     (c .before .before .before .before .before .before .before .before .before .before .before .pre .0, entry-wider (c .before .before .before .before .before .before .loop .c .at) (c .before .before .before .before .before .before .loop .c .end) 0 (length (c .before .before .before .before .before .before .before .before .before .before .before .args .store .now)) (c .before .e .given .0 .0) (omega arith) (omega arith) (n .reachable))
 
--- src/lib.rt:205:5
 loop-less : tie.Need-loop-less Inv-loop μ-loop
 loop-less c = let n = next-is (c .before) in omega arith
 
--- src/lib.rt:205:5
 loop-again : tie.Need-loop-again Inv-loop μ-loop
 loop-again c =
     let n = next-is (c .before) in
     (n .ends ∙ c .before .before .before .before .before .before .before .loop .inv .0, entries-step _ _ _ _ _ _ _ (c .before .before .before .before .before .before .before .loop .inv .1) (c .before .before .e .given .0 .0) _ _ (n .lists) (c .try-entry .ensures))
 
--- src/lib.rt:199:1
 returns-2 : tie.Need-returns-2 Inv-loop μ-loop
 returns-2 c = entries-end _ _ _ _ _ _ _ (c .before .before .loop .inv .1) (listed-end _ _ _ (omega arith))
 

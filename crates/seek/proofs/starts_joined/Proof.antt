@@ -6,35 +6,27 @@ use borrow.Author.Needs.{needs}
 use Rattle.seek.proofs.starts_joined.Statement.{statement}
 use Rattle.seek.proofs.starts_joined.Tie as tie
 
--- src/lib.rt:88:8
 begins-with-requires : tie.Need-begins-with-requires
 begins-with-requires c κs = search needs
 
--- src/lib.rt:90:31
 sub-begins-with : tie.Need-sub-begins-with
 sub-begins-with c = let h = short-yes (c .before .before .before .before .before .args .pre .now) (c .before .before .before .before .before .args .s .now) (c .before .before .before .before .before .args .t .now) (c .before .begins-with .result) (c .before .begins-with .result) (c .before .begins-with .ensures) (c .if1 .taken) in omega arith
 
--- src/lib.rt:90:31
 part-begins-with-start : tie.Need-part-begins-with-start
 part-begins-with-start c = let h = short-yes (c .before .before .before .before .before .args .pre .now) (c .before .before .before .before .before .args .s .now) (c .before .before .before .before .before .args .t .now) (c .before .begins-with .result) (c .before .begins-with .result) (c .before .begins-with .ensures) (c .if1 .taken) in omega arith
 
--- src/lib.rt:90:31
 part-begins-with-end : tie.Need-part-begins-with-end
 part-begins-with-end c = search needs
 
--- src/lib.rt:90:9
 begins-with-requires-2 : tie.Need-begins-with-requires-2
 begins-with-requires-2 c κs = search needs
 
--- src/lib.rt:90:9
 returns : tie.Need-returns
 returns c = begun-yes (c .before .before .before .before .before .before .before .args .pre .now) (c .before .before .before .before .before .before .before .args .s .now) (c .before .before .before .before .before .before .before .args .t .now) (c .before .before .before .begins-with .result) _ (c .before .before .before .begins-with .ensures) (c .before .before .if1 .taken) (c .begins-with2 .ensures)
 
--- src/lib.rt:92:5
 begins-with-requires-3 : tie.Need-begins-with-requires-3
 begins-with-requires-3 c κs = search needs
 
--- src/lib.rt:85:1
 returns-2 : tie.Need-returns-2
 returns-2 c = begun-no (c .before .before .before .before .before .before .args .pre .now) (c .before .before .before .before .before .before .args .s .now) (c .before .before .before .before .before .before .args .t .now) (c .before .before .begins-with .result) _ (c .before .before .begins-with .ensures) (c .before .if1 .left) (c .begins-with3 .ensures)
 

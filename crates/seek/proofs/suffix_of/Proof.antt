@@ -4,31 +4,24 @@ use borrow.Author.Needs.{needs}
 use Rattle.seek.proofs.suffix_of.Statement.{statement}
 use Rattle.seek.proofs.suffix_of.Tie as tie
 
--- src/lib.rt:179:21
 enum-known-e : tie.Need-enum-known-e
 enum-known-e c = search needs
 
--- src/lib.rt:180:31
 enum-told : tie.Need-enum-told
 enum-told c = search needs
 
--- src/lib.rt:181:24
 enum-known-e-2 : tie.Need-enum-known-e-2
 enum-known-e-2 c = search needs
 
--- src/lib.rt:181:30
 put-of-requires : tie.Need-put-of-requires
 put-of-requires c κs = search needs
 
--- src/lib.rt:175:1
 returns : tie.Need-returns
 returns c = pair-at _ _ _ (c .before .e .given .1)
 
--- src/lib.rt:175:1
 returns-2 : tie.Need-returns-2
 returns-2 c = child-other _ _ _ (c .enum-told .given .1)
 
--- src/lib.rt:175:1
 returns-3 : tie.Need-returns-3
 returns-3 c = message-put _ _ _ (c .before .before .e2 .given .1) (c .put-of .ensures)
 

@@ -16,39 +16,30 @@ suffix-is c = sym (c .before .before .before .suffix-of .ensures) ∙ c .before 
 place-in : (c : tie.After-known-told) → Within 0 (length (c .before .before .before .before .before .before .before .before .args .store .now)) (c .before .p .given .0 .0)
 place-in c = suffix-place _ _ _ _ (suffix-is c) (c .before .before .before .before .before .before .before .before .pre .1)
 
--- src/lib.rt:190:25
 suffix-of-requires : tie.Need-suffix-of-requires
 suffix-of-requires c κs = search needs
 
--- src/lib.rt:190:20
 enum-known-p : tie.Need-enum-known-p
 enum-known-p c = search needs
 
--- src/lib.rt:191:9
 enum-told : tie.Need-enum-told
 enum-told c = search needs
 
--- src/lib.rt:191:9
 returns : tie.Need-returns
 returns c = entry-other _ _ _ _ _ _ (sym (c .before .before .suffix-of .ensures) ∙ c .enum-told .given .1)
 
--- src/lib.rt:195:26
 sub-try-path : tie.Need-sub-try-path
 sub-try-path c = let w = place-in c in omega arith
 
--- src/lib.rt:195:26
 part-try-path-start : tie.Need-part-try-path-start
 part-try-path-start c = let w = place-in c in omega arith
 
--- src/lib.rt:195:26
 part-try-path-end : tie.Need-part-try-path-end
 part-try-path-end c = let w = place-in c in omega arith
 
--- src/lib.rt:195:5
 try-path-requires : tie.Need-try-path-requires
 try-path-requires c κs = search needs
 
--- src/lib.rt:186:1
 returns-2 : tie.Need-returns-2
 returns-2 c = entry-tried _ _ _ _ _ _ (c .before .before .before .p .given .0 .0) _ (suffix-is (c .before .before)) (c .try-path .ensures)
 

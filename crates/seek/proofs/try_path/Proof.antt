@@ -8,50 +8,39 @@ use borrow.Author.Needs.{needs}
 use Rattle.seek.proofs.try_path.Statement.{statement}
 use Rattle.seek.proofs.try_path.Tie as tie
 
--- src/lib.rt:144:9
 is-wanted-requires : tie.Need-is-wanted-requires
 is-wanted-requires c κs = search needs
 
--- src/lib.rt:145:9
 returns : tie.Need-returns
 returns c = try-unwanted _ _ _ _ _ _ (c .before .is-wanted .ensures) (c .if1 .taken)
 
--- src/lib.rt:147:9
 join-requires : tie.Need-join-requires
 join-requires c κs = search needs
 
--- src/lib.rt:150:9
 returns-2 : tie.Need-returns-2
 returns-2 c = try-long _ _ _ _ _ _ (c .before .before .before .is-wanted .ensures) (c .before .before .before .before .before .before .before .before .before .pre) (c .before .before .if1 .left) (c .before .join .result) (c .before .join .ensures) (omega arith)
 
--- src/lib.rt:153:49
 sub-value-of : tie.Need-sub-value-of
 sub-value-of c = search needs
 
--- src/lib.rt:153:49
 part-value-of-start : tie.Need-part-value-of-start
 part-value-of-start c = search needs
 
--- src/lib.rt:153:49
 part-value-of-end : tie.Need-part-value-of-end
 part-value-of-end c = let h : length (c .before .before .before .join .result .bytes) ≡ 64 = search needs in omega arith
 
--- src/lib.rt:153:27
 value-of-requires : tie.Need-value-of-requires
 value-of-requires c κs = search needs
 
 enum-told : tie.Need-enum-told
 enum-told c = search needs
 
--- src/lib.rt:154:9
 enum-told-2 : tie.Need-enum-told-2
 enum-told-2 c = search needs
 
--- src/lib.rt:154:9
 returns-3 : tie.Need-returns-3
 returns-3 c = try-absent _ _ _ _ _ _ (c .before .before .before .before .before .before .before .before .before .is-wanted .ensures) (c .before .before .before .before .before .before .before .before .before .before .before .before .before .before .before .pre) (c .before .before .before .before .before .before .before .before .if1 .left) (c .before .before .before .before .before .before .before .join .result) (c .before .before .before .before .before .before .before .join .ensures) (omega arith) _ (c .before .before .value-of .ensures) (c .enum-told2 .given .1)
 
--- src/lib.rt:140:1
 returns-4 : tie.Need-returns-4
 returns-4 c = try-found _ _ _ _ _ _ (c .before .before .before .before .before .before .before .before .before .is-wanted .ensures) (c .before .before .before .before .before .before .before .before .before .before .before .before .before .before .before .pre) (c .before .before .before .before .before .before .before .before .if1 .left) (c .before .before .before .before .before .before .before .join .result) (c .before .before .before .before .before .before .before .join .ensures) (omega arith) _ (c .before .before .value-of .ensures) _ (c .enum-told .given .1)
 

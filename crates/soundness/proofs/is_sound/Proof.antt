@@ -3,26 +3,21 @@ use Rattle.soundness.specs.Judged.{verdict-yes, verdict-no, whole-long}
 use Rattle.soundness.proofs.is_sound.Statement.{statement}
 use Rattle.soundness.proofs.is_sound.Tie as tie
 
--- src/lib.rt:41:26
 slice-aggregate-judge : tie.Need-slice-aggregate-judge
 slice-aggregate-judge c = search needs
 
--- src/lib.rt:41:9
 judge-requires : tie.Need-judge-requires
 judge-requires c κs = let w = whole-long _ (c .before .before .pre) in (c .before .before .pre, w .1)
 
 enum-told : tie.Need-enum-told
 enum-told c = search needs
 
--- src/lib.rt:43:9
 enum-told-2 : tie.Need-enum-told-2
 enum-told-2 c = search needs
 
--- src/lib.rt:43:9
 returns : tie.Need-returns
 returns c = verdict-no _ _ _ (c .before .before .before .judge .ensures) (c .enum-told2 .given .1)
 
--- src/lib.rt:36:1
 returns-2 : tie.Need-returns-2
 returns-2 c = verdict-yes _ _ _ _ (c .before .before .before .judge .ensures) (c .enum-told .given .1)
 

@@ -4,63 +4,48 @@ use Rattle.soundness.specs.Judged.{judged-no-tree, judged-settled-yes, j
 use Rattle.soundness.proofs.judge.Statement.{statement}
 use Rattle.soundness.proofs.judge.Tie as tie
 
--- src/lib.rt:17:9
 check-tree-requires : tie.Need-check-tree-requires
 check-tree-requires c κs = let w = whole-long _ (c .before .before .before .pre .0) in (w .0, c .before .before .before .pre .1)
 
--- src/lib.rt:18:24
 enum-known-c : tie.Need-enum-known-c
 enum-known-c c = search needs
 
--- src/lib.rt:19:9
 enum-told : tie.Need-enum-told
 enum-told c = search needs
 
--- src/lib.rt:19:9
 same-length : tie.Need-same-length
 same-length c = search needs
 
--- src/lib.rt:19:9
 returns : tie.Need-returns
 returns c = judged-no-tree _ _ _ (c .before .before .before .before .check-tree .ensures) (c .enum-told .given .1)
 
--- src/lib.rt:21:9
 u16-at-requires : tie.Need-u16-at-requires
 u16-at-requires c κs = let w = whole-long _ (c .before .before .before .before .before .before .before .before .before .pre .0) in omega (arith, w .0)
 
--- src/lib.rt:24:13
 same-length-2 : tie.Need-same-length-2
 same-length-2 c = search needs
 
--- src/lib.rt:24:13
 returns-2 : tie.Need-returns-2
 returns-2 c = judged-settled-yes _ _ _ (c .before .before .before .before .before .before .before .before .before .before .check-tree .ensures) _ (c .before .before .before .before .before .before .c .given .1) (c .before .before .before .before .before .before .before .before .before .before .before .before .before .before .pre .0) _ (c .before .before .before .before .u16-at .ensures .0) (omega arith) (omega arith)
 
--- src/lib.rt:26:9
 same-length-3 : tie.Need-same-length-3
 same-length-3 c = search needs
 
--- src/lib.rt:26:9
 returns-3 : tie.Need-returns-3
 returns-3 c = judged-settled-no _ _ _ (c .before .before .before .before .before .before .before .before .before .before .check-tree .ensures) _ (c .before .before .before .before .before .before .c .given .1) (c .before .before .before .before .before .before .before .before .before .before .before .before .before .before .pre .0) _ (c .before .before .before .before .u16-at .ensures .0) (omega arith) (λ h. omega arith)
 
--- src/lib.rt:28:9
 live-count-requires : tie.Need-live-count-requires
 live-count-requires c κs = count-it _ _ _ (c .before .before .before .before .before .before .before .before .check-tree .ensures) _ (c .before .before .before .before .c .given .1)
 
--- src/lib.rt:30:9
 same-length-4 : tie.Need-same-length-4
 same-length-4 c = search needs
 
--- src/lib.rt:30:9
 returns-4 : tie.Need-returns-4
 returns-4 c = judged-yes _ _ _ (c .before .before .before .before .before .before .before .before .before .before .check-tree .ensures) _ (c .before .before .before .before .before .before .c .given .1) (c .before .before .before .before .before .before .before .before .before .before .before .before .before .before .pre .0) _ (c .before .before .before .before .u16-at .ensures .0) _ (c .before .live-count .ensures) (omega arith)
 
--- src/lib.rt:13:1
 same-length-5 : tie.Need-same-length-5
 same-length-5 c = search needs
 
--- src/lib.rt:13:1
 returns-5 : tie.Need-returns-5
 returns-5 c = judged-no _ _ _ (c .before .before .before .before .before .before .before .before .before .before .check-tree .ensures) _ (c .before .before .before .before .before .before .c .given .1) (c .before .before .before .before .before .before .before .before .before .before .before .before .before .before .pre .0) _ (c .before .before .before .before .u16-at .ensures .0) _ (c .before .live-count .ensures) (λ h. omega arith)
 

@@ -99,7 +99,6 @@ abbrev check-node-below : ℕ → In 4 check-node-kinds.ps
 check-node-below t =
     and 4 check-node-kinds.ps (falls 4 check-node-kinds.ps _<_ μ-check-node t) check-node.Pre
 
--- src/lib.rt:346:9
 check-child-owned-requires : (t : ℕ) → check-child-lts.Need-owned-requires (
   owned-reads.Asked,
   owned-reads.Learnt,
@@ -114,7 +113,6 @@ check-child-owned-requires : (t : ℕ) → check-child-lts.Need-owned-requires (
 ) (check-child-at t) check-child.Post
 check-child-owned-requires t c κs = search needs
 
--- src/lib.rt:347:9
 check-child-returns : (t : ℕ) → check-child-lts.Need-returns (
   owned-reads.Asked,
   owned-reads.Learnt,
@@ -129,7 +127,6 @@ check-child-returns : (t : ℕ) → check-child-lts.Need-returns (
 ) (check-child-at t) check-child.Post
 check-child-returns t c = child-out (c .before .before .before .before .before .before .before .before .args .level) (c .before .before .before .before .before .before .before .before .args .store .now) (shapeIs (c .before .before .before .before .before .before .before .before .args .sh)) (c .before .before .before .before .before .before .before .before .args .lo .now) (c .before .before .before .before .before .before .before .before .args .hi .now) (c .before .before .before .before .before .before .before .before .args .num) (c .before .before .before .before .before .before .before .before .args .low .now) (c .before .before .before .before .before .before .before .before .args .high .now) (c .before .before .before .before .before .before .before .before .args .seen .now) _ (c .before .owned .ensures) (not-true _ (c .if1 .taken)) _
 
--- src/lib.rt:349:9
 check-child-precedes-requires : (t : ℕ) → check-child-lts.Need-precedes-requires (
   owned-reads.Asked,
   owned-reads.Learnt,
@@ -144,7 +141,6 @@ check-child-precedes-requires : (t : ℕ) → check-child-lts.Need-precedes-requ
 ) (check-child-at t) check-child.Post
 check-child-precedes-requires t c κs = search needs
 
--- src/lib.rt:350:9
 check-child-returns-2 : (t : ℕ) → check-child-lts.Need-returns-2 (
   owned-reads.Asked,
   owned-reads.Learnt,
@@ -159,7 +155,6 @@ check-child-returns-2 : (t : ℕ) → check-child-lts.Need-returns-2 (
 ) (check-child-at t) check-child.Post
 check-child-returns-2 t c = child-flat (c .before .before .before .before .before .before .before .before .before .before .args .level) (c .before .before .before .before .before .before .before .before .before .before .args .store .now) (shapeIs (c .before .before .before .before .before .before .before .before .before .before .args .sh)) (c .before .before .before .before .before .before .before .before .before .before .args .lo .now) (c .before .before .before .before .before .before .before .before .before .before .args .hi .now) (c .before .before .before .before .before .before .before .before .before .before .args .num) (c .before .before .before .before .before .before .before .before .before .before .args .low .now) (c .before .before .before .before .before .before .before .before .before .before .args .high .now) (c .before .before .before .before .before .before .before .before .before .before .args .seen .now) _ (c .before .precedes .ensures) (not-true _ (c .if2 .taken)) _
 
--- src/lib.rt:352:9
 check-child-common-length-requires : (t : ℕ) → check-child-lts.Need-common-length-requires (
   owned-reads.Asked,
   owned-reads.Learnt,
@@ -174,7 +169,6 @@ check-child-common-length-requires : (t : ℕ) → check-child-lts.Need-common-l
 ) (check-child-at t) check-child.Post
 check-child-common-length-requires t c κs = search needs
 
--- src/lib.rt:353:33
 check-child-sub-feed : (t : ℕ) → check-child-lts.Need-sub-feed (
   owned-reads.Asked,
   owned-reads.Learnt,
@@ -189,7 +183,6 @@ check-child-sub-feed : (t : ℕ) → check-child-lts.Need-sub-feed (
 ) (check-child-at t) check-child.Post
 check-child-sub-feed t c = search needs
 
--- src/lib.rt:353:33
 check-child-part-feed-start : (t : ℕ) → check-child-lts.Need-part-feed-start (
   owned-reads.Asked,
   owned-reads.Learnt,
@@ -204,7 +197,6 @@ check-child-part-feed-start : (t : ℕ) → check-child-lts.Need-part-feed-start
 ) (check-child-at t) check-child.Post
 check-child-part-feed-start t c = search needs
 
--- src/lib.rt:353:33
 check-child-part-feed-end : (t : ℕ) → check-child-lts.Need-part-feed-end (
   owned-reads.Asked,
   owned-reads.Learnt,
@@ -219,7 +211,6 @@ check-child-part-feed-end : (t : ℕ) → check-child-lts.Need-part-feed-end (
 ) (check-child-at t) check-child.Post
 check-child-part-feed-end t c = search needs
 
--- src/lib.rt:353:9
 check-child-feed-requires : (t : ℕ) → check-child-lts.Need-feed-requires (
   owned-reads.Asked,
   owned-reads.Learnt,
@@ -234,7 +225,6 @@ check-child-feed-requires : (t : ℕ) → check-child-lts.Need-feed-requires (
 ) (check-child-at t) check-child.Post
 check-child-feed-requires t c κs = search needs
 
--- src/lib.rt:354:35
 check-child-sub-check-node : (t : ℕ) → check-child-lts.Need-sub-check-node (
   owned-reads.Asked,
   owned-reads.Learnt,
@@ -249,7 +239,6 @@ check-child-sub-check-node : (t : ℕ) → check-child-lts.Need-sub-check-node (
 ) (check-child-at t) check-child.Post
 check-child-sub-check-node t c = search needs
 
--- src/lib.rt:354:35
 check-child-part-check-node-start : (t : ℕ) → check-child-lts.Need-part-check-node-start (
   owned-reads.Asked,
   owned-reads.Learnt,
@@ -264,7 +253,6 @@ check-child-part-check-node-start : (t : ℕ) → check-child-lts.Need-part-chec
 ) (check-child-at t) check-child.Post
 check-child-part-check-node-start t c = search needs
 
--- src/lib.rt:354:35
 check-child-part-check-node-end : (t : ℕ) → check-child-lts.Need-part-check-node-end (
   owned-reads.Asked,
   owned-reads.Learnt,
@@ -279,7 +267,6 @@ check-child-part-check-node-end : (t : ℕ) → check-child-lts.Need-part-check-
 ) (check-child-at t) check-child.Post
 check-child-part-check-node-end t c = search needs
 
--- src/lib.rt:354:46
 check-child-sub-check-node-2 : (t : ℕ) → check-child-lts.Need-sub-check-node-2 (
   owned-reads.Asked,
   owned-reads.Learnt,
@@ -294,7 +281,6 @@ check-child-sub-check-node-2 : (t : ℕ) → check-child-lts.Need-sub-check-node
 ) (check-child-at t) check-child.Post
 check-child-sub-check-node-2 t c = search needs
 
--- src/lib.rt:354:46
 check-child-part-check-node-start-2 : (t : ℕ) → check-child-lts.Need-part-check-node-start-2 (
   owned-reads.Asked,
   owned-reads.Learnt,
@@ -309,7 +295,6 @@ check-child-part-check-node-start-2 : (t : ℕ) → check-child-lts.Need-part-ch
 ) (check-child-at t) check-child.Post
 check-child-part-check-node-start-2 t c = search needs
 
--- src/lib.rt:354:46
 check-child-part-check-node-end-2 : (t : ℕ) → check-child-lts.Need-part-check-node-end-2 (
   owned-reads.Asked,
   owned-reads.Learnt,
@@ -324,7 +309,6 @@ check-child-part-check-node-end-2 : (t : ℕ) → check-child-lts.Need-part-chec
 ) (check-child-at t) check-child.Post
 check-child-part-check-node-end-2 t c = search needs
 
--- src/lib.rt:354:5
 check-child-check-node-requires : (t : ℕ) → check-child-lts.Need-check-node-requires (
   owned-reads.Asked,
   owned-reads.Learnt,
@@ -339,7 +323,6 @@ check-child-check-node-requires : (t : ℕ) → check-child-lts.Need-check-node-
 ) (check-child-at t) check-child.Post
 check-child-check-node-requires t c κs = search needs
 
--- src/lib.rt:332:1
 check-child-same-length : (t : ℕ) → check-child-lts.Need-same-length (
   owned-reads.Asked,
   owned-reads.Learnt,
@@ -354,7 +337,6 @@ check-child-same-length : (t : ℕ) → check-child-lts.Need-same-length (
 ) (check-child-at t) check-child.Post
 check-child-same-length t c = search needs
 
--- src/lib.rt:332:1
 check-child-returns-3 : (t : ℕ) → check-child-lts.Need-returns-3 (
   owned-reads.Asked,
   owned-reads.Learnt,
@@ -396,7 +378,6 @@ next-pivot : (t : ℕ) (c : check-children-lts.After-known-told2 (
     → Within 0 (length (c .before .before .before .before .before .before .before .before .before .before .before .before .before .before .before .args .store .now)) (c .before .k .given .0 .1 .0)
 next-pivot t c = next-place (c .before .before .before .before .before .before .before .before .before .before .before .before .before .before .before .args .level) (c .before .before .before .before .before .before .before .before .before .before .before .before .before .before .before .args .store .now) (shapeIs (c .before .before .before .before .before .before .before .before .before .before .before .before .before .before .before .args .sh)) (c .before .before .before .before .before .before .before .before .before .before .before .before .before .before .before .args .lo .now) (c .before .before .before .before .before .before .before .before .before .before .before .before .before .before .before .args .hi .now) (c .before .before .before .before .before .before .before .before .before .before .loop .child) (part (c .before .before .before .before .before .before .before .before .before .before .before .before .before .before .before .args .store .now) (c .before .before .before .before .before .before .before .before .before .before .loop .pivot)) (c .before .before .before .before .before .before .before .before .before .before .loop .c .at) (c .before .before .before .before .before .before .before .before .before .before .loop .c .end) (c .before .before .before .before .before .before .before .before .before .before .loop .seen) _ _ (step-read-is _ _ _ _ _ _ (c .before .before .before .before .before .before .before .step .ensures) (c .before .before .before .before .before .e .given .1)) _ _ (sym (c .before .before .before .kid-of .ensures) ∙ c .before .k .given .1) (c .before .before .before .before .before .before .before .before .before .before .loop .inv .1)
 
--- src/lib.rt:278:5
 check-children-loop-holds : (t : ℕ) → check-children-lts.Need-loop-holds (
   check-last-below t,
   check-last.Post,
@@ -413,7 +394,6 @@ check-children-loop-holds : (t : ℕ) → check-children-lts.Need-loop-holds (
 ) (check-children-at t) check-children.Post check-children-Inv-loop check-children-μ-loop
 check-children-loop-holds t c = (refl, c .before .before .before .before .pre .1 .1, c .before .before .before .before .pre .1 .2, nothing-passed _ _)
 
--- src/lib.rt:280:17
 check-children-check-last-requires : (t : ℕ) → check-children-lts.Need-check-last-requires (
   check-last-below t,
   check-last.Post,
@@ -430,7 +410,6 @@ check-children-check-last-requires : (t : ℕ) → check-children-lts.Need-check
 ) (check-children-at t) check-children.Post check-children-Inv-loop check-children-μ-loop
 check-children-check-last-requires t c κs = (omega (arith, c .before .before .before .before .before .before .before .before .pre .0), (omega (arith, c .before .before .before .before .before .before .before .before .pre .1 .0, c .before .before .before .loop .inv .0), c .before .before .before .loop .inv .1, c .before .before .before .loop .inv .2))
 
--- src/lib.rt:281:13
 check-children-with-rest-requires : (t : ℕ) → check-children-lts.Need-with-rest-requires (
   check-last-below t,
   check-last.Post,
@@ -447,7 +426,6 @@ check-children-with-rest-requires : (t : ℕ) → check-children-lts.Need-with-r
 ) (check-children-at t) check-children.Post check-children-Inv-loop check-children-μ-loop
 check-children-with-rest-requires t c κs = search needs
 
--- src/lib.rt:281:13
 check-children-same-length : (t : ℕ) → check-children-lts.Need-same-length (
   check-last-below t,
   check-last.Post,
@@ -464,7 +442,6 @@ check-children-same-length : (t : ℕ) → check-children-lts.Need-same-length (
 ) (check-children-at t) check-children.Post check-children-Inv-loop check-children-μ-loop
 check-children-same-length t c = c .before .before .before .check-last .kept .1 .1 .1 .1 .1 .1 .1 .1 .0 ∙ c .before .before .before .before .before .before .before .loop .inv .0
 
--- src/lib.rt:281:13
 check-children-returns : (t : ℕ) → check-children-lts.Need-returns (
   check-last-below t,
   check-last.Post,
@@ -481,7 +458,6 @@ check-children-returns : (t : ℕ) → check-children-lts.Need-returns (
 ) (check-children-at t) check-children.Post check-children-Inv-loop check-children-μ-loop
 check-children-returns t c = rest-done _ _ _ _ _ (c .before .before .before .before .before .before .before .loop .inv .3) _ _ (kids-last (c .before .before .before .before .before .before .before .before .before .before .before .before .args .level) (c .before .before .before .before .before .before .before .before .before .before .before .before .args .store .now) (shapeIs (c .before .before .before .before .before .before .before .before .before .before .before .before .args .sh)) (c .before .before .before .before .before .before .before .before .before .before .before .before .args .lo .now) (c .before .before .before .before .before .before .before .before .before .before .before .before .args .hi .now) (c .before .before .before .before .before .before .before .loop .child) (part (c .before .before .before .before .before .before .before .before .before .before .before .before .args .store .now) (c .before .before .before .before .before .before .before .loop .pivot)) (c .before .before .before .before .before .before .before .loop .c .at) (c .before .before .before .before .before .before .before .loop .c .end) (c .before .before .before .before .before .before .before .loop .seen) (omega (arith, c .before .before .before .before .before .if1 .taken)) _ _ (c .before .before .before .check-last .ensures)) _ (c .with-rest .ensures)
 
--- src/lib.rt:283:35
 check-children-step-requires : (t : ℕ) → check-children-lts.Need-step-requires (
   check-last-below t,
   check-last.Post,
@@ -498,7 +474,6 @@ check-children-step-requires : (t : ℕ) → check-children-lts.Need-step-requir
 ) (check-children-at t) check-children.Post check-children-Inv-loop check-children-μ-loop
 check-children-step-requires t c κs = search needs
 
--- src/lib.rt:283:24
 check-children-enum-known-e : (t : ℕ) → check-children-lts.Need-enum-known-e (
   check-last-below t,
   check-last.Post,
@@ -515,7 +490,6 @@ check-children-enum-known-e : (t : ℕ) → check-children-lts.Need-enum-known-e
 ) (check-children-at t) check-children.Post check-children-Inv-loop check-children-μ-loop
 check-children-enum-known-e t c = search needs
 
--- src/lib.rt:284:13
 check-children-enum-told : (t : ℕ) → check-children-lts.Need-enum-told (
   check-last-below t,
   check-last.Post,
@@ -532,7 +506,6 @@ check-children-enum-told : (t : ℕ) → check-children-lts.Need-enum-told (
 ) (check-children-at t) check-children.Post check-children-Inv-loop check-children-μ-loop
 check-children-enum-told t c = search needs
 
--- src/lib.rt:284:13
 check-children-same-length-2 : (t : ℕ) → check-children-lts.Need-same-length-2 (
   check-last-below t,
   check-last.Post,
@@ -549,7 +522,6 @@ check-children-same-length-2 : (t : ℕ) → check-children-lts.Need-same-length
 ) (check-children-at t) check-children.Post check-children-Inv-loop check-children-μ-loop
 check-children-same-length-2 t c = c .before .before .before .before .before .loop .inv .0
 
--- src/lib.rt:284:13
 check-children-returns-2 : (t : ℕ) → check-children-lts.Need-returns-2 (
   check-last-below t,
   check-last.Post,
@@ -566,7 +538,6 @@ check-children-returns-2 : (t : ℕ) → check-children-lts.Need-returns-2 (
 ) (check-children-at t) check-children.Post check-children-Inv-loop check-children-μ-loop
 check-children-returns-2 t c = rest-stops _ _ _ _ _ (c .before .before .before .before .before .loop .inv .3) _ _ (kids-unread (c .before .before .before .before .before .before .before .before .before .before .args .level) (c .before .before .before .before .before .before .before .before .before .before .args .store .now) (shapeIs (c .before .before .before .before .before .before .before .before .before .before .args .sh)) (c .before .before .before .before .before .before .before .before .before .before .args .lo .now) (c .before .before .before .before .before .before .before .before .before .before .args .hi .now) (c .before .before .before .before .before .loop .child) (part (c .before .before .before .before .before .before .before .before .before .before .args .store .now) (c .before .before .before .before .before .loop .pivot)) (c .before .before .before .before .before .loop .c .at) (c .before .before .before .before .before .loop .c .end) (c .before .before .before .before .before .loop .seen) (omega (arith, c .before .before .before .if1 .left)) _ (c .before .before .step .ensures) (c .enum-told .given .1) (c .before .before .before .before .before .loop .seen)) refl _
 
--- src/lib.rt:286:29
 check-children-kid-of-requires : (t : ℕ) → check-children-lts.Need-kid-of-requires (
   check-last-below t,
   check-last.Post,
@@ -583,7 +554,6 @@ check-children-kid-of-requires : (t : ℕ) → check-children-lts.Need-kid-of-re
 ) (check-children-at t) check-children.Post check-children-Inv-loop check-children-μ-loop
 check-children-kid-of-requires t c κs = search needs
 
--- src/lib.rt:286:21
 check-children-enum-known-k : (t : ℕ) → check-children-lts.Need-enum-known-k (
   check-last-below t,
   check-last.Post,
@@ -600,7 +570,6 @@ check-children-enum-known-k : (t : ℕ) → check-children-lts.Need-enum-known-k
 ) (check-children-at t) check-children.Post check-children-Inv-loop check-children-μ-loop
 check-children-enum-known-k t c = search needs
 
--- src/lib.rt:287:78
 check-children-enum-told-2 : (t : ℕ) → check-children-lts.Need-enum-told-2 (
   check-last-below t,
   check-last.Post,
@@ -617,7 +586,6 @@ check-children-enum-told-2 : (t : ℕ) → check-children-lts.Need-enum-told-2 (
 ) (check-children-at t) check-children.Post check-children-Inv-loop check-children-μ-loop
 check-children-enum-told-2 t c = search needs
 
--- src/lib.rt:287:17
 check-children-check-last-requires-2 : (t : ℕ) → check-children-lts.Need-check-last-requires-2 (
   check-last-below t,
   check-last.Post,
@@ -634,7 +602,6 @@ check-children-check-last-requires-2 : (t : ℕ) → check-children-lts.Need-che
 ) (check-children-at t) check-children.Post check-children-Inv-loop check-children-μ-loop
 check-children-check-last-requires-2 t c κs = (omega (arith, c .before .before .before .before .before .before .before .before .before .before .before .before .before .before .before .pre .0), (omega (arith, c .before .before .before .before .before .before .before .before .before .before .before .before .before .before .before .pre .1 .0, c .before .before .before .before .before .before .before .before .before .before .loop .inv .0), c .before .before .before .before .before .before .before .before .before .before .loop .inv .1, c .before .before .before .before .before .before .before .before .before .before .loop .inv .2))
 
--- src/lib.rt:288:13
 check-children-with-rest-requires-2 : (t : ℕ) → check-children-lts.Need-with-rest-requires-2 (
   check-last-below t,
   check-last.Post,
@@ -651,7 +618,6 @@ check-children-with-rest-requires-2 : (t : ℕ) → check-children-lts.Need-with
 ) (check-children-at t) check-children.Post check-children-Inv-loop check-children-μ-loop
 check-children-with-rest-requires-2 t c κs = search needs
 
--- src/lib.rt:288:13
 check-children-same-length-3 : (t : ℕ) → check-children-lts.Need-same-length-3 (
   check-last-below t,
   check-last.Post,
@@ -668,7 +634,6 @@ check-children-same-length-3 : (t : ℕ) → check-children-lts.Need-same-length
 ) (check-children-at t) check-children.Post check-children-Inv-loop check-children-μ-loop
 check-children-same-length-3 t c = c .before .before .before .check-last2 .kept .1 .1 .1 .1 .1 .1 .1 .1 .0 ∙ c .before .before .before .before .before .before .before .before .before .before .before .before .before .before .loop .inv .0
 
--- src/lib.rt:288:13
 check-children-returns-3 : (t : ℕ) → check-children-lts.Need-returns-3 (
   check-last-below t,
   check-last.Post,
@@ -685,7 +650,6 @@ check-children-returns-3 : (t : ℕ) → check-children-lts.Need-returns-3 (
 ) (check-children-at t) check-children.Post check-children-Inv-loop check-children-μ-loop
 check-children-returns-3 t c = rest-done _ _ _ _ _ (c .before .before .before .before .before .before .before .before .before .before .before .before .before .before .loop .inv .3) _ _ (kids-messages (c .before .before .before .before .before .before .before .before .before .before .before .before .before .before .before .before .before .before .before .args .level) (c .before .before .before .before .before .before .before .before .before .before .before .before .before .before .before .before .before .before .before .args .store .now) (shapeIs (c .before .before .before .before .before .before .before .before .before .before .before .before .before .before .before .before .before .before .before .args .sh)) (c .before .before .before .before .before .before .before .before .before .before .before .before .before .before .before .before .before .before .before .args .lo .now) (c .before .before .before .before .before .before .before .before .before .before .before .before .before .before .before .before .before .before .before .args .hi .now) (c .before .before .before .before .before .before .before .before .before .before .before .before .before .before .loop .child) (part (c .before .before .before .before .before .before .before .before .before .before .before .before .before .before .before .before .before .before .before .args .store .now) (c .before .before .before .before .before .before .before .before .before .before .before .before .before .before .loop .pivot)) (c .before .before .before .before .before .before .before .before .before .before .before .before .before .before .loop .c .at) (c .before .before .before .before .before .before .before .before .before .before .before .before .before .before .loop .c .end) (c .before .before .before .before .before .before .before .before .before .before .before .before .before .before .loop .seen) _ _ (step-read-is _ _ _ _ _ _ (c .before .before .before .before .before .before .before .before .before .before .before .step .ensures) (c .before .before .before .before .before .before .before .before .before .e .given .1)) (sym (c .before .before .before .before .before .before .before .kid-of .ensures) ∙ c .before .before .before .before .before .enum-told2 .given .1) _ _ (c .before .before .before .check-last2 .ensures)) _ (c .with-rest2 .ensures)
 
--- src/lib.rt:294:20
 check-children-sub-from : (t : ℕ) → check-children-lts.Need-sub-from (
   check-last-below t,
   check-last.Post,
@@ -702,7 +666,6 @@ check-children-sub-from : (t : ℕ) → check-children-lts.Need-sub-from (
 ) (check-children-at t) check-children.Post check-children-Inv-loop check-children-μ-loop
 check-children-sub-from t c = let w = c .before .before .before .before .before .before .before .before .before .before .loop .inv .2 in omega arith
 
--- src/lib.rt:294:20
 check-children-part-from-start : (t : ℕ) → check-children-lts.Need-part-from-start (
   check-last-below t,
   check-last.Post,
@@ -719,7 +682,6 @@ check-children-part-from-start : (t : ℕ) → check-children-lts.Need-part-from
 ) (check-children-at t) check-children.Post check-children-Inv-loop check-children-μ-loop
 check-children-part-from-start t c = let w = c .before .before .before .before .before .before .before .before .before .before .loop .inv .2 in omega arith
 
--- src/lib.rt:294:20
 check-children-part-from-end : (t : ℕ) → check-children-lts.Need-part-from-end (
   check-last-below t,
   check-last.Post,
@@ -736,7 +698,6 @@ check-children-part-from-end : (t : ℕ) → check-children-lts.Need-part-from-e
 ) (check-children-at t) check-children.Post check-children-Inv-loop check-children-μ-loop
 check-children-part-from-end t c = let w = c .before .before .before .before .before .before .before .before .before .before .loop .inv .2 in omega arith
 
--- src/lib.rt:295:18
 check-children-sub-to : (t : ℕ) → check-children-lts.Need-sub-to (
   check-last-below t,
   check-last.Post,
@@ -753,7 +714,6 @@ check-children-sub-to : (t : ℕ) → check-children-lts.Need-sub-to (
 ) (check-children-at t) check-children.Post check-children-Inv-loop check-children-μ-loop
 check-children-sub-to t c = let w = next-pivot t (c .before) in omega arith
 
--- src/lib.rt:295:18
 check-children-part-to-start : (t : ℕ) → check-children-lts.Need-part-to-start (
   check-last-below t,
   check-last.Post,
@@ -770,7 +730,6 @@ check-children-part-to-start : (t : ℕ) → check-children-lts.Need-part-to-sta
 ) (check-children-at t) check-children.Post check-children-Inv-loop check-children-μ-loop
 check-children-part-to-start t c = let w = next-pivot t (c .before) in omega arith
 
--- src/lib.rt:295:18
 check-children-part-to-end : (t : ℕ) → check-children-lts.Need-part-to-end (
   check-last-below t,
   check-last.Post,
@@ -787,7 +746,6 @@ check-children-part-to-end : (t : ℕ) → check-children-lts.Need-part-to-end (
 ) (check-children-at t) check-children.Post check-children-Inv-loop check-children-μ-loop
 check-children-part-to-end t c = let w = next-pivot t (c .before) in omega arith
 
--- src/lib.rt:296:13
 check-children-check-child-requires : (t : ℕ) → check-children-lts.Need-check-child-requires (
   check-last-below t,
   check-last.Post,
@@ -804,7 +762,6 @@ check-children-check-child-requires : (t : ℕ) → check-children-lts.Need-chec
 ) (check-children-at t) check-children.Post check-children-Inv-loop check-children-μ-loop
 check-children-check-child-requires t c κs = (omega (arith, c .before .before .before .before .before .before .before .before .before .before .before .before .before .before .before .before .before .before .pre .0), omega (arith, c .before .before .before .before .before .before .before .before .before .before .before .before .before .before .before .before .before .before .pre .1 .0, c .before .before .before .before .before .before .before .before .before .before .before .before .before .loop .inv .0))
 
--- src/lib.rt:297:28
 check-children-enum-known-one : (t : ℕ) → check-children-lts.Need-enum-known-one (
   check-last-below t,
   check-last.Post,
@@ -821,7 +778,6 @@ check-children-enum-known-one : (t : ℕ) → check-children-lts.Need-enum-known
 ) (check-children-at t) check-children.Post check-children-Inv-loop check-children-μ-loop
 check-children-enum-known-one t c = search needs
 
--- src/lib.rt:298:13
 check-children-enum-told-3 : (t : ℕ) → check-children-lts.Need-enum-told-3 (
   check-last-below t,
   check-last.Post,
@@ -838,7 +794,6 @@ check-children-enum-told-3 : (t : ℕ) → check-children-lts.Need-enum-told-3 (
 ) (check-children-at t) check-children.Post check-children-Inv-loop check-children-μ-loop
 check-children-enum-told-3 t c = search needs
 
--- src/lib.rt:298:13
 check-children-same-length-4 : (t : ℕ) → check-children-lts.Need-same-length-4 (
   check-last-below t,
   check-last.Post,
@@ -855,7 +810,6 @@ check-children-same-length-4 : (t : ℕ) → check-children-lts.Need-same-length
 ) (check-children-at t) check-children.Post check-children-Inv-loop check-children-μ-loop
 check-children-same-length-4 t c = c .before .before .before .before .check-child .kept .1 .1 .1 .1 .1 .1 .1 .1 .0 ∙ c .before .before .before .before .before .before .before .before .before .before .before .before .before .before .before .before .before .before .loop .inv .0
 
--- src/lib.rt:298:13
 check-children-returns-4 : (t : ℕ) → check-children-lts.Need-returns-4 (
   check-last-below t,
   check-last.Post,
@@ -872,7 +826,6 @@ check-children-returns-4 : (t : ℕ) → check-children-lts.Need-returns-4 (
 ) (check-children-at t) check-children.Post check-children-Inv-loop check-children-μ-loop
 check-children-returns-4 t c = rest-stops _ _ _ _ _ (c .before .before .before .before .before .before .before .before .before .before .before .before .before .before .before .before .before .before .loop .inv .3) _ _ (child-stops (c .before .before .before .before .before .before .before .before .before .before .before .before .before .before .before .before .before .before .before .before .before .before .before .args .level) (c .before .before .before .before .before .before .before .before .before .before .before .before .before .before .before .before .before .before .before .before .before .before .before .args .store .now) (shapeIs (c .before .before .before .before .before .before .before .before .before .before .before .before .before .before .before .before .before .before .before .before .before .before .before .args .sh)) (c .before .before .before .before .before .before .before .before .before .before .before .before .before .before .before .before .before .before .before .before .before .before .before .args .lo .now) (c .before .before .before .before .before .before .before .before .before .before .before .before .before .before .before .before .before .before .before .before .before .before .before .args .hi .now) (c .before .before .before .before .before .before .before .before .before .before .before .before .before .before .before .before .before .before .loop .child) (part (c .before .before .before .before .before .before .before .before .before .before .before .before .before .before .before .before .before .before .before .before .before .before .before .args .store .now) (c .before .before .before .before .before .before .before .before .before .before .before .before .before .before .before .before .before .before .loop .pivot)) (c .before .before .before .before .before .before .before .before .before .before .before .before .before .before .before .before .before .before .loop .c .at) (c .before .before .before .before .before .before .before .before .before .before .before .before .before .before .before .before .before .before .loop .c .end) (c .before .before .before .before .before .before .before .before .before .before .before .before .before .before .before .before .before .before .loop .seen) _ _ (step-read-is _ _ _ _ _ _ (c .before .before .before .before .before .before .before .before .before .before .before .before .before .before .before .step .ensures) (c .before .before .before .before .before .before .before .before .before .before .before .before .before .e .given .1)) _ _ (sym (c .before .before .before .before .before .before .before .before .before .before .before .kid-of .ensures) ∙ c .before .before .before .before .before .before .before .before .before .k .given .1) _ _ (c .before .before .before .before .check-child .ensures) (c .enum-told3 .given .1) (c .before .before .before .before .before .before .before .before .before .before .before .before .before .before .before .before .before .before .loop .seen)) refl _
 
--- src/lib.rt:300:9
 check-children-joined-requires : (t : ℕ) → check-children-lts.Need-joined-requires (
   check-last-below t,
   check-last.Post,
@@ -889,7 +842,6 @@ check-children-joined-requires : (t : ℕ) → check-children-lts.Need-joined-re
 ) (check-children-at t) check-children.Post check-children-Inv-loop check-children-μ-loop
 check-children-joined-requires t c κs = search needs
 
--- src/lib.rt:278:5
 check-children-loop-less : (t : ℕ) → check-children-lts.Need-loop-less (
   check-last-below t,
   check-last.Post,
@@ -906,7 +858,6 @@ check-children-loop-less : (t : ℕ) → check-children-lts.Need-loop-less (
 ) (check-children-at t) check-children.Post check-children-Inv-loop check-children-μ-loop
 check-children-loop-less t c = let n = (step-read-is _ _ _ _ _ _ (c .before .before .before .before .before .before .before .before .before .before .before .before .before .before .before .before .before .step .ensures) (c .before .before .before .before .before .before .before .before .before .before .before .before .before .before .before .e .given .1)) in omega arith
 
--- src/lib.rt:278:5
 check-children-loop-again : (t : ℕ) → check-children-lts.Need-loop-again (
   check-last-below t,
   check-last.Post,
@@ -928,7 +879,6 @@ check-children-loop-again t c = let n = (step-read-is _ _ _ _ _ _ (c .before .be
   child-passed (c .before .before .before .before .before .before .before .before .before .before .before .before .before .before .before .before .before .before .before .before .before .before .before .before .before .args .level) (c .before .before .before .before .before .before .before .before .before .before .before .before .before .before .before .before .before .before .before .before .before .before .before .before .before .args .store .now) (shapeIs (c .before .before .before .before .before .before .before .before .before .before .before .before .before .before .before .before .before .before .before .before .before .before .before .before .before .args .sh)) (c .before .before .before .before .before .before .before .before .before .before .before .before .before .before .before .before .before .before .before .before .before .before .before .before .before .args .lo .now) (c .before .before .before .before .before .before .before .before .before .before .before .before .before .before .before .before .before .before .before .before .before .before .before .before .before .args .hi .now) (c .before .before .before .before .before .before .before .before .before .before .before .before .before .before .before .before .before .before .before .before .loop .child) (part (c .before .before .before .before .before .before .before .before .before .before .before .before .before .before .before .before .before .before .before .before .before .before .before .before .before .args .store .now) (c .before .before .before .before .before .before .before .before .before .before .before .before .before .before .before .before .before .before .before .before .loop .pivot)) (c .before .before .before .before .before .before .before .before .before .before .before .before .before .before .before .before .before .before .before .before .loop .c .at) (c .before .before .before .before .before .before .before .before .before .before .before .before .before .before .before .before .before .before .before .before .loop .c .end) (c .before .before .before .before .before .before .before .before .before .before .before .before .before .before .before .before .before .before .before .before .loop .seen) _ _ (step-read-is _ _ _ _ _ _ (c .before .before .before .before .before .before .before .before .before .before .before .before .before .before .before .before .before .step .ensures) (c .before .before .before .before .before .before .before .before .before .before .before .before .before .before .before .e .given .1)) _ _ (sym (c .before .before .before .before .before .before .before .before .before .before .before .before .before .kid-of .ensures) ∙ c .before .before .before .before .before .before .before .before .before .before .before .k .given .1) _ _ (c .before .before .before .before .before .before .check-child .ensures) _ _ _ _ _ (c .before .before .before .before .before .before .before .before .before .before .before .before .before .before .before .before .before .before .before .before .loop .inv .3) (c .before .before .one .given .1) (c .joined .ensures),
 )
 
--- src/lib.rt:324:39
 check-last-sub-check-child : (t : ℕ) → check-last-lts.Need-sub-check-child (
   check-child-below t,
   check-child.Post,
@@ -939,7 +889,6 @@ check-last-sub-check-child : (t : ℕ) → check-last-lts.Need-sub-check-child (
 ) (check-last-at t) check-last.Post
 check-last-sub-check-child t c = let w = c .before .before .before .before .pre .1 .2 in omega arith
 
--- src/lib.rt:324:39
 check-last-part-check-child-start : (t : ℕ) → check-last-lts.Need-part-check-child-start (
   check-child-below t,
   check-child.Post,
@@ -950,7 +899,6 @@ check-last-part-check-child-start : (t : ℕ) → check-last-lts.Need-part-check
 ) (check-last-at t) check-last.Post
 check-last-part-check-child-start t c = let w = c .before .before .before .before .pre .1 .2 in omega arith
 
--- src/lib.rt:324:39
 check-last-part-check-child-end : (t : ℕ) → check-last-lts.Need-part-check-child-end (
   check-child-below t,
   check-child.Post,
@@ -961,7 +909,6 @@ check-last-part-check-child-end : (t : ℕ) → check-last-lts.Need-part-check-c
 ) (check-last-at t) check-last.Post
 check-last-part-check-child-end t c = let w = c .before .before .before .before .pre .1 .2 in omega arith
 
--- src/lib.rt:324:9
 check-last-check-child-requires : (t : ℕ) → check-last-lts.Need-check-child-requires (
   check-child-below t,
   check-child.Post,
@@ -972,7 +919,6 @@ check-last-check-child-requires : (t : ℕ) → check-last-lts.Need-check-child-
 ) (check-last-at t) check-last.Post
 check-last-check-child-requires t c κs = (omega (arith, c .before .before .before .before .before .before .pre .0), c .before .before .before .before .before .before .pre .1 .0)
 
--- src/lib.rt:325:24
 check-last-enum-known-one : (t : ℕ) → check-last-lts.Need-enum-known-one (
   check-child-below t,
   check-child.Post,
@@ -983,7 +929,6 @@ check-last-enum-known-one : (t : ℕ) → check-last-lts.Need-enum-known-one (
 ) (check-last-at t) check-last.Post
 check-last-enum-known-one t c = search needs
 
--- src/lib.rt:326:9
 check-last-enum-told : (t : ℕ) → check-last-lts.Need-enum-told (
   check-child-below t,
   check-child.Post,
@@ -994,7 +939,6 @@ check-last-enum-told : (t : ℕ) → check-last-lts.Need-enum-told (
 ) (check-last-at t) check-last.Post
 check-last-enum-told t c = search needs
 
--- src/lib.rt:326:9
 check-last-same-length : (t : ℕ) → check-last-lts.Need-same-length (
   check-child-below t,
   check-child.Post,
@@ -1005,7 +949,6 @@ check-last-same-length : (t : ℕ) → check-last-lts.Need-same-length (
 ) (check-last-at t) check-last.Post
 check-last-same-length t c = c .before .before .before .before .check-child .kept .1 .1 .1 .1 .1 .1 .1 .1 .0
 
--- src/lib.rt:326:9
 check-last-returns : (t : ℕ) → check-last-lts.Need-returns (
   check-child-below t,
   check-child.Post,
@@ -1016,7 +959,6 @@ check-last-returns : (t : ℕ) → check-last-lts.Need-returns (
 ) (check-last-at t) check-last.Post
 check-last-returns t c = last-stops (c .before .before .before .before .before .before .before .before .before .before .before .args .level) (c .before .before .before .before .before .before .before .before .before .before .before .args .store .now) (shapeIs (c .before .before .before .before .before .before .before .before .before .before .before .args .sh)) (c .before .before .before .before .before .before .before .before .before .before .before .args .lo .now) (c .before .before .before .before .before .before .before .before .before .before .before .args .hi .now) (c .before .before .before .before .before .before .before .before .before .before .before .args .num) (part (c .before .before .before .before .before .before .before .before .before .before .before .args .store .now) (c .before .before .before .before .before .before .before .before .before .before .before .args .low)) (c .before .before .before .before .before .before .before .before .before .before .before .args .rest .at) (c .before .before .before .before .before .before .before .before .before .before .before .args .rest .end) (c .before .before .before .before .before .before .before .before .before .before .before .args .seen .now) _ _ (c .before .before .before .before .check-child .ensures) (c .enum-told .given .1) _
 
--- src/lib.rt:328:18
 check-last-check-messages-requires : (t : ℕ) → check-last-lts.Need-check-messages-requires (
   check-child-below t,
   check-child.Post,
@@ -1027,7 +969,6 @@ check-last-check-messages-requires : (t : ℕ) → check-last-lts.Need-check-mes
 ) (check-last-at t) check-last.Post
 check-last-check-messages-requires t c κs = c .before .before .before .before .before .before .before .before .before .before .before .before .pre .1 .1
 
--- src/lib.rt:328:5
 check-last-with-rest-requires : (t : ℕ) → check-last-lts.Need-with-rest-requires (
   check-child-below t,
   check-child.Post,
@@ -1038,7 +979,6 @@ check-last-with-rest-requires : (t : ℕ) → check-last-lts.Need-with-rest-requ
 ) (check-last-at t) check-last.Post
 check-last-with-rest-requires t c κs = search needs
 
--- src/lib.rt:308:1
 check-last-same-length-2 : (t : ℕ) → check-last-lts.Need-same-length-2 (
   check-child-below t,
   check-child.Post,
@@ -1049,7 +989,6 @@ check-last-same-length-2 : (t : ℕ) → check-last-lts.Need-same-length-2 (
 ) (check-last-at t) check-last.Post
 check-last-same-length-2 t c = c .before .before .before .before .before .before .before .check-child .kept .1 .1 .1 .1 .1 .1 .1 .1 .0
 
--- src/lib.rt:308:1
 check-last-returns-2 : (t : ℕ) → check-last-lts.Need-returns-2 (
   check-child-below t,
   check-child.Post,
@@ -1060,7 +999,6 @@ check-last-returns-2 : (t : ℕ) → check-last-lts.Need-returns-2 (
 ) (check-last-at t) check-last.Post
 check-last-returns-2 t c = last-done (c .before .before .before .before .before .before .before .before .before .before .before .before .before .before .args .level) (c .before .before .before .before .before .before .before .before .before .before .before .before .before .before .args .store .now) (shapeIs (c .before .before .before .before .before .before .before .before .before .before .before .before .before .before .args .sh)) (c .before .before .before .before .before .before .before .before .before .before .before .before .before .before .args .lo .now) (c .before .before .before .before .before .before .before .before .before .before .before .before .before .before .args .hi .now) (c .before .before .before .before .before .before .before .before .before .before .before .before .before .before .args .num) (part (c .before .before .before .before .before .before .before .before .before .before .before .before .before .before .args .store .now) (c .before .before .before .before .before .before .before .before .before .before .before .before .before .before .args .low)) (c .before .before .before .before .before .before .before .before .before .before .before .before .before .before .args .rest .at) (c .before .before .before .before .before .before .before .before .before .before .before .before .before .before .args .rest .end) (c .before .before .before .before .before .before .before .before .before .before .before .before .before .before .args .seen .now) _ _ (c .before .before .before .before .before .before .before .check-child .ensures) _ (c .before .before .before .one .given .1) _ (c .before .check-messages .ensures) _ (c .with-rest .ensures)
 
--- src/lib.rt:226:9
 check-node-returns : (t : ℕ) → check-node-lts.Need-returns (
   node-count-reads.Asked,
   node-count-reads.Learnt,
@@ -1075,7 +1013,6 @@ check-node-returns : (t : ℕ) → check-node-lts.Need-returns (
 ) (check-node-at t) check-node.Post
 check-node-returns t c = number-low (c .before .before .before .before .before .args .store .now) (c .before .before .before .before .before .args .num) (c .before .before .before .before .before .args .level) (shapeIs (c .before .before .before .before .before .args .sh)) (c .before .before .before .before .before .args .lo .now) (c .before .before .before .before .before .args .hi .now) (c .before .before .before .before .before .args .seen .now) (omega arith) _
 
--- src/lib.rt:228:8
 check-node-node-count-requires : (t : ℕ) → check-node-lts.Need-node-count-requires (
   node-count-reads.Asked,
   node-count-reads.Learnt,
@@ -1090,7 +1027,6 @@ check-node-node-count-requires : (t : ℕ) → check-node-lts.Need-node-count-re
 ) (check-node-at t) check-node.Post
 check-node-node-count-requires t c κs = search needs
 
--- src/lib.rt:229:9
 check-node-returns-2 : (t : ℕ) → check-node-lts.Need-returns-2 (
   node-count-reads.Asked,
   node-count-reads.Learnt,
@@ -1105,7 +1041,6 @@ check-node-returns-2 : (t : ℕ) → check-node-lts.Need-returns-2 (
 ) (check-node-at t) check-node.Post
 check-node-returns-2 t c = number-past (c .before .before .before .before .before .before .before .args .store .now) (c .before .before .before .before .before .before .before .args .num) (c .before .before .before .before .before .before .before .args .level) (shapeIs (c .before .before .before .before .before .before .before .args .sh)) (c .before .before .before .before .before .before .before .args .lo .now) (c .before .before .before .before .before .before .before .args .hi .now) (c .before .before .before .before .before .before .before .args .seen .now) _ (c .before .node-count .ensures) (omega arith) _
 
--- src/lib.rt:232:9
 check-node-returns-3 : (t : ℕ) → check-node-lts.Need-returns-3 (
   node-count-reads.Asked,
   node-count-reads.Learnt,
@@ -1120,7 +1055,6 @@ check-node-returns-3 : (t : ℕ) → check-node-lts.Need-returns-3 (
 ) (check-node-at t) check-node.Post
 check-node-returns-3 t c = level-zero (c .before .before .before .before .before .before .before .before .args .store .now) (c .before .before .before .before .before .before .before .before .args .num) (c .before .before .before .before .before .before .before .before .args .level) (shapeIs (c .before .before .before .before .before .before .before .before .args .sh)) (c .before .before .before .before .before .before .before .before .args .lo .now) (c .before .before .before .before .before .before .before .before .args .hi .now) (c .before .before .before .before .before .before .before .before .args .seen .now) (omega arith) _
 
--- src/lib.rt:234:8
 check-node-slice-read-if4 : (t : ℕ) → check-node-lts.Need-slice-read-if4 (
   node-count-reads.Asked,
   node-count-reads.Learnt,
@@ -1135,7 +1069,6 @@ check-node-slice-read-if4 : (t : ℕ) → check-node-lts.Need-slice-read-if4 (
 ) (check-node-at t) check-node.Post
 check-node-slice-read-if4 t c = search needs
 
--- src/lib.rt:235:9
 check-node-returns-4 : (t : ℕ) → check-node-lts.Need-returns-4 (
   node-count-reads.Asked,
   node-count-reads.Learnt,
@@ -1150,7 +1083,6 @@ check-node-returns-4 : (t : ℕ) → check-node-lts.Need-returns-4 (
 ) (check-node-at t) check-node.Post
 check-node-returns-4 t c = reached-before (c .before .before .before .before .before .before .before .before .before .before .args .store .now) (c .before .before .before .before .before .before .before .before .before .before .args .num) (c .before .before .before .before .before .before .before .before .before .before .args .level) (shapeIs (c .before .before .before .before .before .before .before .before .before .before .args .sh)) (c .before .before .before .before .before .before .before .before .before .before .args .lo .now) (c .before .before .before .before .before .before .before .before .before .before .args .hi .now) (c .before .before .before .before .before .before .before .before .before .before .args .seen .now) (λ h. omega arith) _
 
--- src/lib.rt:237:5
 check-node-slice-write-seen : (t : ℕ) → check-node-lts.Need-slice-write-seen (
   node-count-reads.Asked,
   node-count-reads.Learnt,
@@ -1165,7 +1097,6 @@ check-node-slice-write-seen : (t : ℕ) → check-node-lts.Need-slice-write-seen
 ) (check-node-at t) check-node.Post
 check-node-slice-write-seen t c = search needs
 
--- src/lib.rt:239:9
 check-node-check-leaf-requires : (t : ℕ) → check-node-lts.Need-check-leaf-requires (
   node-count-reads.Asked,
   node-count-reads.Learnt,
@@ -1180,7 +1111,6 @@ check-node-check-leaf-requires : (t : ℕ) → check-node-lts.Need-check-leaf-re
 ) (check-node-at t) check-node.Post
 check-node-check-leaf-requires t c κs = below-nodes (c .before .before .before .before .before .before .before .before .before .before .before .args .store .now) (c .before .before .before .before .before .before .before .before .before .before .before .args .num) (omega arith)
 
--- src/lib.rt:239:9
 check-node-same-length : (t : ℕ) → check-node-lts.Need-same-length (
   node-count-reads.Asked,
   node-count-reads.Learnt,
@@ -1195,7 +1125,6 @@ check-node-same-length : (t : ℕ) → check-node-lts.Need-same-length (
 ) (check-node-at t) check-node.Post
 check-node-same-length t c = search needs
 
--- src/lib.rt:239:9
 check-node-returns-5 : (t : ℕ) → check-node-lts.Need-returns-5 (
   node-count-reads.Asked,
   node-count-reads.Learnt,
@@ -1210,7 +1139,6 @@ check-node-returns-5 : (t : ℕ) → check-node-lts.Need-returns-5 (
 ) (check-node-at t) check-node.Post
 check-node-returns-5 t c = node-leaf (c .before .before .before .before .before .before .before .before .before .before .before .before .args .store .now) (c .before .before .before .before .before .before .before .before .before .before .before .before .args .num) (c .before .before .before .before .before .before .before .before .before .before .before .before .args .level) (shapeIs (c .before .before .before .before .before .before .before .before .before .before .before .before .args .sh)) (c .before .before .before .before .before .before .before .before .before .before .before .before .args .lo .now) (c .before .before .before .before .before .before .before .before .before .before .before .before .args .hi .now) (c .before .before .before .before .before .before .before .before .before .before .before .before .args .seen .now) _ (c .before .before .before .before .before .before .node-count .ensures) (omega arith) (omega arith) (omega arith) (omega arith) _ (c .check-leaf .ensures)
 
--- src/lib.rt:241:40
 check-node-first-child-requires : (t : ℕ) → check-node-lts.Need-first-child-requires (
   node-count-reads.Asked,
   node-count-reads.Learnt,
@@ -1225,7 +1153,6 @@ check-node-first-child-requires : (t : ℕ) → check-node-lts.Need-first-child-
 ) (check-node-at t) check-node.Post
 check-node-first-child-requires t c κs = below-nodes (c .before .before .before .before .before .before .before .before .before .before .before .args .store .now) (c .before .before .before .before .before .before .before .before .before .before .before .args .num) (omega arith)
 
--- src/lib.rt:241:22
 check-node-enum-known-child : (t : ℕ) → check-node-lts.Need-enum-known-child (
   node-count-reads.Asked,
   node-count-reads.Learnt,
@@ -1240,7 +1167,6 @@ check-node-enum-known-child : (t : ℕ) → check-node-lts.Need-enum-known-child
 ) (check-node-at t) check-node.Post
 check-node-enum-known-child t c = search needs
 
--- src/lib.rt:242:9
 check-node-enum-told : (t : ℕ) → check-node-lts.Need-enum-told (
   node-count-reads.Asked,
   node-count-reads.Learnt,
@@ -1255,7 +1181,6 @@ check-node-enum-told : (t : ℕ) → check-node-lts.Need-enum-told (
 ) (check-node-at t) check-node.Post
 check-node-enum-told t c = search needs
 
--- src/lib.rt:242:9
 check-node-same-length-2 : (t : ℕ) → check-node-lts.Need-same-length-2 (
   node-count-reads.Asked,
   node-count-reads.Learnt,
@@ -1270,7 +1195,6 @@ check-node-same-length-2 : (t : ℕ) → check-node-lts.Need-same-length-2 (
 ) (check-node-at t) check-node.Post
 check-node-same-length-2 t c = search needs
 
--- src/lib.rt:242:9
 check-node-returns-6 : (t : ℕ) → check-node-lts.Need-returns-6 (
   node-count-reads.Asked,
   node-count-reads.Learnt,
@@ -1285,7 +1209,6 @@ check-node-returns-6 : (t : ℕ) → check-node-lts.Need-returns-6 (
 ) (check-node-at t) check-node.Post
 check-node-returns-6 t c = no-first (c .before .before .before .before .before .before .before .before .before .before .before .before .before .before .args .store .now) (c .before .before .before .before .before .before .before .before .before .before .before .before .before .before .args .num) (c .before .before .before .before .before .before .before .before .before .before .before .before .before .before .args .level) (shapeIs (c .before .before .before .before .before .before .before .before .before .before .before .before .before .before .args .sh)) (c .before .before .before .before .before .before .before .before .before .before .before .before .before .before .args .lo .now) (c .before .before .before .before .before .before .before .before .before .before .before .before .before .before .args .hi .now) (c .before .before .before .before .before .before .before .before .before .before .before .before .before .before .args .seen .now) _ (c .before .before .before .before .before .before .before .before .node-count .ensures) (omega arith) (omega arith) (omega arith) (omega arith) _ (c .before .before .first-child .ensures) (c .enum-told .given .1) _
 
--- src/lib.rt:244:9
 check-node-check-children-requires : (t : ℕ) → check-node-lts.Need-check-children-requires (
   node-count-reads.Asked,
   node-count-reads.Learnt,
@@ -1302,7 +1225,6 @@ check-node-check-children-requires t c κs =
     let l = leads (c .before .before .before .before .before .before .before .before .before .before .before .before .before .before .before .before .args .store .now) (c .before .before .before .before .before .before .before .before .before .before .before .before .before .before .before .before .args .num) (c .before .before .before .before .before .before .before .before .before .before .before .before .before .before .before .before .args .level) (shapeIs (c .before .before .before .before .before .before .before .before .before .before .before .before .before .before .before .before .args .sh)) (c .before .before .before .before .before .before .before .before .before .before .before .before .before .before .before .before .args .lo .now) (c .before .before .before .before .before .before .before .before .before .before .before .before .before .before .before .before .args .hi .now) (c .before .before .before .before .before .before .before .before .before .before .before .before .before .before .before .before .args .seen .now) _ (c .before .before .before .before .before .before .before .before .before .before .node-count .ensures) (omega arith) (omega arith) (omega arith) (omega arith) _ (c .before .before .before .before .first-child .ensures) _ _ _ (c .before .before .child .given .1) in
     (omega (arith, c .before .before .before .before .before .before .before .before .before .before .before .before .before .before .before .before .pre .0), (simp length-set (omega (arith, c .before .before .before .before .before .before .before .before .before .before .before .before .before .before .before .before .pre .1)), l .fits, l .place))
 
--- src/lib.rt:245:5
 check-node-with-rest-requires : (t : ℕ) → check-node-lts.Need-with-rest-requires (
   node-count-reads.Asked,
   node-count-reads.Learnt,
@@ -1317,7 +1239,6 @@ check-node-with-rest-requires : (t : ℕ) → check-node-lts.Need-with-rest-requ
 ) (check-node-at t) check-node.Post
 check-node-with-rest-requires t c κs = search needs
 
--- src/lib.rt:213:1
 check-node-same-length-3 : (t : ℕ) → check-node-lts.Need-same-length-3 (
   node-count-reads.Asked,
   node-count-reads.Learnt,
@@ -1332,7 +1253,6 @@ check-node-same-length-3 : (t : ℕ) → check-node-lts.Need-same-length-3 (
 ) (check-node-at t) check-node.Post
 check-node-same-length-3 t c = c .before .before .before .check-children .kept .1 .1 .1 .1 .1 .1 .1 .1 .0 ∙ simp length-set
 
--- src/lib.rt:213:1
 check-node-returns-7 : (t : ℕ) → check-node-lts.Need-returns-7 (
   node-count-reads.Asked,
   node-count-reads.Learnt,

@@ -15,31 +15,24 @@ Inv-loop s from end i₀ i = zeros (cut s i end) ≡ zeros (cut s from end)
 abbrev μ-loop : tie.MeasureT-loop
 μ-loop s from end i₀ i = end - i
 
--- src/lib.rt:81:5
 loop-holds : tie.Need-loop-holds Inv-loop μ-loop
 loop-holds c = refl
 
--- src/lib.rt:82:12
 shared-slice-read-if1 : tie.Need-shared-slice-read-if1 Inv-loop μ-loop
 shared-slice-read-if1 c = omega arith
 
--- src/lib.rt:83:13
 returns : tie.Need-returns Inv-loop μ-loop
 returns c = zeros-stop (c .before .before .before .before .args .s .now) (c .before .before .before .loop .i) (c .before .before .before .before .args .end) _ (omega arith) (omega arith) (λ h. omega arith) (c .before .before .before .loop .inv)
 
--- src/lib.rt:85:9
 add-i : tie.Need-add-i Inv-loop μ-loop
 add-i c = omega arith
 
--- src/lib.rt:81:5
 loop-less : tie.Need-loop-less Inv-loop μ-loop
 loop-less c = omega arith
 
--- src/lib.rt:81:5
 loop-again : tie.Need-loop-again Inv-loop μ-loop
 loop-again c = zeros-on (c .before .before .before .before .args .s .now) (c .before .before .before .loop .i) (c .before .before .before .before .args .end) _ (omega arith) (omega arith) (omega arith) (c .before .before .before .loop .inv)
 
--- src/lib.rt:76:1
 returns-2 : tie.Need-returns-2 Inv-loop μ-loop
 returns-2 c = sym (zeros-end (c .before .before .args .s .now) (c .before .loop .i) (c .before .before .args .end) (omega arith)) ∙ c .before .loop .inv
 

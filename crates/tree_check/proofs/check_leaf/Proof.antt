@@ -12,43 +12,33 @@ use Rattle.tree_check.proofs.check_leaf.Tie as tie
 few : (c : tie.After-u16-at) → c .u16-at .result ≤ 1016
 few c = leaf-few (c .before .before .before .before .before .before .args .store .now) (c .before .before .before .before .before .before .args .num) (shapeIs (c .before .before .before .before .before .before .args .sh)) (c .before .before .before .before .before .before .args .lo .now) (c .before .before .before .before .before .before .args .hi .now) (c .before .before .before .before .before .before .pre) _ (c .before .before .laid-out .ensures) (not-false _ (c .before .if1 .left)) _ (c .u16-at .ensures .0)
 
--- src/lib.rt:134:9
 laid-out-requires : tie.Need-laid-out-requires
 laid-out-requires c κs = search needs
 
--- src/lib.rt:135:9
 returns : tie.Need-returns
 returns c = leaf-unlaid (c .before .before .before .before .before .args .store .now) (c .before .before .before .before .before .args .num) (shapeIs (c .before .before .before .before .before .args .sh)) (c .before .before .before .before .before .args .lo .now) (c .before .before .before .before .before .args .hi .now) (c .before .before .before .before .before .pre) _ (c .before .laid-out .ensures) (not-true _ (c .if1 .taken))
 
--- src/lib.rt:137:14
 mul-at : tie.Need-mul-at
 mul-at c = search needs
 
--- src/lib.rt:138:9
 u16-at-requires : tie.Need-u16-at-requires
 u16-at-requires c κs = search needs
 
--- src/lib.rt:139:16
 add-from : tie.Need-add-from
 add-from c = search needs
 
--- src/lib.rt:140:15
 add-end : tie.Need-add-end
 add-end c = search needs
 
--- src/lib.rt:141:9
 check-leaf-requires : tie.Need-check-leaf-requires
 check-leaf-requires c κs = let f = few c in omega arith
 
--- src/lib.rt:142:9
 returns-2 : tie.Need-returns-2
 returns-2 c = leaf-unsound (c .before .before .before .before .before .before .before .before .args .store .now) (c .before .before .before .before .before .before .before .before .args .num) (shapeIs (c .before .before .before .before .before .before .before .before .args .sh)) (c .before .before .before .before .before .before .before .before .args .lo .now) (c .before .before .before .before .before .before .before .before .args .hi .now) (c .before .before .before .before .before .before .before .before .pre) _ (c .before .before .before .before .laid-out .ensures) (not-false _ (c .before .before .before .if1 .left)) _ (c .before .before .u16-at .ensures .0) _ (c .before .check-leaf .ensures) (not-true _ (c .if2 .taken))
 
--- src/lib.rt:144:9
 count-entries-requires : tie.Need-count-entries-requires
 count-entries-requires c κs = let f = few (c .before .before) in omega arith
 
--- src/lib.rt:130:1
 returns-3 : tie.Need-returns-3
 returns-3 c = leaf-all-sound (c .before .before .before .before .before .before .before .before .before .args .store .now) (c .before .before .before .before .before .before .before .before .before .args .num) (shapeIs (c .before .before .before .before .before .before .before .before .before .args .sh)) (c .before .before .before .before .before .before .before .before .before .args .lo .now) (c .before .before .before .before .before .before .before .before .before .args .hi .now) (c .before .before .before .before .before .before .before .before .before .pre) _ (c .before .before .before .before .before .laid-out .ensures) (not-false _ (c .before .before .before .before .if1 .left)) _ (c .before .before .before .u16-at .ensures .0) _ (c .before .before .check-leaf .ensures) (not-false _ (c .before .if2 .left)) _ (c .count-entries .ensures)
 

@@ -7,51 +7,39 @@ use borrow.Author.Needs.{needs}
 use Rattle.tree_check.proofs.check_tree.Statement.{statement}
 use Rattle.tree_check.proofs.check_tree.Tie as tie
 
--- src/lib.rt:323:9
 header-good-requires : tie.Need-header-good-requires
 header-good-requires c κs = search needs
 
--- src/lib.rt:324:9
 returns : tie.Need-returns
 returns c = bad-head _ _ (c .before .header-good .ensures) (not-true _ (c .if1 .taken)) _
 
--- src/lib.rt:326:5
 clear-requires : tie.Need-clear-requires
 clear-requires c κs = search needs
 
--- src/lib.rt:327:9
 u16-at-requires : tie.Need-u16-at-requires
 u16-at-requires c κs = search needs
 
--- src/lib.rt:328:9
 u16-at-requires-2 : tie.Need-u16-at-requires-2
 u16-at-requires-2 c κs = search needs
 
--- src/lib.rt:330:37
 sub-check-node : tie.Need-sub-check-node
 sub-check-node c = search needs
 
--- src/lib.rt:330:37
 part-check-node-start : tie.Need-part-check-node-start
 part-check-node-start c = search needs
 
--- src/lib.rt:330:37
 part-check-node-end : tie.Need-part-check-node-end
 part-check-node-end c = search needs
 
--- src/lib.rt:330:51
 slice-aggregate-check-node : tie.Need-slice-aggregate-check-node
 slice-aggregate-check-node c = search needs
 
--- src/lib.rt:330:5
 check-node-requires : tie.Need-check-node-requires
 check-node-requires c κs = search needs
 
--- src/lib.rt:319:1
 same-length : tie.Need-same-length
 same-length c = search needs
 
--- src/lib.rt:319:1
 returns-2 : tie.Need-returns-2
 returns-2 c = from-root (c .before .before .before .before .before .before .before .before .before .before .before .before .before .before .before .before .args .store .now) (c .before .before .before .before .before .before .before .before .before .before .before .before .before .before .before .before .pre .0) _ (c .before .before .before .before .before .before .before .before .before .before .before .before .before .header-good .ensures) (not-false _ (c .before .before .before .before .before .before .before .before .before .before .before .before .if1 .left)) (length (c .before .before .before .before .before .before .before .before .before .before .before .before .before .before .before .before .args .seen .now)) (c .before .before .before .before .before .before .before .before .before .before .before .before .before .before .before .before .pre .1) _ (c .before .before .before .before .before .before .before .before .before .before .clear .ensures) _ _ (c .before .before .before .before .before .before .before .u16-at .ensures .0) (c .before .before .before .before .before .before .u16-at2 .ensures .0) _ _ (c .before .before .check-node .ensures)
 

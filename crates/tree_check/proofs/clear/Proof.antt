@@ -15,31 +15,24 @@ Inv-loop seen₀ i₀ seen i = (i ≤ length seen₀) × (length seen ≡ length
 abbrev μ-loop : tie.MeasureT-loop
 μ-loop seen₀ i₀ seen i = length seen₀ - i
 
--- src/lib.rt:312:5
 loop-holds : tie.Need-loop-holds Inv-loop μ-loop
 loop-holds c = (omega arith, refl, λ k h. absurd (omega arith))
 
--- src/lib.rt:313:9
 slice-write-seen : tie.Need-slice-write-seen Inv-loop μ-loop
 slice-write-seen c = omega arith
 
--- src/lib.rt:314:9
 add-i : tie.Need-add-i Inv-loop μ-loop
 add-i c = omega arith
 
--- src/lib.rt:312:5
 loop-less : tie.Need-loop-less Inv-loop μ-loop
 loop-less c = omega arith
 
--- src/lib.rt:312:5
 loop-again : tie.Need-loop-again Inv-loop μ-loop
 loop-again c = (omega arith, (simp length-set) ∙ c .before .loop .inv .1, zero-next (c .before .loop .seen) (c .before .loop .i) (omega arith) (c .before .loop .inv .2))
 
--- src/lib.rt:308:1
 same-length : tie.Need-same-length Inv-loop μ-loop
 same-length c = search needs
 
--- src/lib.rt:308:1
 returns : tie.Need-returns Inv-loop μ-loop
 returns c = zeroed _ _ (c .before .loop .inv .1) (λ k h. c .before .loop .inv .2 k (omega arith))
 

@@ -20,49 +20,38 @@ abbrev μ-loop : tie.MeasureT-loop
 next-is : (c : tie.After-known-told Inv-loop μ-loop) → Next (c .before .before .before .before .before .before .before .before .args .s .now) (c .before .before .before .before .before .before .loop .c .at) (c .before .before .before .before .before .before .loop .c .end) (c .before .next .given .0 .0) (c .before .next .given .0 .1 .0)
 next-is c = step-read-is _ _ _ _ _ _ (c .before .before .before .step .ensures) (c .before .next .given .1)
 
--- src/lib.rt:119:5
 loop-holds : tie.Need-loop-holds Inv-loop μ-loop
 loop-holds c = (refl, omega arith, omega arith)
 
--- src/lib.rt:120:35
 step-requires : tie.Need-step-requires Inv-loop μ-loop
 step-requires c κs = omega arith
 
--- src/lib.rt:120:27
 enum-known-next : tie.Need-enum-known-next Inv-loop μ-loop
 enum-known-next c = search needs
 
--- src/lib.rt:121:13
 enum-told : tie.Need-enum-told Inv-loop μ-loop
 enum-told c = search needs
 
--- src/lib.rt:121:13
 capped-sum-requires : tie.Need-capped-sum-requires Inv-loop μ-loop
 capped-sum-requires c κs = search needs
 
--- src/lib.rt:121:13
 returns : tie.Need-returns Inv-loop μ-loop
 returns c = count-done _ _ _ _ (step-bad-is _ _ _ _ (c .before .before .before .step .ensures) (c .before .enum-told .given .1) .1) (c .before .before .before .before .before .before .loop .inv .2) (c .capped-sum .ensures .0)
 
--- src/lib.rt:123:9
 add-n : tie.Need-add-n Inv-loop μ-loop
 add-n c = omega arith
 
--- src/lib.rt:119:5
 loop-less : tie.Need-loop-less Inv-loop μ-loop
 loop-less c = let n = next-is c in omega arith
 
--- src/lib.rt:119:5
 loop-again : tie.Need-loop-again Inv-loop μ-loop
 loop-again c =
     let n = next-is c in
     (n .ends ∙ c .before .before .before .before .before .before .loop .inv .0, omega arith, count-on _ _ _ _ _ (n .lists) (c .before .before .before .before .before .before .loop .inv .2))
 
--- src/lib.rt:126:5
 capped-sum-requires-2 : tie.Need-capped-sum-requires-2 Inv-loop μ-loop
 capped-sum-requires-2 c κs = search needs
 
--- src/lib.rt:113:1
 returns-2 : tie.Need-returns-2 Inv-loop μ-loop
 returns-2 c = count-done _ _ _ _ (listed-end _ _ _ (omega arith)) (c .before .before .before .loop .inv .2) (c .capped-sum2 .ensures .0)
 

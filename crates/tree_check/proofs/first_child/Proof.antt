@@ -13,83 +13,63 @@ use Rattle.tree_check.proofs.first_child.Tie as tie
 place-in : (c : tie.After-known-told2) → Within 0 (length (c .before .before .before .before .before .before .before .before .before .before .before .before .before .args .store .now)) (c .before .child .given .0 .1 .0)
 place-in c = first-place (c .before .before .before .before .before .before .before .before .before .before .before .before .before .args .store .now) (c .before .before .before .before .before .before .before .before .before .before .before .before .before .args .num) (c .before .before .before .before .before .before .before .before .before .before .before .before .before .args .level) (c .before .before .before .before .before .before .before .before .before .before .before .before .before .args .lo .now) (c .before .before .before .before .before .before .before .before .before .before .before .before .before .pre) _ (c .before .before .before .before .before .before .before .before .before .before .laid-out .ensures) (not-false _ (c .before .before .before .before .before .before .before .before .before .if1 .left)) _ (c .before .before .before .before .before .before .before .before .u16-at .ensures .0) _ (c .before .before .before .before .before .before .before .step .ensures) _ _ (c .before .before .before .before .before .e .given .1) _ _ (sym (c .before .before .before .kid-of .ensures) ∙ c .before .child .given .1)
 
--- src/lib.rt:153:9
 laid-out-requires : tie.Need-laid-out-requires
 laid-out-requires c κs = search needs
 
--- src/lib.rt:154:9
 returns : tie.Need-returns
 returns c = not-laid (c .before .before .before .before .args .store .now) (c .before .before .before .before .args .num) (c .before .before .before .before .args .level) (c .before .before .before .before .args .lo .now) (c .before .before .before .before .pre) _ (c .before .laid-out .ensures) (not-true _ (c .if1 .taken))
 
--- src/lib.rt:156:14
 mul-at : tie.Need-mul-at
 mul-at c = search needs
 
--- src/lib.rt:157:9
 u16-at-requires : tie.Need-u16-at-requires
 u16-at-requires c κs = search needs
 
--- src/lib.rt:158:16
 add-from : tie.Need-add-from
 add-from c = search needs
 
--- src/lib.rt:159:37
 add-equal : tie.Need-add-equal
 add-equal c = search needs
 
--- src/lib.rt:160:31
 step-requires : tie.Need-step-requires
 step-requires c κs = let f = few (c .before .before .before .before .before .args .store .now) (c .before .before .before .before .before .args .num) (c .before .before .before .before .before .args .level) (c .before .before .before .before .before .args .lo .now) (c .before .before .before .before .before .pre) _ (c .before .before .laid-out .ensures) (not-false _ (c .before .if1 .left)) _ (c .u16-at .ensures .0) in omega arith
 
--- src/lib.rt:160:20
 enum-known-e : tie.Need-enum-known-e
 enum-known-e c = search needs
 
--- src/lib.rt:161:9
 enum-told : tie.Need-enum-told
 enum-told c = search needs
 
--- src/lib.rt:161:9
 returns-2 : tie.Need-returns-2
 returns-2 c = no-entry (c .before .before .before .before .before .before .before .before .args .store .now) (c .before .before .before .before .before .before .before .before .args .num) (c .before .before .before .before .before .before .before .before .args .level) (c .before .before .before .before .before .before .before .before .args .lo .now) (c .before .before .before .before .before .before .before .before .pre) _ (c .before .before .before .before .before .laid-out .ensures) (not-false _ (c .before .before .before .before .if1 .left)) _ (c .before .before .before .u16-at .ensures .0) _ (c .before .before .step .ensures) (c .enum-told .given .1)
 
--- src/lib.rt:163:29
 kid-of-requires : tie.Need-kid-of-requires
 kid-of-requires c κs = search needs
 
--- src/lib.rt:163:17
 enum-known-child : tie.Need-enum-known-child
 enum-known-child c = search needs
 
--- src/lib.rt:164:9
 enum-told-2 : tie.Need-enum-told-2
 enum-told-2 c = search needs
 
--- src/lib.rt:164:9
 returns-3 : tie.Need-returns-3
 returns-3 c = no-child (c .before .before .before .before .before .before .before .before .before .before .before .before .args .store .now) (c .before .before .before .before .before .before .before .before .before .before .before .before .args .num) (c .before .before .before .before .before .before .before .before .before .before .before .before .args .level) (c .before .before .before .before .before .before .before .before .before .before .before .before .args .lo .now) (c .before .before .before .before .before .before .before .before .before .before .before .before .pre) _ (c .before .before .before .before .before .before .before .before .before .laid-out .ensures) (not-false _ (c .before .before .before .before .before .before .before .before .if1 .left)) _ (c .before .before .before .before .before .before .before .u16-at .ensures .0) _ (c .before .before .before .before .before .before .step .ensures) _ _ (c .before .before .before .before .e .given .1) (sym (c .before .before .kid-of .ensures) ∙ c .enum-told2 .given .1)
 
--- src/lib.rt:168:23
 sub-equal : tie.Need-sub-equal
 sub-equal c = let w = place-in c in omega arith
 
--- src/lib.rt:168:23
 part-equal-start : tie.Need-part-equal-start
 part-equal-start c = let w = place-in c in omega arith
 
--- src/lib.rt:168:23
 part-equal-end : tie.Need-part-equal-end
 part-equal-end c = let w = place-in c in omega arith
 
--- src/lib.rt:168:9
 equal-requires : tie.Need-equal-requires
 equal-requires c κs = search needs
 
--- src/lib.rt:169:9
 returns-4 : tie.Need-returns-4
 returns-4 c = other-pivot (c .before .before .before .before .before .before .before .before .before .before .before .before .before .before .before .before .args .store .now) (c .before .before .before .before .before .before .before .before .before .before .before .before .before .before .before .before .args .num) (c .before .before .before .before .before .before .before .before .before .before .before .before .before .before .before .before .args .level) (c .before .before .before .before .before .before .before .before .before .before .before .before .before .before .before .before .args .lo .now) (c .before .before .before .before .before .before .before .before .before .before .before .before .before .before .before .before .pre) _ (c .before .before .before .before .before .before .before .before .before .before .before .before .before .laid-out .ensures) (not-false _ (c .before .before .before .before .before .before .before .before .before .before .before .before .if1 .left)) _ (c .before .before .before .before .before .before .before .before .before .before .before .u16-at .ensures .0) _ (c .before .before .before .before .before .before .before .before .before .before .step .ensures) _ _ (c .before .before .before .before .before .before .before .before .e .given .1) _ _ (sym (c .before .before .before .before .before .before .kid-of .ensures) ∙ c .before .before .before .before .child .given .1) (c .before .equal .result) (c .before .equal .ensures) (not-true _ (c .if2 .taken))
 
--- src/lib.rt:149:1
 returns-5 : tie.Need-returns-5
 returns-5 c = first-child (c .before .before .before .before .before .before .before .before .before .before .before .before .before .before .before .before .args .store .now) (c .before .before .before .before .before .before .before .before .before .before .before .before .before .before .before .before .args .num) (c .before .before .before .before .before .before .before .before .before .before .before .before .before .before .before .before .args .level) (c .before .before .before .before .before .before .before .before .before .before .before .before .before .before .before .before .args .lo .now) (c .before .before .before .before .before .before .before .before .before .before .before .before .before .before .before .before .pre) _ (c .before .before .before .before .before .before .before .before .before .before .before .before .before .laid-out .ensures) (not-false _ (c .before .before .before .before .before .before .before .before .before .before .before .before .if1 .left)) _ (c .before .before .before .before .before .before .before .before .before .before .before .u16-at .ensures .0) _ (c .before .before .before .before .before .before .before .before .before .before .step .ensures) _ _ (c .before .before .before .before .before .before .before .before .e .given .1) _ _ (sym (c .before .before .before .before .before .before .kid-of .ensures) ∙ c .before .before .before .before .child .given .1) (c .before .equal .result) (c .before .equal .ensures) (not-false _ (c .if2 .left))
 

@@ -6,71 +6,54 @@ use Rattle.tree_check.specs.Layout.{laid-long, laid-kind, laid-level, la
 use Rattle.tree_check.proofs.laid_out.Statement.{statement}
 use Rattle.tree_check.proofs.laid_out.Tie as tie
 
--- src/lib.rt:95:14
 mul-at : tie.Need-mul-at
 mul-at c = search needs
 
--- src/lib.rt:96:9
 u16-at-requires : tie.Need-u16-at-requires
 u16-at-requires c κs = search needs
 
--- src/lib.rt:98:9
 returns : tie.Need-returns
 returns c = laid-long (c .before .before .before .args .store .now) (c .before .before .before .args .num) (c .before .before .before .args .kind) (c .before .before .before .args .level) (c .before .before .before .pre) _ (c .before .u16-at .ensures .0) (omega arith)
 
--- src/lib.rt:100:30
 add-u16-at : tie.Need-add-u16-at
 add-u16-at c = search needs
 
--- src/lib.rt:100:8
 u16-at-requires-2 : tie.Need-u16-at-requires-2
 u16-at-requires-2 c κs = search needs
 
--- src/lib.rt:101:9
 returns-2 : tie.Need-returns-2
 returns-2 c = laid-kind (c .before .before .before .before .before .args .store .now) (c .before .before .before .before .before .args .num) (c .before .before .before .before .before .args .kind) (c .before .before .before .before .before .args .level) (c .before .before .before .before .before .pre) (c .before .u16-at2 .result) (c .before .u16-at2 .ensures .0) (λ h. omega arith)
 
--- src/lib.rt:103:30
 add-u16-at-2 : tie.Need-add-u16-at-2
 add-u16-at-2 c = search needs
 
--- src/lib.rt:103:8
 u16-at-requires-3 : tie.Need-u16-at-requires-3
 u16-at-requires-3 c κs = search needs
 
--- src/lib.rt:104:9
 returns-3 : tie.Need-returns-3
 returns-3 c = laid-level (c .before .before .before .before .before .before .before .args .store .now) (c .before .before .before .before .before .before .before .args .num) (c .before .before .before .before .before .before .before .args .kind) (c .before .before .before .before .before .before .before .args .level) (c .before .before .before .before .before .before .before .pre) (c .before .u16-at3 .result) (c .before .u16-at3 .ensures .0) (λ h. omega arith)
 
--- src/lib.rt:106:30
 add-u16-at-3 : tie.Need-add-u16-at-3
 add-u16-at-3 c = search needs
 
--- src/lib.rt:106:8
 u16-at-requires-4 : tie.Need-u16-at-requires-4
 u16-at-requires-4 c κs = search needs
 
--- src/lib.rt:107:9
 returns-4 : tie.Need-returns-4
 returns-4 c = laid-zero (c .before .before .before .before .before .before .before .before .before .args .store .now) (c .before .before .before .before .before .before .before .before .before .args .num) (c .before .before .before .before .before .before .before .before .before .args .kind) (c .before .before .before .before .before .before .before .before .before .args .level) (c .before .before .before .before .before .before .before .before .before .pre) (c .before .u16-at4 .result) (c .before .u16-at4 .ensures .0) (λ h. omega arith)
 
--- src/lib.rt:109:21
 add-all-zero : tie.Need-add-all-zero
 add-all-zero c = search needs
 
--- src/lib.rt:109:21
 add-all-zero-2 : tie.Need-add-all-zero-2
 add-all-zero-2 c = search needs
 
--- src/lib.rt:109:35
 add-all-zero-3 : tie.Need-add-all-zero-3
 add-all-zero-3 c = search needs
 
--- src/lib.rt:109:5
 all-zero-requires : tie.Need-all-zero-requires
 all-zero-requires c κs = search needs
 
--- src/lib.rt:91:1
 returns-5 : tie.Need-returns-5
 returns-5 c = laid-rest (c .before .before .before .before .before .before .before .before .before .before .args .store .now) (c .before .before .before .before .before .before .before .before .before .before .args .num) (c .before .before .before .before .before .before .before .before .before .before .args .kind) (c .before .before .before .before .before .before .before .before .before .before .args .level) (c .before .before .before .before .before .before .before .before .before .before .pre) (c .before .before .before .before .before .before .before .before .u16-at .result) (c .before .before .before .before .before .before .u16-at2 .result) (c .before .before .before .before .u16-at3 .result) (c .before .before .u16-at4 .result) (c .before .before .before .before .before .before .before .before .u16-at .ensures .0) (omega arith) (c .before .before .before .before .before .before .u16-at2 .ensures .0) (omega arith) (c .before .before .before .before .u16-at3 .ensures .0) (omega arith) (c .before .before .u16-at4 .ensures .0) (omega arith) _ (c .all-zero .ensures)
 

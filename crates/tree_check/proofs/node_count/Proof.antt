@@ -4,7 +4,6 @@ use Rattle.tree_check.specs.Layout.{nodes-are}
 use Rattle.tree_check.proofs.node_count.Statement.{statement}
 use Rattle.tree_check.proofs.node_count.Tie as tie
 
--- src/lib.rt:69:1
 returns : tie.Need-returns
 returns c = nodes-are _
 

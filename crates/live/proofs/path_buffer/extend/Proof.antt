@@ -17,39 +17,30 @@ Inv-loop s start q₀ i₀ q i = (start ≡ q₀ .len) × (start + length s ≤ 
 abbrev μ-loop : tie.MeasureT-loop
 μ-loop s start q₀ i₀ q i = length s - i
 
--- src/path_buffer.rt:22:5
 loop-holds : tie.Need-loop-holds Inv-loop μ-loop
 loop-holds c = let h : length (c .args .p .bytes) ≡ 64 = search needs in (refl, search needs, omega arith, search needs, paste-zero (c .args .p .bytes) (c .args .p .len) (c .args .s .now))
 
--- src/path_buffer.rt:23:30
 shared-slice-read-q : tie.Need-shared-slice-read-q Inv-loop μ-loop
 shared-slice-read-q c = search needs
 
--- src/path_buffer.rt:23:17
 add-q : tie.Need-add-q Inv-loop μ-loop
 add-q c = search needs
 
--- src/path_buffer.rt:23:9
 element-write-q : tie.Need-element-write-q Inv-loop μ-loop
 element-write-q c = search needs
 
--- src/path_buffer.rt:24:9
 add-i : tie.Need-add-i Inv-loop μ-loop
 add-i c = search needs
 
--- src/path_buffer.rt:22:5
 loop-less : tie.Need-loop-less Inv-loop μ-loop
 loop-less c = search needs
 
--- src/path_buffer.rt:22:5
 loop-again : tie.Need-loop-again Inv-loop μ-loop
 loop-again c = (search needs, search needs, search needs, search needs, copy-step _ _ _ _ _ (omega arith) (omega arith) (c .before .before .loop .inv .4))
 
--- src/path_buffer.rt:26:13
 add-q-2 : tie.Need-add-q-2 Inv-loop μ-loop
 add-q-2 c = search needs
 
--- src/path_buffer.rt:15:1
 returns : tie.Need-returns Inv-loop μ-loop
 unfolding pathIn
 returns c = (copied _ (c .before .before .args .p) _ _ (c .before .loop .i) _ (c .before .loop .inv .0) (omega arith) (omega arith) (c .before .loop .inv .4) refl, omega arith)

@@ -7,59 +7,45 @@ use borrow.Author.Needs.{needs}
 use Rattle.node.proofs.Cursor.step.Statement.{statement}
 use Rattle.node.proofs.Cursor.step.Tie as tie
 
--- src/lib.rt:106:13
 returns : tie.Need-returns
 returns c = step-bad _ _ _ (λ lt. absurd (omega arith)) (listed-end _ _ _ (omega arith))
 
--- src/lib.rt:108:12
 sub-if2 : tie.Need-sub-if2
 sub-if2 c = search needs
 
--- src/lib.rt:109:13
 returns-2 : tie.Need-returns-2
 returns-2 c = step-bad _ _ _ (λ lt. entries-short _ _ _ (omega arith) (omega arith) (omega arith)) (listed-short _ _ _ (omega arith) (omega arith) (omega arith))
 
--- src/lib.rt:111:13
 u16-at-requires : tie.Need-u16-at-requires
 u16-at-requires c κs = search needs
 
--- src/lib.rt:112:38
 add-u16-at : tie.Need-add-u16-at
 add-u16-at c = search needs
 
--- src/lib.rt:112:13
 u16-at-requires-2 : tie.Need-u16-at-requires-2
 u16-at-requires-2 c κs = search needs
 
--- src/lib.rt:113:21
 add-start : tie.Need-add-start
 add-start c = search needs
 
--- src/lib.rt:114:12
 sub-if3 : tie.Need-sub-if3
 sub-if3 c = search needs
 
--- src/lib.rt:115:13
 returns-3 : tie.Need-returns-3
 returns-3 c = step-bad _ _ _ (λ lt. entries-cut _ _ _ (omega arith) (omega arith) (omega arith)) (listed-cut _ _ _ (omega arith) (omega arith) (omega arith))
 
--- src/lib.rt:117:20
 add-stop : tie.Need-add-stop
 add-stop c = search needs
 
--- src/lib.rt:118:28
 entry-at-requires : tie.Need-entry-at-requires
 entry-at-requires c κs = search needs
 
--- src/lib.rt:118:23
 enum-known-e : tie.Need-enum-known-e
 enum-known-e c = search needs
 
--- src/lib.rt:119:13
 enum-told : tie.Need-enum-told
 enum-told c = search needs
 
--- src/lib.rt:119:13
 returns-4 : tie.Need-returns-4
 returns-4 c =
     let n = c .before .before .before .before .before .u16-at .result in
@@ -68,7 +54,6 @@ returns-4 c =
     step-bad _ _ _ (λ lt. then-bad _ _ _ (entries-step _ _ _ (omega arith) (omega arith) n k (omega arith) (omega arith) (omega arith)) h)
     (cons-bad _ _ _ (listed-step _ _ _ (omega arith) (omega arith) n k (omega arith) (omega arith) (omega arith)) h)
 
--- src/lib.rt:99:5
 returns-5 : tie.Need-returns-5
 returns-5 c =
     let S = c .before .before .before .before .before .before .before .before .before .before .args .self in

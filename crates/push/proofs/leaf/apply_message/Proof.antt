@@ -9,47 +9,36 @@ use borrow.Author.Needs.{needs}
 use Rattle.push.proofs.leaf.apply_message.Statement.{statement}
 use Rattle.push.proofs.leaf.apply_message.Tie as tie
 
--- src/leaf.rt:147:14
 mul-at : tie.Need-mul-at
 mul-at c = search needs
 
--- src/leaf.rt:148:9
 u16-at-requires : tie.Need-u16-at-requires
 u16-at-requires c κs = search needs
 
--- src/leaf.rt:149:16
 add-from : tie.Need-add-from
 add-from c = search needs
 
--- src/leaf.rt:151:25
 slice-aggregate-emit-leaf : tie.Need-slice-aggregate-emit-leaf
 slice-aggregate-emit-leaf c = search needs
 
--- src/leaf.rt:151:49
 add-emit-leaf : tie.Need-add-emit-leaf
 add-emit-leaf c = search needs
 
--- src/leaf.rt:151:9
 emit-leaf-requires : tie.Need-emit-leaf-requires
 emit-leaf-requires c κs = let f = leaf-fits (loweredBy (c .before .before .before .before .before .before .args .k) (messageIn (c .before .before .before .before .before .before .args .node .now) (c .before .before .before .before .before .before .args .m))) (c .before .before .before .before .before .before .args .num) (c .before .before .before .before .before .before .args .store .now) (c .before .before .before .before .before .before .pre .1) (c .before .before .before .before .before .before .pre .2) (c .before .before .u16-at .result) (c .before .before .u16-at .ensures .0) in (omega arith, c .before .before .before .before .before .before .pre .0, omega arith, omega arith)
 
--- src/leaf.rt:152:37
 slice-aggregate-write-page : tie.Need-slice-aggregate-write-page
 slice-aggregate-write-page c = search needs
 
--- src/leaf.rt:152:54
 sub-write-page : tie.Need-sub-write-page
 sub-write-page c = search needs
 
--- src/leaf.rt:152:5
 write-page-requires : tie.Need-write-page-requires
 write-page-requires c κs = let f = leaf-fits (loweredBy (c .before .before .before .before .before .before .before .before .before .before .args .k) (messageIn (c .before .before .before .before .before .before .before .before .before .before .args .node .now) (c .before .before .before .before .before .before .before .before .before .before .args .m))) (c .before .before .before .before .before .before .before .before .before .before .args .num) (c .before .before .before .before .before .before .before .before .before .before .args .store .now) (c .before .before .before .before .before .before .before .before .before .before .pre .1) (c .before .before .before .before .before .before .before .before .before .before .pre .2) (c .before .before .before .before .before .before .u16-at .result) (c .before .before .before .before .before .before .u16-at .ensures .0) in (c .before .before .before .before .before .before .before .before .before .before .pre .1, omega arith, omega arith, omega arith, omega arith)
 
--- src/leaf.rt:143:1
 same-length : tie.Need-same-length
 same-length c = search needs
 
--- src/leaf.rt:143:1
 returns : tie.Need-returns
 unfolding zerosOf
 returns c = leaf-written (loweredBy (c .before .before .before .before .before .before .before .before .before .before .before .before .before .before .args .k) (messageIn (c .before .before .before .before .before .before .before .before .before .before .before .before .before .before .args .node .now) (c .before .before .before .before .before .before .before .before .before .before .before .before .before .before .args .m))) (c .before .before .before .before .before .before .before .before .before .before .before .before .before .before .args .num) (c .before .before .before .before .before .before .before .before .before .before .before .before .before .before .args .store .now) (c .before .before .before .before .before .before .before .before .before .before .before .before .before .before .pre .1) (c .before .before .before .before .before .before .before .before .before .before .before .before .before .before .pre .2) (c .before .before .before .before .before .before .before .before .before .before .u16-at .result) (c .before .before .before .before .before .before .before .before .before .before .u16-at .ensures .0) _ _ _ (c .before .before .before .before .before .before .before .emit-leaf .ensures .0) (c .before .before .before .before .before .before .before .emit-leaf .ensures .1) (c .before .before .before .write-page .ensures)

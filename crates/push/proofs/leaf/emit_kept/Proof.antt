@@ -14,79 +14,60 @@ use Rattle.push.proofs.leaf.emit_kept.Tie as tie
 pair-in : (c : tie.After-known-told) → Within 0 (length (c .before .before .before .before .before .before .args .leaf .now)) (c .before .e .given .0 .0) × Within 0 (length (c .before .before .before .before .before .before .args .leaf .now)) (c .before .e .given .0 .1 .0)
 pair-in c = subst (EntryWithin 0 (length (c .before .before .before .before .before .before .args .leaf .now))) (c .before .e .given .1) (c .before .before .before .before .before .before .pre .0)
 
--- src/leaf.rt:51:21
 enum-known-e : tie.Need-enum-known-e
 enum-known-e c = search needs
 
--- src/leaf.rt:54:34
 sub-stays : tie.Need-sub-stays
 sub-stays c = let w = pair-in c in omega arith
 
--- src/leaf.rt:54:34
 part-stays-start : tie.Need-part-stays-start
 part-stays-start c = let w = pair-in c in omega arith
 
--- src/leaf.rt:54:34
 part-stays-end : tie.Need-part-stays-end
 part-stays-end c = let w = pair-in c in omega arith
 
--- src/leaf.rt:54:17
 stays-requires : tie.Need-stays-requires
 stays-requires c κs = search needs
 
--- src/leaf.rt:55:17
 returns : tie.Need-returns
 returns c = let z = kept-not (c .before .before .before .before .before .before .before .before .before .args .leaf .now) (c .before .before .before .before .before .before .before .before .before .args .side) (c .before .before .before .before .before .before .before .before .before .args .key .now) (c .before .before .before .before .before .before .before .before .before .args .e) _ _ (c .before .before .before .before .e .given .1) _ (c .before .stays .ensures) (c .if1 .taken) in (puts-nothing _ _ _ z, ends-nowhere _ _ z)
 
--- src/leaf.rt:59:46
 sub-emit-keyed : tie.Need-sub-emit-keyed
 sub-emit-keyed c = let w = pair-in (c .before .before .before .before) in omega arith
 
--- src/leaf.rt:59:46
 part-emit-keyed-start : tie.Need-part-emit-keyed-start
 part-emit-keyed-start c = let w = pair-in (c .before .before .before .before) in omega arith
 
--- src/leaf.rt:59:46
 part-emit-keyed-end : tie.Need-part-emit-keyed-end
 part-emit-keyed-end c = let w = pair-in (c .before .before .before .before) in omega arith
 
--- src/leaf.rt:59:59
 sub-emit-keyed-2 : tie.Need-sub-emit-keyed-2
 sub-emit-keyed-2 c = let w = pair-in (c .before .before .before .before .before) in omega arith
 
--- src/leaf.rt:59:59
 part-emit-keyed-start-2 : tie.Need-part-emit-keyed-start-2
 part-emit-keyed-start-2 c = let w = pair-in (c .before .before .before .before .before) in omega arith
 
--- src/leaf.rt:59:59
 part-emit-keyed-end-2 : tie.Need-part-emit-keyed-end-2
 part-emit-keyed-end-2 c = let w = pair-in (c .before .before .before .before .before) in omega arith
 
--- src/leaf.rt:59:13
 emit-keyed-requires : tie.Need-emit-keyed-requires
 emit-keyed-requires c κs = (fits-as (c .before .before .before .before .before .before .before .before .before .before .before .before .args .page .now) (c .before .before .before .before .before .before .before .before .before .before .before .before .args .page .now) (c .before .before .before .before .before .before .before .before .before .before .before .before .args .at) 0 _ _ _ (kept-yes (c .before .before .before .before .before .before .before .before .before .before .before .before .args .leaf .now) (c .before .before .before .before .before .before .before .before .before .before .before .before .args .side) (c .before .before .before .before .before .before .before .before .before .before .before .before .args .key .now) (c .before .before .before .before .before .before .before .before .before .before .before .before .args .e) _ _ (c .before .before .before .before .before .before .before .e .given .1) _ (c .before .before .before .before .stays .ensures) (c .before .before .before .if1 .left)) (c .before .before .before .before .before .before .before .before .before .before .before .before .pre .1) (sym (keyed-length _ _ _)), c .before .before .before .before .before .before .before .before .before .before .before .before .pre .2, omega arith)
 
--- src/leaf.rt:61:31
 enum-told : tie.Need-enum-told
 enum-told c = search needs
 
--- src/leaf.rt:62:30
 enum-told-2 : tie.Need-enum-told-2
 enum-told-2 c = search needs
 
--- src/leaf.rt:46:1
 same-length : tie.Need-same-length
 same-length c = search needs
 
--- src/leaf.rt:46:1
 returns-2 : tie.Need-returns-2
 returns-2 c = let z = kept-yes (c .before .before .before .before .before .before .before .before .before .before .before .before .before .before .before .args .leaf .now) (c .before .before .before .before .before .before .before .before .before .before .before .before .before .before .before .args .side) (c .before .before .before .before .before .before .before .before .before .before .before .before .before .before .before .args .key .now) (c .before .before .before .before .before .before .before .before .before .before .before .before .before .before .before .args .e) _ _ (c .before .before .before .before .before .before .before .before .before .before .e .given .1) _ (c .before .before .before .before .before .before .before .stays .ensures) (c .before .before .before .before .before .before .if1 .left) in (puts-as (c .before .before .before .before .before .before .before .before .before .before .before .before .before .before .before .args .page .now) _ (c .before .before .before .before .before .before .before .before .before .before .before .before .before .before .before .args .at) 0 0 _ _ z (c .before .before .emit-keyed .ensures .0), ends-as (c .before .before .before .before .before .before .before .before .before .before .before .before .before .before .before .args .page .now) (c .before .before .before .before .before .before .before .before .before .before .before .before .before .before .before .args .page .now) (c .before .before .before .before .before .before .before .before .before .before .before .before .before .before .before .args .at) _ _ _ _ z (c .before .before .emit-keyed .ensures .1) (sym (keyed-length _ _ _)))
 
--- src/leaf.rt:46:1
 returns-3 : tie.Need-returns-3
 returns-3 c = let z = kept-child (c .before .before .before .before .before .args .leaf .now) (c .before .before .before .before .before .args .side) (c .before .before .before .before .before .args .key .now) (c .before .before .before .before .before .args .e) _ _ (c .enum-told .given .1) in (puts-nothing _ _ _ z, ends-nowhere _ _ z)
 
--- src/leaf.rt:46:1
 returns-4 : tie.Need-returns-4
 returns-4 c = let z = kept-message (c .before .before .before .before .before .args .leaf .now) (c .before .before .before .before .before .args .side) (c .before .before .before .before .before .args .key .now) (c .before .before .before .before .before .args .e) _ (c .enum-told2 .given .1) in (puts-nothing _ _ _ z, ends-nowhere _ _ z)
 

@@ -7,23 +7,18 @@ use borrow.Author.Needs.{needs}
 use Rattle.push.proofs.leaf.emit_with.Statement.{statement}
 use Rattle.push.proofs.leaf.emit_with.Tie as tie
 
--- src/leaf.rt:103:9
 emit-pairs-requires : tie.Need-emit-pairs-requires
 emit-pairs-requires c κs = (c .before .before .before .before .before .pre .0, first-fits (c .before .before .before .before .before .args .key .now) (c .before .before .before .before .before .args .value .now) (listed (c .before .before .before .before .before .args .leaf .now) (c .before .before .before .before .before .args .from) (c .before .before .before .before .before .args .end)) (c .before .before .before .before .before .args .page .now) (c .before .before .before .before .before .pre .1), c .before .before .before .before .before .pre .2)
 
--- src/leaf.rt:104:9
 emit-keyed-requires : tie.Need-emit-keyed-requires
 emit-keyed-requires c κs = let f = second-fits (c .before .before .before .before .before .before .before .before .before .args .key .now) (c .before .before .before .before .before .before .before .before .before .args .value .now) (listed (c .before .before .before .before .before .before .before .before .before .args .leaf .now) (c .before .before .before .before .before .before .before .before .before .args .from) (c .before .before .before .before .before .before .before .before .before .args .end)) (c .before .before .before .before .before .before .before .before .before .args .page .now) (c .before .before .before .before .before .before .before .before .before .pre .1) (c .before .before .before .emit-pairs .result) (c .before .before .before .emit-pairs .ensures .1) in (omega arith, omega arith, omega arith)
 
--- src/leaf.rt:105:5
 emit-pairs-requires-2 : tie.Need-emit-pairs-requires-2
 emit-pairs-requires-2 c κs = let f = third-fits (c .before .before .before .before .before .before .before .before .before .before .before .before .before .args .key .now) (c .before .before .before .before .before .before .before .before .before .before .before .before .before .args .value .now) (listed (c .before .before .before .before .before .before .before .before .before .before .before .before .before .args .leaf .now) (c .before .before .before .before .before .before .before .before .before .before .before .before .before .args .from) (c .before .before .before .before .before .before .before .before .before .before .before .before .before .args .end)) (c .before .before .before .before .before .before .before .before .before .before .before .before .before .args .page .now) (c .before .before .before .before .before .before .before .before .before .before .before .before .before .pre .1) (c .before .before .before .before .before .before .before .emit-pairs .result) (c .before .before .before .before .before .before .before .emit-pairs .ensures .1) (c .before .before .before .emit-keyed .result) (c .before .before .before .emit-keyed .ensures .1) in (c .before .before .before .before .before .before .before .before .before .before .before .before .before .pre .0, omega arith, omega arith)
 
--- src/leaf.rt:92:1
 same-length : tie.Need-same-length
 same-length c = search needs
 
--- src/leaf.rt:92:1
 returns : tie.Need-returns
 returns c = (with-put (c .before .before .before .before .before .before .before .before .before .before .before .before .before .before .before .before .args .key .now) (c .before .before .before .before .before .before .before .before .before .before .before .before .before .before .before .before .args .value .now) (listed (c .before .before .before .before .before .before .before .before .before .before .before .before .before .before .before .before .args .leaf .now) (c .before .before .before .before .before .before .before .before .before .before .before .before .before .before .before .before .args .from) (c .before .before .before .before .before .before .before .before .before .before .before .before .before .before .before .before .args .end)) (c .before .before .before .before .before .before .before .before .before .before .before .before .before .before .before .before .args .page .now) (c .before .before .before .before .before .before .before .before .before .before .before .before .before .before .before .before .pre .1) (c .before .before .before .before .before .before .before .before .before .before .emit-pairs .result) (c .before .before .before .before .before .before .before .before .before .before .emit-pairs .ensures .1) (c .before .before .before .before .before .before .emit-keyed .result) (c .before .before .before .before .before .before .emit-keyed .ensures .1) _ _ _ (c .before .before .before .before .before .before .before .before .before .before .emit-pairs .ensures .0) (c .before .before .before .before .before .before .emit-keyed .ensures .0) (c .before .before .emit-pairs2 .ensures .0), with-ends (c .before .before .before .before .before .before .before .before .before .before .before .before .before .before .before .before .args .key .now) (c .before .before .before .before .before .before .before .before .before .before .before .before .before .before .before .before .args .value .now) (listed (c .before .before .before .before .before .before .before .before .before .before .before .before .before .before .before .before .args .leaf .now) (c .before .before .before .before .before .before .before .before .before .before .before .before .before .before .before .before .args .from) (c .before .before .before .before .before .before .before .before .before .before .before .before .before .before .before .before .args .end)) (c .before .before .before .before .before .before .before .before .before .before .before .before .before .before .before .before .args .page .now) (c .before .before .before .before .before .before .before .before .before .before .before .before .before .before .before .before .pre .1) (c .before .before .before .before .before .before .before .before .before .before .emit-pairs .result) (c .before .before .before .before .before .before .before .before .before .before .emit-pairs .ensures .1) (c .before .before .before .before .before .before .emit-keyed .result) (c .before .before .before .before .before .before .emit-keyed .ensures .1) _ (c .before .before .emit-pairs2 .ensures .1))
 

@@ -24,47 +24,36 @@ abbrev μ-loop : tie.MeasureT-loop
 next-is : (c : tie.After-known-told Inv-loop μ-loop) → Next (c .before .before .before .before .before .before .before .before .before .before .before .args .node .now) (c .before .before .before .before .before .before .loop .c .at) (c .before .before .before .before .before .before .loop .c .end) (c .before .e .given .0 .0) (c .before .e .given .0 .1 .0)
 next-is c = step-read-is _ _ _ _ _ _ (c .before .before .before .step .ensures) (c .before .e .given .1)
 
--- src/leaf.rt:179:5
 loop-holds : tie.Need-loop-holds Inv-loop μ-loop
 loop-holds c = (refl, refl, c .before .before .before .before .pre .1, refl)
 
--- src/leaf.rt:180:35
 step-requires : tie.Need-step-requires Inv-loop μ-loop
 step-requires c κs = omega arith
 
--- src/leaf.rt:180:24
 enum-known-e : tie.Need-enum-known-e Inv-loop μ-loop
 enum-known-e c = search needs
 
--- src/leaf.rt:181:13
 enum-told : tie.Need-enum-told Inv-loop μ-loop
 enum-told c = search needs
 
--- src/leaf.rt:181:13
 same-length : tie.Need-same-length Inv-loop μ-loop
 same-length c = c .before .before .before .before .before .loop .inv .1
 
--- src/leaf.rt:181:13
 returns : tie.Need-returns Inv-loop μ-loop
 returns c = all-taken (listed (c .before .before .before .before .before .before .before .before .before .before .args .node .now) (c .before .before .before .before .before .loop .c .at) (c .before .before .before .before .before .loop .c .end)) (c .before .before .before .before .before .before .before .before .before .before .args .num) (c .before .before .before .before .before .before .before .before .before .before .args .lo .now) (c .before .before .before .before .before .before .before .before .before .before .args .hi .now) (c .before .before .before .before .before .loop .store) _ (step-bad-is _ _ _ _ (c .before .before .step .ensures) (c .enum-told .given .1) .1) (c .before .before .before .before .before .loop .inv .3)
 
--- src/leaf.rt:183:9
 take-entry-requires : tie.Need-take-entry-requires Inv-loop μ-loop
 take-entry-requires c κs = let n = next-is (c .before) in (entry-wider (c .before .before .before .before .before .before .before .loop .c .at) (c .before .before .before .before .before .before .before .loop .c .end) 0 (length (c .before .before .before .before .before .before .before .before .before .before .before .before .args .node .now)) (c .before .before .e .given .0 .0) (omega arith) (omega arith) (n .reachable), entry-inside (listed (c .before .before .before .before .before .before .before .before .before .before .before .before .args .node .now) (c .before .before .before .before .before .before .before .loop .c .at) (c .before .before .before .before .before .before .before .loop .c .end)) (listed (c .before .before .before .before .before .before .before .before .before .before .before .before .args .node .now) (c .before .before .e .given .0 .1 .0 .at) (c .before .before .e .given .0 .1 .0 .end)) (entryIn (c .before .before .before .before .before .before .before .before .before .before .before .before .args .node .now) (c .before .before .e .given .0 .0)) (n .lists) (c .before .before .before .before .before .before .before .before .before .before .before .before .args .num) (c .before .before .before .before .before .before .before .before .before .before .before .before .args .lo .now) (c .before .before .before .before .before .before .before .before .before .before .before .before .args .hi .now) (c .before .before .before .before .before .before .before .loop .store) (c .before .before .before .before .before .before .before .loop .inv .2), entry-fits (listed (c .before .before .before .before .before .before .before .before .before .before .before .before .args .node .now) (c .before .before .before .before .before .before .before .loop .c .at) (c .before .before .before .before .before .before .before .loop .c .end)) (listed (c .before .before .before .before .before .before .before .before .before .before .before .before .args .node .now) (c .before .before .e .given .0 .1 .0 .at) (c .before .before .e .given .0 .1 .0 .end)) (entryIn (c .before .before .before .before .before .before .before .before .before .before .before .before .args .node .now) (c .before .before .e .given .0 .0)) (n .lists) (c .before .before .before .before .before .before .before .before .before .before .before .before .args .num) (c .before .before .before .before .before .before .before .before .before .before .before .before .args .lo .now) (c .before .before .before .before .before .before .before .before .before .before .before .before .args .hi .now) (c .before .before .before .before .before .before .before .loop .store) (c .before .before .before .before .before .before .before .loop .inv .2))
 
--- src/leaf.rt:179:5
 loop-less : tie.Need-loop-less Inv-loop μ-loop
 loop-less c = let n = next-is (c .before .before .before .before) in omega arith
 
--- src/leaf.rt:179:5
 loop-again : tie.Need-loop-again Inv-loop μ-loop
 loop-again c = let n = next-is (c .before .before .before .before) in (n .ends ∙ c .before .before .before .before .before .before .before .before .before .before .loop .inv .0, search needs, room-left (listed (c .before .before .before .before .before .before .before .before .before .before .before .before .before .before .before .args .node .now) (c .before .before .before .before .before .before .before .before .before .before .loop .c .at) (c .before .before .before .before .before .before .before .before .before .before .loop .c .end)) (listed (c .before .before .before .before .before .before .before .before .before .before .before .before .before .before .before .args .node .now) (c .before .before .before .before .before .e .given .0 .1 .0 .at) (c .before .before .before .before .before .e .given .0 .1 .0 .end)) (entryIn (c .before .before .before .before .before .before .before .before .before .before .before .before .before .before .before .args .node .now) (c .before .before .before .before .before .e .given .0 .0)) (n .lists) (c .before .before .before .before .before .before .before .before .before .before .before .before .before .before .before .args .num) (c .before .before .before .before .before .before .before .before .before .before .before .before .before .before .before .args .lo .now) (c .before .before .before .before .before .before .before .before .before .before .before .before .before .before .before .args .hi .now) (c .before .before .before .before .before .before .before .before .before .before .loop .store) (c .before .before .before .before .before .before .before .before .before .before .loop .inv .2) _ (c .before .before .take-entry .ensures), entry-taken (listed (c .before .before .before .before .before .before .before .before .before .before .before .before .before .before .before .args .node .now) (c .before .before .before .before .before .before .before .before .before .before .loop .c .at) (c .before .before .before .before .before .before .before .before .before .before .loop .c .end)) (listed (c .before .before .before .before .before .before .before .before .before .before .before .before .before .before .before .args .node .now) (c .before .before .before .before .before .e .given .0 .1 .0 .at) (c .before .before .before .before .before .e .given .0 .1 .0 .end)) (entryIn (c .before .before .before .before .before .before .before .before .before .before .before .before .before .before .before .args .node .now) (c .before .before .before .before .before .e .given .0 .0)) (n .lists) (c .before .before .before .before .before .before .before .before .before .before .before .before .before .before .before .args .num) (c .before .before .before .before .before .before .before .before .before .before .before .before .before .before .before .args .lo .now) (c .before .before .before .before .before .before .before .before .before .before .before .before .before .before .before .args .hi .now) (c .before .before .before .before .before .before .before .before .before .before .loop .store) (c .before .before .before .before .before .before .before .before .before .before .loop .inv .2) _ _ (c .before .before .take-entry .ensures) (c .before .before .before .before .before .before .before .before .before .before .loop .inv .3))
 
--- src/leaf.rt:174:1
 same-length-2 : tie.Need-same-length-2 Inv-loop μ-loop
 same-length-2 c = c .before .before .loop .inv .1
 
--- src/leaf.rt:174:1
 returns-2 : tie.Need-returns-2 Inv-loop μ-loop
 returns-2 c = all-taken (listed (c .before .before .before .before .before .before .before .args .node .now) (c .before .before .loop .c .at) (c .before .before .loop .c .end)) (c .before .before .before .before .before .before .before .args .num) (c .before .before .before .before .before .before .before .args .lo .now) (c .before .before .before .before .before .before .before .args .hi .now) (c .before .before .loop .store) _ (listed-end (c .before .before .before .before .before .before .before .args .node .now) (c .before .before .loop .c .at) (c .before .before .loop .c .end) (omega arith)) (c .before .before .loop .inv .3)
 

@@ -5,51 +5,39 @@ use borrow.Author.Needs.{needs}
 use Rattle.push.proofs.leaf.stays.Statement.{statement}
 use Rattle.push.proofs.leaf.stays.Tie as tie
 
--- src/leaf.rt:38:25
 enum-told : tie.Need-enum-told
 enum-told c = search needs
 
--- src/leaf.rt:38:25
 precedes-requires : tie.Need-precedes-requires
 precedes-requires c κs = search needs
 
--- src/leaf.rt:39:24
 enum-told-2 : tie.Need-enum-told-2
 enum-told-2 c = search needs
 
--- src/leaf.rt:39:24
 precedes-requires-2 : tie.Need-precedes-requires-2
 precedes-requires-2 c κs = search needs
 
--- src/leaf.rt:40:25
 enum-told-3 : tie.Need-enum-told-3
 enum-told-3 c = search needs
 
--- src/leaf.rt:40:25
 equal-requires : tie.Need-equal-requires
 equal-requires c κs = search needs
 
--- src/leaf.rt:41:27
 enum-told-4 : tie.Need-enum-told-4
 enum-told-4 c = search needs
 
--- src/leaf.rt:41:27
 begins-with-requires : tie.Need-begins-with-requires
 begins-with-requires c κs = search needs
 
--- src/leaf.rt:34:1
 returns : tie.Need-returns
 returns c = stays-before _ _ _ _ (c .before .enum-told .given .1) (c .precedes .ensures)
 
--- src/leaf.rt:34:1
 returns-2 : tie.Need-returns-2
 returns-2 c = stays-after _ _ _ _ (c .before .enum-told2 .given .1) (c .precedes2 .ensures)
 
--- src/leaf.rt:34:1
 returns-3 : tie.Need-returns-3
 returns-3 c = stays-other _ _ _ _ (c .before .enum-told3 .given .1) (c .equal .ensures)
 
--- src/leaf.rt:34:1
 returns-4 : tie.Need-returns-4
 returns-4 c = stays-outside _ _ _ _ (c .before .enum-told4 .given .1) (c .begins-with .ensures)
 

@@ -16,39 +16,30 @@ enum-told c = search needs
 enum-told-2 : tie.Need-enum-told-2
 enum-told-2 c = search needs
 
--- src/leaf.rt:163:24
 enum-known-e : tie.Need-enum-known-e
 enum-known-e c = search needs
 
--- src/leaf.rt:164:17
 touches-child-requires : tie.Need-touches-child-requires
 touches-child-requires c κs = message-places _ _ _ (c .before .before .before .before .before .before .before .pre .0) (c .before .e .given .1)
 
--- src/leaf.rt:165:17
 returns : tie.Need-returns
 returns c = takes-not (c .before .before .before .before .before .before .before .before .before .args .node .now) (c .before .before .before .before .before .before .before .before .before .args .e) (c .before .before .before .before .before .before .before .before .before .args .num) (c .before .before .before .before .before .before .before .before .before .args .lo .now) (c .before .before .before .before .before .before .before .before .before .args .hi .now) (c .before .before .before .before .before .before .before .before .before .args .store .now) _ (c .before .before .before .e .given .1) _ (c .before .touches-child .ensures) (c .if1 .taken)
 
--- src/leaf.rt:167:17
 common-length-requires : tie.Need-common-length-requires
 common-length-requires c κs = search needs
 
--- src/leaf.rt:168:13
 apply-message-requires : tie.Need-apply-message-requires
 apply-message-requires c κs = let z = ap length (brought-yes (c .before .before .before .before .before .before .before .before .before .before .before .args .node .now) (c .before .before .before .before .before .before .before .before .before .before .before .args .lo .now) (c .before .before .before .before .before .before .before .before .before .before .before .args .hi .now) (c .before .before .before .before .before .before .before .before .before .before .before .args .e) _ (c .before .before .before .before .before .e .given .1) _ (c .before .before .before .touches-child .ensures) (c .before .before .if1 .left) _ (c .before .common-length .ensures .0)) in (message-places _ _ _ (c .before .before .before .before .before .before .before .before .before .before .before .pre .0) (c .before .before .before .before .before .e .given .1), c .before .before .before .before .before .before .before .before .before .before .before .pre .1, omega arith)
 
--- src/leaf.rt:156:1
 returns-2 : tie.Need-returns-2
 returns-2 c = takes-pair (c .before .before .before .before .before .before .args .node .now) (c .before .before .before .before .before .before .args .e) (c .before .before .before .before .before .before .args .num) (c .before .before .before .before .before .before .args .lo .now) (c .before .before .before .before .before .before .args .hi .now) (c .before .before .before .before .before .before .args .store .now) _ _ (c .enum-told .given .1)
 
--- src/leaf.rt:156:1
 returns-3 : tie.Need-returns-3
 returns-3 c = takes-child (c .before .before .before .before .before .before .args .node .now) (c .before .before .before .before .before .before .args .e) (c .before .before .before .before .before .before .args .num) (c .before .before .before .before .before .before .args .lo .now) (c .before .before .before .before .before .before .args .hi .now) (c .before .before .before .before .before .before .args .store .now) _ _ (c .enum-told2 .given .1)
 
--- src/leaf.rt:156:1
 same-length : tie.Need-same-length
 same-length c = search needs
 
--- src/leaf.rt:156:1
 returns-4 : tie.Need-returns-4
 returns-4 c = takes-yes (c .before .before .before .before .before .before .before .before .before .before .before .before .before .before .args .node .now) (c .before .before .before .before .before .before .before .before .before .before .before .before .before .before .args .e) (c .before .before .before .before .before .before .before .before .before .before .before .before .before .before .args .num) (c .before .before .before .before .before .before .before .before .before .before .before .before .before .before .args .lo .now) (c .before .before .before .before .before .before .before .before .before .before .before .before .before .before .args .hi .now) (c .before .before .before .before .before .before .before .before .before .before .before .before .before .before .args .store .now) _ (c .before .before .before .before .before .before .before .before .e .given .1) _ (c .before .before .before .before .before .before .touches-child .ensures) _ _ (c .before .before .before .before .before .if1 .left) (c .before .before .before .before .common-length .ensures .0) (c .before .before .apply-message .ensures)
 

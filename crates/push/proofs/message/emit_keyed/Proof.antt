@@ -6,71 +6,54 @@ use borrow.Author.Needs.{needs}
 use Rattle.push.proofs.message.emit_keyed.Statement.{statement}
 use Rattle.push.proofs.message.emit_keyed.Tie as tie
 
--- src/message.rt:29:31
 add-put-u16 : tie.Need-add-put-u16
 add-put-u16 c = search needs
 
--- src/message.rt:29:31
 add-put-u16-2 : tie.Need-add-put-u16-2
 add-put-u16-2 c = search needs
 
--- src/message.rt:29:5
 put-u16-requires : tie.Need-put-u16-requires
 put-u16-requires c κs = search needs
 
--- src/message.rt:30:27
 add-put-u16-3 : tie.Need-add-put-u16-3
 add-put-u16-3 c = search needs
 
--- src/message.rt:30:5
 put-u16-requires-2 : tie.Need-put-u16-requires-2
 put-u16-requires-2 c κs = search needs
 
--- src/message.rt:31:27
 add-put-u16-4 : tie.Need-add-put-u16-4
 add-put-u16-4 c = search needs
 
--- src/message.rt:31:5
 put-u16-requires-3 : tie.Need-put-u16-requires-3
 put-u16-requires-3 c κs = search needs
 
--- src/message.rt:32:27
 add-copy-at : tie.Need-add-copy-at
 add-copy-at c = search needs
 
--- src/message.rt:32:5
 copy-at-requires : tie.Need-copy-at-requires
 copy-at-requires c κs = search needs
 
--- src/message.rt:33:27
 add-copy-at-2 : tie.Need-add-copy-at-2
 add-copy-at-2 c = search needs
 
--- src/message.rt:33:27
 add-copy-at-3 : tie.Need-add-copy-at-3
 add-copy-at-3 c = search needs
 
--- src/message.rt:33:5
 copy-at-requires-2 : tie.Need-copy-at-requires-2
 copy-at-requires-2 c κs = search needs
 
--- src/message.rt:34:11
 add-result : tie.Need-add-result
 add-result c = search needs
 
--- src/message.rt:34:11
 add-result-2 : tie.Need-add-result-2
 add-result-2 c = search needs
 
--- src/message.rt:34:5
 add-result-3 : tie.Need-add-result-3
 add-result-3 c = search needs
 
--- src/message.rt:23:1
 same-length : tie.Need-same-length
 same-length c = search needs
 
--- src/message.rt:23:1
 returns : tie.Need-returns
 returns c = (keyed-put (c .before .before .before .before .before .before .before .before .before .before .before .before .before .before .before .before .before .before .before .before .before .before .before .args .page .now) _ _ _ _ _ (c .before .before .before .before .before .before .before .before .before .before .before .before .before .before .before .before .before .before .before .before .before .before .before .args .at) (c .before .before .before .before .before .before .before .before .before .before .before .before .before .before .before .before .before .before .before .before .before .before .before .args .kind) (c .before .before .before .before .before .before .before .before .before .before .before .before .before .before .before .before .before .before .before .before .before .before .before .args .key .now) (c .before .before .before .before .before .before .before .before .before .before .before .before .before .before .before .before .before .before .before .before .before .before .before .args .value .now) (c .before .before .before .before .before .before .before .before .before .before .before .before .before .before .before .before .before .before .before .before .before .before .before .pre .0) (c .before .before .before .before .before .before .before .before .before .before .before .before .before .before .before .before .before .before .put-u16 .ensures) (c .before .before .before .before .before .before .before .before .before .before .before .before .before .before .put-u162 .ensures) (c .before .before .before .before .before .before .before .before .before .before .put-u163 .ensures) (c .before .before .before .before .before .before .copy-at .ensures) (c .before .before .copy-at2 .ensures), refl)
 

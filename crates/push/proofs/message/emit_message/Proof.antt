@@ -35,111 +35,84 @@ drop-is c = drop-bytes (c .before .before .before .before .before .before .args 
 clear-is : (c : tie.After-start-past3) → shortEntry 34 (cut (c .before .before .before .before .before .before .args .node .now) (c .start-past3 .result) (c .before .before .m3 .given .0 .0 .stop)) ≡ bytesOf (message (loweredBy (c .before .before .before .before .before .before .args .k) (messageIn (c .before .before .before .before .before .before .args .node .now) (c .before .before .before .before .before .before .args .m))))
 clear-is c = clear-bytes (c .before .before .before .before .before .before .args .node .now) (c .before .before .before .before .before .before .args .m) (c .before .before .m3 .given .0 .0) (c .before .before .before .before .before .before .args .k) (c .start-past3 .result) (c .start-past3 .ensures .2) (c .before .before .m3 .given .1)
 
--- src/message.rt:55:22
 enum-known-m : tie.Need-enum-known-m
 enum-known-m c = search needs
 
--- src/message.rt:56:17
 start-past-requires : tie.Need-start-past-requires
 start-past-requires c κs = let w = put-in c in w .0 .rises
 
--- src/message.rt:60:38
 sub-emit-keyed : tie.Need-sub-emit-keyed
 sub-emit-keyed c = search needs
 
--- src/message.rt:60:38
 part-emit-keyed-start : tie.Need-part-emit-keyed-start
 part-emit-keyed-start c = search needs
 
--- src/message.rt:60:38
 part-emit-keyed-end : tie.Need-part-emit-keyed-end
 part-emit-keyed-end c = let w = put-in (c .before .before) in omega arith
 
--- src/message.rt:60:51
 sub-emit-keyed-2 : tie.Need-sub-emit-keyed-2
 sub-emit-keyed-2 c = let w = put-in (c .before .before .before) in omega arith
 
--- src/message.rt:60:51
 part-emit-keyed-start-2 : tie.Need-part-emit-keyed-start-2
 part-emit-keyed-start-2 c = let w = put-in (c .before .before .before) in omega arith
 
--- src/message.rt:60:51
 part-emit-keyed-end-2 : tie.Need-part-emit-keyed-end-2
 part-emit-keyed-end-2 c = let w = put-in (c .before .before .before) in omega arith
 
--- src/message.rt:60:13
 emit-keyed-requires : tie.Need-emit-keyed-requires
 emit-keyed-requires c κs = (fits-as (c .before .before .before .before .before .before .before .before .before .args .page .now) (c .before .before .before .before .before .before .before .before .before .args .page .now) (c .before .before .before .before .before .before .before .before .before .args .at) 0 _ _ _ (put-is (c .before .before .before)) (c .before .before .before .before .before .before .before .before .before .pre .1) (sym (keyed-length _ _ _)), c .before .before .before .before .before .before .before .before .before .pre .2, omega arith)
 
--- src/message.rt:62:23
 enum-known-m-2 : tie.Need-enum-known-m-2
 enum-known-m-2 c = search needs
 
--- src/message.rt:63:17
 start-past-requires-2 : tie.Need-start-past-requires-2
 start-past-requires-2 c κs = let w = drop-in c in w .rises
 
--- src/message.rt:65:38
 sub-emit-short : tie.Need-sub-emit-short
 sub-emit-short c = search needs
 
--- src/message.rt:65:38
 part-emit-short-start : tie.Need-part-emit-short-start
 part-emit-short-start c = search needs
 
--- src/message.rt:65:38
 part-emit-short-end : tie.Need-part-emit-short-end
 part-emit-short-end c = let w = drop-in (c .before .before) in omega arith
 
--- src/message.rt:65:13
 emit-short-requires : tie.Need-emit-short-requires
 emit-short-requires c κs = (fits-as (c .before .before .before .before .before .before .before .before .args .page .now) (c .before .before .before .before .before .before .before .before .args .page .now) (c .before .before .before .before .before .before .before .before .args .at) 0 _ _ _ (drop-is (c .before .before)) (c .before .before .before .before .before .before .before .before .pre .1) (sym (short-length _ _)), c .before .before .before .before .before .before .before .before .pre .2, omega arith)
 
--- src/message.rt:67:24
 enum-known-m-3 : tie.Need-enum-known-m-3
 enum-known-m-3 c = search needs
 
--- src/message.rt:68:17
 start-past-requires-3 : tie.Need-start-past-requires-3
 start-past-requires-3 c κs = let w = clear-in c in w .rises
 
--- src/message.rt:70:38
 sub-emit-short-2 : tie.Need-sub-emit-short-2
 sub-emit-short-2 c = search needs
 
--- src/message.rt:70:38
 part-emit-short-start-2 : tie.Need-part-emit-short-start-2
 part-emit-short-start-2 c = search needs
 
--- src/message.rt:70:38
 part-emit-short-end-2 : tie.Need-part-emit-short-end-2
 part-emit-short-end-2 c = let w = clear-in (c .before .before) in omega arith
 
--- src/message.rt:70:13
 emit-short-requires-2 : tie.Need-emit-short-requires-2
 emit-short-requires-2 c κs = (fits-as (c .before .before .before .before .before .before .before .before .args .page .now) (c .before .before .before .before .before .before .before .before .args .page .now) (c .before .before .before .before .before .before .before .before .args .at) 0 _ _ _ (clear-is (c .before .before)) (c .before .before .before .before .before .before .before .before .pre .1) (sym (short-length _ _)), c .before .before .before .before .before .before .before .before .pre .2, omega arith)
 
--- src/message.rt:50:1
 same-length : tie.Need-same-length
 same-length c = search needs
 
--- src/message.rt:50:1
 returns : tie.Need-returns
 returns c = (puts-as (c .before .before .before .before .before .before .before .before .before .before .before .before .args .page .now) _ (c .before .before .before .before .before .before .before .before .before .before .before .before .args .at) 0 0 _ _ (put-is (c .before .before .before .before .before .before)) (c .before .before .emit-keyed .ensures .0), ends-as (c .before .before .before .before .before .before .before .before .before .before .before .before .args .page .now) (c .before .before .before .before .before .before .before .before .before .before .before .before .args .page .now) (c .before .before .before .before .before .before .before .before .before .before .before .before .args .at) _ _ _ _ (put-is (c .before .before .before .before .before .before)) (c .before .before .emit-keyed .ensures .1) (sym (keyed-length _ _ _)))
 
--- src/message.rt:50:1
 same-length-2 : tie.Need-same-length-2
 same-length-2 c = search needs
 
--- src/message.rt:50:1
 returns-2 : tie.Need-returns-2
 returns-2 c = (puts-as (c .before .before .before .before .before .before .before .before .before .before .before .args .page .now) _ (c .before .before .before .before .before .before .before .before .before .before .before .args .at) 0 0 _ _ (drop-is (c .before .before .before .before .before)) (c .before .before .emit-short .ensures .0), ends-as (c .before .before .before .before .before .before .before .before .before .before .before .args .page .now) (c .before .before .before .before .before .before .before .before .before .before .before .args .page .now) (c .before .before .before .before .before .before .before .before .before .before .before .args .at) _ _ _ _ (drop-is (c .before .before .before .before .before)) (c .before .before .emit-short .ensures .1) (sym (short-length _ _)))
 
--- src/message.rt:50:1
 same-length-3 : tie.Need-same-length-3
 same-length-3 c = search needs
 
--- src/message.rt:50:1
 returns-3 : tie.Need-returns-3
 returns-3 c = (puts-as (c .before .before .before .before .before .before .before .before .before .before .before .args .page .now) _ (c .before .before .before .before .before .before .before .before .before .before .before .args .at) 0 0 _ _ (clear-is (c .before .before .before .before .before)) (c .before .before .emit-short2 .ensures .0), ends-as (c .before .before .before .before .before .before .before .before .before .before .before .args .page .now) (c .before .before .before .before .before .before .before .before .before .before .before .args .page .now) (c .before .before .before .before .before .before .before .before .before .before .before .args .at) _ _ _ _ (clear-is (c .before .before .before .before .before)) (c .before .before .emit-short2 .ensures .1) (sym (short-length _ _)))
 

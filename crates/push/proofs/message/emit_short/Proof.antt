@@ -6,39 +6,30 @@ use borrow.Author.Needs.{needs}
 use Rattle.push.proofs.message.emit_short.Statement.{statement}
 use Rattle.push.proofs.message.emit_short.Tie as tie
 
--- src/message.rt:43:5
 put-u16-requires : tie.Need-put-u16-requires
 put-u16-requires c κs = search needs
 
--- src/message.rt:44:27
 add-put-u16 : tie.Need-add-put-u16
 add-put-u16 c = search needs
 
--- src/message.rt:44:5
 put-u16-requires-2 : tie.Need-put-u16-requires-2
 put-u16-requires-2 c κs = search needs
 
--- src/message.rt:45:27
 add-copy-at : tie.Need-add-copy-at
 add-copy-at c = search needs
 
--- src/message.rt:45:5
 copy-at-requires : tie.Need-copy-at-requires
 copy-at-requires c κs = search needs
 
--- src/message.rt:46:11
 add-result : tie.Need-add-result
 add-result c = search needs
 
--- src/message.rt:46:5
 add-result-2 : tie.Need-add-result-2
 add-result-2 c = search needs
 
--- src/message.rt:38:1
 same-length : tie.Need-same-length
 same-length c = search needs
 
--- src/message.rt:38:1
 returns : tie.Need-returns
 returns c = (short-put (c .before .before .before .before .before .before .before .before .before .before .before .before .before .before .args .page .now) _ _ _ (c .before .before .before .before .before .before .before .before .before .before .before .before .before .before .args .at) (c .before .before .before .before .before .before .before .before .before .before .before .before .before .before .args .kind) (c .before .before .before .before .before .before .before .before .before .before .before .before .before .before .args .key .now) (c .before .before .before .before .before .before .before .before .before .before .before .before .before .before .pre .0) (c .before .before .before .before .before .before .before .before .before .before .put-u16 .ensures) (c .before .before .before .before .before .before .put-u162 .ensures) (c .before .before .copy-at .ensures), refl)
 

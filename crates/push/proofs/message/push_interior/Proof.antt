@@ -9,79 +9,60 @@ use borrow.Author.Needs.{needs}
 use Rattle.push.proofs.message.push_interior.Statement.{statement}
 use Rattle.push.proofs.message.push_interior.Tie as tie
 
--- src/message.rt:140:14
 mul-at : tie.Need-mul-at
 mul-at c = let i = room-inside (listed (c .before .before .before .before .args .node .now) 8 (c .before .before .before .before .args .stop)) (c .before .before .before .before .args .num) (c .before .before .before .before .args .lo .now) (c .before .before .before .before .args .hi .now) (c .before .before .before .before .args .store .now) (c .before .before .before .before .pre .2) in let f = room-fits (listed (c .before .before .before .before .args .node .now) 8 (c .before .before .before .before .args .stop)) (c .before .before .before .before .args .num) (c .before .before .before .before .args .lo .now) (c .before .before .before .before .args .hi .now) (c .before .before .before .before .args .store .now) (c .before .before .before .before .pre .2) in omega arith
 
--- src/message.rt:141:9
 u16-at-requires : tie.Need-u16-at-requires
 u16-at-requires c κs = let i = room-inside (listed (c .before .before .before .before .before .args .node .now) 8 (c .before .before .before .before .before .args .stop)) (c .before .before .before .before .before .args .num) (c .before .before .before .before .before .args .lo .now) (c .before .before .before .before .before .args .hi .now) (c .before .before .before .before .before .args .store .now) (c .before .before .before .before .before .pre .2) in let f = room-fits (listed (c .before .before .before .before .before .args .node .now) 8 (c .before .before .before .before .before .args .stop)) (c .before .before .before .before .before .args .num) (c .before .before .before .before .before .args .lo .now) (c .before .before .before .before .before .args .hi .now) (c .before .before .before .before .before .args .store .now) (c .before .before .before .before .before .pre .2) in omega arith
 
--- src/message.rt:142:39
 add-u16-at : tie.Need-add-u16-at
 add-u16-at c = let i = room-inside (listed (c .before .before .before .before .before .before .before .args .node .now) 8 (c .before .before .before .before .before .before .before .args .stop)) (c .before .before .before .before .before .before .before .args .num) (c .before .before .before .before .before .before .before .args .lo .now) (c .before .before .before .before .before .before .before .args .hi .now) (c .before .before .before .before .before .before .before .args .store .now) (c .before .before .before .before .before .before .before .pre .2) in let f = room-fits (listed (c .before .before .before .before .before .before .before .args .node .now) 8 (c .before .before .before .before .before .before .before .args .stop)) (c .before .before .before .before .before .before .before .args .num) (c .before .before .before .before .before .before .before .args .lo .now) (c .before .before .before .before .before .before .before .args .hi .now) (c .before .before .before .before .before .before .before .args .store .now) (c .before .before .before .before .before .before .before .pre .2) in omega arith
 
--- src/message.rt:142:9
 u16-at-requires-2 : tie.Need-u16-at-requires-2
 u16-at-requires-2 c κs = let i = room-inside (listed (c .before .before .before .before .before .before .before .args .node .now) 8 (c .before .before .before .before .before .before .before .args .stop)) (c .before .before .before .before .before .before .before .args .num) (c .before .before .before .before .before .before .before .args .lo .now) (c .before .before .before .before .before .before .before .args .hi .now) (c .before .before .before .before .before .before .before .args .store .now) (c .before .before .before .before .before .before .before .pre .2) in let f = room-fits (listed (c .before .before .before .before .before .before .before .args .node .now) 8 (c .before .before .before .before .before .before .before .args .stop)) (c .before .before .before .before .before .before .before .args .num) (c .before .before .before .before .before .before .before .args .lo .now) (c .before .before .before .before .before .before .before .args .hi .now) (c .before .before .before .before .before .before .before .args .store .now) (c .before .before .before .before .before .before .before .pre .2) in omega arith
 
--- src/message.rt:143:16
 add-from : tie.Need-add-from
 add-from c = let i = room-inside (listed (c .before .before .before .before .before .before .before .before .args .node .now) 8 (c .before .before .before .before .before .before .before .before .args .stop)) (c .before .before .before .before .before .before .before .before .args .num) (c .before .before .before .before .before .before .before .before .args .lo .now) (c .before .before .before .before .before .before .before .before .args .hi .now) (c .before .before .before .before .before .before .before .before .args .store .now) (c .before .before .before .before .before .before .before .before .pre .2) in let f = room-fits (listed (c .before .before .before .before .before .before .before .before .args .node .now) 8 (c .before .before .before .before .before .before .before .before .args .stop)) (c .before .before .before .before .before .before .before .before .args .num) (c .before .before .before .before .before .before .before .before .args .lo .now) (c .before .before .before .before .before .before .before .before .args .hi .now) (c .before .before .before .before .before .before .before .before .args .store .now) (c .before .before .before .before .before .before .before .before .pre .2) in omega arith
 
--- src/message.rt:144:14
 add-to : tie.Need-add-to
 add-to c = let i = room-inside (listed (c .before .before .before .before .before .before .before .before .args .node .now) 8 (c .before .before .before .before .before .before .before .before .args .stop)) (c .before .before .before .before .before .before .before .before .args .num) (c .before .before .before .before .before .before .before .before .args .lo .now) (c .before .before .before .before .before .before .before .before .args .hi .now) (c .before .before .before .before .before .before .before .before .args .store .now) (c .before .before .before .before .before .before .before .before .pre .2) in let f = room-fits (listed (c .before .before .before .before .before .before .before .before .args .node .now) 8 (c .before .before .before .before .before .before .before .before .args .stop)) (c .before .before .before .before .before .before .before .before .args .num) (c .before .before .before .before .before .before .before .before .args .lo .now) (c .before .before .before .before .before .before .before .before .args .hi .now) (c .before .before .before .before .before .before .before .before .args .store .now) (c .before .before .before .before .before .before .before .before .pre .2) in omega arith
 
--- src/message.rt:146:21
 slice-aggregate-copy-at : tie.Need-slice-aggregate-copy-at
 slice-aggregate-copy-at c = search needs
 
--- src/message.rt:146:35
 sub-copy-at : tie.Need-sub-copy-at
 sub-copy-at c = search needs
 
--- src/message.rt:146:35
 part-copy-at-start : tie.Need-part-copy-at-start
 part-copy-at-start c = search needs
 
--- src/message.rt:146:35
 part-copy-at-end : tie.Need-part-copy-at-end
 part-copy-at-end c = let i = room-inside (listed (c .before .before .before .before .before .before .before .before .before .before .args .node .now) 8 (c .before .before .before .before .before .before .before .before .before .before .args .stop)) (c .before .before .before .before .before .before .before .before .before .before .args .num) (c .before .before .before .before .before .before .before .before .before .before .args .lo .now) (c .before .before .before .before .before .before .before .before .before .before .args .hi .now) (c .before .before .before .before .before .before .before .before .before .before .args .store .now) (c .before .before .before .before .before .before .before .before .before .before .pre .2) in let f = room-fits (listed (c .before .before .before .before .before .before .before .before .before .before .args .node .now) 8 (c .before .before .before .before .before .before .before .before .before .before .args .stop)) (c .before .before .before .before .before .before .before .before .before .before .args .num) (c .before .before .before .before .before .before .before .before .before .before .args .lo .now) (c .before .before .before .before .before .before .before .before .before .before .args .hi .now) (c .before .before .before .before .before .before .before .before .before .before .args .store .now) (c .before .before .before .before .before .before .before .before .before .before .pre .2) in omega arith
 
--- src/message.rt:146:5
 copy-at-requires : tie.Need-copy-at-requires
 copy-at-requires c κs = let i = room-inside (listed (c .before .before .before .before .before .before .before .before .before .before .before .args .node .now) 8 (c .before .before .before .before .before .before .before .before .before .before .before .args .stop)) (c .before .before .before .before .before .before .before .before .before .before .before .args .num) (c .before .before .before .before .before .before .before .before .before .before .before .args .lo .now) (c .before .before .before .before .before .before .before .before .before .before .before .args .hi .now) (c .before .before .before .before .before .before .before .before .before .before .before .args .store .now) (c .before .before .before .before .before .before .before .before .before .before .before .pre .2) in let f = room-fits (listed (c .before .before .before .before .before .before .before .before .before .before .before .args .node .now) 8 (c .before .before .before .before .before .before .before .before .before .before .before .args .stop)) (c .before .before .before .before .before .before .before .before .before .before .before .args .num) (c .before .before .before .before .before .before .before .before .before .before .before .args .lo .now) (c .before .before .before .before .before .before .before .before .before .before .before .args .hi .now) (c .before .before .before .before .before .before .before .before .before .before .before .args .store .now) (c .before .before .before .before .before .before .before .before .before .before .before .pre .2) in omega arith
 
--- src/message.rt:147:29
 slice-aggregate-emit-messages : tie.Need-slice-aggregate-emit-messages
 slice-aggregate-emit-messages c = search needs
 
--- src/message.rt:147:40
 add-emit-messages : tie.Need-add-emit-messages
 add-emit-messages c = search needs
 
--- src/message.rt:147:9
 emit-messages-requires : tie.Need-emit-messages-requires
 emit-messages-requires c κs = let i = room-inside (listed (c .before .before .before .before .before .before .before .before .before .before .before .before .before .before .args .node .now) 8 (c .before .before .before .before .before .before .before .before .before .before .before .before .before .before .args .stop)) (c .before .before .before .before .before .before .before .before .before .before .before .before .before .before .args .num) (c .before .before .before .before .before .before .before .before .before .before .before .before .before .before .args .lo .now) (c .before .before .before .before .before .before .before .before .before .before .before .before .before .before .args .hi .now) (c .before .before .before .before .before .before .before .before .before .before .before .before .before .before .args .store .now) (c .before .before .before .before .before .before .before .before .before .before .before .before .before .before .pre .2) in let f = room-fits (listed (c .before .before .before .before .before .before .before .before .before .before .before .before .before .before .args .node .now) 8 (c .before .before .before .before .before .before .before .before .before .before .before .before .before .before .args .stop)) (c .before .before .before .before .before .before .before .before .before .before .before .before .before .before .args .num) (c .before .before .before .before .before .before .before .before .before .before .before .before .before .before .args .lo .now) (c .before .before .before .before .before .before .before .before .before .before .before .before .before .before .args .hi .now) (c .before .before .before .before .before .before .before .before .before .before .before .before .before .before .args .store .now) (c .before .before .before .before .before .before .before .before .before .before .before .before .before .before .pre .2) in (c .before .before .before .before .before .before .before .before .before .before .before .before .before .before .pre .0, omega arith, omega arith)
 
--- src/message.rt:148:28
 slice-aggregate-write-page : tie.Need-slice-aggregate-write-page
 slice-aggregate-write-page c = search needs
 
--- src/message.rt:148:49
 sub-write-page : tie.Need-sub-write-page
 sub-write-page c = search needs
 
--- src/message.rt:148:5
 write-page-requires : tie.Need-write-page-requires
 write-page-requires c κs = let i = room-inside (listed (c .before .before .before .before .before .before .before .before .before .before .before .before .before .before .before .before .before .before .args .node .now) 8 (c .before .before .before .before .before .before .before .before .before .before .before .before .before .before .before .before .before .before .args .stop)) (c .before .before .before .before .before .before .before .before .before .before .before .before .before .before .before .before .before .before .args .num) (c .before .before .before .before .before .before .before .before .before .before .before .before .before .before .before .before .before .before .args .lo .now) (c .before .before .before .before .before .before .before .before .before .before .before .before .before .before .before .before .before .before .args .hi .now) (c .before .before .before .before .before .before .before .before .before .before .before .before .before .before .before .before .before .before .args .store .now) (c .before .before .before .before .before .before .before .before .before .before .before .before .before .before .before .before .before .before .pre .2) in let f = room-fits (listed (c .before .before .before .before .before .before .before .before .before .before .before .before .before .before .before .before .before .before .args .node .now) 8 (c .before .before .before .before .before .before .before .before .before .before .before .before .before .before .before .before .before .before .args .stop)) (c .before .before .before .before .before .before .before .before .before .before .before .before .before .before .before .before .before .before .args .num) (c .before .before .before .before .before .before .before .before .before .before .before .before .before .before .before .before .before .before .args .lo .now) (c .before .before .before .before .before .before .before .before .before .before .before .before .before .before .before .before .before .before .args .hi .now) (c .before .before .before .before .before .before .before .before .before .before .before .before .before .before .before .before .before .before .args .store .now) (c .before .before .before .before .before .before .before .before .before .before .before .before .before .before .before .before .before .before .pre .2) in (i, omega arith, omega arith, omega arith, omega arith)
 
--- src/message.rt:136:1
 same-length : tie.Need-same-length
 same-length c = search needs
 
--- src/message.rt:136:1
 returns : tie.Need-returns
 unfolding zerosOf
 returns c = interior-written (listed (c .before .before .before .before .before .before .before .before .before .before .before .before .before .before .before .before .before .before .before .before .before .before .args .node .now) 8 (c .before .before .before .before .before .before .before .before .before .before .before .before .before .before .before .before .before .before .before .before .before .before .args .stop)) (c .before .before .before .before .before .before .before .before .before .before .before .before .before .before .before .before .before .before .before .before .before .before .args .num) (c .before .before .before .before .before .before .before .before .before .before .before .before .before .before .before .before .before .before .before .before .before .before .args .lo .now) (c .before .before .before .before .before .before .before .before .before .before .before .before .before .before .before .before .before .before .before .before .before .before .args .hi .now) (c .before .before .before .before .before .before .before .before .before .before .before .before .before .before .before .before .before .before .before .before .before .before .args .store .now) (c .before .before .before .before .before .before .before .before .before .before .before .before .before .before .before .before .before .before .before .before .before .before .pre .2) (c .before .before .before .before .before .before .before .before .before .before .before .before .before .before .before .before .u16-at .result) (c .before .before .before .before .before .before .before .before .before .before .before .before .before .before .u16-at2 .result) (c .before .before .before .before .before .before .before .emit-messages .result) _ _ _ (c .before .before .before .before .before .before .before .before .before .before .before .before .before .before .before .before .u16-at .ensures .0) (c .before .before .before .before .before .before .before .before .before .before .before .before .before .before .u16-at2 .ensures .0) (c .before .before .before .before .before .before .before .before .before .before .copy-at .ensures) (c .before .before .before .before .before .before .before .emit-messages .ensures .0) (c .before .before .before .before .before .before .before .emit-messages .ensures .1) (c .before .before .before .write-page .ensures)

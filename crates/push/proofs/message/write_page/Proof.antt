@@ -5,35 +5,27 @@ use borrow.Author.Needs.{needs}
 use Rattle.push.proofs.message.write_page.Statement.{statement}
 use Rattle.push.proofs.message.write_page.Tie as tie
 
--- src/message.rt:129:5
 put-u16-requires : tie.Need-put-u16-requires
 put-u16-requires c κs = search needs
 
--- src/message.rt:130:5
 put-u16-requires-2 : tie.Need-put-u16-requires-2
 put-u16-requires-2 c κs = search needs
 
--- src/message.rt:131:5
 put-u16-requires-3 : tie.Need-put-u16-requires-3
 put-u16-requires-3 c κs = search needs
 
--- src/message.rt:132:28
 mul-copy-at : tie.Need-mul-copy-at
 mul-copy-at c = search needs
 
--- src/message.rt:132:5
 copy-at-requires : tie.Need-copy-at-requires
 copy-at-requires c κs = search needs
 
--- src/message.rt:118:1
 same-length : tie.Need-same-length
 same-length c = search needs
 
--- src/message.rt:118:1
 same-length-2 : tie.Need-same-length-2
 same-length-2 c = search needs
 
--- src/message.rt:118:1
 returns : tie.Need-returns
 returns c = page-put (c .before .before .before .before .before .before .before .before .before .before .before .before .before .before .before .before .before .before .before .args .page .now) _ _ _ (c .before .before .before .before .before .before .before .before .before .before .before .before .before .before .before .before .before .before .before .args .store .now) _ (c .before .before .before .before .before .before .before .before .before .before .before .before .before .before .before .before .before .before .before .args .num) (c .before .before .before .before .before .before .before .before .before .before .before .before .before .before .before .before .before .before .before .args .kind) (c .before .before .before .before .before .before .before .before .before .before .before .before .before .before .before .before .before .before .before .args .level) (c .before .before .before .before .before .before .before .before .before .before .before .before .before .before .before .before .before .before .before .args .size) (c .before .before .before .before .before .before .before .before .before .before .before .before .before .before .before .put-u16 .ensures) (c .before .before .before .before .before .before .before .before .before .before .before .put-u162 .ensures) (c .before .before .before .before .before .before .before .put-u163 .ensures) (c .before .before .copy-at .ensures)
 

@@ -29,95 +29,72 @@ first-next c = pends-child _ _ _ _ _ _ _ (c .before .before .before .read-child 
 kid-next : (c : tie.After-known-told2 Inv-loop μ-loop) → NextChild (c .before .before .before .before .before .before .before .before .before .before .before .before .args .node .now) (c .before .before .before .before .loop .c .at) (c .before .before .before .before .loop .c .end) (c .before .k .given .0 .0) (c .before .k .given .0 .1 .0) (c .before .k .given .0 .1 .1 .0)
 kid-next c = pends-child _ _ _ _ _ _ _ (c .before .before .before .read-child2 .ensures) (c .before .k .given .1)
 
--- src/room.rt:144:47
 read-child-requires : tie.Need-read-child-requires Inv-loop μ-loop
 read-child-requires c κs = search needs
 
--- src/room.rt:144:24
 enum-known-first : tie.Need-enum-known-first Inv-loop μ-loop
 enum-known-first c = search needs
 
--- src/room.rt:146:9
 enum-told : tie.Need-enum-told Inv-loop μ-loop
 enum-told c = search needs
 
--- src/room.rt:146:9
 returns : tie.Need-returns Inv-loop μ-loop
 returns c = rooms-none (listed (c .before .before .before .before .before .before .args .node .now) 8 (c .before .before .before .before .before .before .args .stop)) (c .before .before .before .before .before .before .args .hi .now) (c .before .before .before .before .before .before .args .store .now) _ (kidsE (listed (c .before .before .before .before .before .before .args .node .now) 8 (c .before .before .before .before .before .before .args .stop))) (pends-end _ _ _ _ (c .before .before .read-child .ensures) (c .enum-told .given .1)) refl
 
--- src/room.rt:151:5
 loop-holds : tie.Need-loop-holds Inv-loop μ-loop
 loop-holds c = let n = first-next c in (omega arith, n .place, ap (λ l. allHaveRoom (listed (c .before .before .before .before .before .before .before .args .node .now) 8 (c .before .before .before .before .before .before .before .args .stop)) l (c .before .before .before .before .before .before .before .args .hi .now) (c .before .before .before .before .before .before .before .args .store .now)) (sym (n .lists)))
 
--- src/room.rt:154:42
 read-child-requires-2 : tie.Need-read-child-requires-2 Inv-loop μ-loop
 read-child-requires-2 c κs = c .loop .inv .0
 
--- src/room.rt:154:28
 enum-known-k : tie.Need-enum-known-k Inv-loop μ-loop
 enum-known-k c = search needs
 
--- src/room.rt:155:55
 enum-told-2 : tie.Need-enum-told-2 Inv-loop μ-loop
 enum-told-2 c = search needs
 
--- src/room.rt:155:55
 sub-child-fits : tie.Need-sub-child-fits Inv-loop μ-loop
 sub-child-fits c = let w = c .before .before .before .loop .inv .1 in omega arith
 
--- src/room.rt:155:55
 part-child-fits-start : tie.Need-part-child-fits-start Inv-loop μ-loop
 part-child-fits-start c = let w = c .before .before .before .loop .inv .1 in omega arith
 
--- src/room.rt:155:55
 part-child-fits-end : tie.Need-part-child-fits-end Inv-loop μ-loop
 part-child-fits-end c = let w = c .before .before .before .loop .inv .1 in omega arith
 
--- src/room.rt:155:13
 child-fits-requires : tie.Need-child-fits-requires Inv-loop μ-loop
 child-fits-requires c κs = search needs
 
--- src/room.rt:155:13
 returns-2 : tie.Need-returns-2 Inv-loop μ-loop
 returns-2 c = rooms-last (listed (c .before .before .before .before .before .before .before .before .before .before .before .before .before .args .node .now) 8 (c .before .before .before .before .before .before .before .before .before .before .before .before .before .args .stop)) (c .before .before .before .before .before .before .before .before .before .before .before .before .before .args .hi .now) (c .before .before .before .before .before .before .before .before .before .before .before .before .before .args .store .now) _ (c .before .before .before .before .before .loop .num) (part (c .before .before .before .before .before .before .before .before .before .before .before .before .before .args .node .now) (c .before .before .before .before .before .loop .low)) (kidsE (listed (c .before .before .before .before .before .before .before .before .before .before .before .before .before .args .node .now) (c .before .before .before .before .before .loop .c .at) (c .before .before .before .before .before .loop .c .end))) (c .before .before .before .before .before .loop .inv .2) _ (pends-end _ _ _ _ (c .before .before .before .before .read-child2 .ensures) (c .before .before .enum-told2 .given .1)) (c .child-fits .ensures)
 
--- src/room.rt:159:48
 sub-child-fits-2 : tie.Need-sub-child-fits-2 Inv-loop μ-loop
 sub-child-fits-2 c = let w = c .before .before .before .before .loop .inv .1 in omega arith
 
--- src/room.rt:159:48
 part-child-fits-start-2 : tie.Need-part-child-fits-start-2 Inv-loop μ-loop
 part-child-fits-start-2 c = let w = c .before .before .before .before .loop .inv .1 in omega arith
 
--- src/room.rt:159:48
 part-child-fits-end-2 : tie.Need-part-child-fits-end-2 Inv-loop μ-loop
 part-child-fits-end-2 c = let w = c .before .before .before .before .loop .inv .1 in omega arith
 
--- src/room.rt:159:61
 sub-child-fits-3 : tie.Need-sub-child-fits-3 Inv-loop μ-loop
 sub-child-fits-3 c = let n = kid-next (c .before) in let w = n .place in omega arith
 
--- src/room.rt:159:61
 part-child-fits-start-3 : tie.Need-part-child-fits-start-3 Inv-loop μ-loop
 part-child-fits-start-3 c = let n = kid-next (c .before) in let w = n .place in omega arith
 
--- src/room.rt:159:61
 part-child-fits-end-3 : tie.Need-part-child-fits-end-3 Inv-loop μ-loop
 part-child-fits-end-3 c = let n = kid-next (c .before) in let w = n .place in omega arith
 
--- src/room.rt:159:13
 child-fits-requires-2 : tie.Need-child-fits-requires-2 Inv-loop μ-loop
 child-fits-requires-2 c κs = search needs
 
--- src/room.rt:160:13
 returns-3 : tie.Need-returns-3 Inv-loop μ-loop
 returns-3 c = let n = kid-next (c .before .before .before .before) in rooms-no (listed (c .before .before .before .before .before .before .before .before .before .before .before .before .before .before .before .before .args .node .now) 8 (c .before .before .before .before .before .before .before .before .before .before .before .before .before .before .before .before .args .stop)) (c .before .before .before .before .before .before .before .before .before .before .before .before .before .before .before .before .args .hi .now) (c .before .before .before .before .before .before .before .before .before .before .before .before .before .before .before .before .args .store .now) _ (c .before .before .before .before .before .before .before .before .loop .num) (part (c .before .before .before .before .before .before .before .before .before .before .before .before .before .before .before .before .args .node .now) (c .before .before .before .before .before .before .before .before .loop .low)) (kidsE (listed (c .before .before .before .before .before .before .before .before .before .before .before .before .before .before .before .before .args .node .now) (c .before .before .before .before .before .before .before .before .loop .c .at) (c .before .before .before .before .before .before .before .before .loop .c .end))) (c .before .before .before .before .before .before .before .before .loop .inv .2) _ _ (part (c .before .before .before .before .before .before .before .before .before .before .before .before .before .before .before .before .args .node .now) (c .before .before .before .before .before .k .given .0 .1 .0)) (kidsE (listed (c .before .before .before .before .before .before .before .before .before .before .before .before .before .before .before .before .args .node .now) (c .before .before .before .before .before .k .given .0 .1 .1 .0 .at) (c .before .before .before .before .before .k .given .0 .1 .1 .0 .end))) (n .lists) (c .before .child-fits2 .ensures) (c .if1 .taken)
 
--- src/room.rt:151:5
 loop-less : tie.Need-loop-less Inv-loop μ-loop
 loop-less c = let n = kid-next (c .before .before .before .before) in omega arith
 
--- src/room.rt:151:5
 loop-again : tie.Need-loop-again Inv-loop μ-loop
 loop-again c = let n = kid-next (c .before .before .before .before) in (omega arith, n .place, rooms-on (listed (c .before .before .before .before .before .before .before .before .before .before .before .before .before .before .before .before .args .node .now) 8 (c .before .before .before .before .before .before .before .before .before .before .before .before .before .before .before .before .args .stop)) (c .before .before .before .before .before .before .before .before .before .before .before .before .before .before .before .before .args .hi .now) (c .before .before .before .before .before .before .before .before .before .before .before .before .before .before .before .before .args .store .now) _ (c .before .before .before .before .before .before .before .before .loop .num) (part (c .before .before .before .before .before .before .before .before .before .before .before .before .before .before .before .before .args .node .now) (c .before .before .before .before .before .before .before .before .loop .low)) (kidsE (listed (c .before .before .before .before .before .before .before .before .before .before .before .before .before .before .before .before .args .node .now) (c .before .before .before .before .before .before .before .before .loop .c .at) (c .before .before .before .before .before .before .before .before .loop .c .end))) (c .before .before .before .before .before .before .before .before .loop .inv .2) _ _ (part (c .before .before .before .before .before .before .before .before .before .before .before .before .before .before .before .before .args .node .now) (c .before .before .before .before .before .k .given .0 .1 .0)) (kidsE (listed (c .before .before .before .before .before .before .before .before .before .before .before .before .before .before .before .before .args .node .now) (c .before .before .before .before .before .k .given .0 .1 .1 .0 .at) (c .before .before .before .before .before .k .given .0 .1 .1 .0 .end))) (n .lists) (c .before .child-fits2 .ensures) (c .if1 .left))
 

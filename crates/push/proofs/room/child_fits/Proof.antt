@@ -7,24 +7,19 @@ use borrow.Author.Needs.{needs}
 use Rattle.push.proofs.room.child_fits.Statement.{statement}
 use Rattle.push.proofs.room.child_fits.Tie as tie
 
--- src/room.rt:133:9
 returns : tie.Need-returns
 unfolding nodesOf
 returns c = room-no _ _ _ _ _ (omega arith)
 
--- src/room.rt:135:38
 mul-u16-at : tie.Need-mul-u16-at
 mul-u16-at c = search needs
 
--- src/room.rt:135:9
 u16-at-requires : tie.Need-u16-at-requires
 u16-at-requires c κs = search needs
 
--- src/room.rt:136:5
 messages-fit-requires : tie.Need-messages-fit-requires
 messages-fit-requires c κs = search needs
 
--- src/room.rt:128:1
 returns-2 : tie.Need-returns-2
 unfolding nodesOf
 returns-2 c = room-is _ _ _ _ _ _ _ (omega arith) (c .before .u16-at .ensures .0) (c .messages-fit .ensures)

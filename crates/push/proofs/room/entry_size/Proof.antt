@@ -9,43 +9,33 @@ use borrow.Author.Needs.{needs}
 use Rattle.push.proofs.room.entry_size.Statement.{statement}
 use Rattle.push.proofs.room.entry_size.Tie as tie
 
--- src/room.rt:92:30
 enum-told : tie.Need-enum-told
 enum-told c = search needs
 
--- src/room.rt:93:31
 enum-told-2 : tie.Need-enum-told-2
 enum-told-2 c = search needs
 
--- src/room.rt:94:24
 enum-known-e : tie.Need-enum-known-e
 enum-known-e c = search needs
 
--- src/room.rt:95:17
 touches-child-requires : tie.Need-touches-child-requires
 touches-child-requires c κs = message-places _ _ _ (c .before .before .before .before .before .before .pre .0) (c .before .e .given .1)
 
--- src/room.rt:96:17
 returns : tie.Need-returns
 returns c = (brings-none _ (brought-not (c .before .before .before .before .before .before .before .before .args .node .now) (c .before .before .before .before .before .before .before .before .args .lo .now) (c .before .before .before .before .before .before .before .before .args .hi .now) (c .before .before .before .before .before .before .before .before .args .e) _ (c .before .before .before .e .given .1) _ (c .before .touches-child .ensures) (c .if1 .taken)), omega arith)
 
--- src/room.rt:98:17
 common-length-requires : tie.Need-common-length-requires
 common-length-requires c κs = search needs
 
--- src/room.rt:99:13
 message-size-requires : tie.Need-message-size-requires
 message-size-requires c κs = (message-places _ _ _ (c .before .before .before .before .before .before .before .before .before .pre .0) (c .before .before .before .before .e .given .1), c .before .before .before .before .before .before .before .before .before .pre .1)
 
--- src/room.rt:87:1
 returns-2 : tie.Need-returns-2
 returns-2 c = (brings-none _ (brought-pair (c .before .before .before .before .before .args .node .now) (c .before .before .before .before .before .args .lo .now) (c .before .before .before .before .before .args .hi .now) (c .before .before .before .before .before .args .e) _ _ (c .enum-told .given .1)), omega arith)
 
--- src/room.rt:87:1
 returns-3 : tie.Need-returns-3
 returns-3 c = (brings-none _ (brought-child (c .before .before .before .before .before .args .node .now) (c .before .before .before .before .before .args .lo .now) (c .before .before .before .before .before .args .hi .now) (c .before .before .before .before .before .args .e) _ _ (c .enum-told2 .given .1)), omega arith)
 
--- src/room.rt:87:1
 returns-4 : tie.Need-returns-4
 returns-4 c = (c .message-size .ensures .0 ∙ ap length (sym (brought-yes (c .before .before .before .before .before .before .before .before .before .before .args .node .now) (c .before .before .before .before .before .before .before .before .before .before .args .lo .now) (c .before .before .before .before .before .before .before .before .before .before .args .hi .now) (c .before .before .before .before .before .before .before .before .before .before .args .e) _ (c .before .before .before .before .before .e .given .1) _ (c .before .before .before .touches-child .ensures) (c .before .before .if1 .left) _ (c .before .common-length .ensures .0))), c .message-size .ensures .1)
 

@@ -23,47 +23,36 @@ abbrev μ-loop : tie.MeasureT-loop
 next-is : (c : tie.After-known-told Inv-loop μ-loop) → Next (c .before .before .before .before .before .before .before .before .before .before .before .args .node .now) (c .before .before .before .before .before .before .before .loop .c .at) (c .before .before .before .before .before .before .before .loop .c .end) (c .before .e .given .0 .0) (c .before .e .given .0 .1 .0)
 next-is c = step-read-is _ _ _ _ _ _ (c .before .before .before .step .ensures) (c .before .e .given .1)
 
--- src/room.rt:114:5
 loop-holds : tie.Need-loop-holds Inv-loop μ-loop
 loop-holds c = (refl, omega arith, refl)
 
--- src/room.rt:116:13
 returns : tie.Need-returns Inv-loop μ-loop
 returns c = fit-over _ _ _ _ _ (c .before .before .before .loop .inv .2) (omega arith)
 
--- src/room.rt:118:35
 step-requires : tie.Need-step-requires Inv-loop μ-loop
 step-requires c κs = omega arith
 
--- src/room.rt:118:24
 enum-known-e : tie.Need-enum-known-e Inv-loop μ-loop
 enum-known-e c = search needs
 
--- src/room.rt:119:13
 enum-told : tie.Need-enum-told Inv-loop μ-loop
 enum-told c = search needs
 
--- src/room.rt:119:13
 returns-2 : tie.Need-returns-2 Inv-loop μ-loop
 returns-2 c = fit-end _ _ _ _ _ (c .before .before .before .before .before .before .loop .inv .2) (step-bad-is _ _ _ _ (c .before .before .step .ensures) (c .enum-told .given .1) .1)
 
--- src/room.rt:121:21
 entry-size-requires : tie.Need-entry-size-requires Inv-loop μ-loop
 entry-size-requires c κs = let n = next-is c in (entry-wider (c .before .before .before .before .before .before .before .loop .c .at) (c .before .before .before .before .before .before .before .loop .c .end) 0 (length (c .before .before .before .before .before .before .before .before .before .before .before .args .node .now)) (c .before .e .given .0 .0) (omega arith) (omega arith) (n .reachable), c .before .before .before .before .before .before .before .before .before .before .before .pre .1)
 
--- src/room.rt:121:15
 add-sum : tie.Need-add-sum Inv-loop μ-loop
 add-sum c = let r = c .entry-size .ensures in omega arith
 
--- src/room.rt:114:5
 loop-less : tie.Need-loop-less Inv-loop μ-loop
 loop-less c = let n = next-is (c .before) in omega arith
 
--- src/room.rt:114:5
 loop-again : tie.Need-loop-again Inv-loop μ-loop
 loop-again c = let n = next-is (c .before) in let r = c .entry-size .ensures in (n .ends ∙ c .before .before .before .before .before .before .before .before .loop .inv .0, omega arith, fit-step (c .before .before .before .before .before .before .before .before .before .before .before .before .args .lo .now) (c .before .before .before .before .before .before .before .before .before .before .before .before .args .hi .now) _ _ _ (c .before .before .before .before .before .before .before .before .loop .inv .2) _ _ _ (n .lists) (r .0))
 
--- src/room.rt:105:1
 returns-3 : tie.Need-returns-3 Inv-loop μ-loop
 returns-3 c = fit-end _ _ _ _ _ (c .before .before .loop .inv .2) (listed-end _ _ _ (omega arith))
 

@@ -6,19 +6,15 @@ use borrow.Author.Needs.{needs}
 use Rattle.push.proofs.room.start_past.Statement.{statement}
 use Rattle.push.proofs.room.start_past.Tie as tie
 
--- src/room.rt:59:8
 sub-if1 : tie.Need-sub-if1
 sub-if1 c = search needs
 
--- src/room.rt:60:9
 returns : tie.Need-returns
 returns c = (omega arith, omega arith, λ s. past-end (c .before .args .p) (c .before .args .k) (c .before .pre) (omega arith) s)
 
--- src/room.rt:62:5
 add-result : tie.Need-add-result
 add-result c = search needs
 
--- src/room.rt:53:1
 returns-2 : tie.Need-returns-2
 returns-2 c = (omega arith, omega arith, λ s. past-on (c .before .args .p) (c .before .args .k) (c .before .pre) (omega arith) s)
 

@@ -19,123 +19,93 @@ drop-in c = drop-places _ (c .before .before .before .before .before .before .ar
 clear-in : (c : tie.After-known-told3) → Within 0 (length (c .before .before .before .before .before .before .args .node .now)) (c .before .m3 .given .0 .0)
 clear-in c = clear-places _ (c .before .before .before .before .before .before .args .m) _ (c .before .before .before .before .before .before .pre) (c .before .m3 .given .1)
 
--- src/room.rt:30:22
 enum-known-m : tie.Need-enum-known-m
 enum-known-m c = search needs
 
--- src/room.rt:33:35
 sub-owned : tie.Need-sub-owned
 sub-owned c = let w = put-in c in omega arith
 
--- src/room.rt:33:35
 part-owned-start : tie.Need-part-owned-start
 part-owned-start c = let w = put-in c in omega arith
 
--- src/room.rt:33:35
 part-owned-end : tie.Need-part-owned-end
 part-owned-end c = let w = put-in c in omega arith
 
--- src/room.rt:33:13
 owned-requires : tie.Need-owned-requires
 owned-requires c κs = search needs
 
--- src/room.rt:35:23
 enum-known-m-2 : tie.Need-enum-known-m-2
 enum-known-m-2 c = search needs
 
--- src/room.rt:38:35
 sub-owned-2 : tie.Need-sub-owned-2
 sub-owned-2 c = let w = drop-in c in omega arith
 
--- src/room.rt:38:35
 part-owned-start-2 : tie.Need-part-owned-start-2
 part-owned-start-2 c = let w = drop-in c in omega arith
 
--- src/room.rt:38:35
 part-owned-end-2 : tie.Need-part-owned-end-2
 part-owned-end-2 c = let w = drop-in c in omega arith
 
--- src/room.rt:38:13
 owned-requires-2 : tie.Need-owned-requires-2
 owned-requires-2 c κs = search needs
 
--- src/room.rt:40:24
 enum-known-m-3 : tie.Need-enum-known-m-3
 enum-known-m-3 c = search needs
 
--- src/room.rt:43:17
 common-length-requires : tie.Need-common-length-requires
 common-length-requires c κs = search needs
 
--- src/room.rt:44:36
 sub-begins-with : tie.Need-sub-begins-with
 sub-begins-with c = let w = clear-in (c .before) in omega arith
 
--- src/room.rt:44:36
 part-begins-with-start : tie.Need-part-begins-with-start
 part-begins-with-start c = let w = clear-in (c .before) in omega arith
 
--- src/room.rt:44:36
 part-begins-with-end : tie.Need-part-begins-with-end
 part-begins-with-end c = let w = clear-in (c .before) in omega arith
 
--- src/room.rt:44:49
 sub-begins-with-2 : tie.Need-sub-begins-with-2
 sub-begins-with-2 c = search needs
 
--- src/room.rt:44:49
 part-begins-with-start-2 : tie.Need-part-begins-with-start-2
 part-begins-with-start-2 c = search needs
 
--- src/room.rt:44:49
 part-begins-with-end-2 : tie.Need-part-begins-with-end-2
 part-begins-with-end-2 c = search needs
 
--- src/room.rt:44:16
 begins-with-requires : tie.Need-begins-with-requires
 begins-with-requires c κs = search needs
 
--- src/room.rt:45:17
 returns : tie.Need-returns
 returns c = clear-first (c .before .before .before .before .before .before .before .before .before .before .before .args .node .now) (c .before .before .before .before .before .before .before .before .before .before .before .args .lo .now) (c .before .before .before .before .before .before .before .before .before .before .before .args .hi .now) (c .before .before .before .before .before .before .before .before .before .before .before .args .m) (c .before .before .before .before .before .before .m3 .given .0 .0) _ _ (c .before .before .before .before .before .before .m3 .given .1) (c .before .before .before .before .common-length .ensures .0) (c .before .begins-with .ensures) (c .if1 .taken)
 
--- src/room.rt:47:33
 sub-begins-with-3 : tie.Need-sub-begins-with-3
 sub-begins-with-3 c = search needs
 
--- src/room.rt:47:33
 part-begins-with-start-3 : tie.Need-part-begins-with-start-3
 part-begins-with-start-3 c = search needs
 
--- src/room.rt:47:33
 part-begins-with-end-3 : tie.Need-part-begins-with-end-3
 part-begins-with-end-3 c = search needs
 
--- src/room.rt:47:44
 sub-begins-with-4 : tie.Need-sub-begins-with-4
 sub-begins-with-4 c = let w = clear-in (c .before .before .before .before .before .before) in omega arith
 
--- src/room.rt:47:44
 part-begins-with-start-4 : tie.Need-part-begins-with-start-4
 part-begins-with-start-4 c = let w = clear-in (c .before .before .before .before .before .before) in omega arith
 
--- src/room.rt:47:44
 part-begins-with-end-4 : tie.Need-part-begins-with-end-4
 part-begins-with-end-4 c = let w = clear-in (c .before .before .before .before .before .before) in omega arith
 
--- src/room.rt:47:13
 begins-with-requires-2 : tie.Need-begins-with-requires-2
 begins-with-requires-2 c κs = search needs
 
--- src/room.rt:25:1
 returns-2 : tie.Need-returns-2
 returns-2 c = put-touches (c .before .before .before .before .before .before .before .before .args .node .now) (c .before .before .before .before .before .before .before .before .args .lo .now) (c .before .before .before .before .before .before .before .before .args .hi .now) (c .before .before .before .before .before .before .before .before .args .m) (c .before .before .before .m .given .0 .0) _ _ (c .before .before .before .m .given .1) (c .owned .ensures)
 
--- src/room.rt:25:1
 returns-3 : tie.Need-returns-3
 returns-3 c = drop-touches (c .before .before .before .before .before .before .before .before .args .node .now) (c .before .before .before .before .before .before .before .before .args .lo .now) (c .before .before .before .before .before .before .before .before .args .hi .now) (c .before .before .before .before .before .before .before .before .args .m) (c .before .before .before .m2 .given .0 .0) _ (c .before .before .before .m2 .given .1) (c .owned2 .ensures)
 
--- src/room.rt:25:1
 returns-4 : tie.Need-returns-4
 returns-4 c = clear-second (c .before .before .before .before .before .before .before .before .before .before .before .before .before .before .args .node .now) (c .before .before .before .before .before .before .before .before .before .before .before .before .before .before .args .lo .now) (c .before .before .before .before .before .before .before .before .before .before .before .before .before .before .args .hi .now) (c .before .before .before .before .before .before .before .before .before .before .before .before .before .before .args .m) (c .before .before .before .before .before .before .before .before .before .m3 .given .0 .0) _ _ _ (c .before .before .before .before .before .before .before .before .before .m3 .given .1) (c .before .before .before .before .before .before .before .common-length .ensures .0) (c .before .before .before .before .begins-with .ensures) (c .before .before .before .if1 .left) (c .begins-with2 .ensures)
 

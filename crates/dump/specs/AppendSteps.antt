@@ -12,6 +12,7 @@ use Rattle.image.specs.Path.{valueFits}
 use Rattle.image.specs.Entry as defined
 use Rattle.image.specs.Table.{Row, underPrefix}
 use Rattle.octets.specs.Order.{and-left, and-right}
+use Rattle.laws.specs.Shift.{under-append}
 use Rattle.laws.specs.Filter.{keep, keep-append}
 use Rattle.packed.specs.Leaves.{value-length}
 use Rattle.node.specs.Places.{part, entryIn}
@@ -154,18 +155,13 @@ pairs-cons (defined.pair k v) es = refl
 pairs-cons (defined.child i k) es = refl
 pairs-cons (defined.message m) es = refl
 
-under-append : (X : List ℕ) (t u : List Row) → underPrefix X (t ++ u) ≡ underPrefix X t ++ underPrefix X u
-unfolding underPrefix
-under-append X [] u = refl
-under-append X (r ∷ t) u = ap (λ l. record { key = X ++ r .key; value = r .value } ∷ l) (under-append X t u)
-
 module _ (ok : List ℕ → Bool) (X : List ℕ) where
   pub rows-cons : (e : defined.Entry) (es ts : List defined.Entry) → es ≡ e ∷ ts
       → keep ok (underPrefix X (pairsE es)) ≡ keep ok (underPrefix X (pairsE (e ∷ []))) ++ keep ok (underPrefix X (pairsE ts))
   rows-cons e es ts q =
       ap (λ l. keep ok (underPrefix X (pairsE l))) q
       ∙ ap (λ l. keep ok (underPrefix X l)) (pairs-cons e ts)
-      ∙ ap (keep ok) (under-append X (pairsE (e ∷ [])) (pairsE ts))
+      ∙ ap (keep ok) (sym (under-append X (pairsE (e ∷ [])) (pairsE ts)))
       ∙ keep-append ok (underPrefix X (pairsE (e ∷ []))) (underPrefix X (pairsE ts))
 
   pub rows-none : (es : List defined.Entry) → es ≡ [] → keep ok (underPrefix X (pairsE es)) ≡ []

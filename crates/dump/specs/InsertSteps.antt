@@ -13,7 +13,7 @@ use Rattle.image.specs.Path.{valueFits}
 use Rattle.image.specs.Entry as defined
 use Rattle.image.specs.Table.{Row, find, withRow, everyKey}
 use Rattle.image.specs.Meaning.{Said, nothing, says, newer}
-use Rattle.octets.specs.Order.{and-false, same-refl}
+use Rattle.octets.specs.Order.{and-false, and-left, same-refl}
 use Rattle.laws.specs.Tables.{find-fails}
 use Rattle.laws.specs.Rising.{rising-with}
 use Rattle.laws.specs.Filter.{every-imp}
@@ -27,7 +27,8 @@ use Rattle.rows.specs.Steps.{rows-length}
 use Rattle.insertion.specs.Insertion.{Inserted}
 use Rattle.insertion.specs.Slots.{rows-split}
 use Rattle.live.specs.Live.{holdsNoMessage}
-use Rattle.live.specs.KeepLaws.{with-length, every-with, quiet-put}
+use Rattle.laws.specs.Filter.{every-with}
+use Rattle.live.specs.KeepLaws.{with-length, quiet-put}
 use Rattle.live.specs.PathBuffers.{pathIn}
 use Rattle.live.specs.declared.path_buffer.PathBuffer.{PathBuffer}
 use Rattle.live.specs.Walk.{decides}
@@ -78,10 +79,6 @@ untold-with X k v es t h u =
       quiet = every-with (λ q. holdsNoMessage (newestE es (drop (length X) q))) (X ++ k) v t (rw (drop-append-seam X k) h) (u .quiet);
     }
 
-left-true : (x y : Bool) → x && y ≡ true → x ≡ true
-left-true true y e = refl
-left-true false y e = absurd (true≢false (sym e))
-
 -- one entry done: the rows are untold by those that follow
 pub untold-next : (ok : List ℕ → Bool) (X : List ℕ) (e : defined.Entry) (es : List defined.Entry) (t : List Row) → Untold X (e ∷ es) t
     → Untold X es (withEntry (decides ok X e es) X e t)
@@ -91,7 +88,7 @@ untold-next ok X (defined.child i k) es t u = untold-skip X (defined.child i k) 
 untold-next ok X (defined.message (defined.puts k v)) es t u = go (holdsNoMessage (newestE es k) && ok (X ++ k)) refl
   where
     go : (x : Bool) → holdsNoMessage (newestE es k) && ok (X ++ k) ≡ x → Untold X es (cond x (withRow (X ++ k) v t) t)
-    go true h = untold-with X k v es t (left-true (holdsNoMessage (newestE es k)) (ok (X ++ k)) h) (untold-skip X (defined.message (defined.puts k v)) es t u)
+    go true h = untold-with X k v es t (and-left (holdsNoMessage (newestE es k)) (ok (X ++ k)) h) (untold-skip X (defined.message (defined.puts k v)) es t u)
     go false h = untold-skip X (defined.message (defined.puts k v)) es t u
 untold-next ok X (defined.message (defined.drops k)) es t u = untold-skip X (defined.message (defined.drops k)) es t u
 untold-next ok X (defined.message (defined.clears k)) es t u = untold-skip X (defined.message (defined.clears k)) es t u

@@ -22,8 +22,8 @@ use Rattle.live.specs.LiveLaws.{all-short}
 use Rattle.live.specs.PathBuffers.{pathIn}
 use Rattle.live.specs.declared.path_buffer.PathBuffer.{PathBuffer}
 use Rattle.live.specs.declared.Trail.{Trail}
-use Rattle.live.specs.Walk.{passing, Ready, Countable}
-use Rattle.live.specs.RootSteps.{one-node, tree-is, root-ready, empty-prefix, no-trail}
+use Rattle.live.specs.Walk.{passing, Ready}
+use Rattle.live.specs.RootSteps.{countable, one-node, tree-is, root-ready, empty-prefix, no-trail}
 use Rattle.dump.specs.Dump.{Room, Added, Dumped}
 
 -- a sound store has at most as many rows as nodes
@@ -34,28 +34,25 @@ table-few s h =
     omega arith
 
 module _ (s : List ℕ) (h : sound s ≡ true) where
-  countable : Countable s
-  countable = let p = parts-of s (sound-but-live s h) in record { tree = p .tree; range = p .range; levels = p .levelsHigh }
-
   pub dump-long : 1024 ≤ length s
-  dump-long = one-node s countable
+  dump-long = one-node s (countable s (sound-but-live s h))
 
   -- the root, with an empty prefix and an empty trail
   module _ (root levels : ℕ) (a : root ≡ u16 s 6) (b : levels ≡ u16 s 8) (p : PathBuffer) (e : p .len ≡ 0) where
     pub dump-ready : (t : Trail) → t .depth ≡ 0 → Ready s levels root p t
-    dump-ready t f = root-ready s countable root levels a b p t e f
+    dump-ready t f = root-ready s (countable s (sound-but-live s h)) root levels a b p t e f
 
     module _ (lo hi : List ℕ) (g : lo ≡ []) (k : hi ≡ highest) where
       low-is : pathIn p ++ lo ≡ lowest
-      low-is = ap₂ (λ x y. x ++ y) (empty-prefix s countable root levels a b p e) g
+      low-is = ap₂ (λ x y. x ++ y) (empty-prefix s (countable s (sound-but-live s h)) root levels a b p e) g
 
       high-is : pathIn p ++ hi ≡ highest
-      high-is = ap₂ (λ x y. x ++ y) (empty-prefix s countable root levels a b p e) k
+      high-is = ap₂ (λ x y. x ++ y) (empty-prefix s (countable s (sound-but-live s h)) root levels a b p e) k
 
       pub dump-sound : soundTree (treeAt levels s root) (pathIn p ++ lo) (pathIn p ++ hi) ≡ true
       dump-sound =
-          ap₂ (λ x y. soundTree (treeAt levels s root) x y) low-is high-is ∙ ap (λ x. soundTree x lowest highest) (tree-is s countable root levels a b)
-          ∙ countable .tree
+          ap₂ (λ x y. soundTree (treeAt levels s root) x y) low-is high-is ∙ ap (λ x. soundTree x lowest highest) (tree-is s (countable s (sound-but-live s h)) root levels a b)
+          ∙ (countable s (sound-but-live s h)) .tree
 
       module _ (t : Trail) (f : t .depth ≡ 0) where
         abbrev Rows : List Row
@@ -65,8 +62,8 @@ module _ (s : List ℕ) (h : sound s ≡ true) where
         unfolding tableOf
         whole-table =
             ap₂ (λ x y. keep (passing s t) (rows (treeAt levels s root) x y)) low-is high-is
-            ∙ ap₂ (λ x y. keep y (rows x lowest highest)) (tree-is s countable root levels a b) (λ i q. no-trail s countable root levels a b t f q i)
-            ∙ keep-all short (rows (treeOf s) lowest highest) (all-short (treeOf s) lowest highest (countable .tree))
+            ∙ ap₂ (λ x y. keep y (rows x lowest highest)) (tree-is s (countable s (sound-but-live s h)) root levels a b) (λ i q. no-trail s (countable s (sound-but-live s h)) root levels a b t f q i)
+            ∙ keep-all short (rows (treeOf s) lowest highest) (all-short (treeOf s) lowest highest ((countable s (sound-but-live s h)) .tree))
 
         pub dump-room : (area : List ℕ) → 128 * nodesOf (length s) ≤ length area → Room area 0 Rows
         dump-room area l =

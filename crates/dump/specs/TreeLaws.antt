@@ -27,6 +27,7 @@ use Rattle.search.specs.Own.{kidsE}
 use Rattle.lookup.specs.Look.{listing, leaf-at, interior-at, inside-splits, messages-newest}
 use Rattle.live.specs.Live.{holdsNoMessage, Shortens}
 use Rattle.live.specs.KeepLaws.{added, insertPuts, messages-keep}
+use Rattle.live.specs.WalkLaws.{same-tests}
 use Rattle.live.specs.Walk.{decides}
 use Rattle.dump.specs.Dump.{pairsE, valueFitsE, valuesFitE, withEntry, insertE, Untold}
 
@@ -190,9 +191,6 @@ pivot-first i f ms lo hi e = and-left _ _ (and-left _ _ e)
 no-pivot : (under : ℕ → Tree) (ks : List Kid) (X lo : List ℕ) → ks ≡ [] → firstPivot X lo (forestOf under ks) ≡ false
 unfolding firstPivot forestOf
 no-pivot under ks X lo q = rw q
-
-same-tests : {A : Type 0} (f : (List ℕ → Bool) → A) (a b : List ℕ → Bool) → ((q : List ℕ) → a q ≡ b q) → f a ≡ f b
-same-tests f a b h = ap f (λ i q. h q i)
 
 module _ (s : List ℕ) (i level : ℕ) (u : usable (nodesOf (length s)) (treeAt level s i) ≡ true) (two : 2 ≤ level) (lo hi : List ℕ)
     (sound : soundTree (treeAt level s i) lo hi ≡ true) where

@@ -4,9 +4,9 @@ use mathlib.Core.Path.{_≡_, refl, sym, ap, ap₂, _∙_}
 use mathlib.Core.List.{List, [], _∷_, _++_}
 use mathlib.Core.Bool.{Bool, true, false, _&&_, not, cond}
 use lib.ListN.{length, drop}
-use Rattle.image.specs.Bytes.{before, begins, shared}
+use Rattle.image.specs.Bytes.{same, before, begins, shared}
 use Rattle.image.specs.Path.{wellFormed, owns, valueFits}
-use Rattle.image.specs.Table.{Row, everyKey, underPrefix, leads, rising}
+use Rattle.image.specs.Table.{Row, everyKey, underPrefix, leads, rising, withRow}
 use Rattle.image.specs.Image.{leaf}
 use Rattle.image.specs.Meaning.{rows}
 use Rattle.image.specs.Sound.{soundTree, valuesFit}
@@ -48,6 +48,19 @@ pub every-imp : (a b : List ℕ → Bool) (t : List Row) → ((k : List ℕ) →
 unfolding everyKey
 every-imp a b [] h e = refl
 every-imp a b (r ∷ t) h e = rw (h (r .key) (and-left _ _ e), every-imp a b t h (and-right (a (r .key)) _ e))
+
+pub every-with : (test : List ℕ → Bool) (p v : List ℕ) (t : List Row) → test p ≡ true → everyKey test t ≡ true → everyKey test (withRow p v t) ≡ true
+unfolding everyKey withRow
+every-with test p v [] a e = both a refl
+every-with test p v (r ∷ t) a e =
+    go (before (r .key) p) (same p (r .key)) (and-left (test (r .key)) _ e) (and-right (test (r .key)) _ e)
+    (every-with test p v t a (and-right (test (r .key)) _ e))
+  where
+    go : (x y : Bool) → test (r .key) ≡ true → everyKey test t ≡ true → everyKey test (withRow p v t) ≡ true
+        → everyKey test (cond x (r ∷ withRow p v t) (cond y (record { key = p; value = v } ∷ t) (record { key = p; value = v } ∷ r ∷ t))) ≡ true
+    go true y b c ih = both b ih
+    go false true b c ih = both a c
+    go false false b c ih = both a (both b c)
 
 -- the rows kept pass the test, and whatever all rows pass
 pub keep-passes : (a test b : List ℕ → Bool) (t : List Row) → ((q : List ℕ) → a q ≡ true → test q ≡ true → b q ≡ true) → everyKey a t ≡ true

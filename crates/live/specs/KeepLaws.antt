@@ -42,19 +42,6 @@ with-length p v (r ∷ t) e = go (before (r .key) p) refl (same p (r .key)) refl
     go true b false s ih = rw b (ap suc (ih (sym (find-no p r t s) ∙ e)))
     go false b false s ih = rw (b, s)
 
-pub every-with : (test : List ℕ → Bool) (p v : List ℕ) (t : List Row) → test p ≡ true → everyKey test t ≡ true → everyKey test (withRow p v t) ≡ true
-unfolding everyKey withRow
-every-with test p v [] a e = both a refl
-every-with test p v (r ∷ t) a e =
-    go (before (r .key) p) (same p (r .key)) (and-left (test (r .key)) _ e) (and-right (test (r .key)) _ e)
-    (every-with test p v t a (and-right (test (r .key)) _ e))
-  where
-    go : (x y : Bool) → test (r .key) ≡ true → everyKey test t ≡ true → everyKey test (withRow p v t) ≡ true
-        → everyKey test (cond x (r ∷ withRow p v t) (cond y (record { key = p; value = v } ∷ t) (record { key = p; value = v } ∷ r ∷ t))) ≡ true
-    go true y b c ih = both b ih
-    go false true b c ih = both a c
-    go false false b c ih = both a (both b c)
-
 all-after : (p : List ℕ) (t : List Row) → rising t ≡ true → leads p t ≡ true → everyKey (λ k. before p k) t ≡ true
 unfolding everyKey leads rising
 all-after p [] e f = refl

@@ -9,6 +9,7 @@ use lib.ListN.{length, take, drop}
 use Rattle.image.specs.Bytes.{u16, shared}
 use Rattle.image.specs.Image.{Tree, nodesOf, header, headerOf, treeAt, treeOf}
 use Rattle.image.specs.Sound.{lowest, highest, tableOf}
+use Rattle.laws.specs.ButLive.{soundButLive, parts-of}
 use Rattle.octets.specs.Cap.{cap}
 use Rattle.reading.specs.Relative.{lifts, usable, sound-usable}
 use Rattle.lookup.specs.Look.{node-inside}
@@ -19,6 +20,10 @@ use Rattle.live.specs.PathBuffers.{pathIn}
 use Rattle.live.specs.declared.path_buffer.PathBuffer.{PathBuffer}
 use Rattle.live.specs.declared.Trail.{Trail}
 use Rattle.live.specs.Walk.{passes, passing, Ready, Countable}
+
+-- an image that is sound but for its live count can be counted
+pub countable : (s : List ℕ) → soundButLive s ≡ true → Countable s
+countable s e = let p = parts-of s e in record { tree = p .tree; range = p .range; levels = p .levelsHigh }
 
 module _ (s : List ℕ) (h : Countable s) where
   tree-reads : usable (nodesOf (length s)) (treeOf s) ≡ true

@@ -100,7 +100,7 @@ inside-count ok X (defined.message m ∷ es) x h = go (messagesOf (defined.messa
         messages-count ok X (defined.message m ∷ es) ms e ∙ ap (λ (z : Inside). countPuts ok X (z .messages)) p
 
 -- the whole of a node, from its bytes
-same-tests : {A : Type 0} (f : (List ℕ → Bool) → A) (a b : List ℕ → Bool) → ((q : List ℕ) → a q ≡ b q) → f a ≡ f b
+pub same-tests : {A : Type 0} (f : (List ℕ → Bool) → A) (a b : List ℕ → Bool) → ((q : List ℕ) → a q ≡ b q) → f a ≡ f b
 same-tests f a b h = ap f (λ i q. h q i)
 
 leaf-here : (i : ℕ) (rs : List Row) (ok : List ℕ → Bool) (X hi : List ℕ) → countRows ok X rs ≡ liveHere (leaf i rs) ok X hi

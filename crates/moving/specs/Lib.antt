@@ -6,3 +6,4 @@ pub mod MoveImage
 pub mod MoveDone
 pub mod FreeList
 pub mod MoveBound
+pub mod GapWrite

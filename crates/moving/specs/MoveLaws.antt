@@ -21,7 +21,8 @@ use Rattle.laws.specs.Pieces.{levelled, Good, Run, more, run-high, run-join, ro
 use Rattle.slicing.specs.Slice.{leftOf, rightOf, after}
 use Rattle.slicing.specs.SliceLaws.{Cut, cut-tree, keys-owned}
 use Rattle.slicing.specs.SliceNumbers.{one, met, metIn, met-node, met-joined, spent, taken, cut-numbers, left-numbers}
-use Rattle.slicing.specs.SliceFits.{fits, fitsIn, sizeAt, shortAt, count, short-size, node-fits, cut-fits, right-count, right-short, count-joined, short-joined, fits-joined, begins-refl}
+use Rattle.octets.specs.Beginnings.{begins-refl}
+use Rattle.slicing.specs.SliceFits.{fits, fitsIn, sizeAt, shortAt, count, short-size, node-fits, cut-fits, right-count, right-short, count-joined, short-joined, fits-joined}
 use Rattle.slicing.specs.Swing.{swing-rows, swing-good, rows-formed}
 use Rattle.slicing.specs.Tail.{tailOf, gapOf, tail-good, tail-rows, tail-met, tail-fits, gap-good, gap-rows, gap-fits, gap-met}
 use Rattle.slicing.specs.Range.{past, before-past, before-aside, formed-inside, formed-length}

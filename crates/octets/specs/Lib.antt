@@ -3,3 +3,4 @@ pub mod Compare
 pub mod Ordering
 pub mod Put
 pub mod Cap
+pub mod Beginnings

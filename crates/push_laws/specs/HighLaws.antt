@@ -15,7 +15,8 @@ use Rattle.image.specs.Meaning.{highOf}
 use Rattle.image.specs.Upkeep.{Reachable, reachable, reachableIn, reachableAt}
 use Rattle.image.specs.Contract.{hasChildren}
 use Rattle.octets.specs.Order.{begins-split, shared-append}
-use Rattle.reading.specs.Relative.{lifts, shared-right}
+use Rattle.octets.specs.Beginnings.{shared-right}
+use Rattle.reading.specs.Relative.{lifts}
 use Rattle.upkeep.specs.Healed as healed
 use Rattle.push_laws.specs.High.{orElse, highHere, highIn}
 

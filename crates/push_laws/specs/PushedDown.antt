@@ -22,7 +22,8 @@ use Rattle.laws.specs.Rising.{both}
 use Rattle.laws.specs.Frame.{Keeps, or-left, or-right}
 use Rattle.laws.specs.WriteNode.{write-length, write-same, write-other}
 use Rattle.laws.specs.Page.{page, page-length}
-use Rattle.reading.specs.Relative.{kidHigh, shared-right}
+use Rattle.octets.specs.Beginnings.{shared-right}
+use Rattle.reading.specs.Relative.{kidHigh}
 use Rattle.upkeep.specs.Sublists.{Sub, once-sub, sub-in}
 use Rattle.upkeep.specs.Merge.{tall, tallIn}
 use Rattle.upkeep.specs.Size.{messageEntries, sizeOf, size-append}

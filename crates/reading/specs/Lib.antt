@@ -3,3 +3,4 @@ pub mod Seek
 pub mod SeekHere
 pub mod SoundHere
 pub mod Visit
+pub mod Far

@@ -5,13 +5,14 @@ use mathlib.Core.List.{List, [], _∷_, _++_, append-nil}
 use mathlib.Core.Bool.{Bool, true, false, _&&_, cond}
 use mathlib.Core.Option.{Option, none, some}
 use lib.ListN.{length, drop}
-use lib.Dec.{ltb, leb, eqb}
-use Rattle.image.specs.Bytes.{begins, shared}
+use lib.Dec.{ltb, leb}
+use Rattle.image.specs.Bytes.{shared}
 use Rattle.image.specs.Path.{owns}
 use Rattle.image.specs.Table.{Row, find}
 use Rattle.image.specs.Image.{Tree, unread, leaf, interior, Forest, end, tree, Kid, Inside, nodeBytes, nodeEntries, pairsOf, insideOf, orNone, forestOf, leafOf, interiorOf, treeAt}
 use Rattle.image.specs.Meaning.{highOf, newest, decide, lookup, lookupIn}
 use Rattle.image.specs.Sound.{numbers, numbersIn, inRange, soundTree, soundForest}
+use Rattle.octets.specs.Beginnings.{shared-right}
 use Rattle.octets.specs.Order.{begins-split, and-left, and-right, not-so}
 use Rattle.laws.specs.Rising.{both}
 use Rattle.laws.specs.LookupTable.{split, parts, inner}
@@ -38,17 +39,6 @@ unfoldable mutual
 choose : (b : Bool) (x y u v : Option (List ℕ)) → (b ≡ true → x ≡ y) → u ≡ v → cond b x u ≡ cond b y v
 choose true x y u v h k = h refl
 choose false x y u v h k = k
-
--- what two lists share begins the second
-pub shared-right : (s t : List ℕ) → begins (shared s t) t ≡ true
-unfolding begins shared
-shared-right [] t = refl
-shared-right (a ∷ s) [] = refl
-shared-right (a ∷ s) (b ∷ t) = go (eqb a b) refl (shared-right s t)
-  where
-    go : (x : Bool) → eqb a b ≡ x → begins (shared s t) t ≡ true → begins (shared (a ∷ s) (b ∷ t)) (b ∷ t) ≡ true
-    go true e ih = rw e (rw e ih)
-    go false e ih = rw e
 
 cut-in : (f : Forest) (x hi p : List ℕ) → x ++ drop (length x) hi ≡ hi → x ++ drop (length x) p ≡ p
     → lookupIn f x hi p ≡ lookupIn f [] (drop (length x) hi) (drop (length x) p)

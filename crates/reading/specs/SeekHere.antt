@@ -14,8 +14,10 @@ use Rattle.image.specs.Meaning.{highOf, rows}
 use Rattle.image.specs.Sound.{soundTree}
 use Rattle.octets.specs.Order.{shared-append, begins-split}
 use Rattle.laws.specs.RowsRising.{rows-rise}
-use Rattle.reading.specs.Relative.{lifts, shared-right}
-use Rattle.reading.specs.Seek.{keysOf, putsOf, keys, keysIn, walk, every-impl, holds, keys-hold, wanted, walk-none, farFrom, far-fair, present, walk-least, stands}
+use Rattle.octets.specs.Beginnings.{shared-right}
+use Rattle.reading.specs.Relative.{lifts}
+use Rattle.reading.specs.Far.{farFrom, far-fair}
+use Rattle.reading.specs.Seek.{keysOf, putsOf, keys, keysIn, walk, every-impl, holds, keys-hold, wanted, walk-none, present, walk-least, stands}
 
 unfoldable pub under : List ℕ → List (List ℕ) → List (List ℕ)
 under X [] = []

@@ -5,19 +5,19 @@ use mathlib.Core.Path.{_≡_, refl, sym, ap, ap₂, _∙_}
 use mathlib.Core.List.{List, [], _∷_, _++_}
 use mathlib.Core.Bool.{Bool, true, false, _&&_, _||_}
 use lib.ListN.{length, drop, length-append}
-use lib.Dec.{eqb}
-use borrow.Author.Tests.{eq-eqb}
 use lib.Seq.{drop-append-add}
-use Rattle.image.specs.Bytes.{same, before, begins, shared}
+use Rattle.image.specs.Bytes.{same, before, shared}
 use Rattle.image.specs.Path.{wellFormed, owns, valueFits}
 use Rattle.image.specs.Entry.{Message, puts, drops, clears}
 use Rattle.image.specs.Table.{Row, everyKey, rising, underPrefix}
 use Rattle.image.specs.Image.{Tree, unread, leaf, interior, Forest, end, tree}
 use Rattle.image.specs.Meaning.{highOf}
 use Rattle.image.specs.Sound.{valuesFit, soundMessage, soundMessages, firstPivot, soundTree, soundForest}
+use Rattle.octets.specs.Beginnings.{shared-left}
 use Rattle.octets.specs.Order.{same-append, before-append, shared-append, begins-split}
 use Rattle.path.specs.Shape.{Shape, feed, goesOn, feed-append, fresh, shape-is}
-use Rattle.reading.specs.Relative.{lifts, shared-right}
+use Rattle.octets.specs.Beginnings.{shared-right}
+use Rattle.reading.specs.Relative.{lifts}
 
 -- Soundness from inside a node: its pivots and suffixes are without what it lifts, and that is there only by its shape.
 unfoldable pub messageHere : Shape → List ℕ → List ℕ → Message → Bool
@@ -41,16 +41,6 @@ unfoldable mutual
       owns lo hi s && before s (highOf [] hi f)
       && soundHere t (feed sh (shared s (highOf [] hi f))) (drop (lifts s (highOf [] hi f)) s) (drop (lifts s (highOf [] hi f)) (highOf [] hi f))
       && soundKids f sh lo hi
-
-pub shared-left : (s t : List ℕ) → begins (shared s t) s ≡ true
-unfolding begins shared
-shared-left [] t = refl
-shared-left (a ∷ s) [] = refl
-shared-left (a ∷ s) (b ∷ t) = go (eqb a b) refl (shared-left s t)
-  where
-    go : (x : Bool) → eqb a b ≡ x → begins (shared s t) s ≡ true → begins (shared (a ∷ s) (b ∷ t)) (a ∷ s) ≡ true
-    go true e ih = rw e (rw (eq-eqb a a refl) ih)
-    go false e ih = rw e
 
 -- with the same bytes X in front of everything
 module _ (X : List ℕ) where

@@ -1,22 +1,16 @@
 -- The order and the beginnings of a path that is given in two parts, a and b, told without joining them.
 -- Relies on: the order's laws (octets/specs/Order).
-use Prim.Native.Nat.{ℕ, _+_, _-_, _≤_}
+use Prim.Native.Nat.{ℕ, _-_, _≤_}
 use mathlib.Core.Path.{_≡_, refl, sym, ap, _∙_}
 use mathlib.Core.List.{List, [], _∷_, _++_}
 use mathlib.Core.Bool.{Bool, true, false, _&&_, _||_, true≢false}
-use native.Mathlib.Omega.{arith}
-use lib.ListN.{length, take, drop, length-append}
+use lib.ListN.{length, take, drop}
 use lib.Dec.{ltb, eqb}
 use borrow.Author.Tests.{eqb-true, eq-eqb}
 use Rattle.image.specs.Bytes.{before, begins}
+use Rattle.octets.specs.Beginnings.{begins-length}
 use Rattle.octets.specs.Order.{not-so, begins-split, begins-append, before-append}
 use Rattle.lookup.specs.Look.{part-rest}
-
-pub begins-length : (a c : List ℕ) → begins a c ≡ true → length a ≤ length c
-begins-length a c h =
-    let e : length (a ++ drop (length a) c) ≡ length c = ap length (begins-split a c h) in
-    let f : length (a ++ drop (length a) c) ≡ length a + length (drop (length a) c) = length-append a (drop (length a) c) in
-    omega arith
 
 -- a is no beginning of c: the first part decides
 pub precedes-first : (a b c : List ℕ) → begins a c ≡ false → before a c ≡ before (a ++ b) c

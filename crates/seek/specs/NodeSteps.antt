@@ -15,9 +15,9 @@ use Rattle.image.specs.Image.{treeAt}
 use Rattle.image.specs.Table.{leastAfter}
 use Rattle.image.specs.Sound.{sound, tableOf, highest}
 use Rattle.octets.specs.Order.{begins-split}
-use Rattle.slicing.specs.SliceFits.{shared-left}
+use Rattle.octets.specs.Beginnings.{shared-left}
 use Rattle.reading.specs.Relative.{lifts, kidHigh}
-use Rattle.reading.specs.Seek.{farFrom}
+use Rattle.reading.specs.Far.{farFrom}
 use Rattle.reading.specs.SeekHere.{under, keysHere, keysKids}
 use Rattle.node.specs.Places.{part, entryIn}
 use Rattle.node.specs.Entries.{listed}

@@ -1,5 +1,5 @@
 -- The tests on a path or a range, one law for each return.
--- Relies on: better, wanted and farFrom of reading/specs/Seek.
+-- Relies on: better and wanted of reading/specs/Seek, farFrom of reading/specs/Far.
 use Prim.Native.Nat.{ℕ, _-_, _<_, _≤_}
 use mathlib.Core.Path.{_≡_, refl, sym, ap, _∙_}
 use mathlib.Core.List.{List}
@@ -9,7 +9,8 @@ use native.Mathlib.Omega.{arith}
 use lib.ListN.{take, drop}
 use borrow.Author.Tests.{not-true, not-false}
 use Rattle.image.specs.Bytes.{before, begins}
-use Rattle.reading.specs.Seek.{better, wanted, farFrom}
+use Rattle.reading.specs.Far.{farFrom}
+use Rattle.reading.specs.Seek.{better, wanted}
 use Rattle.seek.specs.declared.PathBuffer.{PathBuffer}
 use Rattle.seek.specs.Buffer.{bufferIs}
 use Rattle.seek.specs.BufferSteps.{held, empty-handed}

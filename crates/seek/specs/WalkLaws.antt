@@ -15,10 +15,12 @@ use Rattle.image.specs.Image.{Tree, leaf, interior, Forest, tree, Kid, Inside, 
 use Rattle.image.specs.Meaning.{highOf}
 use Rattle.image.specs.Sound.{sound, soundTree, soundForest}
 use Rattle.octets.specs.Order.{and-left, and-right, begins-split, shared-append}
-use Rattle.slicing.specs.SliceFits.{shared-left}
+use Rattle.octets.specs.Beginnings.{shared-left}
 use Rattle.laws.specs.LookupTable.{parts, inner}
-use Rattle.reading.specs.Relative.{lifts, kidHigh, usable, usableIn, shared-right}
-use Rattle.reading.specs.Seek.{walk, walk-append, every, holds, keys-hold, keysOf, putsOf, farFrom}
+use Rattle.octets.specs.Beginnings.{shared-right}
+use Rattle.reading.specs.Relative.{lifts, kidHigh, usable, usableIn}
+use Rattle.reading.specs.Far.{farFrom}
+use Rattle.reading.specs.Seek.{walk, walk-append, every, holds, keys-hold, keysOf, putsOf}
 use Rattle.reading.specs.SeekHere.{under, keysHere, keysKids, under-append, under-under, child-under, keys-here, skip-here}
 use Rattle.search.specs.Own.{kidsE}
 use Rattle.lookup.specs.Look.{listing, leaf-at, interior-at, inside-splits}

@@ -1,18 +1,19 @@
 -- The nodes of the two parts of a cut fit, where those of the whole do.
 use Prim.Native.Nat.{ℕ, zero, suc, _+_, _*_, _-_, _≤_}
-use mathlib.Core.Path.{_≡_, refl, sym, _∙_}
+use mathlib.Core.Path.{_≡_, refl, _∙_}
 use mathlib.Core.List.{List, [], _∷_, _++_}
 use mathlib.Core.Bool.{Bool, true, false, _&&_, _||_, false≢true}
 use native.Mathlib.Omega.{arith}
 use lib.ListN.{length, length-append, length-drop}
-use lib.Dec.{eqb, leb}
-use borrow.Author.Tests.{eqb-true, eq-eqb, leb-true, le-leb}
+use lib.Dec.{leb}
+use borrow.Author.Tests.{leb-true, le-leb}
 use Rattle.image.specs.Bytes.{before, begins, shared}
 use Rattle.image.specs.Entry.{pivotLimit}
 use Rattle.image.specs.Table.{Row, underPrefix}
 use Rattle.image.specs.Image.{Tree, unread, leaf, interior, Forest, end, tree, entriesLimit}
 use Rattle.image.specs.Meaning.{highOf, rowsIn}
 use Rattle.image.specs.Sound.{soundTree}
+use Rattle.octets.specs.Beginnings.{begins-refl, begins-length, shared-left, shared-right, shared-most}
 use Rattle.octets.specs.Order.{and-left, and-right, before-le, before-asym, between-begins, begins-trans}
 use Rattle.laws.specs.Rising.{both}
 use Rattle.laws.specs.LookupTable.{parts, under-high}
@@ -57,48 +58,6 @@ shortAt d (tree s t f) = leb (length s - d) pivotLimit && shortAt d f
 unfoldable pub count : Forest → ℕ
 count end = 0
 count (tree s t f) = suc (count f)
-
--- laws of the common beginning
-pub begins-refl : (s : List ℕ) → begins s s ≡ true
-unfolding begins
-begins-refl [] = refl
-begins-refl (a ∷ s) = rw (eq-eqb a a refl) (begins-refl s)
-
-pub begins-length : (p q : List ℕ) → begins p q ≡ true → length p ≤ length q
-unfolding begins
-begins-length [] q e = omega arith
-begins-length (a ∷ p) [] e = absurd (false≢true e)
-begins-length (a ∷ p) (b ∷ q) e = let h : length p ≤ length q = begins-length p q (and-right (eqb a b) _ e) in omega arith
-
-pub shared-left : (a b : List ℕ) → begins (shared a b) a ≡ true
-unfolding begins shared
-shared-left [] b = refl
-shared-left (x ∷ a) [] = refl
-shared-left (x ∷ a) (y ∷ b) = go (eqb x y) refl (shared-left a b)
-  where
-    go : (z : Bool) → eqb x y ≡ z → begins (shared a b) a ≡ true → begins (shared (x ∷ a) (y ∷ b)) (x ∷ a) ≡ true
-    go true e ih = rw (e, eq-eqb x x refl) ih
-    go false e ih = rw e
-
-pub shared-right : (a b : List ℕ) → begins (shared a b) b ≡ true
-unfolding begins shared
-shared-right [] b = refl
-shared-right (x ∷ a) [] = refl
-shared-right (x ∷ a) (y ∷ b) = go (eqb x y) refl (shared-right a b)
-  where
-    go : (z : Bool) → eqb x y ≡ z → begins (shared a b) b ≡ true → begins (shared (x ∷ a) (y ∷ b)) (y ∷ b) ≡ true
-    go true e ih = rw (e, e) ih
-    go false e ih = rw e
-
-pub shared-most : (p a b : List ℕ) → begins p a ≡ true → begins p b ≡ true → begins p (shared a b) ≡ true
-unfolding begins shared
-shared-most [] a b e f = refl
-shared-most (x ∷ p) [] b e f = absurd (false≢true e)
-shared-most (x ∷ p) (y ∷ a) [] e f = absurd (false≢true f)
-shared-most (x ∷ p) (y ∷ a) (z ∷ b) e f =
-    let h : x ≡ y = eqb-true x y (and-left _ _ e) in
-    let k : x ≡ z = eqb-true x z (and-left _ _ f) in
-    rw (eq-eqb y z (sym h ∙ k), eq-eqb x y h) (shared-most p a b (and-right (eqb x y) _ e) (and-right (eqb x z) _ f))
 
 -- a part of a range lifts no less
 pub lifts-low : (lo k hi : List ℕ) → before lo k ≡ true → before k hi ≡ true → length (shared lo hi) ≤ length (shared lo k)

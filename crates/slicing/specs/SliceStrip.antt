@@ -13,7 +13,7 @@ use Rattle.octets.specs.Order.{before-asym, between-begins, begins-split}
 use Rattle.laws.specs.Filter.{keep, upTo, since, lowerRows}
 use Rattle.laws.specs.Pieces.{raise, node}
 use Rattle.slicing.specs.Slice.{restIn, packed, after, leftOf, leftIn, rightOf, edgeIn}
-use Rattle.slicing.specs.SliceFits.{shared-left, shared-right}
+use Rattle.octets.specs.Beginnings.{shared-left, shared-right}
 use Rattle.slicing.specs.SliceShift.{left-shift, right-shift}
 
 -- the lifted bytes and what is left

@@ -6,17 +6,17 @@ use mathlib.Core.List.{List}
 use mathlib.Core.Bool.{Bool, true, false, _&&_, false≢true}
 use native.Mathlib.Omega.{arith}
 use lib.ListN.{length}
-use lib.Dec.{eqb, leb, ltb}
-use borrow.Author.Tests.{eq-eqb, ne-eqb, eqb-true, eqb-false, leb-true}
+use lib.Dec.{eqb}
+use borrow.Author.Tests.{eq-eqb, ne-eqb, eqb-true, eqb-false}
 use Rattle.image.specs.Bytes.{u16}
-use Rattle.image.specs.Image.{nodesOf, wholeNodes, Header, headerOf, header, headerLaidOut, nodeBytes, treeOf}
-use Rattle.image.specs.Sound.{sound, tableOf, soundTree, once, inRange, numbers, lowest, highest, soundHeader}
-use Rattle.octets.specs.Order.{and-left, and-right}
+use Rattle.image.specs.Image.{nodesOf, wholeNodes, headerOf, header}
+use Rattle.image.specs.Sound.{sound, tableOf}
 use Rattle.node.specs.Whole.{Whole, whole-parts}
 use Rattle.lookup.specs.Root.{first-u16}
 use Rattle.tree_check.specs.declared.Checked.{Checked}
 use Rattle.tree_check.specs.declared.Tally.{Tally}
-use Rattle.laws.specs.ButLive.{soundHead, soundNodes, soundButLive}
+use Rattle.laws.specs.ButLive.{parts-of}
+use Rattle.live.specs.RootSteps.{countable}
 use Rattle.tree_check.specs.Whole.{isSound, Verified}
 use Rattle.laws.specs.ButLive.{sound-live}
 use Rattle.tree_check.specs.Callers.{Holds, verified-yes, verified-no, sound-settled}
@@ -26,37 +26,6 @@ use Rattle.octets.specs.Cap.{cap, cap-equal}
 pub record Judged (image : List ℕ) (r : Checked) (seen : List ℕ) : Type 0 where
   pub answer : isSound r ≡ sound image
   pub holds : (t : Tally) → r ≡ Checked.Sound t → Holds image t seen
-
--- the parts of soundness but for the live count that the walks ask for
-heads : (image : List ℕ) → soundButLive image ≡ true → soundHead image ≡ true
-unfolding soundButLive
-heads image e = and-left (soundHead image) (soundNodes image) e
-
-nodes : (image : List ℕ) → soundButLive image ≡ true → soundNodes image ≡ true
-unfolding soundButLive
-nodes image e = and-right (soundHead image) (soundNodes image) e
-
-header-fits : (image : List ℕ) → soundButLive image ≡ true → (headerOf image .levels ≤ 8) × (headerOf image .live ≤ nodesOf (length image))
-unfolding soundHead soundHeader
-header-fits image e =
-    let h : soundHeader (nodesOf (length image)) (headerOf image) ≡ true = and-right (headerLaidOut (nodeBytes image 0)) _ (heads image e) in
-    let n : ℕ = nodesOf (length image) in
-    let x : Header = headerOf image in
-    let upper : eqb (x .count) n && leb 1 (x .root) && ltb (x .root) n && leb 1 (x .levels) && leb (x .levels) 8 ≡ true
-    = and-left (eqb (x .count) n && leb 1 (x .root) && ltb (x .root) n && leb 1 (x .levels) && leb (x .levels) 8) (leb (x .live) n) h in (
-      leb-true (x .levels) 8 (and-right (eqb (x .count) n && leb 1 (x .root) && ltb (x .root) n && leb 1 (x .levels)) (leb (x .levels) 8) upper),
-      leb-true (x .live) n (and-right (eqb (x .count) n && leb 1 (x .root) && ltb (x .root) n && leb 1 (x .levels) && leb (x .levels) 8) (leb (x .live) n) h),
-    )
-
-pub countable : (image : List ℕ) → soundButLive image ≡ true → Countable image
-unfolding soundNodes
-countable image e =
-    let n : soundTree (treeOf image) lowest highest && once (numbers (treeOf image)) && inRange (nodesOf (length image)) (numbers (treeOf image)) ≡ true = nodes image e in
-    record {
-      tree = and-left (soundTree (treeOf image) lowest highest) _ (and-left (soundTree (treeOf image) lowest highest && once (numbers (treeOf image))) _ n);
-      range = and-right (soundTree (treeOf image) lowest highest && once (numbers (treeOf image))) _ n;
-      levels = header-fits image e .0;
-    }
 
 pub told-live : (image : List ℕ) (k : ℕ) → 1024 ≤ length image → k ≡ u16 image 10 → k ≡ headerOf image .live
 unfolding headerOf header
@@ -96,7 +65,7 @@ module _ (image : List ℕ) (seen : List ℕ) (c : Checked) (v : Verified image 
     live-is = told-live image told long told-is
 
     small : headerOf image .live < 65535
-    small = omega (arith, header-fits image (held .rules) .1, parts .few)
+    small = omega (arith, parts-of image (held .rules) .liveHigh, parts .few)
 
     -- the answer Sound, with the tally
     yes : sound image ≡ true → Judged image (Checked.Sound t) seen

@@ -15,7 +15,7 @@ use Rattle.image.specs.Image.{nodesOf, treeAt}
 use Rattle.octets.specs.Order.{and-false, begins-split}
 use Rattle.reading.specs.Relative.{lifts}
 use Rattle.path.specs.Shape.{Shape, feed}
-use Rattle.reading.specs.SoundHere.{shared-left}
+use Rattle.octets.specs.Beginnings.{shared-left}
 use Rattle.reading.specs.Visit.{onward, visit}
 use Rattle.node.specs.Entries.{entriesFrom, entries-end, listed, listed-end}
 use Rattle.node.specs.Places.{part, entryIn, Within, Next, Stepped, step-bad-is}

@@ -15,6 +15,7 @@ use Rattle.image.specs.Meaning.{highOf, apply, applyAll, rows, rowsIn}
 use Rattle.image.specs.Sound.{soundTree, soundForest, soundMessage, soundMessages, firstPivot, valuesFit, numbers, numbersIn}
 use Rattle.octets.specs.Order.{and-left, and-right, not-so, same-eq, begins-split, drop-beyond}
 use Rattle.laws.specs.Rising.{both}
+use Rattle.laws.specs.Filter.{every-with}
 use Rattle.laws.specs.RowsRising.{leaf-rises, rising-apply}
 use Rattle.laws.specs.LookupTable.{Parts, parts, inner, leaf-owned}
 use Rattle.laws.specs.Frame.{or-right}
@@ -76,17 +77,6 @@ unfoldable pub smallValue : Message → Bool
 smallValue (puts s v) = valueFits v
 smallValue (drops s) = true
 smallValue (clears s) = true
-
-every-with : (test : List ℕ → Bool) (p v : List ℕ) (t : List Row) → test p ≡ true → everyKey test t ≡ true → everyKey test (withRow p v t) ≡ true
-unfolding everyKey withRow
-every-with test p v [] a e = both a refl
-every-with test p v (r ∷ t) a e =
-    go (before (r .key) p) refl (same p (r .key)) refl (every-with test p v t a (and-right (test (r .key)) _ e))
-  where
-    go : (x : Bool) → before (r .key) p ≡ x → (y : Bool) → same p (r .key) ≡ y → everyKey test (withRow p v t) ≡ true → everyKey test (withRow p v (r ∷ t)) ≡ true
-    go true b y c ih = rw b (both (and-left (test (r .key)) _ e) ih)
-    go false b true c ih = rw (b, c) (both a (and-right (test (r .key)) _ e))
-    go false b false c ih = rw (b, c) (both a e)
 
 every-without : (test : List ℕ → Bool) (p : List ℕ) (t : List Row) → everyKey test t ≡ true → everyKey test (without p t) ≡ true
 unfolding everyKey without

@@ -1,5 +1,5 @@
 use borrow.Author.Needs.{needs}
-use Rattle.soundness.specs.Judged.{countable}
+use Rattle.live.specs.RootSteps.{countable}
 use Rattle.edit.specs.Edited.{finish-done, small-live, area-fits, len-kept}
 use Rattle.edit.proofs.finish.Statement.{statement}
 use Rattle.edit.proofs.finish.Tie as tie

@@ -12,14 +12,14 @@ use Rattle.octets.specs.Put.{put}
 use Rattle.build.specs.Handed.{listed, handedFrom, handed}
 use Rattle.build.specs.PutLaws.{put-before, put-same, byte-at, byte-same}
 
-listed-end : (k : ℕ) (b : List ℕ) (i : ℕ) → listed (suc k) b i ≡ listed k b i ++ (u16 b ((i + k) * 2) ∷ [])
+pub listed-end : (k : ℕ) (b : List ℕ) (i : ℕ) → listed (suc k) b i ≡ listed k b i ++ (u16 b ((i + k) * 2) ∷ [])
 unfolding listed
 listed-end zero b i = let z : i ≡ i + 0 = omega arith in ap (λ q. u16 b (q * 2) ∷ []) z
 listed-end (suc k) b i =
     let z : suc i + k ≡ i + suc k = omega arith in
     ap (λ l. u16 b (i * 2) ∷ l) (listed-end k b (suc i) ∙ ap (λ q. listed k b (suc i) ++ (u16 b (q * 2) ∷ [])) z)
 
-listed-alike : (k : ℕ) (a b : List ℕ) (i : ℕ) → ((t : ℕ) → t < i + k → u16 b (t * 2) ≡ u16 a (t * 2)) → listed k b i ≡ listed k a i
+pub listed-alike : (k : ℕ) (a b : List ℕ) (i : ℕ) → ((t : ℕ) → t < i + k → u16 b (t * 2) ≡ u16 a (t * 2)) → listed k b i ≡ listed k a i
 unfolding listed
 listed-alike zero a b i h = refl
 listed-alike (suc k) a b i h = ap₂ (λ x l. x ∷ l) (h i (omega arith)) (listed-alike k a b (suc i) (λ t p. h t (omega arith)))
@@ -31,7 +31,7 @@ from-end s (suc k) =
     let z : suc s + k ≡ s + suc k = omega arith in
     ap (λ l. s ∷ l) (from-end (suc s) k ∙ ap (λ x. numbersFrom (suc s) k ++ (x ∷ [])) z)
 
-put-number : (b : List ℕ) (at v : ℕ) → at ≤ length b → u16 (put b at (u16Bytes v)) at ≡ v
+pub put-number : (b : List ℕ) (at v : ℕ) → at ≤ length b → u16 (put b at (u16Bytes v)) at ≡ v
 unfolding u16
 put-number b at v h =
     let e = put-same b at (u16Bytes v) h in
@@ -41,7 +41,7 @@ put-number b at v h =
     let y : getD (put b at (u16Bytes v)) (at + 1) 0 ≡ v / 256 = sym (byte-at (put b at (u16Bytes v)) at 2 1 (omega arith)) ∙ ap (λ l. getD l 1 0) e in
     omega arith
 
-number-before : (b : List ℕ) (k v t : ℕ) → t < k → k * 2 ≤ length b → u16 (put b (k * 2) (u16Bytes v)) (t * 2) ≡ u16 b (t * 2)
+pub number-before : (b : List ℕ) (k v t : ℕ) → t < k → k * 2 ≤ length b → u16 (put b (k * 2) (u16Bytes v)) (t * 2) ≡ u16 b (t * 2)
 unfolding u16
 number-before b k v t h r =
     ap₂ (λ x y. x + 256 * y) (same (t * 2) (omega arith)) (same (t * 2 + 1) (omega arith))

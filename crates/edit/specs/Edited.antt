@@ -24,60 +24,24 @@ use Rattle.image.specs.declared.Outcome.{Outcome}
 use Rattle.octets.specs.Order.{and-right}
 use Rattle.laws.specs.ButLive.{soundButLive, sound-live, sound-but-live}
 use Rattle.laws.specs.LookupTable.{means-table}
-use Rattle.packed.specs.Tidy.{zerosOf}
 use Rattle.node.specs.Whole.{Whole, whole-parts}
 use Rattle.node.specs.declared.Place.{Place}
 use Rattle.node.specs.Places.{part}
 use Rattle.search.specs.declared.Found.{Found}
 use Rattle.search.specs.Pairs.{Finds, foundIn}
-use Rattle.octets.specs.Cap.{cap, cap-small}
 use Rattle.soundness.specs.Judged.{told-live}
 use Rattle.append_laws.specs.Append.{roomAtRoot, appended, Appended}
 use Rattle.append_laws.specs.Raise.{rootRaised}
-use Rattle.append_laws.specs.SetLive.{withLive, live-right, live-length, live-table}
 use Rattle.append.specs.Callers as code
 use Rattle.laws.specs.Follow.{table-rises}
 use Rattle.dump.specs.RootSteps.{table-few}
 use Rattle.rebuild.specs.Rebuild.{cleared}
+use Rattle.finish.specs.Finished.{Finished}
 use Rattle.rebuild.specs.Callers.{to-act, laterNo, later-number, act-meets, act-refused}
 use Rattle.edit.specs.declared.Change.{Change}
 use Rattle.edit.specs.declared.Spot.{Spot}
 use Rattle.edit.specs.Change.{messageOf, sizeOf, Allowed, message-sound, size-small, few-after}
 use Rattle.edit.specs.Room.{Free, SpotFits, Roomy}
-
--- the live count right and the work area zeroed
-pub record Finished (s s′ w w′ : List ℕ) : Type 0 where
-  pub is-sound : sound s′ ≡ true
-  pub table : tableOf s′ ≡ tableOf s
-  pub size : length s′ ≡ length s
-  pub work : w′ ≡ cleared (nodesOf (length s)) w
-
-area-size : (len : ℕ) → 128 * (len / 1024) ≡ workPerNode * nodesOf len
-unfolding nodesOf
-area-size len = refl
-
-zeroed : (k n : ℕ) (w : List ℕ) → k ≡ workPerNode * n → zerosOf k ++ drop k w ≡ cleared n w
-unfolding zerosOf
-zeroed k n w e = ap (λ j. replicate j 0 ++ drop j w) e
-
-pub finish-done : (s s′ w w′ : List ℕ) (live k : ℕ) → wholeNodes (length s) ≡ true → soundButLive s ≡ true → length (tableOf s) ≤ nodesOf (length s)
-    → live ≡ cap (length (tableOf s)) → s′ ≡ withLive s live → k ≡ 128 * (length s / 1024) → w′ ≡ zerosOf k ++ drop k w → Finished s s′ w w′
-finish-done s s′ w w′ live k whole e few l q z r =
-    let p : Whole (length s) = whole-parts (length s) whole in
-    let counted : live ≡ length (tableOf s) = l ∙ cap-small (length (tableOf s)) (omega (arith, p .few)) in
-    record {
-      is-sound = ap sound q ∙ live-right s live e counted (omega arith);
-      table = ap tableOf q ∙ live-table s live e;
-      size = ap length q ∙ live-length s live e;
-      work = r ∙ zeroed k (nodesOf (length s)) w (z ∙ area-size (length s));
-    }
-
-pub small-live : (s : List ℕ) (live : ℕ) → wholeNodes (length s) ≡ true → length (tableOf s) ≤ nodesOf (length s) → live ≡ cap (length (tableOf s))
-    → (12 ≤ length s) × (length s ≤ 2000000) × (live < 65536)
-small-live s live whole few l =
-    let p : Whole (length s) = whole-parts (length s) whole in
-    let c = cap-small (length (tableOf s)) (omega (arith, p .few)) in
-    (omega (arith, p .filled, p .enough), omega (arith, p .filled, p .few), omega (arith, p .few))
 
 -- The message written, by each arm of the code.
 module _ (s s′ p v : List ℕ) (ok : sound s ≡ true) (formed : wellFormed p ≡ true) (fits : valueFits v ≡ true) where
@@ -261,12 +225,6 @@ module _ (s w : List ℕ) (whole : wholeNodes (length s) ≡ true) (ok : sound s
       drop-allowed c v short d = record { formed = sym x-is ∙ x-yes; fits = le-leb (length v) 32 short; place = λ e. absurd (d e) }
 
 -- what the code asks between the steps
-pub area-fits : (s s′ w : List ℕ) (live : ℕ) → soundButLive s ≡ true → s′ ≡ withLive s live → workPerNode * nodesOf (length s) ≤ length w → 128 * (length s′ / 1024) ≤ length w
-area-fits s s′ w live e q h = subst (λ k. 128 * (k / 1024) ≤ length w) (sym (ap length q ∙ live-length s live e)) (subst (λ k. k ≤ length w) (sym (area-size (length s))) h)
-
-pub len-kept : (s s′ : List ℕ) (live : ℕ) → soundButLive s ≡ true → s′ ≡ withLive s live → 128 * (length s′ / 1024) ≡ 128 * (length s / 1024)
-len-kept s s′ live e q = ap (λ k. 128 * (k / 1024)) (ap length q ∙ live-length s live e)
-
 pub spot-sized : (s : List ℕ) (size size′ : ℕ) (r : Spot) → SpotFits s size r → size ≡ size′ → SpotFits s size′ r
 spot-sized s size size′ r f e = subst (λ k. SpotFits s k r) e f
 

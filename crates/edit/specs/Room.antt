@@ -4,8 +4,7 @@ use mathlib.Core.Path.{_≡_, refl, sym, ap, _∙_}
 use mathlib.Core.List.{List, [], _∷_}
 use mathlib.Core.Bool.{Bool, true, false, not, false≢true}
 use native.Mathlib.Omega.{arith}
-use lib.ListN.{length, drop, getD, replicate, length-append, length-drop, length-replicate}
-use lib.Seq.{drop-at}
+use lib.ListN.{length, drop, getD}
 use lib.Dec.{eqb}
 use borrow.Author.Tests.{leb-true, eqb-true, not-true}
 use Rattle.image.specs.Bytes.{u16}
@@ -23,6 +22,7 @@ use Rattle.tree_check.specs.Whole.{Verified}
 use Rattle.tree_check.specs.Callers.{Holds, verified-yes, verified-no}
 use Rattle.append_laws.specs.Append.{roomAtRoot, header-levels}
 use Rattle.rebuild.specs.Rebuild.{Rebuilt}
+use Rattle.finish.specs.Finished.{cleared-size, cleared-later}
 use Rattle.edit.specs.Free.{FirstFree, all-in}
 use Rattle.edit.specs.declared.Spot.{Spot}
 
@@ -132,21 +132,11 @@ unfolding SpotFits
 roomy-above s w size r ok a d = record { is-sound = ok; table = refl; length-same = refl; work-length = refl; work-later = refl; spot = a .some d }
 
 module _ (s s′ w w′ : List ℕ) (size : ℕ) (whole : wholeNodes (length s) ≡ true) (long : workPerNode * nodesOf (length s) ≤ length w) (r : Rebuilt s s′ w w′) where
-  part : ℕ
-  part = workPerNode * nodesOf (length s)
-
-  zeros-size : length {A = ℕ} (replicate (workPerNode * nodesOf (length s)) 0) ≡ workPerNode * nodesOf (length s)
-  zeros-size = length-replicate {A = ℕ} (workPerNode * nodesOf (length s)) 0
-
   same-work : length w′ ≡ length w
-  same-work =
-      ap length (r .work) ∙ length-append (replicate (workPerNode * nodesOf (length s)) 0) (drop (workPerNode * nodesOf (length s)) w)
-      ∙ (let d = length-drop (workPerNode * nodesOf (length s)) w in let z = zeros-size in omega arith)
+  same-work = cleared-size (nodesOf (length s)) w w′ (r .work) long
 
   same-later : drop (workPerNode * nodesOf (length s)) w′ ≡ drop (workPerNode * nodesOf (length s)) w
-  same-later =
-      ap (drop (workPerNode * nodesOf (length s))) (r .work)
-      ∙ drop-at (replicate (workPerNode * nodesOf (length s)) 0) (drop (workPerNode * nodesOf (length s)) w) (workPerNode * nodesOf (length s)) zeros-size
+  same-later = cleared-later (nodesOf (length s)) w w′ (r .work)
 
   pub rebuilt-now : (b : Bool) → b ≡ roomAtRoot s′ size → b ≡ true → Roomy s s′ w w′ size Spot.AtRoot
   unfolding SpotFits

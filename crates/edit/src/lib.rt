@@ -24,7 +24,7 @@ ghost use Rattle.image.specs.Answers.{outcomeAnswer};
 ghost use Rattle.append_laws.specs.Append.{roomAtRoot, Appended};
 ghost use Rattle.edit.specs.Change.{messageOf, sizeOf, Allowed};
 ghost use Rattle.edit.specs.Room.{Above, Free, SpotFits, Roomy};
-ghost use Rattle.edit.specs.Edited.{Finished, Edited};
+ghost use Rattle.edit.specs.Edited.{Edited};
 
 // What is done to a path.
 pub enum Change {
@@ -40,8 +40,8 @@ pub enum Spot {
 }
 
 // The least number of a node that is not marked, 0 if there is none.
-fn first_free(seen: &[u8], n: usize) -> usize
-    requires { ⌜ n ≤ length (now seen) ⌝ }
+fn first_free(seen: &[u8; 1024], n: usize) -> usize
+    requires { ⌜ n ≤ 1024 ⌝ }
     ensures { λ r. ⌜ FirstFree (now (seen .entry)) n r ⌝ }
 {
     let mut i = 1;
@@ -140,17 +140,6 @@ fn add(store: &mut [u8], spot: Spot, change: Change, path: &[u8], value: &[u8])
     }
 }
 
-// The live count made right, and the work area zeroed.
-fn finish(store: &mut [u8], work: &mut [u8])
-    requires { ⌜ (wholeNodes (length (now store)) ≡ true) × (soundButLive (now store) ≡ true) × (length (tableOf (now store)) ≤ nodesOf (length (now store))) × (workPerNode * nodesOf (length (now store)) ≤ length (now work)) ⌝ }
-    ensures { λ _. ⌜ Finished (now (store .entry)) (now (store .exit)) (now (work .entry)) (now (work .exit)) ⌝ }
-{
-    let live = live::live_count(store);
-    append::set_live(store, live);
-    let k = 128 * (store.len() / 1024);
-    build::clear_area(work, k);
-}
-
 // A change that the questions allow.
 fn apply_change(store: &mut [u8], work: &mut [u8], change: Change, path: &[u8], value: &[u8])
     requires { ⌜ (wholeNodes (length (now store)) ≡ true) × (sound (now store) ≡ true) × (workPerNode * nodesOf (length (now store)) ≤ length (now work)) × Allowed change (now path) (now value) (tableOf (now store)) (nodesOf (length (now store))) ⌝ }
@@ -159,7 +148,7 @@ fn apply_change(store: &mut [u8], work: &mut [u8], change: Change, path: &[u8], 
     let size = entry_size(change, path.len(), value.len());
     let spot = make_room(store, work, size);
     add(store, spot, change, path, value);
-    finish(store, work);
+    finish::finish(store, work);
 }
 
 // Question 10: is the path present, or are fewer than n paths?

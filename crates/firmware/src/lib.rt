@@ -8,7 +8,7 @@ ghost use Prim.Native.Nat.{_≤_, _/_, _%_};
 ghost use mathlib.Core.Path.{_≡_};
 ghost use mathlib.Core.List.{[]};
 ghost use Rattle.image.specs.Answers.{refusalNumber, outcomeNumber, samenessNumber, samenessVerdict};
-ghost use Rattle.image.specs.Calls.{asks, get, next, filled, acts, keeps, put, drops, clear, settle, tidy, flush, number};
+ghost use Rattle.image.specs.Calls.{asks, get, next, filled, acts, keeps, put, drops, clear, settle, tidy, flush, heal, number};
 ghost use Rattle.image.specs.Contract.{Meets, MakeMeets, SameMeets};
 ghost use Rattle.query.specs.Asked.{foundLength};
 ghost use Rattle.firmware.specs.Words.{foundNumber};
@@ -125,8 +125,15 @@ pub extern "C" fn splicelog_tidy(store: &mut [u8], work: &mut [u8]) -> u32
 }
 
 #[no_mangle]
-pub extern "C" fn splicelog_flush(store: &mut [u8], work: &mut [u8], node: u32) -> u32
+pub extern "C" fn splicelog_flush(store: &mut [u8], work: &mut [u8], node: usize) -> u32
     ensures { λ r. ⌜ Meets (now (store .entry)) (keeps flush node (now (work .entry))) (number r) (now (store .exit)) (now (work .exit)) ⌝ }
 {
-    outcome_number(maintain::flush(store, work, node as usize))
+    outcome_number(maintain::flush(store, work, node))
+}
+
+#[no_mangle]
+pub extern "C" fn splicelog_heal(store: &mut [u8], work: &mut [u8], node: usize) -> u32
+    ensures { λ r. ⌜ Meets (now (store .entry)) (keeps heal node (now (work .entry))) (number r) (now (store .exit)) (now (work .exit)) ⌝ }
+{
+    outcome_number(maintain::heal(store, work, node))
 }

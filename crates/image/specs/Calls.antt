@@ -7,7 +7,7 @@ use mathlib.Core.Option.{Option, none, some}
 use lib.ListN.{length, drop}
 use lib.Dec.{ltb, leb}
 use Rattle.image.specs.Bytes.{same}
-use Rattle.image.specs.Path.{wellFormed, properBeginning, valueFits, valueLimit, pathLimit}
+use Rattle.image.specs.Path.{wellFormed, mayMove, valueFits, valueLimit, pathLimit}
 use Rattle.image.specs.Table.{Row, find, isSome, withRow, without, rowsBelow, withoutBelow, moved, leastAfter, everyKey}
 
 -- The calls that are lent a work area and change the map or the whole store; upkeep of one node; the calls that are lent a buffer.
@@ -74,7 +74,7 @@ actQuestions n (drops p) t = ask 3 (wellFormed p) ∷ []
 actQuestions n (clear p) t = ask 3 (wellFormed p) ∷ []
 actQuestions n (move from to) t =
     ask 3 (wellFormed from && wellFormed to)
-    ∷ ask 7 (not (properBeginning from to) && not (properBeginning to from))
+    ∷ ask 7 (mayMove from to)
     ∷ ask 8 (not (isEmpty (rowsBelow from t)))
     ∷ ask 9 (everyKey wellFormed (moved from to t)) ∷ []
 actQuestions n settle t = []

@@ -38,23 +38,30 @@ firstNoOn s c =
     ∷ ask 2 (sound s)
     ∷ nodeQuestions c s ++ questions (nodesOf (length s)) c (tableOf s))
 
--- Demand 3's bound: a move on a settled store of L levels, at most 7, with at least 12 × L + 8 free nodes, changes at most 16 × L + 8.
-pub record Bound (s s′ : List ℕ) : Type 0 where
-  pub few : settled s ≡ true → headerOf s .levels ≤ 7 → 12 * headerOf s .levels + 8 ≤ freeNodes s
-      → changed (nodesOf (length s)) s s′ ≤ 16 * headerOf s .levels + 8
+-- The stores that demand 3's bound speaks of: settled, of L levels, at most 7, with at least 12 × L + 8 free nodes.
+pub record Bounded (s : List ℕ) : Type 0 where
+  pub is-settled : settled s ≡ true
+  pub low : headerOf s .levels ≤ 7
+  pub free : 12 * headerOf s .levels + 8 ≤ freeNodes s
+
+-- What an accepted move keeps besides the map: "If from equals to, no byte of the store changes"; and on a bounded store it changes at
+-- most 16 × L + 8 nodes.
+pub record MoveKeeps (s s′ from to : List ℕ) : Type 0 where
+  pub unmoved : from ≡ to → s′ ≡ s
+  pub few : Bounded s → changed (nodesOf (length s)) s s′ ≤ 16 * headerOf s .levels + 8
 
 -- what an accepted flush or heal of the place x leaves
 unfoldable pub upkeepRule : Upkeep → Option Reachable → List Reachable → List Reachable → Bool
 upkeepRule u none was after = true
-upkeepRule flush (some x) was after = flushed x after
+upkeepRule flush (some x) was after = flushed x was after
 upkeepRule heal (some x) was after = healed x was after
 
--- what an accepted call keeps besides the map: get and next leave the store; "If from equals to, no byte of the store changes"
+-- what an accepted call keeps besides the map: get and next leave the store
 unfoldable pub Besides : Call → List ℕ → List ℕ → Type 0
 Besides (acts (put p v) work) s s′ = Unit {0}
 Besides (acts (drops p) work) s s′ = Unit {0}
 Besides (acts (clear p) work) s s′ = Unit {0}
-Besides (acts (move from to) work) s s′ = (from ≡ to → s′ ≡ s) × Bound s s′
+Besides (acts (move from to) work) s s′ = MoveKeeps s s′ from to
 Besides (acts settle work) s s′ = settled s′ ≡ true
 Besides (acts tidy work) s s′ = tidied s′ ≡ true
 Besides (keeps u i work) s s′ = upkeepRule u (reachableAt i (reachableNodes s)) (reachableNodes s) (reachableNodes s′) ≡ true

@@ -9,6 +9,7 @@ pub mod Upkeep
 pub mod Calls
 pub mod PlainMap
 pub mod Contract
+pub mod Listing
 pub mod Answers
 pub mod Cases
 pub mod Examples

@@ -42,9 +42,13 @@ wellFormed p = leb (length p) pathLimit && readsOn 0 0 p
 unfoldable pub below : Pathname → Pathname → Bool
 below p q = begins q p
 
--- p is a beginning of q, and not q: question 7 asks it
+-- p is a beginning of q, and not q
 unfoldable pub properBeginning : Pathname → Pathname → Bool
 properBeginning p q = begins p q && not (same p q)
+
+-- question 7: "Is neither path a proper beginning of the other?"
+unfoldable pub mayMove : Pathname → Pathname → Bool
+mayMove from to = not (properBeginning from to) && not (properBeginning to from)
 
 -- "A node owns the strings from its low pivot up to, not including, its high pivot": lo and hi own p
 unfoldable pub owns : Pathname → Pathname → Pathname → Bool

@@ -57,10 +57,6 @@ settled image = every holdsNoMessage (reachableNodes image)
 unfoldable pub overlap : Reachable → Reachable → Bool
 overlap x y = before (x .low) (y .high) && before (y .low) (x .high)
 
--- flush: after it, "no reachable node of its level that owns any of what it owned then holds one"; x is the node before the flush
-unfoldable pub flushed : Reachable → List Reachable → Bool
-flushed x after = every (λ y. not (eqb (y .level) (x .level) && overlap x y) || holdsNoMessage y) after
-
 -- two messages, each with its node's lifted prefix in front of its suffix, are the same
 unfoldable pub sameMessage : List ℕ → Message → List ℕ → Message → Bool
 sameMessage l (puts s v) k (puts q w) = same (l ++ s) (k ++ q) && same v w
@@ -87,6 +83,23 @@ gainsNoMessage y (some x) = isSublist (shared (y .low) (y .high)) (y .messages) 
 unfoldable pub noneGains : List Reachable → List Reachable → Bool
 noneGains was [] = true
 noneGains was (y ∷ after) = gainsNoMessage y (reachableAt (y .number) was) && noneGains was after
+
+-- flush, "its messages go down": no node of its level or above gains one, and the node of its number, where it is still reachable, holds none
+unfoldable pub fromLevel : ℕ → List Reachable → List Reachable
+fromLevel level [] = []
+fromLevel level (y ∷ ys) = cond (leb level (y .level)) (y ∷ fromLevel level ys) (fromLevel level ys)
+
+unfoldable pub emptied : Option Reachable → Bool
+emptied none = true
+emptied (some y) = holdsNoMessage y
+
+-- "no reachable node of its level that owns any of what it owned then holds one"
+unfoldable pub noneWaits : Reachable → List Reachable → Bool
+noneWaits x after = every (λ y. not (eqb (y .level) (x .level) && overlap x y) || holdsNoMessage y) after
+
+-- flush, whole: x is the node before it, `was` and `after` are the reachable nodes
+unfoldable pub flushed : Reachable → List Reachable → List Reachable → Bool
+flushed x was after = noneWaits x after && emptied (reachableAt (x .number) after) && noneGains was (fromLevel (x .level) after)
 
 -- The bytes of a leaf's pairs, and of an interior node's children, "entries rewritten for the joined range", which lifts `joined`; and
 -- "pivot suffixes at most 65". An entry is 6 bytes (length, kind, and a suffix length or node number) and its suffix and value.
@@ -135,10 +148,10 @@ unmergeable (tree s t (tree q u f)) lifted hi =
 unfoldable pub unmergeableAt : Reachable → Bool
 unmergeableAt x = unmergeable (x .children) (shared (x .low) (x .high)) (x .high)
 
--- "it stays reachable with its range", and no two neighbouring children of it would fit in one node
+-- "it stays reachable with its range", its level too, and no two neighbouring children of it would fit in one node
 unfoldable pub keepsRange : Reachable → Option Reachable → Bool
 keepsRange x none = false
-keepsRange x (some y) = same (x .low) (y .low) && same (x .high) (y .high) && unmergeableAt y
+keepsRange x (some y) = eqb (x .level) (y .level) && same (x .low) (y .low) && same (x .high) (y .high) && unmergeableAt y
 
 -- heal, whole: x is the node before it, `was` and `after` are the reachable nodes
 unfoldable pub healed : Reachable → List Reachable → List Reachable → Bool

@@ -1,5 +1,5 @@
-// The answers of the store's calls as types. specs/Answers.antt gives each case its number; the other files of specs/ hold the paper's
-// definitions, which every contract of the crates above cites.
+// The answers of the store's calls as types, and the place of a listing. specs/Answers.antt gives each case its number; the other files of
+// specs/ hold the paper's definitions, which every contract of the crates above cites.
 
 // Which question got a no. The comment is the question; specs/Answers.antt has its number.
 pub enum Refusal {
@@ -42,4 +42,10 @@ pub enum Sameness {
     Same,
     Different,
     Refused(Refusal),
+}
+
+// The place of a listing: the first `len` bytes are the last path given. With `len` 0 none has been given yet.
+pub struct Listing {
+    pub last: [u8; 64],
+    pub len: usize,
 }

@@ -13,7 +13,6 @@ pub mod PushDown
 pub mod Filter
 pub mod Pieces
 pub mod LiveCount
-pub mod Demand
 pub mod ValuesFit
 pub mod ButLive
 pub mod Page

@@ -16,8 +16,8 @@ use Rattle.image.specs.Sound.{sound, tableOf}
 use Rattle.image.specs.Calls.{next, Question, ask, firstNo, foundBy}
 use Rattle.query.specs.Asked.{pathsFit, bufferLimit, number-is}
 use Rattle.seek.specs.Present.{Next, next-found}
-use Rattle.listing.specs.declared.Listing.{Listing}
-use Rattle.listing.specs.Place.{lastPath, blank, stepNo, pathAt, Steps}
+use Rattle.image.specs.declared.Listing.{Listing}
+use Rattle.image.specs.Listing.{lastPath, blank, stepNo, pathAt, Steps}
 use Rattle.listing.specs.Moves.{last-fits, last-over}
 
 -- a question whose answer is yes can be left out

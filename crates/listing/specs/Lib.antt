@@ -1,4 +1,3 @@
-pub mod Place
 pub mod Moves
 pub mod Callers
 pub mod Listed

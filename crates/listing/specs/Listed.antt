@@ -2,8 +2,8 @@
 use Prim.Native.Nat.{ℕ}
 use mathlib.Core.List.{List, [], _∷_}
 use Rattle.image.specs.Table.{Row}
-use Rattle.listing.specs.declared.Listing.{Listing}
-use Rattle.listing.specs.Place.{lastPath, Steps}
+use Rattle.image.specs.declared.Listing.{Listing}
+use Rattle.image.specs.Listing.{lastPath, Steps}
 
 -- from the place p, steps that are answered 0 give the paths ks, and leave the last place
 pub data Gives (s below : List ℕ) : Listing → List (List ℕ) → Listing → Type 0 where

@@ -15,8 +15,8 @@ use Rattle.image.specs.Calls.{ask, firstNo}
 use Rattle.octets.specs.Order.{and-left, and-right, before-irrefl, before-trans, before-asym}
 use Rattle.laws.specs.RowsRising.{rows-rise}
 use Rattle.lookup.specs.Root.{starts}
-use Rattle.listing.specs.declared.Listing.{Listing}
-use Rattle.listing.specs.Place.{lastPath, stepNo, pathAt, Steps}
+use Rattle.image.specs.declared.Listing.{Listing}
+use Rattle.image.specs.Listing.{lastPath, stepNo, pathAt, Steps}
 use Rattle.listing.specs.Callers.{step-asks}
 use Rattle.listing.specs.Listed.{Gives, stop, step, pathsOf}
 

@@ -21,8 +21,8 @@ use Rattle.image.specs.declared.Outcome.{Outcome}
 use Rattle.image.specs.declared.Found.{Found}
 use Rattle.query.specs.Asked.{number-is}
 use Rattle.seek.specs.Present.{Next, next-found}
-use Rattle.listing.specs.declared.Listing.{Listing}
-use Rattle.listing.specs.Place.{lastPath, blank, stepNo, pathAt, Steps}
+use Rattle.image.specs.declared.Listing.{Listing}
+use Rattle.image.specs.Listing.{lastPath, blank, stepNo, pathAt, Steps}
 
 -- the path at a place, by its length
 pub last-fits : (p : Listing) → p .len ≤ 64 → lastPath p ≡ take (p .len) (p .last)

@@ -1,19 +1,14 @@
 // The listing: a place, the last path given, that is lent to each step and moved on by it. A thin layer over query's next, whose questions
 // and answers are the step's own. Relies on: query.
 use image::Found;
+use image::Listing;
 use image::Outcome;
 ghost use mathlib.Core.Path.{_≡_};
 ghost use mathlib.Core.List.{[]};
 ghost use Rattle.image.specs.Calls.{asks, next};
 ghost use Rattle.image.specs.Contract.{Meets};
 ghost use Rattle.image.specs.Answers.{foundAnswer, outcomeNumber};
-ghost use Rattle.listing.specs.Place.{lastPath, Steps};
-
-// The place of a listing: the first `len` bytes are the last path given. With `len` 0 none has been given yet.
-pub struct Listing {
-    pub last: [u8; 64],
-    pub len: usize,
-}
+ghost use Rattle.image.specs.Listing.{lastPath, Steps};
 
 // What a step answers, with the place after it.
 pub struct Advanced {

@@ -8,3 +8,5 @@ pub mod WalkLaws
 pub mod NodeSteps
 pub mod RootSteps
 pub mod PathSteps
+pub mod Noted
+pub mod NotedSteps

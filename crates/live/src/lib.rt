@@ -11,6 +11,7 @@ use path_buffer::PathBuffer;
 use search::Heard;
 use search::Kid;
 ghost use mathlib.Core.Path.{_≡_};
+ghost use mathlib.Core.Bool.{true};
 ghost use mathlib.Core.List.{List, _++_, _∷_};
 ghost use Prim.Native.Nat.{ℕ, _+_, _*_, _<_, _≤_};
 ghost use lib.ListN.{length, drop};
@@ -25,6 +26,8 @@ ghost use Rattle.node.specs.Entries.{listed};
 ghost use Rattle.search.specs.Hear.{newestE};
 ghost use Rattle.search.specs.Own.{kid, kidsE};
 ghost use Rattle.lookup.specs.Look.{listing};
+ghost use Rattle.notes.specs.Notes.{Gathered};
+ghost use Rattle.live.specs.Noted.{quietTrail, keyed, SoundNode, SoundKids};
 ghost use Rattle.live.specs.Live.{holdsNoMessage, one, liveHere, liveKids};
 ghost use Rattle.live.specs.PathBuffers.{pathIn};
 ghost use Rattle.live.specs.Walk.{passing, TrailIn, Above, decides, countE, isMessage, hasMessage, Pends, Deeper, pushed, Ready, ReadyKids, Countable};
@@ -178,6 +181,61 @@ pub fn count_entries(
     n
 }
 
+// The messages of the trail that can be on a key from lo up to hi, under the prefix, as notes. Gives how many; 65 where there is no room.
+fn note_trail(
+    store: &[u8],
+    prefix: PathBuffer,
+    trail: Trail,
+    lo: &[u8],
+    hi: &[u8],
+    notes: &mut [usize],
+) -> usize
+    requires { ⌜ (prefix .len ≤ 64) × TrailIn (now store) (prefix .len) trail ⌝ }
+    ensures { λ r. ⌜ Gathered (now (store .entry)) (now (lo .entry)) (now (hi .entry)) (λ k. quietTrail (now (store .entry)) trail (pathIn prefix) k) (now (notes .entry)) 0 (now (notes .exit)) r ⌝ }
+{
+    let nodes = trail.nodes;
+    let lifts = trail.lifts;
+    let bytes = prefix.bytes;
+    let stop = prefix.len;
+    let mut d = trail.depth;
+    let mut n: usize = 0;
+    while 0 < d {
+        d -= 1;
+        let num = nodes[d];
+        let k = lifts[d];
+        let at = num * 1024;
+        let len = octets::u16_at(store, at);
+        let from = at + 8;
+        n = notes::note_entries(store, from, from + len, &bytes[k..stop], lo, hi, notes, n);
+        if 64 < n {
+            return 65;
+        }
+    }
+    n
+}
+
+// How many pairs of a leaf no node of the trail has a message on. The messages that can be on one are noted first, so that each pair is held
+// against these alone; where they have no room, each pair is held against all.
+pub fn count_leaf(
+    store: &[u8],
+    from: usize,
+    end: usize,
+    prefix: PathBuffer,
+    trail: Trail,
+    lo: &[u8],
+    hi: &[u8],
+) -> usize
+    requires { ⌜ (from ≤ end) × (end ≤ length (now store)) × (prefix .len ≤ 64) × TrailIn (now store) (prefix .len) trail × (keyed (pathIn prefix) (now lo) (now hi) (listed (now store) from end) ≡ true) ⌝ }
+    ensures { λ r. ⌜ (r ≡ countE (passing (now (store .entry)) trail) (pathIn prefix) (listed (now (store .entry)) from end)) × (r + from ≤ end) ⌝ }
+{
+    let mut notes = [0usize; 64];
+    let n = note_trail(store, prefix, trail, lo, hi, &mut notes);
+    if 64 < n {
+        return count_entries(store, from, end, prefix, trail);
+    }
+    notes::count_pairs(store, from, end, &notes, n)
+}
+
 fn is_message(e: Entry) -> bool
     ensures { λ r. ⌜ ((s : List ℕ) → r ≡ isMessage (entryIn s e)) ⌝ }
 {
@@ -254,7 +312,7 @@ pub fn count_node(
     hi: &[u8],
     trail: Trail,
 ) -> usize
-    requires { ⌜ Ready (now store) level num prefix trail ⌝ }
+    requires { ⌜ Ready (now store) level num prefix trail × SoundNode (now store) level num prefix (now lo) (now hi) ⌝ }
     ensures { λ r. ⌜ (r ≡ cap (liveHere (treeAt level (now (store .entry)) num) (passing (now (store .entry)) trail) (pathIn prefix ++ shared (now (lo .entry)) (now (hi .entry))) (drop (lifts (now (lo .entry)) (now (hi .entry))) (now (hi .entry))))) × (r ≤ 65535) ⌝ }
 {
     let k = octets::common_length(lo, hi);
@@ -267,10 +325,10 @@ pub fn count_node(
     let len = octets::u16_at(store, at);
     let from = at + 8;
     let end = from + len;
-    let own = count_entries(store, from, end, here, trail);
     if level <= 1 {
-        return own;
+        return count_leaf(store, from, end, here, trail, &lo[k..], &hi[k..]);
     }
+    let own = count_entries(store, from, end, here, trail);
     let Pending::Child(first, pivot, next) = read_child(store, Cursor { at: from, end }) else {
         return own;
     };
@@ -291,7 +349,7 @@ pub fn count_children(
     hi: &[u8],
     trail: Trail,
 ) -> usize
-    requires { ⌜ ReadyKids (now store) level first pivot start prefix trail ⌝ }
+    requires { ⌜ ReadyKids (now store) level first pivot start prefix trail × SoundKids (now store) level first pivot start prefix (now hi) ⌝ }
     ensures { λ r. ⌜ (r ≡ cap (liveKids (forestOf (λ j. treeAt level (now (store .entry)) j) (kid first (part (now (store .entry)) pivot) ∷ kidsE (listed (now (store .entry)) (start .at) (start .end)))) (passing (now (store .entry)) trail) (pathIn prefix) (now (hi .entry)))) × (r ≤ 65535) ⌝ }
 {
     let mut c = start;

@@ -8,7 +8,7 @@ use lib.ListN.{length, getD}
 use Rattle.image.specs.Image.{nodesOf, wholeNodes, treeOf}
 use Rattle.image.specs.Sound.{sound, tableOf, isIn, numbers}
 use Rattle.image.specs.Upkeep.{reachableNodes, reachableAt}
-use Rattle.image.specs.Calls.{workPerNode, flush}
+use Rattle.image.specs.Calls.{workPerNode, Upkeep}
 use Rattle.image.specs.Contract.{upkeepRule}
 use Rattle.rebuild.specs.Rebuild.{Rebuilt, cleared}
 
@@ -33,10 +33,10 @@ unfoldable pub Upkept : Bool → List ℕ → List ℕ → List ℕ → List ℕ
 Upkept true s s′ w w′ = Stayed s s′ w w′
 Upkept false s s′ w w′ = Rebuilt s s′ w w′
 
--- what an accepted flush of the node of this number leaves
-pub record Flushes (node : ℕ) (s s′ w w′ : List ℕ) : Type 0 where
+-- what an accepted flush or heal of the node of this number leaves
+pub record Upheld (u : Upkeep) (node : ℕ) (s s′ w w′ : List ℕ) : Type 0 where
   pub is-sound : sound s′ ≡ true
   pub table : tableOf s′ ≡ tableOf s
   pub size : length s′ ≡ length s
   pub work : w′ ≡ cleared (nodesOf (length s)) w
-  pub rule : upkeepRule flush (reachableAt node (reachableNodes s)) (reachableNodes s) (reachableNodes s′) ≡ true
+  pub rule : upkeepRule u (reachableAt node (reachableNodes s)) (reachableNodes s) (reachableNodes s′) ≡ true

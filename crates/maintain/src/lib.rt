@@ -1,6 +1,6 @@
-// settle, tidy and flush: the public upkeep calls. Each asks the paper's questions in order and refuses at the first no; a refusal changes
-// no byte, and an accepted call leaves the first 128 bytes for each node of the work area zero.
-// Relies on ready (questions 1 and 2) and on rebuild, which leaves the same map in packed form, with no message anywhere.
+// settle, tidy, flush and heal: the public upkeep calls. Each asks the paper's questions in order and refuses at the first no; a refusal
+// changes no byte, and an accepted call leaves the first 128 bytes for each node of the work area zero.
+// Relies on ready (questions 1 and 2), on rebuild, which leaves the same map in packed form, with no message anywhere, on push and on mend.
 use image::Outcome;
 use image::Refusal;
 use push::Pushed;
@@ -8,10 +8,10 @@ use ready::Ready;
 ghost use mathlib.Core.Path.{_≡_};
 ghost use mathlib.Core.Bool.{true};
 ghost use Rattle.image.specs.Upkeep.{reachableNodes, reachableAt};
-ghost use Rattle.image.specs.Calls.{acts, settle, tidy, keeps, flush};
+ghost use Rattle.image.specs.Calls.{acts, settle, tidy, keeps, flush, heal};
 ghost use Rattle.image.specs.Contract.{isInterior, Meets};
 ghost use Rattle.image.specs.Answers.{outcomeAnswer};
-ghost use Rattle.maintain.specs.Upkept.{Passed, Reached, Upkept, Flushes};
+ghost use Rattle.maintain.specs.Upkept.{Passed, Reached, Upkept, Upheld};
 
 // Ends an accepted call. Where the store already is as the call asks, only the work area is cleared; else the store is rebuilt.
 fn rebuild_unless(done: bool, store: &mut [u8], work: &mut [u8])
@@ -75,7 +75,7 @@ pub fn is_interior(store: &[u8], seen: &[u8; 1024], node: usize) -> bool
 // every node.
 fn act_flush(store: &mut [u8], work: &mut [u8], node: usize)
     requires { ⌜ Passed (now store) (now work) × (isInterior (reachableAt node (reachableNodes (now store))) ≡ true) ⌝ }
-    ensures { λ _. ⌜ Flushes node (now (store .entry)) (now (store .exit)) (now (work .entry)) (now (work .exit)) ⌝ }
+    ensures { λ _. ⌜ Upheld flush node (now (store .entry)) (now (store .exit)) (now (work .entry)) (now (work .exit)) ⌝ }
 {
     let pushed = push::push_down(store, node);
     match pushed {
@@ -97,6 +97,33 @@ pub fn flush(store: &mut [u8], work: &mut [u8], node: usize) -> Outcome
                 return Outcome::Refused(Refusal::NotInterior);
             }
             act_flush(store, work, node);
+            Outcome::Done
+        }
+    }
+}
+
+// The act of a heal: the children of a node are joined where two neighbours fit in one node.
+fn act_heal(store: &mut [u8], work: &mut [u8], node: usize)
+    requires { ⌜ Passed (now store) (now work) × (isInterior (reachableAt node (reachableNodes (now store))) ≡ true) ⌝ }
+    ensures { λ _. ⌜ Upheld heal node (now (store .entry)) (now (store .exit)) (now (work .entry)) (now (work .exit)) ⌝ }
+{
+    mend::mend_children(store, node);
+    rebuild_unless(true, store, work);
+}
+
+// Leaves the node with its range, no node with a message more, and no two neighbouring children of it that would fit in one node.
+pub fn heal(store: &mut [u8], work: &mut [u8], node: usize) -> Outcome
+    ensures { λ r. ⌜ Meets (now (store .entry)) (keeps heal node (now (work .entry))) (outcomeAnswer r) (now (store .exit)) (now (work .exit)) ⌝ }
+{
+    let mut seen = [0u8; 1024];
+    let ready = ready::ask(store, work, &mut seen);
+    match ready {
+        Ready::Refused(refusal) => Outcome::Refused(refusal),
+        Ready::Fit(_) => {
+            if !is_interior(store, &seen, node) {
+                return Outcome::Refused(Refusal::NotInterior);
+            }
+            act_heal(store, work, node);
             Outcome::Done
         }
     }

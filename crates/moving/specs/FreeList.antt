@@ -115,13 +115,29 @@ free-near (suc c) i is = go (isIn i is) refl (free-near c (suc i) is)
 pub free-many : (c i : ℕ) (is : List ℕ) → c ≤ length (freeFrom c i is) + length is
 free-many c i is = omega (arith, free-near c i is, near-length c i is)
 
--- Enough free nodes for a move: the list is a supply.
-pub free-supply : (s : List ℕ) → 12 * headerOf s .levels + 8 ≤ freeNodes s → Free s (freeList s)
+-- the list has all of them
+pub free-enough : (s : List ℕ) → freeNodes s ≤ length (freeList s)
 unfolding freeList freeNodes used
-free-supply s h =
+free-enough s = omega (arith, free-many (nodesOf (length s) - 1) 1 (numbers (treeOf s)))
+
+-- Enough free nodes for a move: the list is a supply. (Demand 3 gives 12 × L + 8.)
+pub list-supply : (s : List ℕ) → 10 * headerOf s .levels + 1 ≤ length (freeList s) → Free s (freeList s)
+unfolding freeList
+list-supply s h =
     record {
-      enough = omega (arith, free-many (nodesOf (length s) - 1) 1 (numbers (treeOf s)));
+      enough = omega arith;
       distinct = free-once (nodesOf (length s) - 1) 1 (numbers (treeOf s));
-      within = free-range (nodesOf (length s)) (nodesOf (length s) - 1) 1 (numbers (treeOf s)) (omega arith) (omega arith);
+      within = by-count (nodesOf (length s));
       unused = λ j e. free-unused j (nodesOf (length s) - 1) 1 (numbers (treeOf s)) e;
     }
+  where
+    by-count : (n : ℕ) → inRange n (freeFrom (n - 1) 1 (numbers (treeOf s))) ≡ true
+    by-count zero = none (zero - 1) (omega arith)
+      where
+        none : (c : ℕ) → c ≡ 0 → inRange zero (freeFrom c 1 (numbers (treeOf s))) ≡ true
+        none zero e = unfold freeFrom inRange in refl
+        none (suc c) e = absurd (omega arith)
+    by-count (suc n) = free-range (suc n) (suc n - 1) 1 (numbers (treeOf s)) (omega arith) (omega arith)
+
+pub free-supply : (s : List ℕ) → 10 * headerOf s .levels + 1 ≤ freeNodes s → Free s (freeList s)
+free-supply s h = list-supply s (omega (arith, free-enough s))

@@ -37,11 +37,11 @@ module _ (fresh : ℕ → ℕ) (h : ℕ) (t : Tree) (p r : List ℕ) where
   midP = tailOf fresh leftPastP [] (past p) p (8 * h)
 
   -- the new root, with x for the range of p and y for that of r
-  unfoldable pub unmergeable : Tree → Tree → Forest
-  unmergeable x y = tree [] leftP (tree p x (joined rightPastP (tree r y rightPastR)))
+  unfoldable pub pieces : Tree → Tree → Forest
+  pieces x y = tree [] leftP (tree p x (joined rightPastP (tree r y rightPastR)))
 
   unfoldable pub rootOver : Tree → Tree → Tree
-  rootOver x y = node (fresh (10 * h)) [] highest (unmergeable x y)
+  rootOver x y = node (fresh (10 * h)) [] highest (pieces x y)
 
 -- from before to, or after it
 unfoldable pub movedTree : (ℕ → ℕ) → ℕ → Tree → List ℕ → List ℕ → Tree

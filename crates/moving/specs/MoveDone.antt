@@ -6,7 +6,7 @@ use mathlib.Core.Bool.{Bool, true, false, _&&_, false≢true}
 use native.Mathlib.Omega.{arith}
 use lib.ListN.{length, getD, replicate}
 use lib.Dec.{eqb, leb, ltb}
-use borrow.Author.Tests.{eqb-true, leb-true, ltb-true}
+use borrow.Author.Tests.{eqb-true, ne-eqb, leb-true, ltb-true}
 use Rattle.image.specs.Bytes.{begins, u16, zeros, u16Bytes}
 use Rattle.image.specs.Path.{wellFormed}
 use Rattle.image.specs.Table.{everyKey, moved}
@@ -16,9 +16,9 @@ use Rattle.image.specs.Upkeep.{settled, changed}
 use Rattle.octets.specs.Order.{and-left, and-right}
 use Rattle.laws.specs.WriteNode.{writeNode, write-length, write-same, write-other}
 use Rattle.laws.specs.Pieces.{levelled, Good}
-use Rattle.slicing.specs.SliceNumbers.{hits, hits-met, met, spent}
+use Rattle.slicing.specs.SliceNumbers.{one, hits, hits-met, met, spent}
 use Rattle.slicing.specs.SliceFits.{fits}
-use Rattle.slicing.specs.SliceWrite.{one-other, stays, number-read}
+use Rattle.slicing.specs.SliceWrite.{in-hits, one-other, stays, number-read}
 use Rattle.laws.specs.Page.{numberOf}
 use Rattle.moving.specs.Move.{movedTree}
 use Rattle.moving.specs.MoveLaws.{Well, move-well}
@@ -74,6 +74,10 @@ unfolding inRange
 get-range n [] i h e = h
 get-range n (x ∷ xs) zero h e = ltb-true x n (and-right (leb 1 x) _ (and-left _ _ e))
 get-range n (x ∷ xs) (suc i) h e = get-range n xs i h (and-right (leb 1 x && ltb x n) _ e)
+
+not-zero : (j : ℕ) → 1 ≤ j → one j 0 ≡ 0
+unfolding one
+not-zero j h = rw (ne-eqb j 0 (λ e. omega arith))
 
 level-suc : (t : Tree) (h : ℕ) → levelled t h ≡ true → (k : ℕ) × (h ≡ suc k)
 unfolding levelled
@@ -218,3 +222,16 @@ module _ (s free from to : List ℕ) (whole : wholeNodes (length s) ≡ true) (o
   pub store-settled : settled (movedStore s free from to) ≡ true
   unfolding movedStore h t fresh n image pg
   store-settled = move-settled s (writeNode image 0 pg) free from to ok noMessage low formed-from formed-to apart apart′ q9 f written
+
+  pub store-size : length (movedStore s free from to) ≡ length s
+  unfolding movedStore h t fresh n image pg
+  store-size = written .size
+
+  -- no node that was reachable is written
+  pub store-spares : (j : ℕ) → isIn j (numbers (treeOf s)) ≡ true → nodeBytes (movedStore s free from to) j ≡ nodeBytes s j
+  unfolding movedStore h t fresh n image pg
+  store-spares j e =
+      let a : 1 ≤ hits j (numbers (treeOf s)) = in-hits j (numbers (treeOf s)) e in
+      let b : (1 ≤ j) × (j < nodesOf (length s)) = range-hit (nodesOf (length s)) j (numbers (treeOf s)) (roots s ok .within) a in
+      let c : one j 0 ≡ 0 = not-zero j (b .0) in
+      written .others j (omega (arith, supply j, spent-list j free (suc (10 * headerOf s .levels)) 0 (omega (arith, f .enough))))

@@ -27,7 +27,7 @@ use Rattle.slicing.specs.Swing.{swing-rows, swing-good, rows-formed}
 use Rattle.slicing.specs.Tail.{tailOf, gapOf, tail-good, tail-rows, tail-met, tail-fits, gap-good, gap-rows, gap-fits, gap-met}
 use Rattle.slicing.specs.Range.{past, before-past, before-aside, formed-inside, formed-length}
 use Rattle.moving.specs.MovedRows.{partA, partP, partB, partR, partC, set-aside-p, set-aside-r, moved-up, moved-down, renamed-formed}
-use Rattle.moving.specs.Move.{leftPastR, rightPastR, leftR, midR, leftPastP, rightPastP, leftP, midP, unmergeable, rootOver, movedTree}
+use Rattle.moving.specs.Move.{leftPastR, rightPastR, leftR, midR, leftPastP, rightPastP, leftP, midP, pieces, rootOver, movedTree}
 
 -- the swing of a path's range
 pub range-rows : (P Q : List ℕ) (t : Tree) → rows t Q (past Q) ≡ renamed P Q (rows t P (past P))
@@ -153,8 +153,8 @@ module _ (fresh : ℕ → ℕ) (h : ℕ) (t : Tree) (p r : List ℕ) (good : Goo
     right-run : Run h (joined (rightPastP fresh h t p r) (tree r y (rightPastR fresh h t p r))) (past p) highest
     right-run = run-join (cut-3 .high) (more (before-past r) good-y (cut-1 .high))
 
-    spread-run : Run h (unmergeable fresh h t p r x y) [] highest
-    unfolding unmergeable
+    spread-run : Run h (pieces fresh h t p r x y) [] highest
+    unfolding pieces
     spread-run = more b-p (cut-4 .low) (more (before-past p) good-x right-run)
 
     below-highest : before [] highest ≡ true
@@ -168,9 +168,9 @@ module _ (fresh : ℕ → ℕ) (h : ℕ) (t : Tree) (p r : List ℕ) (good : Goo
     unfolding rowsIn
     last-rows = ap₂ (λ a b. rows y r a ++ b) (run-high (cut-1 .high)) (cut-1 .highRows)
 
-    spread-rows : rowsIn (unmergeable fresh h t p r x y) [] highest
+    spread-rows : rowsIn (pieces fresh h t p r x y) [] highest
         ≡ partA p r (rows t [] highest) ++ (rows x p (past p) ++ (partB p r (rows t [] highest) ++ (rows y r (past r) ++ partC p r (rows t [] highest))))
-    unfolding unmergeable rowsIn highOf
+    unfolding pieces rowsIn highOf
     spread-rows =
         ap₂ (λ a b. a ++ b) rows-A
         (ap₂ (λ a b. rows x p a ++ b) (run-high right-run)
@@ -184,9 +184,9 @@ module _ (fresh : ℕ → ℕ) (h : ℕ) (t : Tree) (p r : List ℕ) (good : Goo
     -- each number at most as often as before, and among the new ones
     root-met : (j : ℕ) → met j (rootOver fresh h t p r x y)
         ≡ one j (fresh (10 * h)) + (met j (leftP fresh h t p r) + (met j x + (metIn j (rightPastP fresh h t p r) + (met j y + metIn j (rightPastR fresh h t p r)))))
-    unfolding rootOver unmergeable metIn
+    unfolding rootOver pieces metIn
     root-met j =
-        met-node j (fresh (10 * h)) [] highest (unmergeable fresh h t p r x y)
+        met-node j (fresh (10 * h)) [] highest (pieces fresh h t p r x y)
         ∙ ap (λ z. one j (fresh (10 * h)) + (met j (leftP fresh h t p r) + (met j x + z)))
         (met-joined j (rightPastP fresh h t p r) (tree r y (rightPastR fresh h t p r)))
 
@@ -267,30 +267,30 @@ module _ (fresh : ℕ → ℕ) (h : ℕ) (t : Tree) (p r : List ℕ) (good : Goo
     unfolding rightPastP
     few-right-p = right-count fresh true (leftR fresh h t p r) [] r (past p) (5 * h)
 
-    spread-short : (x y : Tree) → shortAt 0 (unmergeable fresh h t p r x y) ≡ true
-    unfolding unmergeable shortAt
+    spread-short : (x y : Tree) → shortAt 0 (pieces fresh h t p r x y) ≡ true
+    unfolding pieces shortAt
     spread-short x y =
         both (le-leb 0 pivotLimit (omega arith))
         (both (le-leb (length p - 0) pivotLimit (omega (arith, short-of p short-p)))
         (short-joined 0 (rightPastP fresh h t p r) (tree r y (rightPastR fresh h t p r)) short-right-p
         (both (le-leb (length r - 0) pivotLimit (omega (arith, short-of r short-r))) short-right-r)))
 
-    spread-few : (x y : Tree) → count (unmergeable fresh h t p r x y) ≤ 7
-    unfolding unmergeable count
+    spread-few : (x y : Tree) → count (pieces fresh h t p r x y) ≤ 7
+    unfolding pieces count
     spread-few x y =
         omega (arith, count-joined (rightPastP fresh h t p r) (tree r y (rightPastR fresh h t p r)), few-right-r, few-right-p)
 
-    spread-size : (x y : Tree) → sizeAt 0 (unmergeable fresh h t p r x y) ≤ entriesLimit
-    spread-size x y = omega (arith, short-size 0 (unmergeable fresh h t p r x y) (spread-short x y), spread-few x y)
+    spread-size : (x y : Tree) → sizeAt 0 (pieces fresh h t p r x y) ≤ entriesLimit
+    spread-size x y = omega (arith, short-size 0 (pieces fresh h t p r x y) (spread-short x y), spread-few x y)
 
-    pub spread-fits : (x y : Tree) → fits x ≡ true → fits y ≡ true → fitsIn (unmergeable fresh h t p r x y) ≡ true
-    unfolding unmergeable fitsIn
+    pub spread-fits : (x y : Tree) → fits x ≡ true → fits y ≡ true → fitsIn (pieces fresh h t p r x y) ≡ true
+    unfolding pieces fitsIn
     spread-fits x y a b =
         both fit-4 (both a (fits-joined (rightPastP fresh h t p r) (tree r y (rightPastR fresh h t p r)) (fit-3 .1) (both b (fit-1 .1))))
 
     pub root-fits : (x y : Tree) → fits x ≡ true → fits y ≡ true → fits (rootOver fresh h t p r x y) ≡ true
     unfolding rootOver shared
-    root-fits x y a b = node-fits (fresh (10 * h)) [] highest (unmergeable fresh h t p r x y) (spread-size x y) (spread-short x y) (spread-fits x y a b)
+    root-fits x y a b = node-fits (fresh (10 * h)) [] highest (pieces fresh h t p r x y) (spread-size x y) (spread-short x y) (spread-fits x y a b)
 
 -- what a move leaves
 pub record Well (fresh : ℕ → ℕ) (h : ℕ) (from to : List ℕ) (t new : Tree) : Type 0 where

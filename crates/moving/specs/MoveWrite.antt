@@ -23,7 +23,7 @@ use Rattle.slicing.specs.RightWrite.{rightWrite, RightDone, right-written, read
 use Rattle.slicing.specs.Tail.{tailOf, gapOf, tail-good, tail-met}
 use Rattle.image.specs.Path.{wellFormed}
 use Rattle.slicing.specs.Range.{past, before-past, before-aside, formed-inside}
-use Rattle.moving.specs.Move.{leftPastR, rightPastR, leftR, midR, leftPastP, rightPastP, leftP, midP, unmergeable, rootOver, movedTree}
+use Rattle.moving.specs.Move.{leftPastR, rightPastR, leftR, midR, leftPastP, rightPastP, leftP, midP, pieces, rootOver, movedTree}
 use Rattle.moving.specs.MoveLaws.{taken-two, taken-one, begins-past, short-of, b-past-p, b-r, b-past-r, cut-1, cut-2, cut-3, fit-1, fit-2, fit-3, short-past, Well}
 use Rattle.moving.specs.GapWrite.{spent-block, only-then, gapWrite, first-read, Within, WithinIn, keep-read, keep-reads, apart, within-left, within-right, within-self, within-later, within-tail, gap-at, gap-number-at, node-at}
 
@@ -64,7 +64,7 @@ module _ (fresh : ℕ → ℕ) (h : ℕ) (t : Tree) (p r : List ℕ) (good : Goo
   pub g1 : Good h (leftPastR fresh h t p r) [] (past r)
   g1 = cut-1 fresh h t p r good b-p lt in-r .low
 
-  g3 : Good h (leftR fresh h t p r) [] r
+  pub g3 : Good h (leftR fresh h t p r) [] r
   g3 = cut-2 fresh h t p r good b-p lt in-r .low
 
   pub g4 : Good h (leftPastP fresh h t p r) [] (past p)
@@ -73,7 +73,7 @@ module _ (fresh : ℕ → ℕ) (h : ℕ) (t : Tree) (p r : List ℕ) (good : Goo
   pub f1 : fits (leftPastR fresh h t p r) ≡ true
   f1 = fit-1 fresh h t p r good b-p lt in-r short-p short-r fit .0
 
-  f3 : fits (leftR fresh h t p r) ≡ true
+  pub f3 : fits (leftR fresh h t p r) ≡ true
   f3 = fit-2 fresh h t p r good b-p lt in-r short-p short-r fit
 
   pub f4 : fits (leftPastP fresh h t p r) ≡ true
@@ -84,11 +84,11 @@ module _ (fresh : ℕ → ℕ) (h : ℕ) (t : Tree) (p r : List ℕ) (good : Goo
   unfolding leftPastR
   w1 = within-left fresh t (suc (10 * h)) D t 0 h [] highest (past r) 0 h (omega arith) (omega arith) (good .level) (within-self fresh t (suc (10 * h)) D)
 
-  w2 : WithinIn fresh t (suc (10 * h)) D (3 * h) (rightPastR fresh h t p r)
+  pub w2 : WithinIn fresh t (suc (10 * h)) D (3 * h) (rightPastR fresh h t p r)
   unfolding rightPastR
   w2 = within-right fresh t (suc (10 * h)) D true t 0 h [] highest (past r) h (3 * h) (omega arith) (omega (arith, taken-two h)) (good .level) (within-self fresh t (suc (10 * h)) D)
 
-  w3 : Within fresh t (suc (10 * h)) D (4 * h) (leftR fresh h t p r)
+  pub w3 : Within fresh t (suc (10 * h)) D (4 * h) (leftR fresh h t p r)
   unfolding leftR
   w3 = within-left fresh t (suc (10 * h)) D (leftPastR fresh h t p r) h h [] (past r) r (3 * h) (4 * h) (omega arith) (omega arith) (g1 .level) w1
 
@@ -96,100 +96,100 @@ module _ (fresh : ℕ → ℕ) (h : ℕ) (t : Tree) (p r : List ℕ) (good : Goo
   unfolding leftPastP
   w4 = within-left fresh t (suc (10 * h)) D (leftR fresh h t p r) (4 * h) h [] r (past p) (4 * h) (5 * h) (omega arith) (omega arith) (g3 .level) w3
 
-  w5 : WithinIn fresh t (suc (10 * h)) D (7 * h) (rightPastP fresh h t p r)
+  pub w5 : WithinIn fresh t (suc (10 * h)) D (7 * h) (rightPastP fresh h t p r)
   unfolding rightPastP
   w5 = within-right fresh t (suc (10 * h)) D true (leftR fresh h t p r) (4 * h) h [] r (past p) (5 * h) (7 * h) (omega arith) (omega (arith, taken-two h)) (g3 .level) w3
 
-  w6 : Within fresh t (suc (10 * h)) D (8 * h) (leftP fresh h t p r)
+  pub w6 : Within fresh t (suc (10 * h)) D (8 * h) (leftP fresh h t p r)
   unfolding leftP
   w6 = within-left fresh t (suc (10 * h)) D (leftPastP fresh h t p r) (5 * h) h [] (past p) p (7 * h) (8 * h) (omega arith) (omega arith) (g4 .level) w4
 
   -- slice by slice
-  d1 : LeftDone fresh s (im1 fresh h t p r s) h 0 (leftPastR fresh h t p r)
+  pub d1 : LeftDone fresh s (im1 fresh h t p r s) h 0 (leftPastR fresh h t p r)
   unfolding im1 leftPastR
   d1 =
       left-written fresh (length s) room t h [] highest (past r) 0 s (omega arith) good fit (b-past-r fresh h t p r good b-p lt in-r) in-r short-r e
       (apart fresh t (suc (10 * h)) D t 0 h 0 (omega arith) (omega arith) (within-self fresh t (suc (10 * h)) D))
 
-  t1 : treeAt h (im1 fresh h t p r s) (numberOf t) ≡ t
+  pub t1 : treeAt h (im1 fresh h t p r s) (numberOf t) ≡ t
   t1 = keep-read fresh t (suc (10 * h)) D h s (im1 fresh h t p r s) t 0 h 0 (omega arith) (omega arith) (within-self fresh t (suc (10 * h)) D) (d1 .only) e
 
-  d2 : RightDone fresh (im1 fresh h t p r s) (im2 fresh h t p r s) h (taken true h) h (rightPastR fresh h t p r)
+  pub d2 : RightDone fresh (im1 fresh h t p r s) (im2 fresh h t p r s) h (taken true h) h (rightPastR fresh h t p r)
   unfolding im2 rightPastR
   d2 =
       right-written fresh true t h [] highest (past r) h (im1 fresh h t p r s) (λ x. omega (arith, room x, d1 .only .size)) good fit (b-past-r fresh h t p r good b-p lt in-r) in-r
       short-r refl t1
       (apart fresh t (suc (10 * h)) D t 0 (taken true h) h (omega arith) (omega (arith, taken-two h)) (within-self fresh t (suc (10 * h)) D))
 
-  o2 : Only fresh (im1 fresh h t p r s) (im2 fresh h t p r s) (2 * h) h
+  pub o2 : Only fresh (im1 fresh h t p r s) (im2 fresh h t p r s) (2 * h) h
   o2 = subst (λ x. Only fresh (im1 fresh h t p r s) (im2 fresh h t p r s) x h) (taken-two h) (d2 .only)
 
-  n1 : numberOf (leftPastR fresh h t p r) ≡ fresh 0
+  pub n1 : numberOf (leftPastR fresh h t p r) ≡ fresh 0
   unfolding leftPastR
   n1 = number-left fresh t h [] highest (past r) 0 (good .level)
 
-  l1-2 : treeAt h (im2 fresh h t p r s) (numberOf (leftPastR fresh h t p r)) ≡ leftPastR fresh h t p r
+  pub l1-2 : treeAt h (im2 fresh h t p r s) (numberOf (leftPastR fresh h t p r)) ≡ leftPastR fresh h t p r
   l1-2 =
       keep-read fresh t (suc (10 * h)) D h (im1 fresh h t p r s) (im2 fresh h t p r s) (leftPastR fresh h t p r) h (2 * h) h (omega arith) (omega arith) w1 o2
       (ap (treeAt h (im1 fresh h t p r s)) n1 ∙ d1 .reads)
 
-  size2 : length (im2 fresh h t p r s) ≡ length s
+  pub size2 : length (im2 fresh h t p r s) ≡ length s
   size2 = o2 .size ∙ d1 .only .size
 
-  d3 : LeftDone fresh (im2 fresh h t p r s) (im3 fresh h t p r s) h (3 * h) (leftR fresh h t p r)
+  pub d3 : LeftDone fresh (im2 fresh h t p r s) (im3 fresh h t p r s) h (3 * h) (leftR fresh h t p r)
   unfolding im3 leftR
   d3 =
       left-written fresh (length s) room (leftPastR fresh h t p r) h [] (past r) r (3 * h) (im2 fresh h t p r s) (omega (arith, size2)) g1 f1
       (b-r fresh h t p r good b-p lt in-r) (before-past r) (short-of r short-r) l1-2
       (apart fresh t (suc (10 * h)) D (leftPastR fresh h t p r) h h (3 * h) (omega arith) (omega arith) w1)
 
-  n3 : numberOf (leftR fresh h t p r) ≡ fresh (3 * h)
+  pub n3 : numberOf (leftR fresh h t p r) ≡ fresh (3 * h)
   unfolding leftR
   n3 = number-left fresh (leftPastR fresh h t p r) h [] (past r) r (3 * h) (g1 .level)
 
-  l3-3 : treeAt h (im3 fresh h t p r s) (numberOf (leftR fresh h t p r)) ≡ leftR fresh h t p r
+  pub l3-3 : treeAt h (im3 fresh h t p r s) (numberOf (leftR fresh h t p r)) ≡ leftR fresh h t p r
   l3-3 = ap (treeAt h (im3 fresh h t p r s)) n3 ∙ d3 .reads
 
-  d4 : LeftDone fresh (im3 fresh h t p r s) (im4 fresh h t p r s) h (4 * h) (leftPastP fresh h t p r)
+  pub d4 : LeftDone fresh (im3 fresh h t p r s) (im4 fresh h t p r s) h (4 * h) (leftPastP fresh h t p r)
   unfolding im4 leftPastP
   d4 =
       left-written fresh (length s) room (leftR fresh h t p r) h [] r (past p) (4 * h) (im3 fresh h t p r s) (omega (arith, size2, d3 .only .size)) g3 f3
       (b-past-p fresh h t p r good b-p lt in-r) lt short-p l3-3
       (apart fresh t (suc (10 * h)) D (leftR fresh h t p r) (4 * h) h (4 * h) (omega arith) (omega arith) w3)
 
-  l3-4 : treeAt h (im4 fresh h t p r s) (numberOf (leftR fresh h t p r)) ≡ leftR fresh h t p r
+  pub l3-4 : treeAt h (im4 fresh h t p r s) (numberOf (leftR fresh h t p r)) ≡ leftR fresh h t p r
   l3-4 = keep-read fresh t (suc (10 * h)) D h (im3 fresh h t p r s) (im4 fresh h t p r s) (leftR fresh h t p r) (4 * h) h (4 * h) (omega arith) (omega arith) w3 (d4 .only) l3-3
 
-  d5 : RightDone fresh (im4 fresh h t p r s) (im5 fresh h t p r s) h (taken true h) (5 * h) (rightPastP fresh h t p r)
+  pub d5 : RightDone fresh (im4 fresh h t p r s) (im5 fresh h t p r s) h (taken true h) (5 * h) (rightPastP fresh h t p r)
   unfolding im5 rightPastP
   d5 =
       right-written fresh true (leftR fresh h t p r) h [] r (past p) (5 * h) (im4 fresh h t p r s)
       (λ x. omega (arith, room x, size2, d3 .only .size, d4 .only .size)) g3 f3 (b-past-p fresh h t p r good b-p lt in-r) lt short-p refl l3-4
       (apart fresh t (suc (10 * h)) D (leftR fresh h t p r) (4 * h) (taken true h) (5 * h) (omega arith) (omega (arith, taken-two h)) w3)
 
-  o5 : Only fresh (im4 fresh h t p r s) (im5 fresh h t p r s) (2 * h) (5 * h)
+  pub o5 : Only fresh (im4 fresh h t p r s) (im5 fresh h t p r s) (2 * h) (5 * h)
   o5 = subst (λ x. Only fresh (im4 fresh h t p r s) (im5 fresh h t p r s) x (5 * h)) (taken-two h) (d5 .only)
 
-  n4 : numberOf (leftPastP fresh h t p r) ≡ fresh (4 * h)
+  pub n4 : numberOf (leftPastP fresh h t p r) ≡ fresh (4 * h)
   unfolding leftPastP
   n4 = number-left fresh (leftR fresh h t p r) h [] r (past p) (4 * h) (g3 .level)
 
-  l4-5 : treeAt h (im5 fresh h t p r s) (numberOf (leftPastP fresh h t p r)) ≡ leftPastP fresh h t p r
+  pub l4-5 : treeAt h (im5 fresh h t p r s) (numberOf (leftPastP fresh h t p r)) ≡ leftPastP fresh h t p r
   l4-5 =
       keep-read fresh t (suc (10 * h)) D h (im4 fresh h t p r s) (im5 fresh h t p r s) (leftPastP fresh h t p r) (5 * h) (2 * h) (5 * h) (omega arith) (omega arith) w4 o5
       (ap (treeAt h (im4 fresh h t p r s)) n4 ∙ d4 .reads)
 
-  size5 : length (im5 fresh h t p r s) ≡ length s
+  pub size5 : length (im5 fresh h t p r s) ≡ length s
   size5 = o5 .size ∙ d4 .only .size ∙ d3 .only .size ∙ size2
 
-  d6 : LeftDone fresh (im5 fresh h t p r s) (im6 fresh h t p r s) h (7 * h) (leftP fresh h t p r)
+  pub d6 : LeftDone fresh (im5 fresh h t p r s) (im6 fresh h t p r s) h (7 * h) (leftP fresh h t p r)
   unfolding im6 leftP
   d6 =
       left-written fresh (length s) room (leftPastP fresh h t p r) h [] (past p) p (7 * h) (im5 fresh h t p r s) (omega (arith, size5)) g4 f4
       b-p (before-past p) (short-of p short-p) l4-5
       (apart fresh t (suc (10 * h)) D (leftPastP fresh h t p r) (5 * h) h (7 * h) (omega arith) (omega arith) w4)
 
-  n6 : numberOf (leftP fresh h t p r) ≡ fresh (7 * h)
+  pub n6 : numberOf (leftP fresh h t p r) ≡ fresh (7 * h)
   unfolding leftP
   n6 = number-left fresh (leftPastP fresh h t p r) h [] (past p) p (7 * h) (g4 .level)
 
@@ -200,7 +200,7 @@ module _ (fresh : ℕ → ℕ) (h : ℕ) (t : Tree) (p r : List ℕ) (good : Goo
       (only-then fresh (im3 fresh h t p r s) (im4 fresh h t p r s) (im6 fresh h t p r s) h (3 * h) (4 * h) (4 * h) (5 * h) (omega arith) (omega arith) (d4 .only)
       (only-then fresh (im4 fresh h t p r s) (im5 fresh h t p r s) (im6 fresh h t p r s) (2 * h) h (3 * h) (5 * h) (7 * h) (omega arith) (omega arith) o5 (d6 .only)))
 
-  size6 : length (im6 fresh h t p r s) ≡ length s
+  pub size6 : length (im6 fresh h t p r s) ≡ length s
   size6 = o26 .size ∙ size2
 
   pub l1-6 : treeAt h (im6 fresh h t p r s) (numberOf (leftPastR fresh h t p r)) ≡ leftPastR fresh h t p r
@@ -214,16 +214,16 @@ module _ (fresh : ℕ → ℕ) (h : ℕ) (t : Tree) (p r : List ℕ) (good : Goo
   -- the tail of u at q, the gap, and the root over them
   module _ (k : ℕ) (eh : h ≡ suc k) (u : Tree) (q : List ℕ) (gu : Good h u [] (past q)) (fu : fits u ≡ true) (b-q : before [] q ≡ true) (short-q : length (past q) ≤ pivotLimit)
       (wu : Within fresh t (suc (10 * h)) D (8 * h) u) (ru : treeAt h (im6 fresh h t p r s) (numberOf u) ≡ u) where
-    d7 : RightDone fresh (im6 fresh h t p r s) (im7 fresh h t p r s u q) h (taken false h) (8 * h) (rightOf fresh false u [] (past q) q (8 * h))
+    pub d7 : RightDone fresh (im6 fresh h t p r s) (im7 fresh h t p r s u q) h (taken false h) (8 * h) (rightOf fresh false u [] (past q) q (8 * h))
     unfolding im7
     d7 =
         right-written fresh false u h [] (past q) q (8 * h) (im6 fresh h t p r s) (λ x. omega (arith, room x, size6)) gu fu b-q (before-past q) (short-of q short-q)
         (begins-past q highest) ru (apart fresh t (suc (10 * h)) D u (8 * h) (taken false h) (8 * h) (omega arith) (omega (arith, taken-one h)) wu)
 
-    o7 : Only fresh (im6 fresh h t p r s) (im7 fresh h t p r s u q) h (8 * h)
+    pub o7 : Only fresh (im6 fresh h t p r s) (im7 fresh h t p r s u q) h (8 * h)
     o7 = subst (λ x. Only fresh (im6 fresh h t p r s) (im7 fresh h t p r s u q) x (8 * h)) (taken-one h) (d7 .only)
 
-    m7 : treeAt h (im7 fresh h t p r s u q) (numberOf (tailOf fresh u [] (past q) q (8 * h))) ≡ tailOf fresh u [] (past q) q (8 * h)
+    pub m7 : treeAt h (im7 fresh h t p r s u q) (numberOf (tailOf fresh u [] (past q) q (8 * h))) ≡ tailOf fresh u [] (past q) q (8 * h)
     unfolding tailOf
     m7 =
         first-read (λ j. treeAt h (im7 fresh h t p r s u q) j) (rightOf fresh false u [] (past q) q (8 * h)) q (past q) (d7 .reads)
@@ -237,7 +237,7 @@ module _ (fresh : ℕ → ℕ) (h : ℕ) (t : Tree) (p r : List ℕ) (good : Goo
     gap-new : (j : ℕ) → spent fresh j h (9 * h) ≤ 1
     gap-new j = omega (arith, D j, spent-block fresh j 0 h (9 * h) (suc (10 * h)) (omega arith) (omega arith))
 
-    d8 : LeftDone fresh (im7 fresh h t p r s u q) (im8 fresh h t p r s u q) h (9 * h) (gapOf fresh h q (past q) (9 * h))
+    pub d8 : LeftDone fresh (im7 fresh h t p r s u q) (im8 fresh h t p r s u q) h (9 * h) (gapOf fresh h q (past q) (9 * h))
     unfolding im8
     d8 =
         gap-at fresh h k eh q (short-of q short-q) (9 * h) (im7 fresh h t p r s u q) (λ x. omega (arith, room x, size6, o7 .size)) gap-new
@@ -259,43 +259,43 @@ module _ (fresh : ℕ → ℕ) (h : ℕ) (t : Tree) (p r : List ℕ) (good : Goo
     o28 : Only fresh (im2 fresh h t p r s) (im8 fresh h t p r s u q) (7 * h) (3 * h)
     o28 = only-then fresh (im2 fresh h t p r s) (im6 fresh h t p r s) (im8 fresh h t p r s u q) (5 * h) (2 * h) (7 * h) (3 * h) (8 * h) (omega arith) (omega arith) o26 o68
 
-    o08 : Only fresh s (im8 fresh h t p r s u q) (10 * h) 0
+    pub o08 : Only fresh s (im8 fresh h t p r s u q) (10 * h) 0
     o08 =
         only-then fresh s (im1 fresh h t p r s) (im8 fresh h t p r s u q) h (9 * h) (10 * h) 0 h (omega arith) (omega arith) (d1 .only)
         (only-then fresh (im1 fresh h t p r s) (im2 fresh h t p r s) (im8 fresh h t p r s u q) (2 * h) (7 * h) (9 * h) h (3 * h) (omega arith) (omega arith) o2 o28)
 
-    left-8 : treeAt h (im8 fresh h t p r s u q) (numberOf (leftP fresh h t p r)) ≡ leftP fresh h t p r
+    pub left-8 : treeAt h (im8 fresh h t p r s u q) (numberOf (leftP fresh h t p r)) ≡ leftP fresh h t p r
     left-8 =
         keep-read fresh t (suc (10 * h)) D h (im6 fresh h t p r s) (im8 fresh h t p r s u q) (leftP fresh h t p r) (8 * h) (2 * h) (8 * h) (omega arith) (omega arith) w6 o68
         (ap (treeAt h (im6 fresh h t p r s)) n6 ∙ d6 .reads)
 
-    right-p-8 : ReadsIn (λ j. treeAt h (im8 fresh h t p r s u q) j) (rightPastP fresh h t p r)
+    pub right-p-8 : ReadsIn (λ j. treeAt h (im8 fresh h t p r s u q) j) (rightPastP fresh h t p r)
     right-p-8 =
         keep-reads fresh t (suc (10 * h)) D h (im5 fresh h t p r s) (im8 fresh h t p r s u q) (rightPastP fresh h t p r) (7 * h) (3 * h) (7 * h) (omega arith) (omega arith) w5
         o58 (d5 .reads)
 
-    right-r-8 : ReadsIn (λ j. treeAt h (im8 fresh h t p r s u q) j) (rightPastR fresh h t p r)
+    pub right-r-8 : ReadsIn (λ j. treeAt h (im8 fresh h t p r s u q) j) (rightPastR fresh h t p r)
     right-r-8 =
         keep-reads fresh t (suc (10 * h)) D h (im2 fresh h t p r s) (im8 fresh h t p r s u q) (rightPastR fresh h t p r) (3 * h) (7 * h) (3 * h) (omega arith) (omega arith) w2
         o28 (d2 .reads)
 
     module _ (x y : Tree) (rx : treeAt h (im8 fresh h t p r s u q) (numberOf x) ≡ x) (ry : treeAt h (im8 fresh h t p r s u q) (numberOf y) ≡ y)
         (fr : fits (rootOver fresh h t p r x y) ≡ true) (nr : (j : ℕ) → met j (rootOver fresh h t p r x y) ≤ met j t + spent fresh j (suc (10 * h)) 0) where
-      spread-8 : ReadsIn (λ j. treeAt h (im8 fresh h t p r s u q) j) (unmergeable fresh h t p r x y)
-      unfolding unmergeable ReadsIn
+      spread-8 : ReadsIn (λ j. treeAt h (im8 fresh h t p r s u q) j) (pieces fresh h t p r x y)
+      unfolding pieces ReadsIn
       spread-8 =
           (left-8, (rx, reads-joined (λ j. treeAt h (im8 fresh h t p r s u q) j) (rightPastP fresh h t p r) (tree r y (rightPastR fresh h t p r)) right-p-8 (ry, right-r-8)))
 
-      root-new : metIn (fresh (10 * h)) (unmergeable fresh h t p r x y) ≡ 0
+      root-new : metIn (fresh (10 * h)) (pieces fresh h t p r x y) ≡ 0
       unfolding rootOver
       root-new =
-          omega (arith, met-node (fresh (10 * h)) (fresh (10 * h)) [] highest (unmergeable fresh h t p r x y), nr (fresh (10 * h)), D (fresh (10 * h)), one-same (fresh (10 * h)))
+          omega (arith, met-node (fresh (10 * h)) (fresh (10 * h)) [] highest (pieces fresh h t p r x y), nr (fresh (10 * h)), D (fresh (10 * h)), one-same (fresh (10 * h)))
 
       -- the whole is read back
       pub root-9 : treeAt (suc h) (im9 fresh h t p r s u q x y) (fresh (10 * h)) ≡ rootOver fresh h t p r x y
       unfolding im9 rootOver
       root-9 =
-          node-at h k eh (im8 fresh h t p r s u q) (fresh (10 * h)) [] highest (unmergeable fresh h t p r x y) (omega (arith, room (10 * h), o08 .size)) fr root-new spread-8
+          node-at h k eh (im8 fresh h t p r s u q) (fresh (10 * h)) [] highest (pieces fresh h t p r x y) (omega (arith, room (10 * h), o08 .size)) fr root-new spread-8
 
       pub only-9 : Only fresh s (im9 fresh h t p r s u q x y) (suc (10 * h)) 0
       unfolding im9

@@ -14,12 +14,12 @@ use Rattle.slicing.specs.Swing.{every-append}
 use Rattle.slicing.specs.Range.{past, before-past, begins-not-before, begins-under, formed-low, range-below}
 
 -- clear and the rows below a path, as tests
-keep-below : (p : List ℕ) (t : List Row) → rowsBelow p t ≡ keep (λ q. begins p q) t
+pub keep-below : (p : List ℕ) (t : List Row) → rowsBelow p t ≡ keep (λ q. begins p q) t
 unfolding rowsBelow keep below
 keep-below p [] = refl
 keep-below p (r ∷ t) = ap (λ l. cond (begins p (r .key)) (r ∷ l) l) (keep-below p t)
 
-keep-other : (p : List ℕ) (t : List Row) → withoutBelow p t ≡ keep (λ q. not (begins p q)) t
+pub keep-other : (p : List ℕ) (t : List Row) → withoutBelow p t ≡ keep (λ q. not (begins p q)) t
 unfolding withoutBelow keep below
 keep-other p [] = refl
 keep-other p (r ∷ t) = rw (keep-other p t) (go (begins p (r .key)))

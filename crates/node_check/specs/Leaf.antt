@@ -54,58 +54,6 @@ and-no : (a : Bool) → false ≡ a && false
 and-no true = refl
 and-no false = refl
 
--- the walk
-module _ (sh : machine.Shape) (lo hi : List ℕ) where
-  run-pair : (prev : Option (List ℕ)) (k v : List ℕ) (y : Option (List defined.Entry))
-      → leafRun sh lo hi prev (defined.entryThen (some (defined.pair k v)) y) ≡ rowHere sh lo hi prev k v && leafRun sh lo hi (some k) y
-  unfolding leafRun leafList defined.entryThen
-  run-pair prev k v none = and-no (rowHere sh lo hi prev k v)
-  run-pair prev k v (some es) = refl
-
-  run-other : (prev : Option (List ℕ)) (e : Entry) (s : List ℕ) (y : Option (List defined.Entry)) → pairIs e ≡ Pair.Other → leafRun sh lo hi prev (defined.entryThen (some (entryIn s e)) y) ≡ false
-  unfolding leafRun leafList defined.entryThen pairIs
-  run-other prev (Entry.Pair p v) s y h = let z : _≡_ {A = ℕ} 0 1 = cc in absurd (omega arith)
-  run-other prev (Entry.Child i p) s none h = refl
-  run-other prev (Entry.Child i p) s (some es) h = refl
-  run-other prev (Entry.Message m) s none h = refl
-  run-other prev (Entry.Message m) s (some es) h = refl
-
-  pub leaf-bad : (prev : Option (List ℕ)) (x : Option (List defined.Entry)) (X : Bool) → x ≡ none → leafRun sh lo hi prev x ≡ X → false ≡ X
-  unfolding leafRun
-  leaf-bad prev x X q inv = rw q at inv
-
-  pub leaf-end : (prev : Option (List ℕ)) (x : Option (List defined.Entry)) (X : Bool) → x ≡ some [] → leafRun sh lo hi prev x ≡ X → true ≡ X
-  unfolding leafRun leafList
-  leaf-end prev x X q inv = rw q at inv
-
-  pub leaf-other : (prev : Option (List ℕ)) (e : Entry) (s : List ℕ) (x y : Option (List defined.Entry)) (X : Bool) → x ≡ defined.entryThen (some (entryIn s e)) y
-      → pairIs e ≡ Pair.Other → leafRun sh lo hi prev x ≡ X → false ≡ X
-  leaf-other prev e s x y X q h inv = sym (run-other prev e s y h) ∙ ap (λ o. leafRun sh lo hi prev o) (sym q) ∙ inv
-
-  step-is : (prev : Option (List ℕ)) (e : Entry) (p v : Place) (s : List ℕ) (x y : Option (List defined.Entry)) (X : Bool) → x ≡ defined.entryThen (some (entryIn s e)) y
-      → pairIs e ≡ Pair.Of p v → leafRun sh lo hi prev x ≡ X → rowHere sh lo hi prev (part s p) (part s v) && leafRun sh lo hi (some (part s p)) y ≡ X
-  step-is prev e p v s x y X q h inv =
-      let z : leafRun sh lo hi prev (defined.entryThen (some (defined.pair (part s p) (part s v))) y) ≡ X = rw (q, pair-entry e p v h) at inv in
-      sym (run-pair prev (part s p) (part s v) y) ∙ z
-
-  pub leaf-stop : (prev : Option (List ℕ)) (e : Entry) (p v : Place) (s : List ℕ) (x y : Option (List defined.Entry)) (X b : Bool) → x ≡ defined.entryThen (some (entryIn s e)) y
-      → pairIs e ≡ Pair.Of p v → b ≡ rowHere sh lo hi prev (part s p) (part s v) → b ≡ false → leafRun sh lo hi prev x ≡ X → false ≡ X
-  leaf-stop prev e p v s x y X b q h r f inv = rw (sym r ∙ f) at (step-is prev e p v s x y X q h inv)
-
-  pub leaf-on : (prev : Option (List ℕ)) (e : Entry) (p v : Place) (s : List ℕ) (x y : Option (List defined.Entry)) (X b : Bool) → x ≡ defined.entryThen (some (entryIn s e)) y
-      → pairIs e ≡ Pair.Of p v → b ≡ rowHere sh lo hi prev (part s p) (part s v) → b ≡ true → leafRun sh lo hi prev x ≡ X → leafRun sh lo hi (prevIn s (Prev.Key p)) y ≡ X
-  unfolding prevIn
-  leaf-on prev e p v s x y X b q h r f inv = rw (sym r ∙ f) at (step-is prev e p v s x y X q h inv)
-
--- one pair
-pub start-follows : (s k : List ℕ) (prev : Prev) → prev ≡ Prev.Start → true ≡ follows (prevIn s prev) k
-unfolding follows prevIn
-start-follows s k prev e = rw e
-
-pub key-follows : (s k : List ℕ) (prev : Prev) (p : Place) (b : Bool) → prev ≡ Prev.Key p → b ≡ before (part s p) k → b ≡ follows (prevIn s prev) k
-unfolding follows prevIn
-key-follows s k prev p b e h = rw e h
-
 pub prev-place : (n : ℕ) (prev : Prev) (p : Place) → PrevFits n prev → prev ≡ Prev.Key p → Within 0 n p
 unfolding PrevFits
 prev-place n prev p w e = subst (PrevFits n) e w
@@ -117,54 +65,6 @@ start-fits n = tt
 pub key-fits : (n : ℕ) (p : Place) → Within 0 n p → PrevFits n (Prev.Key p)
 unfolding PrevFits
 key-fits n p w = w
-
-pub none-is : (s : List ℕ) → prevIn s Prev.Start ≡ none
-unfolding prevIn
-none-is s = refl
-
-module _ (sh : machine.Shape) (lo hi : List ℕ) (prev : Option (List ℕ)) (k s : List ℕ) (v : Place) (w : Within 0 (length s) v) where
-  fits-no : 32 < v .stop - v .start → valueFits (part s v) ≡ false
-  unfolding valueFits valueLimit
-  fits-no h = let l = cut-length s (v .start) (v .stop) (w .rises) (w .high) in lt-leb (length (part s v)) 32 (omega arith)
-
-  fits-yes : v .stop - v .start ≤ 32 → valueFits (part s v) ≡ true
-  unfolding valueFits valueLimit
-  fits-yes h = let l = cut-length s (v .start) (v .stop) (w .rises) (w .high) in le-leb (length (part s v)) 32 (omega arith)
-
-  all-no : (a b c : Bool) → false ≡ a && (b && c && false)
-  all-no true true true = refl
-  all-no true true false = refl
-  all-no true false c = refl
-  all-no false b c = refl
-
-  own-no : (a b c : Bool) → false ≡ a && (b && false && c)
-  own-no true true c = refl
-  own-no true false c = refl
-  own-no false b c = refl
-
-  pub row-long : 32 < v .stop - v .start → false ≡ rowHere sh lo hi prev k (part s v)
-  unfolding rowHere
-  row-long h = rw (fits-no h) (all-no (follows prev k) (machine.goesOn sh k) (owns lo hi k))
-
-  pub row-back : (x : Bool) → x ≡ follows prev k → x ≡ false → false ≡ rowHere sh lo hi prev k (part s v)
-  unfolding rowHere
-  row-back x e f = rw (sym e ∙ f)
-
-  pub row-out : (x : Bool) → x ≡ owns lo hi k → x ≡ false → false ≡ rowHere sh lo hi prev k (part s v)
-  unfolding rowHere
-  row-out x e f = rw (sym e ∙ f) (own-no (follows prev k) (machine.goesOn sh k) (valueFits (part s v)))
-
-  pub row-shape : v .stop - v .start ≤ 32 → (x y z : Bool) → x ≡ follows prev k → x ≡ true → y ≡ owns lo hi k → y ≡ true → z ≡ machine.goesOn sh k → z ≡ rowHere sh lo hi prev k (part s v)
-  unfolding rowHere
-  row-shape h x y z ex fx ey fy ez = rw (fits-yes h, sym ex ∙ fx, sym ey ∙ fy) (ez ∙ last (machine.goesOn sh k))
-    where
-      last : (g : Bool) → g ≡ g && true && true
-      last true = refl
-      last false = refl
-
-pub leaf-start : (sh : machine.Shape) (lo hi s : List ℕ) (x : Option (List defined.Entry)) → leafRun sh lo hi (prevIn s Prev.Start) x ≡ leafRun sh lo hi none x
-unfolding prevIn
-leaf-start sh lo hi s x = refl
 
 -- The walk is the definition: by pairs instead of by rules.
 swap : (a b c d : Bool) → (a && b) && (c && d) ≡ (a && c) && (b && d)

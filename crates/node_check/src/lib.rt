@@ -15,7 +15,8 @@ ghost use Rattle.node_check.specs.Inside.{messagesRun};
 ghost use Rattle.node_check.specs.Messages.{noteIs};
 ghost use Rattle.node.specs.Entries.{entriesFrom};
 ghost use Rattle.path.specs.Fed.{shapeIs};
-ghost use Rattle.node_check.specs.Leaf.{prevIn, PrevFits, follows, rowHere, leafRun};
+ghost use Rattle.node_check.specs.Leaf.{prevIn, PrevFits, leafRun};
+ghost use Rattle.node_check.specs.Ends.{after, rowNext, closes};
 ghost use mathlib.Core.Option.{none};
 
 // The key before this one.
@@ -24,21 +25,22 @@ pub enum Prev {
     Key(Place),
 }
 
-pub fn follows_on(s: &[u8], prev: Prev, key: &[u8]) -> bool
+// Whether a key comes after the one before it, or is not below the low pivot where there is none.
+pub fn follows_on(s: &[u8], prev: Prev, lo: &[u8], key: &[u8]) -> bool
     requires { ⌜ PrevFits (length (now s)) prev ⌝ }
-    ensures { λ r. ⌜ r ≡ follows (prevIn (now (s .entry)) prev) (now (key .entry)) ⌝ }
+    ensures { λ r. ⌜ r ≡ after (now (lo .entry)) (prevIn (now (s .entry)) prev) (now (key .entry)) ⌝ }
 {
     let Prev::Key(p) = prev else {
-        return true;
+        return !octets::precedes(key, lo);
     };
     let a = p.start;
     let b = p.stop;
     octets::precedes(&s[a..b], key)
 }
 
-pub fn row_good(s: &[u8], prev: Prev, p: Place, v: Place, lo: &[u8], hi: &[u8], sh: Shape) -> bool
+pub fn row_good(s: &[u8], prev: Prev, p: Place, v: Place, lo: &[u8], sh: Shape) -> bool
     requires { ⌜ PrevFits (length (now s)) prev × Within 0 (length (now s)) p × Within 0 (length (now s)) v ⌝ }
-    ensures { λ r. ⌜ r ≡ rowHere (shapeIs sh) (now (lo .entry)) (now (hi .entry)) (prevIn (now (s .entry)) prev) (part (now (s .entry)) p) (part (now (s .entry)) v) ⌝ }
+    ensures { λ r. ⌜ r ≡ rowNext (shapeIs sh) (now (lo .entry)) (prevIn (now (s .entry)) prev) (part (now (s .entry)) p) (part (now (s .entry)) v) ⌝ }
 {
     let a = p.start;
     let b = p.stop;
@@ -47,16 +49,27 @@ pub fn row_good(s: &[u8], prev: Prev, p: Place, v: Place, lo: &[u8], hi: &[u8], 
     if 32 < y - x {
         return false;
     }
-    if !follows_on(s, prev, &s[a..b]) {
-        return false;
-    }
-    if !octets::owned(lo, hi, &s[a..b]) {
+    if !follows_on(s, prev, lo, &s[a..b]) {
         return false;
     }
     path::goes_on(sh, &s[a..b])
 }
 
-// Whether the entries from a place up to another are the pairs of a sound leaf.
+// Whether the last key, if there is one, is below the high pivot.
+pub fn ends_below(s: &[u8], prev: Prev, hi: &[u8]) -> bool
+    requires { ⌜ PrevFits (length (now s)) prev ⌝ }
+    ensures { λ r. ⌜ r ≡ closes (now (hi .entry)) (prevIn (now (s .entry)) prev) ⌝ }
+{
+    let Prev::Key(p) = prev else {
+        return true;
+    };
+    let a = p.start;
+    let b = p.stop;
+    octets::precedes(&s[a..b], hi)
+}
+
+// Whether the entries from a place up to another are the pairs of a sound leaf. Its keys rise, so that only the first is held against the low
+// pivot, and only the last against the high one.
 pub fn check_leaf(s: &[u8], from: usize, end: usize, lo: &[u8], hi: &[u8], sh: Shape) -> bool
     requires { ⌜ end ≤ length (now s) ⌝ }
     ensures { λ r. ⌜ r ≡ leafRun (shapeIs sh) (now (lo .entry)) (now (hi .entry)) none (entriesFrom (now (s .entry)) from end) ⌝ }
@@ -70,13 +83,13 @@ pub fn check_leaf(s: &[u8], from: usize, end: usize, lo: &[u8], hi: &[u8], sh: S
         let Pair::Of(p, v) = search::pair_of(e) else {
             return false;
         };
-        if !row_good(s, prev, p, v, lo, hi, sh) {
+        if !row_good(s, prev, p, v, lo, sh) {
             return false;
         }
         prev = Prev::Key(p);
         c = next;
     }
-    true
+    ends_below(s, prev, hi)
 }
 
 // A message of an interior node.

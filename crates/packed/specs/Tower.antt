@@ -2,11 +2,12 @@
 use Prim.Native.Nat.{ℕ, zero, suc, _+_, _*_, _-_, _/_, _≤_, _<_}
 use mathlib.Core.Path.{_≡_, refl, sym, ap, subst, _∙_}
 use mathlib.Core.List.{List, [], _∷_, append-nil}
-use mathlib.Core.Bool.{true, false}
+use mathlib.Core.Bool.{Bool, true, false}
 use native.Mathlib.Omega.{arith}
 use lib.ListN.{length, take, drop, length-drop}
 use lib.Seq.{take-add, length-take-le}
-use borrow.Author.Tests.{le-leb, lt-ltb, eq-eqb, ne-eqb}
+use lib.Dec.{leb}
+use borrow.Author.Tests.{le-leb, leb-true, leb-false, lt-ltb, eq-eqb, ne-eqb}
 use Rattle.image.specs.Table.{Row}
 use Rattle.image.specs.Meaning.{rows}
 use Rattle.image.specs.Sound.{soundTree, numbers, isIn, once, inRange, lowest, highest, soundRoot}
@@ -163,12 +164,25 @@ pub record Packs (nums : List ℕ) (t : List Row) (n : ℕ) : Type 0 where
   pub neat : Neat (packed nums t .root) (packed nums t .levels)
   pub levels-most : packed nums t .levels ≤ 3
   pub levels-least : 1 ≤ packed nums t .levels
+  pub roomy : 10 * packed nums t .levels + 1 ≤ n - n / 4
   pub quarter : length (numbers (packed nums t .root)) + 1 ≤ n / 4
   pub counted : (j : ℕ) → times j (numbers (packed nums t .root)) ≤ times j nums
 
 room-2 : 196 ≤ room 2
 unfolding room
 room-2 = omega arith
+
+room-1 : 14 ≤ room 1
+unfolding room
+room-1 = omega arith
+
+-- Three levels only with 15 leaves or more: then, and else, the nodes that a packed tree leaves free are enough for a move.
+levels-room : (n leaves levels rows : ℕ) → 32 ≤ n → rows ≤ n → 9 * (leaves - 1) ≤ rows - 1 → levels ≤ 3 → (leaves ≤ 14 → levels ≤ 2) → 10 * levels + 1 ≤ n - n / 4
+levels-room n leaves levels rows a b c most lower = go (leb leaves 14) refl
+  where
+    go : (x : Bool) → leb leaves 14 ≡ x → 10 * levels + 1 ≤ n - n / 4
+    go true q = let z : levels ≤ 2 = lower (leb-true leaves 14 q) in omega arith
+    go false q = let z : 14 < leaves = leb-false leaves 14 q in omega arith
 
 pub room-7 : 1024 ≤ room 7
 unfolding room
@@ -190,6 +204,9 @@ packs nums t n a b k e h =
       neat = c .neat;
       levels-most = c .lower 2 (let z = room-2 in omega arith);
       levels-least = c .high-enough;
+      roomy =
+          levels-room n l (climb 7 1 (drop l nums) (leaves nums t) .levels) (length t) a k (p .1) (c .lower 2 (let z = room-2 in omega arith))
+          (λ q. c .lower 1 (let z = room-1 in omega arith));
       quarter =
           let q = c .sized in
           let s = ap length g ∙ length-take-le l nums (omega arith) in

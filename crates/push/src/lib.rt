@@ -2,8 +2,8 @@
 // Everything is told from inside the node: suffixes and pivots are without what the node lifts. Relies on push_laws and node_high; room
 // says whether the children have room, message and leaf what an interior child and a leaf take.
 mod leaf;
-mod message;
-mod room;
+pub mod message;
+pub mod room;
 
 use live::Pending;
 use node::Cursor;

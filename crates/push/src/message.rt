@@ -47,7 +47,7 @@ fn emit_short(page: &mut [u8], at: usize, kind: usize, key: &[u8]) -> usize
 }
 
 // A message's entry for a child that lifts k bytes more. Gives the place behind it.
-fn emit_message(page: &mut [u8], at: usize, node: &[u8], m: Message, k: usize) -> usize
+pub fn emit_message(page: &mut [u8], at: usize, node: &[u8], m: Message, k: usize) -> usize
     requires { ⌜ MessageWithin 0 (length (now node)) m × (at + length (bytesOf (message (loweredBy k (messageIn (now node) m)))) ≤ length (now page)) × (length (now page) ≤ 1024) ⌝ }
     ensures { λ r. ⌜ (now (page .exit) ≡ put (now (page .entry)) at (bytesOf (message (loweredBy k (messageIn (now (node .entry)) m))))) × (r ≡ at + length (bytesOf (message (loweredBy k (messageIn (now (node .entry)) m))))) ⌝ }
 {

@@ -66,7 +66,7 @@ pub record NodeIs (l : ℕ) (s : List ℕ) (n : ℕ) (f : Forest) (ms : List Mes
   pub kids : forestOf (λ j. treeAt (suc l) s j) (y .kids) ≡ f
   pub messages : y .messages ≡ ms
 
-node-is : (l : ℕ) (s : List ℕ) (n : ℕ) (f : Forest) (ms : List Message) → treeAt (suc (suc l)) s n ≡ interior n f ms → NodeIs l s n f ms
+pub node-is : (l : ℕ) (s : List ℕ) (n : ℕ) (f : Forest) (ms : List Message) → treeAt (suc (suc l)) s n ≡ interior n f ms → NodeIs l s n f ms
 unfolding treeAt
 node-is l s n f ms e = go (nodeEntries 0x0002 (suc (suc l)) (nodeBytes s n)) refl e
   where
@@ -98,7 +98,7 @@ pub waiting-inside : (es : List Entry) (y : Inside) → insideOf es ≡ some y �
 waiting-inside es y e = ap waiting (inside-entries es y e) ∙ waiting-kids (y .kids) (messageEntries (y .messages)) ∙ waiting-messages (y .messages)
 
 -- the numbers of the children
-kid-heads : (l : ℕ) (s : List ℕ) (ks : List Kid) → heads (forestOf (λ j. treeAt l s j) ks) ≡ kidNumbers ks
+pub kid-heads : (l : ℕ) (s : List ℕ) (ks : List Kid) → heads (forestOf (λ j. treeAt l s j) ks) ≡ kidNumbers ks
 unfolding heads forestOf kidNumbers
 kid-heads l s [] = refl
 kid-heads l s (k ∷ ks) = ap₂ (λ a b. a ∷ b) (number-at l s (k .number)) (kid-heads l s ks)
@@ -133,7 +133,7 @@ under-two m q = leb-false 2 m q
 
 -- THE NODE x OF NUMBER n
 module _ (s : List ℕ) (n : ℕ) (x : Reachable) (e : sound s ≡ true) (p : reachableAt n (reachableNodes s) ≡ some x) (c : hasChildren (x .children) ≡ true) where
-  at-place : reachableAt n (reachable (treeOf s) (headerOf s .levels) lowest highest) ≡ some x
+  pub at-place : reachableAt n (reachable (treeOf s) (headerOf s .levels) lowest highest) ≡ some x
   unfolding reachableNodes
   at-place = p
 
@@ -141,18 +141,18 @@ module _ (s : List ℕ) (n : ℕ) (x : Reachable) (e : sound s ≡ true) (p : re
   unfolding sound
   root-is = and-right (headerLaidOut (nodeBytes s 0) && soundHeader (nodesOf (length s)) (headerOf s)) _ e
 
-  whole-sound : soundTree (treeOf s) lowest highest ≡ true
+  pub whole-sound : soundTree (treeOf s) lowest highest ≡ true
   whole-sound = root-sound (nodesOf (length s)) (headerOf s .live) (treeOf s) root-is
 
-  whole-once : once (numbers (treeOf s)) ≡ true
+  pub whole-once : once (numbers (treeOf s)) ≡ true
   unfolding soundRoot
   whole-once = and-right (soundTree (treeOf s) lowest highest) _ (and-left _ _ (and-left _ _ root-is))
 
-  whole-range : inRange (nodesOf (length s)) (numbers (treeOf s)) ≡ true
+  pub whole-range : inRange (nodesOf (length s)) (numbers (treeOf s)) ≡ true
   unfolding soundRoot
   whole-range = and-right (soundTree (treeOf s) lowest highest && once (numbers (treeOf s))) _ (and-left _ _ root-is)
 
-  kids-high : tallIn (x .children) (x .level - 1) ≡ true
+  pub kids-high : tallIn (x .children) (x .level - 1) ≡ true
   unfolding goodPlace
   kids-high =
       and-right (soundForest (x .children) (shared (x .low) (x .high)) (x .low) (x .high)) _
@@ -177,45 +177,45 @@ module _ (s : List ℕ) (n : ℕ) (x : Reachable) (e : sound s ≡ true) (p : re
           let z : x .level - 1 ≡ 0 = omega arith in
           absurd (tall-zero (x .children) c (ap (tallIn (x .children)) (sym z) ∙ kids-high))
 
-  abbrev l : ℕ
+  abbrev pub l : ℕ
   l = x .level - 2
 
-  level-is : x .level ≡ suc (suc l)
+  pub level-is : x .level ≡ suc (suc l)
   level-is = omega (arith, two-levels)
 
-  node-there : treeAt (x .level) s n ≡ interior n (x .children) (x .messages)
+  pub node-there : treeAt (x .level) s n ≡ interior n (x .children) (x .messages)
   unfolding treeOf
   node-there = place-tree s n x (headerOf s .levels) (headerOf s .root) lowest highest at-place two-levels
 
-  abbrev node : NodeIs l s n (x .children) (x .messages)
+  abbrev pub node : NodeIs l s n (x .children) (x .messages)
   node = node-is l s n (x .children) (x .messages) (ap (λ m. treeAt m s n) (sym level-is) ∙ node-there)
 
-  sub : Sub (n ∷ numbersIn (x .children)) (numbers (treeOf s))
+  pub sub : Sub (n ∷ numbersIn (x .children)) (numbers (treeOf s))
   unfolding treeOf numbers
   sub = subst (λ t. Sub (numbers t) (numbers (treeOf s))) node-there (place-sub s n x (headerOf s .levels) (headerOf s .root) lowest highest at-place)
 
-  sub-once : once (n ∷ numbersIn (x .children)) ≡ true
+  pub sub-once : once (n ∷ numbersIn (x .children)) ≡ true
   sub-once = once-sub sub whole-once
 
-  kids-apart : once (numbersIn (x .children)) ≡ true
+  pub kids-apart : once (numbersIn (x .children)) ≡ true
   unfolding once
   kids-apart = and-right (not (isIn n (numbersIn (x .children)))) _ sub-once
 
-  n-away : isIn n (numbersIn (x .children)) ≡ false
+  pub n-away : isIn n (numbersIn (x .children)) ≡ false
   unfolding once
   n-away = not-true (isIn n (numbersIn (x .children))) (and-left _ _ sub-once)
 
-  range-of-all : (j : ℕ) → isIn j (n ∷ numbersIn (x .children)) ≡ true → (1 ≤ j) × (j < nodesOf (length s))
+  pub range-of-all : (j : ℕ) → isIn j (n ∷ numbersIn (x .children)) ≡ true → (1 ≤ j) × (j < nodesOf (length s))
   range-of-all j q = range-of (nodesOf (length s)) j (numbers (treeOf s)) whole-range (sub-in j sub q)
 
-  n-range : (1 ≤ n) × (n < nodesOf (length s))
+  pub n-range : (1 ≤ n) × (n < nodesOf (length s))
   unfolding isIn
   n-range = range-of-all n (or-left (eqb n n) (isIn n (numbersIn (x .children))) (eq-eqb n n refl))
 
   pub inside : n * 1024 + 1024 ≤ length s
   inside = omega (arith, whole-fits (length s) n (n-range .1))
 
-  abbrev laid-n : Laid 0x0002 (suc (suc l)) (nodeBytes s n) (node .es)
+  abbrev pub laid-n : Laid 0x0002 (suc (suc l)) (nodeBytes s n) (node .es)
   laid-n = laid 0x0002 (suc (suc l)) (nodeBytes s n) (node .es) (node .entries)
 
   pub short : u16 s (n * 1024) ≤ 1016
@@ -224,29 +224,29 @@ module _ (s : List ℕ) (n : ℕ) (x : Reachable) (e : sound s ≡ true) (p : re
   pub stored-level : u16 s (n * 1024 + 4) ≡ x .level
   stored-level = sym (level-at s n inside) ∙ laid-n .level-is ∙ sym level-is
 
-  lists : listing s n ≡ node .es
+  pub lists : listing s n ≡ node .es
   unfolding listed
   lists = ap (λ b. listOf b) (sym (bytes-is s n inside short)) ∙ all-listed (entryBytes (nodeBytes s n)) (node .es) (laid-n .reads)
 
-  kids-are : kidsE (listing s n) ≡ node .y .kids
+  pub kids-are : kidsE (listing s n) ≡ node .y .kids
   kids-are = ap kidsE lists ∙ inside-splits (node .es) (node .y) (node .splits) .kids
 
   waiting-is : waiting (listing s n) ≡ x .messages
   waiting-is = ap waiting lists ∙ waiting-inside (node .es) (node .y) (node .splits) ∙ node .messages
 
-  forest-is : forestOf (λ j. treeAt (suc l) s j) (kidsE (listing s n)) ≡ x .children
+  pub forest-is : forestOf (λ j. treeAt (suc l) s j) (kidsE (listing s n)) ≡ x .children
   forest-is = ap (forestOf (λ j. treeAt (suc l) s j)) kids-are ∙ node .kids
 
-  heads-are : heads (x .children) ≡ kidNumbers (kidsE (listing s n))
+  pub heads-are : heads (x .children) ≡ kidNumbers (kidsE (listing s n))
   heads-are = ap heads (sym forest-is) ∙ kid-heads (suc l) s (kidsE (listing s n))
 
   pub kids-once : once (kidNumbers (kidsE (listing s n))) ≡ true
   kids-once = ap once (sym heads-are) ∙ once-sub (heads-sub (x .children)) kids-apart
 
-  own-entries : node .es ≡ kidEntries (kidsE (listing s n)) ++ messageEntries (node .y .messages)
+  pub own-entries : node .es ≡ kidEntries (kidsE (listing s n)) ++ messageEntries (node .y .messages)
   own-entries = inside-entries (node .es) (node .y) (node .splits) ∙ ap (λ ks. kidEntries ks ++ messageEntries (node .y .messages)) (sym kids-are)
 
-  good-entries : (sizeOf (node .es) ≤ 1016) × (allAllowed (node .es) ≡ true)
+  pub good-entries : (sizeOf (node .es) ≤ 1016) × (allAllowed (node .es) ≡ true)
   good-entries = node-good 0x0002 (suc (suc l)) (nodeBytes s n) (node .es) (node .entries)
 
   pub children-fit : length (childBytes (kidsE (listing s n))) ≤ 1016

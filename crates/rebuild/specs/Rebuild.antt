@@ -1,6 +1,6 @@
 -- What a rebuild promises: the same map in packed form, and the work area as an accepted call must leave it.
 -- Relies on the paper's definitions only.
-use Prim.Native.Nat.{ℕ, _*_, _-_, _≤_}
+use Prim.Native.Nat.{ℕ, _+_, _*_, _-_, _≤_}
 use mathlib.Core.Path.{_≡_}
 use mathlib.Core.List.{List, _++_}
 use mathlib.Core.Bool.{true}
@@ -8,12 +8,13 @@ use lib.ListN.{length, drop, replicate}
 use Rattle.image.specs.Table.{Row}
 use Rattle.image.specs.Image.{nodesOf, wholeNodes, headerOf}
 use Rattle.image.specs.Sound.{sound, tableOf}
-use Rattle.image.specs.Upkeep.{settled, tidied}
+use Rattle.image.specs.Upkeep.{settled, tidied, freeNodes}
 use Rattle.image.specs.Calls.{workPerNode}
 use Rattle.packed.specs.Tidy.{Table}
 use Rattle.rows.specs.Area.{rowsOf}
 
--- the store holds the table t in packed form; three levels at most, so that a new root can be put above
+-- the store holds the table t in packed form; three levels at most, so that a new root can be put above, and as many free nodes as a move
+-- asks for
 pub record Repacked (s s′ : List ℕ) (t : List Row) : Type 0 where
   pub is-sound : sound s′ ≡ true
   pub table : tableOf s′ ≡ t
@@ -21,6 +22,7 @@ pub record Repacked (s s′ : List ℕ) (t : List Row) : Type 0 where
   pub is-settled : settled s′ ≡ true
   pub size : length s′ ≡ length s
   pub levels : headerOf s′ .levels ≤ 3
+  pub roomy : 10 * headerOf s′ .levels + 1 ≤ freeNodes s′
 
 -- what the packing of the first m rows of an area asks; the numbers have room for every node but node 0
 pub record Packable (s area : List ℕ) (m : ℕ) (given : List ℕ) : Type 0 where
@@ -41,3 +43,4 @@ pub record Rebuilt (s s′ w w′ : List ℕ) : Type 0 where
   pub size : length s′ ≡ length s
   pub work : w′ ≡ cleared (nodesOf (length s)) w
   pub levels : headerOf s′ .levels ≤ 3
+  pub roomy : 10 * headerOf s′ .levels + 1 ≤ freeNodes s′

@@ -7,11 +7,12 @@ use mathlib.Core.Bool.{true}
 use native.Mathlib.Omega.{arith}
 use lib.ListN.{length, take, drop, replicate, length-replicate, drop-of-length-le}
 use lib.Dec.{leb}
+use borrow.Author.Tests.{leb-true}
 use lib.Seq.{length-take-le}
 use Rattle.image.specs.Image.{nodesOf, wholeNodes, headerOf}
 use Rattle.image.specs.Sound.{sound, tableOf}
-use Rattle.image.specs.Upkeep.{settled, tidied, used}
-use Rattle.octets.specs.Order.{and-left}
+use Rattle.image.specs.Upkeep.{settled, tidied, used, freeNodes}
+use Rattle.octets.specs.Order.{and-left, and-right}
 use Rattle.node.specs.Whole.{whole-parts}
 use Rattle.packed.specs.Packed.{packed, numbersFrom}
 use Rattle.packed.specs.Stored.{held-header}
@@ -28,6 +29,18 @@ use Rattle.rebuild.specs.Rebuild.{Repacked, Packable, Rebuilt}
 pub tidied-settled : (s : List ℕ) → tidied s ≡ true → settled s ≡ true
 unfolding tidied
 tidied-settled s e = and-left (settled s) (leb (used s) (nodesOf (length s) / 4)) e
+
+-- three levels at most, and what a tidy store leaves free is enough for a move
+abbrev Levels : ℕ → ℕ → Type 0
+Levels n levels = (levels ≤ 3) × (10 * levels + 1 ≤ n - n / 4)
+
+tidied-roomy : (s s′ : List ℕ) → length s′ ≡ length s → tidied s′ ≡ true → 10 * headerOf s′ .levels + 1 ≤ nodesOf (length s) - nodesOf (length s) / 4
+    → 10 * headerOf s′ .levels + 1 ≤ freeNodes s′
+unfolding tidied freeNodes
+tidied-roomy s s′ size e h =
+    let u : used s′ ≤ nodesOf (length s′) / 4 = leb-true (used s′) (nodesOf (length s′) / 4) (and-right (settled s′) _ e) in
+    let z : nodesOf (length s′) ≡ nodesOf (length s) = ap nodesOf size in
+    omega arith
 
 -- THE PACKING
 module _ (s area : List ℕ) (m : ℕ) (given given′ : List ℕ) (p : Packable s area m given) (e : handed given′ ≡ numbersFrom 1 (length given / 2)) where
@@ -49,17 +62,17 @@ module _ (s area : List ℕ) (m : ℕ) (given given′ : List ℕ) (p : Packable
       }
 
   -- the levels of the image
-  levels-few : headerOf (builtImage s area m given′) .levels ≤ 3
+  levels-few : Levels (nodesOf (length s)) (headerOf (builtImage s area m given′) .levels)
   unfolding builtImage
   levels-few =
       let a = pack-asks in
       let enough : nodesOf (length s) / 4 ≤ length (handed given′) + 1 = let x = a .enough in omega arith in
       let l : m ≡ length (rowsOf m area 0) = sym (rows-length m area 0) in
       let h = built-holds s (handed given′) (nodesOf (length s)) (rowsOf m area 0) (a .size) (a .least) (a .most) enough (a .differ) (a .ranged) (a .table) in
-      let k = built-packs s (handed given′) (nodesOf (length s)) (rowsOf m area 0) (a .size) (a .least) (a .most) enough (a .differ) (a .ranged) (a .table) .levels-most in
-      subst (λ live. headerOf (imageOf s (nodesOf (length s)) live (packed (handed given′) (rowsOf m area 0))) .levels ≤ 3) (sym l)
+      let k = built-packs s (handed given′) (nodesOf (length s)) (rowsOf m area 0) (a .size) (a .least) (a .most) enough (a .differ) (a .ranged) (a .table) in
+      subst (λ live. Levels (nodesOf (length s)) (headerOf (imageOf s (nodesOf (length s)) live (packed (handed given′) (rowsOf m area 0))) .levels)) (sym l)
       (rw (held-header (imageOf s (nodesOf (length s)) (length (rowsOf m area 0)) (packed (handed given′) (rowsOf m area 0))) (nodesOf (length s)) (length (rowsOf m area 0))
-      (packed (handed given′) (rowsOf m area 0)) h) k)
+      (packed (handed given′) (rowsOf m area 0)) h) (k .levels-most, k .roomy))
 
   pub pack-done : (s′ : List ℕ) → s′ ≡ builtImage s area m given′ → Repacked s s′ (rowsOf m area 0)
   pack-done s′ f =
@@ -70,7 +83,8 @@ module _ (s area : List ℕ) (m : ℕ) (given given′ : List ℕ) (p : Packable
         is-tidied = b .is-tidied;
         is-settled = tidied-settled s′ (b .is-tidied);
         size = b .same-size;
-        levels = rw f levels-few;
+        levels = rw f (levels-few .0);
+        roomy = tidied-roomy s s′ (b .same-size) (b .is-tidied) (rw f (levels-few .1));
       }
 
 -- the number of nodes as the code counts them
@@ -124,4 +138,5 @@ rebuilt s s′ w area′ k q p e =
       size = p .size;
       work = ap₂ (λ a j. a ++ drop j w) e z;
       levels = p .levels;
+      roomy = p .roomy;
     }

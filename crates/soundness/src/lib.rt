@@ -3,15 +3,14 @@
 use tree_check::Checked;
 ghost use mathlib.Core.Path.{_≡_};
 ghost use mathlib.Core.Bool.{true};
-ghost use Prim.Native.Nat.{_≤_};
 ghost use lib.ListN.{length};
-ghost use Rattle.image.specs.Image.{wholeNodes, nodesOf};
+ghost use Rattle.image.specs.Image.{wholeNodes};
 ghost use Rattle.image.specs.Sound.{sound};
 ghost use Rattle.soundness.specs.Judged.{Judged};
 
 // The verdict on an image. Where it is sound: how many pairs, messages and nodes there are, and in `seen` which nodes are reached.
-pub fn judge(store: &[u8], seen: &mut [u8]) -> Checked
-    requires { ⌜ (wholeNodes (length (now store)) ≡ true) × (nodesOf (length (now store)) ≤ length (now seen)) ⌝ }
+pub fn judge(store: &[u8], seen: &mut [u8; 1024]) -> Checked
+    requires { ⌜ wholeNodes (length (now store)) ≡ true ⌝ }
     ensures { λ r. ⌜ Judged (now (store .entry)) r (now (seen .exit)) ⌝ }
 {
     let c = tree_check::check_tree(store, seen);

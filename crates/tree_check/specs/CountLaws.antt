@@ -67,10 +67,6 @@ plus-none : (a : Count) → plus a (onlyMessages 0) ≡ a
 unfolding plus
 plus-none a = count-path (omega arith) (omega arith) (omega arith)
 
-pub none-plus : (a : Count) → plus (onlyMessages 0) a ≡ a
-unfolding plus
-none-plus a = count-path (omega arith) (omega arith) (omega arith)
-
 interior-count : (i : ℕ) (f : Forest) (ms : List defined.Message) → countOf (interior i f ms) ≡ plus onlyNode (plus (countIn f) (onlyMessages (length ms)))
 unfolding countIn countOf plus pairCount messageCount numbers
 interior-count i f ms = count-path (omega arith) (omega arith) (omega arith)

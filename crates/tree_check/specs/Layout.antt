@@ -3,17 +3,18 @@
 use Prim.Native.Nat.{ℕ, suc, _+_, _-_, _*_, _/_, _<_, _≤_}
 use mathlib.Core.Path.{_≡_, refl, sym, ap, ap₂, _∙_}
 use mathlib.Core.List.{List, _∷_}
-use mathlib.Core.Bool.{Bool, true, false, _&&_}
+use mathlib.Core.Bool.{Bool, true, false, _&&_, and-true}
 use mathlib.Core.Option.{none, some}
 use native.Mathlib.Omega.{arith}
 use native.Mathlib.Numerals.{add-one}
 use lib.ListN.{length, take, drop, getD}
 use lib.Seq.{drop-cons}
 use lib.Dec.{leb, eqb}
-use borrow.Author.Tests.{lt-ltb, le-leb, lt-leb, eq-eqb, ne-eqb}
+use borrow.Author.Tests.{lt-ltb, le-leb, lt-leb, eq-eqb, ne-eqb, eqb-true}
 use Rattle.image.specs.Bytes.{u16, zeros}
 use Rattle.image.specs.Entry as defined
 use Rattle.image.specs.Image.{nodeBytes, nodesOf, laidOut, nodeEntries}
+use Rattle.octets.specs.Order.{and-false}
 use Rattle.node.specs.Cut.{cut, cut-drop, cut-u16, cut-nil}
 use Rattle.node.specs.Entries.{entriesFrom, listed, all-listed}
 use Rattle.lookup.specs.Look.{node-is, count-is, bytes-is, below-length, laid-short as look-short}
@@ -37,13 +38,29 @@ module _ (s : List ℕ) (at end : ℕ) where
       let d : drop at s ≡ getD s at 0 ∷ drop (suc at) s = drop-cons s at 0 (omega arith) in
       rw (e, d) (ap (λ n. getD s at 0 ∷ take (end - (at + 1)) (drop n s)) (sym (add-one at)))
 
-  pub zeros-stop : (X : Bool) → at < end → end ≤ length s → (getD s at 0 ≡ 0 → ⊥) → zeros (cut s at end) ≡ X → false ≡ X
+  pub zeros-on : (X b c : Bool) → at < end → end ≤ length s → c ≡ (b && eqb (getD s at 0) 0) → b && zeros (cut s at end) ≡ X → c && zeros (cut s (at + 1) end) ≡ X
   unfolding zeros
-  zeros-stop X h k n inv = (rw (cut-cons h k, ne-eqb (getD s at 0) 0 n) at inv)
+  zeros-on X b c h k e inv =
+      let w : b && (eqb (getD s at 0) 0 && zeros (cut s (at + 1) end)) ≡ X = rw (cut-cons h k) at inv in
+      ap (λ x. x && zeros (cut s (at + 1) end)) e ∙ regroup b (eqb (getD s at 0) 0) (zeros (cut s (at + 1) end)) ∙ w
+    where
+      regroup : (x y z : Bool) → (x && y) && z ≡ x && (y && z)
+      regroup true y z = refl
+      regroup false y z = refl
 
-  pub zeros-on : (X : Bool) → at < end → end ≤ length s → getD s at 0 ≡ 0 → zeros (cut s at end) ≡ X → zeros (cut s (at + 1) end) ≡ X
-  unfolding zeros
-  zeros-on X h k e inv = (rw (cut-cons h k, eq-eqb (getD s at 0) 0 e) at inv)
+  pub zeros-done : (X b : Bool) → end ≤ at → b && zeros (cut s at end) ≡ X → b ≡ X
+  zeros-done X b h inv = sym (ap (λ x. b && x) (zeros-end h) ∙ and-true b) ∙ inv
+
+-- the larger of two bytes is zero if both are
+pub larger-second : (a b : ℕ) → a < b → eqb b 0 ≡ (eqb a 0 && eqb b 0)
+larger-second a b h = let n : eqb b 0 ≡ false = ne-eqb b 0 (λ z. omega arith) in rw n (sym (and-false (eqb a 0)))
+
+pub larger-first : (a b : ℕ) → b ≤ a → eqb a 0 ≡ (eqb a 0 && eqb b 0)
+larger-first a b h = go (eqb a 0) refl
+  where
+    go : (x : Bool) → eqb a 0 ≡ x → eqb a 0 ≡ (eqb a 0 && eqb b 0)
+    go true e = let z : a ≡ 0 = eqb-true a 0 e in let y : eqb b 0 ≡ true = eq-eqb b 0 (omega arith) in rw (e, y)
+    go false e = rw e
 
 -- entries that all read are the list that a counting reader walks
 pub reads-listed : (s : List ℕ) (at end : ℕ) (es : List defined.Entry) → entriesFrom s at end ≡ some es → listed s at end ≡ es

@@ -1,9 +1,9 @@
 -- The exits of the check of a node.
--- Relies on Walk, First and ChildSteps.
+-- Relies on Walk, First and Held.
 use Prim.Native.Nat.{ℕ, zero, suc, _-_, _<_, _≤_}
-use mathlib.Core.Path.{_≡_, refl, sym, ap, _∙_}
-use mathlib.Core.List.{List}
-use mathlib.Core.Bool.{true, false, cond}
+use mathlib.Core.Path.{_≡_, refl, sym, ap, subst, _∙_}
+use mathlib.Core.List.{List, [], _∷_}
+use mathlib.Core.Bool.{Bool, true, false, cond}
 use mathlib.Core.Option.{Option, none, some}
 use native.Mathlib.Omega.{arith}
 use lib.ListN.{length, getD, set}
@@ -19,17 +19,15 @@ use Rattle.node_check.specs.Inside.{kidsRun}
 use Rattle.tree_check.specs.declared.Tally.{Tally}
 use Rattle.tree_check.specs.declared.Checked.{Checked}
 use Rattle.tree_check.specs.declared.First.{First}
-use Rattle.tree_check.specs.Count.{Count, plus, countOf, onlyNode, kidsCount, capped, tallySum}
-use Rattle.tree_check.specs.CountLaws.{node-capped, tally-joined}
-use Rattle.tree_check.specs.Answer.{Checks, unsound, all-sound, unsound-is, sound-is, tally-is, checks-as, withRest, with-rest}
+use Rattle.tree_check.specs.Count.{Count, plus, countOf, onlyNode, kidsCount, capped}
+use Rattle.tree_check.specs.CountLaws.{node-capped}
+use Rattle.tree_check.specs.Answer.{Checks, unsound, all-sound, unsound-is, sound-is, tally-is, checks-as}
+use Rattle.tree_check.specs.Sequence.{Passed}
+use Rattle.tree_check.specs.Held.{tallyIs, answerIs, Adds}
 use Rattle.tree_check.specs.Walk.{nodeRun, node-met, unmet-low, unmet-past, unmet-again, unmet-yes, leaf-walk, headless, first-walk, first-counts}
 use Rattle.tree_check.specs.Layout.{reads-listed}
 use Rattle.tree_check.specs.First.{FirstAs, Leads, first-nothing-is, first-child-is}
 use Rattle.tree_check.specs.LeafSteps.{LeafChecks}
-
--- what an interior node holds without the trees under it and its messages
-abbrev itself : Tally
-itself = record { pairs = 0; messages = 0; nodes = 1 }
 
 module _ (s : List ℕ) (i level : ℕ) (sh : Shape) (lo hi seen : List ℕ) where
   -- what the walk over the tree leaves, and what it holds
@@ -106,20 +104,37 @@ module _ (s : List ℕ) (i level : ℕ) (sh : Shape) (lo hi seen : List ℕ) whe
               (nodeEntries 0x0002 level (nodeBytes s i)) (entriesFrom s (c .at) (c .end)) (leads .reads)
               ∙ ap (λ t. visit t (nodesOf (length s)) sh lo hi seen) (sym (interior-tree level two))
 
-          module _ (r : Checked) (after : List ℕ) (h : Checks K (kidsCount (treeAt (level - 1) s) j (listed s (c .at) (c .end))) r after) where
-            pub kids-done : (w : Checked) → w ≡ withRest itself r → Checks X Y w after
-            kids-done =
-                with-rest itself (λ w. Checks X Y w after) r
-                (λ e. unsound X Y after (sym walk-is ∙ unsound-is K (kidsCount (treeAt (level - 1) s) j (listed s (c .at) (c .end))) r after h e)) kids-sound
-              where
-                kids-sound : (t : Tally) → r ≡ Checked.Sound t → Checks X Y (Checked.Sound (tallySum itself t)) after
-                kids-sound t e =
-                    let k : K ≡ some after = sound-is K (kidsCount (treeAt (level - 1) s) j (listed s (c .at) (c .end))) r t after h e in
-                    let y : plus onlyNode (kidsCount (treeAt (level - 1) s) j (listed s (c .at) (c .end))) ≡ countOf T
-                    = first-counts (treeAt (level - 1) s) (nodesOf (length s)) (nodeRun (level - 1) s) alike i sh lo hi seen open-node j (part s p) (leads .pivot)
-                    (nodeEntries 0x0002 level (nodeBytes s i)) (entriesFrom s (c .at) (c .end)) (listed s (c .at) (c .end)) (set seen i 1) after (leads .reads)
-                    (λ es q. reads-listed s (c .at) (c .end) es q) k in
-                    all-sound X Y (tallySum itself t) after (sym walk-is ∙ k)
-                    (tally-joined itself t (tallySum itself t) onlyNode (kidsCount (treeAt (level - 1) s) j (listed s (c .at) (c .end))) node-capped
-                    (tally-is K (kidsCount (treeAt (level - 1) s) j (listed s (c .at) (c .end))) r t after h e) refl
-                    ∙ ap (λ z. capped z) (y ∙ ap (λ z. countOf z) (sym (interior-tree level two))))
+          abbrev M : Count
+          M = kidsCount (treeAt (level - 1) s) j (listed s (c .at) (c .end))
+
+          -- the node itself is counted before its list of children
+          kids-found : (w : Checked) (after : List ℕ) → Checks K (plus onlyNode M) w after → Checks X Y w after
+          kids-found Checked.Unsound after h = unsound X Y after (sym walk-is ∙ unsound-is K (plus onlyNode M) Checked.Unsound after h refl)
+          kids-found (Checked.Sound t) after h =
+              let k : K ≡ some after = sound-is K (plus onlyNode M) (Checked.Sound t) t after h refl in
+              let y : plus onlyNode M ≡ countOf T
+              = first-counts (treeAt (level - 1) s) (nodesOf (length s)) (nodeRun (level - 1) s) alike i sh lo hi seen open-node j (part s p) (leads .pivot)
+              (nodeEntries 0x0002 level (nodeBytes s i)) (entriesFrom s (c .at) (c .end)) (listed s (c .at) (c .end)) (set seen i 1) after (leads .reads)
+              (λ es q. reads-listed s (c .at) (c .end) es q) k in
+              all-sound X Y t after (sym walk-is ∙ k)
+              (tally-is K (plus onlyNode M) (Checked.Sound t) t after h refl ∙ ap (λ z. capped z) (y ∙ ap (λ z. countOf z) (sym (interior-tree level two))))
+
+          module _ (own : Shape) (told : own ≡ sh) (r : Bool) (held after : List ℕ)
+              (h : Adds (kidsRun (nodeRun (level - 1) s) own lo hi j (part s p) (entriesFrom s (c .at) (c .end)) (set seen i 1)) M (0 ∷ 0 ∷ 1 ∷ []) r held after) where
+            itself : tallyIs (0 ∷ 0 ∷ 1 ∷ []) ≡ capped onlyNode
+            unfolding tallyIs
+            itself = node-capped
+
+            found : Checks X Y (answerIs r held) after
+            found =
+                let k : Adds K M (0 ∷ 0 ∷ 1 ∷ []) r held after
+                = subst (λ (z : Shape). Adds (kidsRun (nodeRun (level - 1) s) z lo hi j (part s p) (entriesFrom s (c .at) (c .end)) (set seen i 1)) M (0 ∷ 0 ∷ 1 ∷ []) r held after) told h in
+                kids-found (answerIs r held) after (k .whole K (plus onlyNode M) (record { counted = onlyNode; tally = itself; counts = refl; walk = refl }))
+
+            pub kids-stop : r ≡ false → (z : List ℕ) → Checks X Y Checked.Unsound z
+            unfolding answerIs
+            kids-stop e z = unsound X Y z (unsound-is X Y (answerIs r held) after found (rw e))
+
+            pub kids-done : r ≡ true → (t : Tally) → t ≡ tallyIs held → Checks X Y (Checked.Sound t) after
+            unfolding answerIs
+            kids-done e t f = rw f (subst (λ (b : Bool). Checks X Y (answerIs b held) after) e found)

@@ -4,13 +4,11 @@ use Prim.Native.Nat.{ℕ}
 use mathlib.Core.Path.{_≡_, refl, sym, ap, _∙_}
 use mathlib.Core.List.{List}
 use mathlib.Core.Option.{Option, none, some}
-use native.Mathlib.Omega.{arith}
 use Rattle.reading.specs.Visit.{onward}
 use Rattle.tree_check.specs.declared.Tally.{Tally}
 use Rattle.tree_check.specs.declared.Checked.{Checked}
-use Rattle.tree_check.specs.Count.{Count, plus, capped, onlyMessages, tallySum}
-use Rattle.octets.specs.Cap.{cap-small}
-use Rattle.tree_check.specs.CountLaws.{messages-capped, tally-joined, plus-assoc, none-plus}
+use Rattle.tree_check.specs.Count.{Count, plus, capped, tallySum}
+use Rattle.tree_check.specs.CountLaws.{tally-joined, plus-assoc}
 use Rattle.tree_check.specs.Answer.{Checks, unsound, all-sound, unsound-is, sound-is, tally-is, withRest, with-rest}
 
 stops : (x : Option (List ℕ)) (f : List ℕ → Option (List ℕ)) → x ≡ none → onward x f ≡ none
@@ -42,10 +40,6 @@ pub record Passed (X : Option (List ℕ)) (Y : Count) (x : Option (List ℕ)) (y
   pub tally : total ≡ capped counted
   pub counts : Y ≡ plus counted y
   pub walk : X ≡ x
-
-pub nothing-passed : (X : Option (List ℕ)) (Y : Count) → Passed X Y X Y (record { pairs = 0; messages = 0; nodes = 0 })
-nothing-passed X Y =
-    record { counted = onlyMessages 0; tally = messages-capped 0 0 (sym (cap-small 0 (omega arith))); counts = sym (none-plus Y); walk = refl }
 
 module _ (X : Option (List ℕ)) (Y : Count) (x : Option (List ℕ)) (y : Count) (total : Tally) (p : Passed X Y x y total) (r : Checked) (after : List ℕ) where
   -- the last check

@@ -6,11 +6,12 @@ use node::Step;
 use path::Shape;
 use search::Kid;
 ghost use mathlib.Core.Path.{_≡_};
-ghost use mathlib.Core.Bool.{cond};
+ghost use mathlib.Core.Bool.{cond, _&&_};
 ghost use mathlib.Core.List.{List};
 ghost use mathlib.Core.Option.{none, some};
 ghost use Prim.Native.Nat.{ℕ, _+_, _*_, _≤_};
 ghost use lib.ListN.{length};
+ghost use lib.Dec.{eqb};
 ghost use Rattle.image.specs.Bytes.{zeros};
 ghost use Rattle.image.specs.Image.{nodesOf, nodeBytes, laidOut, treeAt};
 ghost use Rattle.reading.specs.SoundHere.{soundHere};
@@ -23,6 +24,7 @@ ghost use Rattle.node_check.specs.Inside.{messagesRun, childRun, kidsRun};
 ghost use Rattle.octets.specs.Cap.{cap};
 ghost use Rattle.tree_check.specs.Count.{tallySum, countOf, onlyMessages, lastCount, kidsCount};
 ghost use Rattle.tree_check.specs.Answer.{Checks, withRest};
+ghost use Rattle.tree_check.specs.Held.{tallyIs, answerIs, flatIs, Adds};
 ghost use Rattle.tree_check.specs.Walk.{nodeRun, lastRun};
 ghost use Rattle.tree_check.specs.First.{FirstAs};
 ghost use Rattle.laws.specs.ButLive.{soundHead};
@@ -59,6 +61,48 @@ pub fn joined(a: Tally, b: Tally) -> Tally
     }
 }
 
+// The tally that is held as pairs, messages and nodes.
+pub fn tally_of(held: &[usize; 3]) -> Tally
+    ensures { λ r. ⌜ r ≡ tallyIs (now (held .entry)) ⌝ }
+{
+    Tally {
+        pairs: held[0],
+        messages: held[1],
+        nodes: held[2],
+    }
+}
+
+// Adds what was found to the tally that is held. Whether it was sound.
+pub fn hold(held: &mut [usize; 3], found: Checked) -> bool
+    ensures { λ r. ⌜ answerIs r (now (held .exit)) ≡ withRest (tallyIs (now (held .entry))) found ⌝ }
+{
+    let Checked::Sound(t) = found else {
+        return false;
+    };
+    let total = joined(tally_of(held), t);
+    *held = [total.pairs, total.messages, total.nodes];
+    true
+}
+
+// A shape as plain numbers, which can be lent.
+pub fn flattened(sh: Shape) -> [usize; 4]
+    ensures { λ r. ⌜ flatIs r ≡ shapeIs sh ⌝ }
+{
+    let Shape::Partway(done, here, len) = sh else {
+        return [0, 0, 0, 0];
+    };
+    [1, done, here, len]
+}
+
+pub fn shape_of(flat: &[usize; 4]) -> Shape
+    ensures { λ r. ⌜ shapeIs r ≡ flatIs (now (flat .entry)) ⌝ }
+{
+    if flat[0] == 0 {
+        return Shape::Dead;
+    }
+    Shape::Partway(flat[1], flat[2], flat[3])
+}
+
 // What was found sound, with the answer for the rest.
 pub fn with_rest(held: Tally, rest: Checked) -> Checked
     ensures { λ r. ⌜ r ≡ withRest held rest ⌝ }
@@ -76,19 +120,27 @@ pub fn node_count(store: &[u8]) -> usize
     store.len() / 1024
 }
 
-// Whether every byte from a place up to another is zero.
+fn larger(a: u8, b: u8) -> u8
+    ensures { λ r. ⌜ eqb r 0 ≡ (eqb a 0 && eqb b 0) ⌝ }
+{
+    if a < b {
+        return b;
+    }
+    a
+}
+
+// Whether every byte from a place up to another is zero: whether the largest is. No byte ends the loop, so that many are read at once.
 pub fn all_zero(s: &[u8], from: usize, end: usize) -> bool
     requires { ⌜ end ≤ length (now s) ⌝ }
     ensures { λ r. ⌜ r ≡ zeros (cut (now (s .entry)) from end) ⌝ }
 {
     let mut i = from;
+    let mut most: u8 = 0;
     while i < end {
-        if s[i] != 0 {
-            return false;
-        }
+        most = larger(most, s[i]);
         i += 1;
     }
-    true
+    most == 0
 }
 
 // Whether a node of the store is laid out as one of this kind and level.
@@ -206,9 +258,9 @@ pub fn check_node(
     lo: &[u8],
     hi: &[u8],
     sh: Shape,
-    seen: &mut [u8],
+    seen: &mut [u8; 1024],
 ) -> Checked
-    requires { ⌜ nodesOf (length (now store)) ≤ length (now seen) ⌝ }
+    requires { ⌜ nodesOf (length (now store)) ≤ 1024 ⌝ }
     ensures { λ r. ⌜ Checks (visit (treeAt level (now (store .entry)) num) (nodesOf (length (now (store .entry)))) (shapeIs sh) (now (lo .entry)) (now (hi .entry)) (now (seen .entry))) (countOf (treeAt level (now (store .entry)) num)) r (now (seen .exit)) ⌝ }
 {
     if num < 1 {
@@ -230,67 +282,75 @@ pub fn check_node(
     let First::Child(child, p, next) = first_child(store, num, level, lo) else {
         return Checked::Unsound;
     };
-    let under = check_children(store, child, p, next, level - 1, lo, hi, sh, seen);
-    with_rest(
-        Tally {
-            pairs: 0,
-            messages: 0,
-            nodes: 1,
-        },
-        under,
-    )
+    let flat = flattened(sh);
+    let mut held = [0usize, 0usize, 1usize];
+    if !check_children(
+        &store,
+        child,
+        p,
+        next,
+        level - 1,
+        &lo,
+        &hi,
+        &flat,
+        seen,
+        &mut held,
+    ) {
+        return Checked::Unsound;
+    }
+    Checked::Sound(tally_of(&held))
 }
 
-// The child `num` with the low pivot `low`, and the entries of its parent that follow it from the cursor on. A loop, so that the stack holds one frame for each level.
+// The child `num` with the low pivot `low`, and the entries of its parent that follow it from the cursor on: whether all are sound. What they
+// hold is added to `held`. The call for the rest of the list is the last thing done, and all that it is lent is lent by thin references:
+// so the compiler makes a jump of it, and the stack holds one frame for each level.
 pub fn check_children(
-    store: &[u8],
+    store: &&[u8],
     num: usize,
     low: Place,
     start: Cursor,
     level: usize,
-    lo: &[u8],
-    hi: &[u8],
-    sh: Shape,
-    seen: &mut [u8],
-) -> Checked
-    requires { ⌜ (nodesOf (length (now store)) ≤ length (now seen)) × (start .end ≤ length (now store)) × Within 0 (length (now store)) low ⌝ }
-    ensures { λ r. ⌜ Checks (kidsRun (nodeRun level (now (store .entry))) (shapeIs sh) (now (lo .entry)) (now (hi .entry)) num (part (now (store .entry)) low) (entriesFrom (now (store .entry)) (start .at) (start .end)) (now (seen .entry))) (kidsCount (treeAt level (now (store .entry))) num (listed (now (store .entry)) (start .at) (start .end))) r (now (seen .exit)) ⌝ }
+    lo: &&[u8],
+    hi: &&[u8],
+    flat: &[usize; 4],
+    seen: &mut [u8; 1024],
+    held: &mut [usize; 3],
+) -> bool
+    requires { ⌜ (nodesOf (length (now (now store))) ≤ 1024) × (start .end ≤ length (now (now store))) × Within 0 (length (now (now store))) low ⌝ }
+    ensures { λ r. ⌜ Adds (kidsRun (nodeRun level (now (now (store .entry)))) (flatIs (now (flat .entry))) (now (now (lo .entry))) (now (now (hi .entry))) num (part (now (now (store .entry))) low) (entriesFrom (now (now (store .entry))) (start .at) (start .end)) (now (seen .entry))) (kidsCount (treeAt level (now (now (store .entry)))) num (listed (now (now (store .entry))) (start .at) (start .end))) (now (held .entry)) r (now (held .exit)) (now (seen .exit)) ⌝ }
 {
-    let mut c = start;
-    let mut child = num;
-    let mut pivot = low;
-    let mut total = Tally {
-        pairs: 0,
-        messages: 0,
-        nodes: 0,
-    };
-    loop {
-        if c.end <= c.at {
-            let last = check_last(store, child, pivot, c, level, lo, hi, sh, seen);
-            return with_rest(total, last);
-        }
-        let Step::Read(e, next) = c.step(store) else {
-            return Checked::Unsound;
-        };
-        let Kid::Of(k, p) = search::kid_of(e) else {
-            let last = check_last(store, child, pivot, c, level, lo, hi, sh, seen);
-            return with_rest(total, last);
-        };
-        let a = pivot.start;
-        let b = pivot.stop;
-        let x = p.start;
-        let y = p.stop;
-        let from = &store[a..b];
-        let to = &store[x..y];
-        let one = check_child(store, child, from, to, level, lo, hi, sh, seen);
-        let Checked::Sound(t) = one else {
-            return Checked::Unsound;
-        };
-        total = joined(total, t);
-        child = k;
-        pivot = p;
-        c = next;
+    let image = *store;
+    let sh = shape_of(flat);
+    if start.end <= start.at {
+        let last = check_last(image, num, low, start, level, *lo, *hi, sh, seen);
+        return hold(held, last);
     }
+    let Step::Read(e, next) = start.step(image) else {
+        return false;
+    };
+    let Kid::Of(child, p) = search::kid_of(e) else {
+        let last = check_last(image, num, low, start, level, *lo, *hi, sh, seen);
+        return hold(held, last);
+    };
+    let a = low.start;
+    let b = low.stop;
+    let x = p.start;
+    let y = p.stop;
+    let one = check_child(
+        image,
+        num,
+        &image[a..b],
+        &image[x..y],
+        level,
+        *lo,
+        *hi,
+        sh,
+        seen,
+    );
+    if !hold(held, one) {
+        return false;
+    }
+    check_children(store, child, p, next, level, lo, hi, flat, seen, held)
 }
 
 // The last child, `num` with the low pivot `low`, which ends at its parent's high pivot; and the messages of the parent from the cursor on, of which there may be none.
@@ -303,9 +363,9 @@ pub fn check_last(
     lo: &[u8],
     hi: &[u8],
     sh: Shape,
-    seen: &mut [u8],
+    seen: &mut [u8; 1024],
 ) -> Checked
-    requires { ⌜ (nodesOf (length (now store)) ≤ length (now seen)) × (rest .end ≤ length (now store)) × Within 0 (length (now store)) low ⌝ }
+    requires { ⌜ (nodesOf (length (now store)) ≤ 1024) × (rest .end ≤ length (now store)) × Within 0 (length (now store)) low ⌝ }
     ensures { λ r. ⌜ Checks (lastRun (nodeRun level (now (store .entry))) (shapeIs sh) (now (lo .entry)) (now (hi .entry)) num (part (now (store .entry)) low) (entriesFrom (now (store .entry)) (rest .at) (rest .end)) (now (seen .entry))) (lastCount (treeAt level (now (store .entry))) num (listed (now (store .entry)) (rest .at) (rest .end))) r (now (seen .exit)) ⌝ }
 {
     let a = low.start;
@@ -327,9 +387,9 @@ pub fn check_child(
     lo: &[u8],
     hi: &[u8],
     sh: Shape,
-    seen: &mut [u8],
+    seen: &mut [u8; 1024],
 ) -> Checked
-    requires { ⌜ nodesOf (length (now store)) ≤ length (now seen) ⌝ }
+    requires { ⌜ nodesOf (length (now store)) ≤ 1024 ⌝ }
     ensures { λ r. ⌜ Checks (childRun (nodeRun level (now (store .entry))) (shapeIs sh) (now (lo .entry)) (now (hi .entry)) num (now (low .entry)) (now (high .entry)) (now (seen .entry))) (countOf (treeAt level (now (store .entry)) num)) r (now (seen .exit)) ⌝ }
 {
     if !octets::owned(lo, hi, low) {
@@ -394,8 +454,8 @@ pub fn clear(seen: &mut [u8])
 }
 
 // The check of a store: node 0, and the tree from the root. After a sound answer `seen` has 1 for each node that is reached, and 0 for the others.
-pub fn check_tree(store: &[u8], seen: &mut [u8]) -> Checked
-    requires { ⌜ (1024 ≤ length (now store)) × (nodesOf (length (now store)) ≤ length (now seen)) ⌝ }
+pub fn check_tree(store: &[u8], seen: &mut [u8; 1024]) -> Checked
+    requires { ⌜ (1024 ≤ length (now store)) × (nodesOf (length (now store)) ≤ 1024) ⌝ }
     ensures { λ r. ⌜ Verified (now (store .entry)) r (now (seen .exit)) ⌝ }
 {
     if !header_good(store) {

@@ -1,27 +1,29 @@
--- A flush by one level meets document 01's rule: no reachable node of the flushed node's level that owns any of what it owned holds a message.
-use Prim.Native.Nat.{ℕ, _-_, _≤_}
+-- A flush by one level meets document 01's rule: its messages go down, and no reachable node of the flushed node's level that owns any of what it
+-- owned holds a message.
+use Prim.Native.Nat.{ℕ, _-_, _≤_, _<_}
 use mathlib.Core.Path.{_≡_, refl, sym, ap, subst, _∙_}
 use mathlib.Core.List.{List, [], _∷_, _++_}
 use mathlib.Core.Bool.{Bool, true, false, _&&_, _||_, not, cond}
 use mathlib.Core.Option.{Option, none, some, Option·some-injective}
 use native.Mathlib.Omega.{arith}
 use lib.Dec.{leb, eqb}
-use borrow.Author.Tests.{ne-eqb, le-leb, leb-true}
+use borrow.Author.Tests.{ne-eqb, eqb-true, le-leb, lt-leb, leb-true}
 use Rattle.image.specs.Bytes.{before, shared}
 use Rattle.image.specs.Entry.{Message}
 use Rattle.image.specs.Table.{Row}
 use Rattle.image.specs.Image.{Tree, unread, leaf, interior, Forest, end, tree}
 use Rattle.image.specs.Meaning.{highOf}
-use Rattle.image.specs.Sound.{soundTree, soundForest}
-use Rattle.image.specs.Upkeep.{Reachable, reachable, reachableIn, reachableAt, every, holdsNoMessage, overlap, flushed}
+use Rattle.image.specs.Sound.{soundTree, soundForest, numbers, once}
+use Rattle.image.specs.Upkeep.{Reachable, reachable, reachableIn, reachableAt, every, holdsNoMessage, overlap, gainsNoMessage, fromLevel, emptied, noneWaits, flushed}
 use Rattle.octets.specs.Order.{and-left, and-right, and-false, not-so, not-true, before-irrefl, before-le, before-trans}
 use Rattle.laws.specs.Rising.{both}
 use Rattle.laws.specs.Frame.{or-left, or-right}
 use Rattle.laws.specs.LookupTable.{parts, inner, high-under}
+use Rattle.upkeep.specs.Kept.{numbersOf, numbers-places, NoGain, no-gain-append, gains-none-same, gains-none-empty, no-gain, isLevel, one-level}
 use Rattle.upkeep.specs.Merge.{tall, tallIn, first-high, first-of}
 use Rattle.upkeep.specs.Mends.{tall-kids, tall-first, tall-later}
 use Rattle.upkeep.specs.Alter.{altered, alteredIn, high-altered, altered-mends, altered-mends-in}
-use Rattle.upkeep.specs.Healed.{orElse, place-append, every-places, place-test}
+use Rattle.upkeep.specs.Healed.{orElse, place-append, every-places, place-number, place-test}
 use Rattle.upkeep.specs.Flush.{pushedAll, flushedNode, flush-sane, flushedTree}
 
 every-weaker : (a b : Reachable → Bool) (xs : List Reachable) → ((y : Reachable) → a y ≡ true → b y ≡ true) → every a xs ≡ true → every b xs ≡ true
@@ -269,8 +271,177 @@ mutual
       (λ q. flush-rested-in f n x level lifted lo hi (parts s t f lifted lo hi e .later) (tall-later s t f level h) q)
       p
 
+-- THE NODE ITSELF is found without a message
+emptied-append : (n : ℕ) (xs ys : List Reachable) → emptied (reachableAt n xs) ≡ true → emptied (reachableAt n ys) ≡ true → emptied (reachableAt n (xs ++ ys)) ≡ true
+unfolding orElse
+emptied-append n xs ys a b = ap emptied (place-append n xs ys) ∙ go (reachableAt n xs) a
+  where
+    go : (o : Option Reachable) → emptied o ≡ true → emptied (orElse o (reachableAt n ys)) ≡ true
+    go none h = b
+    go (some y) h = h
+
+one-emptied : (n : ℕ) (y : Reachable) (ys : List Reachable) → (eqb n (y .number) ≡ true → holdsNoMessage y ≡ true) → (eqb n (y .number) ≡ false → emptied (reachableAt n ys) ≡ true)
+    → emptied (reachableAt n (y ∷ ys)) ≡ true
+unfolding reachableAt emptied
+one-emptied n y ys a b = go (eqb n (y .number)) refl
+  where
+    go : (x : Bool) → eqb n (y .number) ≡ x → emptied (cond (eqb n (y .number)) (some y) (reachableAt n ys)) ≡ true
+    go true e = rw e (a e)
+    go false e = rw e (b e)
+
+node-emptied : (b : Bool) (n i : ℕ) (f g : Forest) (ms : List Message) (level : ℕ) (lo hi : List ℕ) → eqb n i ≡ b
+    → emptied (reachableAt n (reachableIn g (level - 1) (shared lo hi) hi)) ≡ true
+    → emptied (reachableAt n (reachable (cond b (flushedNode (interior i f ms) lo hi) (interior i g ms)) level lo hi)) ≡ true
+unfolding reachable flushedNode holdsNoMessage
+node-emptied true n i f g ms level lo hi e k =
+    one-emptied n (record { number = i; level = level; low = lo; high = hi; messages = []; children = pushedAll ms f (shared lo hi) hi })
+    (reachableIn (pushedAll ms f (shared lo hi) hi) (level - 1) (shared lo hi) hi) (λ h. refl) (λ h. not-so e h)
+node-emptied false n i f g ms level lo hi e k =
+    one-emptied n (record { number = i; level = level; low = lo; high = hi; messages = ms; children = g }) (reachableIn g (level - 1) (shared lo hi) hi) (λ h. not-so h e) (λ h. k)
+
+mutual
+  unfolding altered alteredIn reachable reachableIn reachableAt emptied holdsNoMessage
+
+  flush-emptied : (t : Tree) (n level : ℕ) (lo hi : List ℕ) → emptied (reachableAt n (reachable (altered t n flushedNode lo hi) level lo hi)) ≡ true
+  flush-emptied (unread i) n level lo hi = refl
+  flush-emptied (leaf i rs) n level lo hi =
+      one-emptied n (record { number = i; level = level; low = lo; high = hi; messages = []; children = end }) [] (λ h. refl) (λ h. refl)
+  flush-emptied (interior i f ms) n level lo hi =
+      node-emptied (eqb n i) n i f (alteredIn f n flushedNode (shared lo hi) hi) ms level lo hi refl (flush-emptied-in f n (level - 1) (shared lo hi) hi)
+
+  flush-emptied-in : (f : Forest) (n level : ℕ) (lifted hi : List ℕ) → emptied (reachableAt n (reachableIn (alteredIn f n flushedNode lifted hi) level lifted hi)) ≡ true
+  flush-emptied-in end n level lifted hi = refl
+  flush-emptied-in (tree s t f) n level lifted hi =
+      rw (high-altered f n flushedNode lifted hi lifted hi)
+      (emptied-append n (reachable (altered t n flushedNode (lifted ++ s) (highOf lifted hi f)) level (lifted ++ s) (highOf lifted hi f))
+      (reachableIn (alteredIn f n flushedNode lifted hi) level lifted hi)
+      (flush-emptied t n level (lifted ++ s) (highOf lifted hi f)) (flush-emptied-in f n level lifted hi))
+
+-- NO NODE OF ITS LEVEL OR ABOVE GAINS A MESSAGE
+level-append : (level : ℕ) (xs ys : List Reachable) → fromLevel level (xs ++ ys) ≡ fromLevel level xs ++ fromLevel level ys
+unfolding fromLevel
+level-append level [] ys = refl
+level-append level (x ∷ xs) ys = go (leb level (x .level)) (level-append level xs ys)
+  where
+    go : (b : Bool) → fromLevel level (xs ++ ys) ≡ fromLevel level xs ++ fromLevel level ys
+        → cond b (x ∷ fromLevel level (xs ++ ys)) (fromLevel level (xs ++ ys)) ≡ cond b (x ∷ fromLevel level xs) (fromLevel level xs) ++ fromLevel level ys
+    go true ih = ap (λ l. x ∷ l) ih
+    go false ih = ih
+
+level-none : (level under : ℕ) (xs : List Reachable) → under < level → every (λ y. leb (y .level) under) xs ≡ true → fromLevel level xs ≡ []
+unfolding fromLevel every
+level-none level under [] h e = refl
+level-none level under (x ∷ xs) h e =
+    let low : x .level ≤ under = leb-true (x .level) under (and-left (leb (x .level) under) _ e) in
+    rw (lt-leb level (x .level) (omega arith)) (level-none level under xs h (and-right (leb (x .level) under) _ e))
+
+all-gone : (xs : List Reachable) → NoGain xs []
+all-gone [] = NoGain.empty
+all-gone (x ∷ xs) = NoGain.gone (all-gone xs)
+
+one-more : (level : ℕ) (x y : Reachable) (xs ys : List Reachable) → y .number ≡ x .number → gainsNoMessage y (some x) ≡ true → NoGain xs (fromLevel level ys)
+    → NoGain (x ∷ xs) (fromLevel level (y ∷ ys))
+unfolding fromLevel
+one-more level x y xs ys n g k = go (leb level (y .level))
+  where
+    go : (b : Bool) → NoGain (x ∷ xs) (cond b (y ∷ fromLevel level ys) (fromLevel level ys))
+    go true = NoGain.keep n g k
+    go false = NoGain.gone k
+
+every-left : (test : Reachable → Bool) (xs ys : List Reachable) → every test (xs ++ ys) ≡ true → every test xs ≡ true
+unfolding every
+every-left test [] ys e = refl
+every-left test (x ∷ xs) ys e = both (and-left (test x) _ e) (every-left test xs ys (and-right (test x) _ e))
+
+every-right : (test : Reachable → Bool) (xs ys : List Reachable) → every test (xs ++ ys) ≡ true → every test ys ≡ true
+unfolding every
+every-right test [] ys e = e
+every-right test (x ∷ xs) ys e = every-right test xs ys (and-right (test x) _ e)
+
+node-no-gain : (b : Bool) (n i at : ℕ) (f g : Forest) (ms : List Message) (level : ℕ) (lo hi : List ℕ) → eqb n i ≡ b → 2 ≤ level
+    → every (isLevel n at) (reachable (interior i f ms) level lo hi) ≡ true
+    → (every (isLevel n at) (reachableIn f (level - 1) (shared lo hi) hi) ≡ true
+    → NoGain (reachableIn f (level - 1) (shared lo hi) hi) (fromLevel at (reachableIn g (level - 1) (shared lo hi) hi)))
+    → NoGain (reachable (interior i f ms) level lo hi) (fromLevel at (reachable (cond b (flushedNode (interior i f ms) lo hi) (interior i g ms)) level lo hi))
+unfolding reachable flushedNode every isLevel
+node-no-gain true n i at f g ms level lo hi e l h k =
+    let is : not (eqb n i) || eqb level at ≡ true = and-left _ _ h in
+    let here : level ≡ at = eqb-true level at (rw e at is) in
+    one-more at (record { number = i; level = level; low = lo; high = hi; messages = ms; children = f })
+    (record { number = i; level = level; low = lo; high = hi; messages = []; children = pushedAll ms f (shared lo hi) hi })
+    (reachableIn f (level - 1) (shared lo hi) hi) (reachableIn (pushedAll ms f (shared lo hi) hi) (level - 1) (shared lo hi) hi) refl
+    (gains-none-empty _ (record { number = i; level = level; low = lo; high = hi; messages = []; children = pushedAll ms f (shared lo hi) hi }) refl)
+    (subst (NoGain (reachableIn f (level - 1) (shared lo hi) hi))
+    (sym (level-none at (level - 1) (reachableIn (pushedAll ms f (shared lo hi) hi) (level - 1) (shared lo hi) hi) (omega arith)
+    (places-under-in (pushedAll ms f (shared lo hi) hi) (level - 1) (shared lo hi) hi)))
+    (all-gone (reachableIn f (level - 1) (shared lo hi) hi)))
+node-no-gain false n i at f g ms level lo hi e l h k =
+    one-more at (record { number = i; level = level; low = lo; high = hi; messages = ms; children = f })
+    (record { number = i; level = level; low = lo; high = hi; messages = ms; children = g })
+    (reachableIn f (level - 1) (shared lo hi) hi) (reachableIn g (level - 1) (shared lo hi) hi) refl (children-aside i level lo hi ms f g)
+    (k (and-right (not (eqb n i) || eqb level at) _ h))
+  where
+    children-aside : (i level : ℕ) (lo hi : List ℕ) (ms : List Message) (f g : Forest)
+        → gainsNoMessage (record { number = i; level = level; low = lo; high = hi; messages = ms; children = g })
+        (some (record { number = i; level = level; low = lo; high = hi; messages = ms; children = f })) ≡ true
+    children-aside i level lo hi ms f g =
+        unfold gainsNoMessage in (unfold gainsNoMessage in gains-none-same (record { number = i; level = level; low = lo; high = hi; messages = ms; children = f }))
+
+tree-no-gain : (s : List ℕ) (t u : Tree) (f g : Forest) (n at level : ℕ) (lifted hi : List ℕ) → highOf lifted hi g ≡ highOf lifted hi f
+    → every (isLevel n at) (reachableIn (tree s t f) level lifted hi) ≡ true
+    → (every (isLevel n at) (reachable t level (lifted ++ s) (highOf lifted hi f)) ≡ true
+    → NoGain (reachable t level (lifted ++ s) (highOf lifted hi f)) (fromLevel at (reachable u level (lifted ++ s) (highOf lifted hi f))))
+    → (every (isLevel n at) (reachableIn f level lifted hi) ≡ true → NoGain (reachableIn f level lifted hi) (fromLevel at (reachableIn g level lifted hi)))
+    → NoGain (reachableIn (tree s t f) level lifted hi) (fromLevel at (reachableIn (tree s u g) level lifted hi))
+unfolding reachableIn
+tree-no-gain s t u f g n at level lifted hi q e a b =
+    rw (q, level-append at (reachable u level (lifted ++ s) (highOf lifted hi f)) (reachableIn g level lifted hi))
+    (no-gain-append (a (every-left (isLevel n at) (reachable t level (lifted ++ s) (highOf lifted hi f)) (reachableIn f level lifted hi) e))
+    (b (every-right (isLevel n at) (reachable t level (lifted ++ s) (highOf lifted hi f)) (reachableIn f level lifted hi) e)))
+
+unread-no-gain : (i at level : ℕ) (lo hi : List ℕ) → NoGain (reachable (unread i) level lo hi) (fromLevel at (reachable (unread i) level lo hi))
+unfolding reachable fromLevel
+unread-no-gain i at level lo hi = NoGain.empty
+
+leaf-no-gain : (i : ℕ) (rs : List Row) (at level : ℕ) (lo hi : List ℕ) → NoGain (reachable (leaf i rs) level lo hi) (fromLevel at (reachable (leaf i rs) level lo hi))
+unfolding reachable
+leaf-no-gain i rs at level lo hi =
+    one-more at (record { number = i; level = level; low = lo; high = hi; messages = []; children = end })
+    (record { number = i; level = level; low = lo; high = hi; messages = []; children = end }) [] [] refl
+    (gains-none-same (record { number = i; level = level; low = lo; high = hi; messages = []; children = end })) (unfold fromLevel in NoGain.empty)
+
+end-no-gain : (at level : ℕ) (lifted hi : List ℕ) → NoGain (reachableIn end level lifted hi) (fromLevel at (reachableIn end level lifted hi))
+unfolding reachableIn fromLevel
+end-no-gain at level lifted hi = NoGain.empty
+
+mutual
+  unfolding altered alteredIn
+
+  flush-no-gain : (t : Tree) (n at level : ℕ) (lo hi : List ℕ) → tall t level ≡ true → every (isLevel n at) (reachable t level lo hi) ≡ true
+      → NoGain (reachable t level lo hi) (fromLevel at (reachable (altered t n flushedNode lo hi) level lo hi))
+  flush-no-gain (unread i) n at level lo hi h e = unread-no-gain i at level lo hi
+  flush-no-gain (leaf i rs) n at level lo hi h e = leaf-no-gain i rs at level lo hi
+  flush-no-gain (interior i f ms) n at level lo hi h e =
+      node-no-gain (eqb n i) n i at f (alteredIn f n flushedNode (shared lo hi) hi) ms level lo hi refl (tall-two i f ms level h) e
+      (λ q. flush-no-gain-in f n at (level - 1) (shared lo hi) hi (tall-kids i f ms level h) q)
+
+  flush-no-gain-in : (f : Forest) (n at level : ℕ) (lifted hi : List ℕ) → tallIn f level ≡ true → every (isLevel n at) (reachableIn f level lifted hi) ≡ true
+      → NoGain (reachableIn f level lifted hi) (fromLevel at (reachableIn (alteredIn f n flushedNode lifted hi) level lifted hi))
+  flush-no-gain-in end n at level lifted hi h e = end-no-gain at level lifted hi
+  flush-no-gain-in (tree s t f) n at level lifted hi h e =
+      tree-no-gain s t (altered t n flushedNode (lifted ++ s) (highOf lifted hi f)) f (alteredIn f n flushedNode lifted hi) n at level lifted hi
+      (high-altered f n flushedNode lifted hi lifted hi) e
+      (λ q. flush-no-gain t n at level (lifted ++ s) (highOf lifted hi f) (tall-first s t f level h) q)
+      (λ q. flush-no-gain-in f n at level lifted hi (tall-later s t f level h) q)
+
 -- Document 01's flush, of node n whose place was x.
-pub flush-flushed : (t : Tree) (n : ℕ) (lo hi : List ℕ) (level : ℕ) (x : Reachable) → soundTree t lo hi ≡ true → tall t level ≡ true
-    → reachableAt n (reachable t level lo hi) ≡ some x → flushed x (reachable (flushedTree t n lo hi) level lo hi) ≡ true
-unfolding flushed flushedTree rested
-flush-flushed t n lo hi level x e h p = flush-rested t n x level lo hi e h p
+pub flush-flushed : (t : Tree) (n : ℕ) (lo hi : List ℕ) (level : ℕ) (x : Reachable) → soundTree t lo hi ≡ true → tall t level ≡ true → once (numbers t) ≡ true
+    → reachableAt n (reachable t level lo hi) ≡ some x → flushed x (reachable t level lo hi) (reachable (flushedTree t n lo hi) level lo hi) ≡ true
+unfolding flushed noneWaits flushedTree rested
+flush-flushed t n lo hi level x e h o p =
+    let distinct : once (numbersOf (reachable t level lo hi)) ≡ true = ap once (numbers-places t level lo hi e) ∙ o in
+    both
+    (both (flush-rested t n x level lo hi e h p)
+    (ap (λ k. emptied (reachableAt k (reachable (altered t n flushedNode lo hi) level lo hi))) (sym (place-number n (reachable t level lo hi) x p)) ∙ flush-emptied t n level lo hi))
+    (no-gain (reachable t level lo hi) (fromLevel (x .level) (reachable (altered t n flushedNode lo hi) level lo hi)) distinct
+    (flush-no-gain t n (x .level) level lo hi h (one-level n x (reachable t level lo hi) distinct p)))

@@ -7,7 +7,7 @@ use mathlib.Core.Option.{Option, none, some, Option·some-injective, Option·non
 use native.Mathlib.Omega.{arith}
 use lib.ListN.{length}
 use lib.Dec.{eqb}
-use borrow.Author.Tests.{eqb-true, le-leb}
+use borrow.Author.Tests.{eqb-true, eq-eqb, le-leb}
 use Rattle.image.specs.Bytes.{shared}
 use Rattle.image.specs.Entry.{Message}
 use Rattle.image.specs.Table.{Row}
@@ -182,7 +182,7 @@ healing-end l h = refl
 range-stays : (x : Reachable) → goodPlace x ≡ true → keepsRange x (some (rechilded healing x)) ≡ true
 unfolding keepsRange rechilded unmergeableAt goodPlace
 range-stays x g =
-    both (both (same-refl (x .low)) (same-refl (x .high)))
+    both (both (both (eq-eqb (x .level) (x .level) refl) (same-refl (x .low))) (same-refl (x .high)))
     (healing-spread (x .children) (shared (x .low) (x .high)) (x .low) (x .high) (x .level - 1) (and-left _ _ g)
     (and-right (soundForest (x .children) (shared (x .low) (x .high)) (x .low) (x .high)) _ g))
 

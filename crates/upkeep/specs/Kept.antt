@@ -5,15 +5,15 @@ use mathlib.Core.Path.{_≡_, refl, sym, ap, ap₂, subst, _∙_}
 use mathlib.Core.Logic.{_⊎_, inl, inr}
 use mathlib.Core.List.{List, [], _∷_, _++_}
 use mathlib.Core.Bool.{Bool, true, false, _||_, not, false≢true}
-use mathlib.Core.Option.{some}
+use mathlib.Core.Option.{some, Option·some-injective}
 use lib.Dec.{eqb}
-use borrow.Author.Tests.{eqb-false, eq-eqb, ne-eqb}
+use borrow.Author.Tests.{eqb-true, eqb-false, eq-eqb, ne-eqb}
 use Rattle.image.specs.Bytes.{shared}
 use Rattle.image.specs.Entry.{Message, puts, drops, clears}
 use Rattle.image.specs.Image.{Tree, unread, leaf, interior, Forest, end, tree}
 use Rattle.image.specs.Meaning.{highOf}
 use Rattle.image.specs.Sound.{soundTree, soundForest, numbers, numbersIn, isIn, once}
-use Rattle.image.specs.Upkeep.{Reachable, reachable, reachableIn, reachableAt, sameMessage, isSublist, gainsNoMessage, noneGains}
+use Rattle.image.specs.Upkeep.{Reachable, reachable, reachableIn, reachableAt, every, sameMessage, isSublist, gainsNoMessage, noneGains}
 use Rattle.octets.specs.Order.{and-left, and-right, not-so, not-true, same-refl}
 use Rattle.laws.specs.Rising.{both}
 use Rattle.laws.specs.LookupTable.{parts, inner}
@@ -142,12 +142,59 @@ gains-none among x y s = go (s .high)
     go (inl h) = rw (s .low, h, s .messages) (none-new (shared (x .low) (x .high)) (x .messages))
     go (inr h) = subst (λ (ms : List Message). isSublist (shared (y .low) (y .high)) ms (shared (x .low) (x .high)) (x .messages) ≡ true) (sym (h .0)) (nothing-new (shared (y .low) (y .high)) (shared (x .low) (x .high)) (x .messages))
 
-kept-gains : (among : ℕ → Bool) (was : List Reachable) {xs ys : List Reachable} → Found was xs → Kept among xs ys → noneGains was ys ≡ true
+-- The places after a change beside those before: some are gone, and none of the others gains a message.
+pub data NoGain : List Reachable → List Reachable → Type 0 where
+  empty : NoGain [] []
+  keep : {x y : Reachable} {xs ys : List Reachable} → y .number ≡ x .number → gainsNoMessage y (some x) ≡ true → NoGain xs ys → NoGain (x ∷ xs) (y ∷ ys)
+  gone : {x : Reachable} {xs ys : List Reachable} → NoGain xs ys → NoGain (x ∷ xs) ys
+
+pub no-gain-append : {xs ys us vs : List Reachable} → NoGain xs ys → NoGain us vs → NoGain (xs ++ us) (ys ++ vs)
+no-gain-append empty t = t
+no-gain-append (keep n g s) t = NoGain.keep n g (no-gain-append s t)
+no-gain-append (gone s) t = NoGain.gone (no-gain-append s t)
+
+-- a node that keeps its pivots, and its messages or none of them, gains nothing
+pub gains-none-same : (x : Reachable) → gainsNoMessage x (some x) ≡ true
+gains-none-same x = gains-none (λ j. false) x x (stays-refl (λ j. false) x)
+
+pub gains-none-empty : (x y : Reachable) → y .messages ≡ [] → gainsNoMessage y (some x) ≡ true
+unfolding gainsNoMessage
+gains-none-empty x y e =
+    subst (λ (ms : List Message). isSublist (shared (y .low) (y .high)) ms (shared (x .low) (x .high)) (x .messages) ≡ true) (sym e)
+    (nothing-new (shared (y .low) (y .high)) (shared (x .low) (x .high)) (x .messages))
+
+kept-no-gains : (among : ℕ → Bool) {xs ys : List Reachable} → Kept among xs ys → NoGain xs ys
+kept-no-gains among empty = NoGain.empty
+kept-no-gains among (keep {x} {y} s t) = NoGain.keep (s .number) (gains-none among x y s) (kept-no-gains among t)
+kept-no-gains among (gone t) = NoGain.gone (kept-no-gains among t)
+
+none-gains : (was : List Reachable) {xs ys : List Reachable} → Found was xs → NoGain xs ys → noneGains was ys ≡ true
 unfolding noneGains
-kept-gains among was p empty = refl
-kept-gains among was (also q p) (keep {x} {y} s t) =
-    both (ap (λ n. gainsNoMessage y (reachableAt n was)) (s .number) ∙ ap (λ o. gainsNoMessage y o) q ∙ gains-none among x y s) (kept-gains among was p t)
-kept-gains among was (also q p) (gone t) = kept-gains among was p t
+none-gains was p empty = refl
+none-gains was (also q p) (keep {x} {y} n g t) =
+    both (ap (λ k. gainsNoMessage y (reachableAt k was)) n ∙ ap (λ o. gainsNoMessage y o) q ∙ g) (none-gains was p t)
+none-gains was (also q p) (gone t) = none-gains was p t
+
+pub no-gain : (was after : List Reachable) → once (numbersOf was) ≡ true → NoGain was after → noneGains was after ≡ true
+no-gain was after e k = none-gains was (found was e) k
 
 pub kept-no-gain : (among : ℕ → Bool) (was after : List Reachable) → once (numbersOf was) ≡ true → Kept among was after → noneGains was after ≡ true
-kept-no-gain among was after e k = kept-gains among was (found was e) k
+kept-no-gain among was after e k = no-gain was after e (kept-no-gains among k)
+
+-- with distinct numbers, all places of one number are of one level
+unfoldable pub isLevel : ℕ → ℕ → Reachable → Bool
+isLevel n level y = not (eqb n (y .number)) || eqb (y .level) level
+
+found-level : (n : ℕ) (x : Reachable) (was : List Reachable) {xs : List Reachable} → reachableAt n was ≡ some x → Found was xs → every (isLevel n (x .level)) xs ≡ true
+unfolding every isLevel
+found-level n x was e empty = refl
+found-level n x was e (also {x = y} {xs} q p) = both (go (eqb n (y .number)) refl) (found-level n x was e p)
+  where
+    go : (b : Bool) → eqb n (y .number) ≡ b → not (eqb n (y .number)) || eqb (y .level) (x .level) ≡ true
+    go true f =
+        let same : some y ≡ some x = sym q ∙ ap (λ k. reachableAt k was) (sym (eqb-true n (y .number) f)) ∙ e in
+        rw (f, ap (λ (z : Reachable). z .level) (Option·some-injective y x same)) (eq-eqb (x .level) (x .level) refl)
+    go false f = rw f
+
+pub one-level : (n : ℕ) (x : Reachable) (was : List Reachable) → once (numbersOf was) ≡ true → reachableAt n was ≡ some x → every (isLevel n (x .level)) was ≡ true
+one-level n x was o e = found-level n x was e (found was o)

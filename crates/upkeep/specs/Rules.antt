@@ -77,8 +77,9 @@ module _ (s r : List ℕ) (e : sound s ≡ true) (z : nodeBytes r 0 ≡ nodeByte
       ∙ ended (treeOf s) n j lowest highest (headerOf s .levels) x whole-sound (image-tall s whole-sound) whole-once p rest
 
   -- flush's rule
-  pub flush-rule : (n : ℕ) (x : Reachable) → treeOf r ≡ flushedTree (treeOf s) n lowest highest → reachableAt n (reachableNodes s) ≡ some x → flushed x (reachableNodes r) ≡ true
+  pub flush-rule : (n : ℕ) (x : Reachable) → treeOf r ≡ flushedTree (treeOf s) n lowest highest → reachableAt n (reachableNodes s) ≡ some x
+      → flushed x (reachableNodes s) (reachableNodes r) ≡ true
   unfolding reachableNodes
   flush-rule n x q p =
-      ap (flushed x) (places-now (flushedTree (treeOf s) n lowest highest) q)
-      ∙ flush-flushed (treeOf s) n lowest highest (headerOf s .levels) x whole-sound (image-tall s whole-sound) p
+      ap (flushed x (reachableNodes s)) (places-now (flushedTree (treeOf s) n lowest highest) q)
+      ∙ flush-flushed (treeOf s) n lowest highest (headerOf s .levels) x whole-sound (image-tall s whole-sound) whole-once p

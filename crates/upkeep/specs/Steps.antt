@@ -6,6 +6,7 @@ use mathlib.Core.List.{List, _++_}
 use mathlib.Core.Bool.{Bool, true, false, cond}
 use mathlib.Core.Option.{some}
 use lib.Dec.{eqb}
+use borrow.Author.Tests.{eq-eqb}
 use Rattle.image.specs.Bytes.{shared}
 use Rattle.image.specs.Entry.{Message}
 use Rattle.image.specs.Image.{Tree, unread, leaf, interior, Forest, end, tree}
@@ -79,7 +80,7 @@ mended-end (suc j) l h = mended-end j l h
 
 range-by : (c : Forest → List ℕ → List ℕ → Forest) (x : Reachable) → unmergeableAt (rechilded c x) ≡ true → keepsRange x (some (rechilded c x)) ≡ true
 unfolding keepsRange rechilded
-range-by c x g = both (both (same-refl (x .low)) (same-refl (x .high))) g
+range-by c x g = both (both (both (eq-eqb (x .level) (x .level) refl) (same-refl (x .low))) (same-refl (x .high))) g
 
 -- The loop ends where no pair of node n's children fits: heal's rule holds then.
 pub ended : (t : Tree) (n j : ℕ) (lo hi : List ℕ) (level : ℕ) (x : Reachable) → soundTree t lo hi ≡ true → tall t level ≡ true → once (numbers t) ≡ true

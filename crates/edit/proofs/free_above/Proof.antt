@@ -19,9 +19,6 @@ u16-at-requires c κs = omega (arith, few-nodes _ (c .before .before .before .pr
 returns-2 : tie.Need-returns-2
 returns-2 c = above-deep _ _ (c .before .u16-at .ensures .0) (omega arith)
 
-slice-aggregate-check-tree : tie.Need-slice-aggregate-check-tree
-slice-aggregate-check-tree c = search needs
-
 check-tree-requires : tie.Need-check-tree-requires
 check-tree-requires c κs = let w = few-nodes _ (c .before .before .before .before .before .before .pre .0) in (w .1, subst (λ k. k ≤ 1024) (nodes-are _) (w .0))
 
@@ -32,16 +29,13 @@ enum-told-2 : tie.Need-enum-told-2
 enum-told-2 c = search needs
 
 returns-3 : tie.Need-returns-3
-returns-3 c = above-unsound _ _ _ (c .before .before .before .before .before .before .before .before .before .before .pre .1) (c .before .before .before .check-tree .ensures) (c .enum-told2 .given .1)
-
-slice-aggregate-first-free : tie.Need-slice-aggregate-first-free
-slice-aggregate-first-free c = search needs
+returns-3 c = above-unsound _ _ _ (c .before .before .before .before .before .before .before .before .before .pre .1) (c .before .before .check-tree .ensures) (c .enum-told2 .given .1)
 
 first-free-requires : tie.Need-first-free-requires
-first-free-requires c κs = let w = few-nodes _ (c .before .before .before .before .before .before .before .before .before .before .before .pre .0) in omega (arith, w .0)
+first-free-requires c κs = let w = few-nodes _ (c .before .before .before .before .before .before .before .before .before .before .pre .0) in omega (arith, w .0)
 
 returns-4 : tie.Need-returns-4
-returns-4 c = above-found _ _ _ _ _ _ _ (c .before .before .before .before .before .check-tree .ensures) (c .before .before .enum-told .given .1) (nodes-are _) (c .before .before .before .before .before .before .before .before .u16-at .ensures .0) (omega arith) (c .first-free .ensures)
+returns-4 c = above-found _ _ _ _ _ _ _ (c .before .before .before .before .check-tree .ensures) (c .before .before .enum-told .given .1) (nodes-are _) (c .before .before .before .before .before .before .before .u16-at .ensures .0) (omega arith) (c .first-free .ensures)
 
 pub free-above-spec : {M : Type 1} → statement M
 free-above-spec =
@@ -51,11 +45,9 @@ free-above-spec =
     returns
     u16-at-requires
     returns-2
-    slice-aggregate-check-tree
     check-tree-requires
     enum-told
     enum-told-2
     returns-3
-    slice-aggregate-first-free
     first-free-requires
     returns-4)

@@ -1,7 +1,7 @@
 -- `listing::start` meets its contract: a length of 0 is of the empty path.
 use mathlib.Core.Path.{refl}
 use Rattle.image.specs.Path.{pathLimit}
-use Rattle.listing.specs.Place.{lastPath}
+use Rattle.image.specs.Listing.{lastPath}
 use Rattle.listing.proofs.start.Statement.{statement}
 use Rattle.listing.proofs.start.Tie as tie
 

@@ -45,11 +45,11 @@ use Rattle.image.specs.Answers.{outcomeNumber}
 use Rattle.image.specs.declared.Outcome.{Outcome}
 use Rattle.image.proofs.Outcome as O
 use Rattle.image.proofs.Outcome.Laws as O′
-use Rattle.listing.specs.declared.Listing.{Listing}
+use Rattle.image.specs.declared.Listing.{Listing}
 use Rattle.listing.specs.declared.Advanced.{Advanced}
-use Rattle.listing.specs.Place.{Steps}
-use Rattle.listing.proofs.Listing as T
-use Rattle.listing.proofs.Listing.Laws as T′
+use Rattle.image.specs.Listing.{Steps}
+use Rattle.image.proofs.Listing as T
+use Rattle.image.proofs.Listing.Laws as T′
 use Rattle.listing.proofs.Advanced as R
 use Rattle.listing.proofs.Advanced.Laws as R′
 use Rattle.listing.proofs.advance as advance

@@ -21,6 +21,8 @@ use Rattle.live.specs.Walk.{passing, NextChild}
 use Rattle.live.specs.Steps.{trail-wider, pends-child, pends-end}
 use Rattle.live.specs.WalkLaws.{walk-start, walk-last, walk-on, later-usable}
 use Rattle.live.specs.NodeSteps.{node-long, node-leaf, node-bare, kids-ready, node-inner, node-above, child-ready}
+use Rattle.live.specs.Noted.{SoundKids}
+use Rattle.live.specs.NotedSteps.{leaf-keyed, kids-sound, last-sound, next-sound, later-sound}
 use Prim.Native.Nat.{ℕ, _<_}
 use borrow.Fn.Kinds.{In}
 use borrow.Fn.PlainCycle.{Measures, is, falls, and}
@@ -39,6 +41,7 @@ use Rattle.octets.proofs.common_length.Reads as common-length-reads
 use Rattle.octets.proofs.u16_at.Reads as u16-at-reads
 use Rattle.live.proofs.+count_children+count_node.{statement}
 use Rattle.live.proofs.+count_children+count_node.Tie.{close}
+use Rattle.live.proofs.count_leaf.Reads as count-leaf-reads
 
 abbrev μ-count-children : Measures 2 count-children-kinds.ps ℕ
 μ-count-children κs a = a .1 .1 .1 .1 .0 * 2 + 1
@@ -48,11 +51,19 @@ abbrev μ-count-node : Measures 3 count-node-kinds.ps ℕ
 
 abbrev count-children-at : ℕ → In 2 count-children-kinds.ps
 count-children-at t =
-    and 2 count-children-kinds.ps (is 2 count-children-kinds.ps μ-count-children t) count-children.Pre
+    and
+    2
+    count-children-kinds.ps
+    (is 2 count-children-kinds.ps μ-count-children t)
+    count-children.Pre
 
 abbrev count-children-below : ℕ → In 2 count-children-kinds.ps
 count-children-below t =
-    and 2 count-children-kinds.ps (falls 2 count-children-kinds.ps _<_ μ-count-children t) count-children.Pre
+    and
+    2
+    count-children-kinds.ps
+    (falls 2 count-children-kinds.ps _<_ μ-count-children t)
+    count-children.Pre
 
 abbrev count-node-at : ℕ → In 3 count-node-kinds.ps
 count-node-at t =
@@ -65,7 +76,7 @@ count-node-below t =
 abbrev count-children-Inv-loop : count-children-lts.InvT-loop
 count-children-Inv-loop store first level prefix hi trail c₀ num₀ low₀ total₀ c num low total =
     (c .end ≤ length store) × Within 0 (length store) low × (total ≤ 65535) × (usableIn (nodesOf (length store)) (forestOf (λ j. treeAt level store j) (kid num (part store low) ∷ kidsE (listed store (c .at) (c .end)))) ≡ true)
-    × (cap (total + liveKids (forestOf (λ j. treeAt level store j) (kid num (part store low) ∷ kidsE (listed store (c .at) (c .end)))) (passing store trail) (pathIn prefix) hi) ≡ cap (liveKids (forestOf (λ j. treeAt level store j) (kid first (part store low₀) ∷ kidsE (listed store (c₀ .at) (c₀ .end)))) (passing store trail) (pathIn prefix) hi))
+    × (cap (total + liveKids (forestOf (λ j. treeAt level store j) (kid num (part store low) ∷ kidsE (listed store (c .at) (c .end)))) (passing store trail) (pathIn prefix) hi) ≡ cap (liveKids (forestOf (λ j. treeAt level store j) (kid first (part store low₀) ∷ kidsE (listed store (c₀ .at) (c₀ .end)))) (passing store trail) (pathIn prefix) hi)) × SoundKids store level num low c prefix hi
 
 abbrev count-children-μ-loop : count-children-lts.MeasureT-loop
 count-children-μ-loop store first level prefix hi trail c₀ num₀ low₀ total₀ c num low total = c .end - c .at
@@ -89,6 +100,8 @@ here-length : (t : ℕ) (c : count-node-lts.After-extend (
   extend-reads.Learnt,
   u16-at-reads.Asked,
   u16-at-reads.Learnt,
+  count-leaf-reads.Asked,
+  count-leaf-reads.Learnt,
   count-entries-reads.Asked,
   count-entries-reads.Learnt,
   read-child-reads.Asked,
@@ -109,6 +122,8 @@ first-next : (t : ℕ) (c : count-node-lts.After-known-told (
   extend-reads.Learnt,
   u16-at-reads.Asked,
   u16-at-reads.Learnt,
+  count-leaf-reads.Asked,
+  count-leaf-reads.Learnt,
   count-entries-reads.Asked,
   count-entries-reads.Learnt,
   read-child-reads.Asked,
@@ -131,9 +146,9 @@ count-children-loop-holds : (t : ℕ) → count-children-lts.Need-loop-holds (
   capped-sum-reads.Asked,
   capped-sum-reads.Learnt,
 ) (count-children-at t) count-children.Post count-children-Inv-loop count-children-μ-loop
-count-children-loop-holds t c = ((c .before .before .pre .1) .ends, (c .before .before .pre .1) .place, omega arith, (c .before .before .pre .1) .reads, walk-start _)
+count-children-loop-holds t c = ((c .before .before .pre .1 .0) .ends, (c .before .before .pre .1 .0) .place, omega arith, (c .before .before .pre .1 .0) .reads, walk-start _, c .before .before .pre .1 .1)
 
-count-kids-read-child-requires : (t : ℕ) → count-children-lts.Need-read-child-requires (
+count-children-read-child-requires : (t : ℕ) → count-children-lts.Need-read-child-requires (
   read-child-reads.Asked,
   read-child-reads.Learnt,
   count-node-below t,
@@ -141,7 +156,7 @@ count-kids-read-child-requires : (t : ℕ) → count-children-lts.Need-read-chil
   capped-sum-reads.Asked,
   capped-sum-reads.Learnt,
 ) (count-children-at t) count-children.Post count-children-Inv-loop count-children-μ-loop
-count-kids-read-child-requires t c κs = c .loop .inv .0
+count-children-read-child-requires t c κs = c .loop .inv .0
 
 count-children-enum-known-k : (t : ℕ) → count-children-lts.Need-enum-known-k (
   read-child-reads.Asked,
@@ -201,7 +216,7 @@ count-children-count-node-requires : (t : ℕ) → count-children-lts.Need-count
   capped-sum-reads.Asked,
   capped-sum-reads.Learnt,
 ) (count-children-at t) count-children.Post count-children-Inv-loop count-children-μ-loop
-count-children-count-node-requires t c κs = (omega arith, child-ready (c .before .before .before .before .before .before .before .args .store .now) (c .before .before .before .before .before .before .before .args .level) (c .before .before .before .before .loop .num) (part (c .before .before .before .before .before .before .before .args .store .now) (c .before .before .before .before .loop .low)) (kidsE (listed (c .before .before .before .before .before .before .before .args .store .now) (c .before .before .before .before .loop .c .at) (c .before .before .before .before .loop .c .end))) (c .before .before .before .before .before .before .before .args .prefix) (c .before .before .before .before .before .before .before .args .trail) (c .before .before .before .before .loop .inv .3) ((c .before .before .before .before .before .before .before .pre .1) .room) ((c .before .before .before .before .before .before .before .pre .1) .trail) ((c .before .before .before .before .before .before .before .pre .1) .deep))
+count-children-count-node-requires t c κs = (omega arith, (child-ready (c .before .before .before .before .before .before .before .args .store .now) (c .before .before .before .before .before .before .before .args .level) (c .before .before .before .before .loop .num) (part (c .before .before .before .before .before .before .before .args .store .now) (c .before .before .before .before .loop .low)) (kidsE (listed (c .before .before .before .before .before .before .before .args .store .now) (c .before .before .before .before .loop .c .at) (c .before .before .before .before .loop .c .end))) (c .before .before .before .before .before .before .before .args .prefix) (c .before .before .before .before .before .before .before .args .trail) (c .before .before .before .before .loop .inv .3) ((c .before .before .before .before .before .before .before .pre .1 .0) .room) ((c .before .before .before .before .before .before .before .pre .1 .0) .trail) ((c .before .before .before .before .before .before .before .pre .1 .0) .deep), last-sound (c .before .before .before .before .before .before .before .args .store .now) (c .before .before .before .before .before .before .before .args .level) (c .before .before .before .before .loop .num) (c .before .before .before .before .loop .low) (c .before .before .before .before .loop .c) (c .before .before .before .before .before .before .before .args .prefix) (c .before .before .before .before .before .before .before .args .hi .now) (c .before .before .before .before .loop .inv .5) (pends-end _ _ _ _ (c .before .before .before .read-child .ensures) (c .before .enum-told .given .1))))
 
 count-children-capped-sum-requires : (t : ℕ) → count-children-lts.Need-capped-sum-requires (
   read-child-reads.Asked,
@@ -291,7 +306,7 @@ count-children-count-node-requires-2 : (t : ℕ) → count-children-lts.Need-cou
   capped-sum-reads.Asked,
   capped-sum-reads.Learnt,
 ) (count-children-at t) count-children.Post count-children-Inv-loop count-children-μ-loop
-count-children-count-node-requires-2 t c κs = (omega arith, child-ready (c .before .before .before .before .before .before .before .before .before .args .store .now) (c .before .before .before .before .before .before .before .before .before .args .level) (c .before .before .before .before .before .before .loop .num) (part (c .before .before .before .before .before .before .before .before .before .args .store .now) (c .before .before .before .before .before .before .loop .low)) (kidsE (listed (c .before .before .before .before .before .before .before .before .before .args .store .now) (c .before .before .before .before .before .before .loop .c .at) (c .before .before .before .before .before .before .loop .c .end))) (c .before .before .before .before .before .before .before .before .before .args .prefix) (c .before .before .before .before .before .before .before .before .before .args .trail) (c .before .before .before .before .before .before .loop .inv .3) ((c .before .before .before .before .before .before .before .before .before .pre .1) .room) ((c .before .before .before .before .before .before .before .before .before .pre .1) .trail) ((c .before .before .before .before .before .before .before .before .before .pre .1) .deep))
+count-children-count-node-requires-2 t c κs = (omega arith, (child-ready (c .before .before .before .before .before .before .before .before .before .args .store .now) (c .before .before .before .before .before .before .before .before .before .args .level) (c .before .before .before .before .before .before .loop .num) (part (c .before .before .before .before .before .before .before .before .before .args .store .now) (c .before .before .before .before .before .before .loop .low)) (kidsE (listed (c .before .before .before .before .before .before .before .before .before .args .store .now) (c .before .before .before .before .before .before .loop .c .at) (c .before .before .before .before .before .before .loop .c .end))) (c .before .before .before .before .before .before .before .before .before .args .prefix) (c .before .before .before .before .before .before .before .before .before .args .trail) (c .before .before .before .before .before .before .loop .inv .3) ((c .before .before .before .before .before .before .before .before .before .pre .1 .0) .room) ((c .before .before .before .before .before .before .before .before .before .pre .1 .0) .trail) ((c .before .before .before .before .before .before .before .before .before .pre .1 .0) .deep), next-sound (c .before .before .before .before .before .before .before .before .before .args .store .now) (c .before .before .before .before .before .before .before .before .before .args .level) (c .before .before .before .before .before .before .loop .num) (c .before .before .before .before .before .before .loop .low) (c .before .before .before .before .before .before .loop .c) (c .before .before .before .before .before .before .before .before .before .args .prefix) (c .before .before .before .before .before .before .before .before .before .args .hi .now) (c .before .before .before .before .before .before .loop .inv .5) (c .before .before .before .k .given .0 .0) (c .before .before .before .k .given .0 .1 .0) (c .before .before .before .k .given .0 .1 .1 .0) (kid-next t (c .before .before) .lists)))
 
 count-children-capped-sum-requires-2 : (t : ℕ) → count-children-lts.Need-capped-sum-requires-2 (
   read-child-reads.Asked,
@@ -321,14 +336,14 @@ count-children-loop-again : (t : ℕ) → count-children-lts.Need-loop-again (
   capped-sum-reads.Asked,
   capped-sum-reads.Learnt,
 ) (count-children-at t) count-children.Post count-children-Inv-loop count-children-μ-loop
-count-children-loop-again t c =
-    let n = kid-next t (c .before .before .before .before) in (
-      omega arith,
-      n .place,
-      c .capped-sum2 .ensures .1,
-      later-usable (nodesOf (length (c .before .before .before .before .before .before .before .before .before .before .before .args .store .now))) (λ j. treeAt (c .before .before .before .before .before .before .before .before .before .before .before .args .level) (c .before .before .before .before .before .before .before .before .before .before .before .args .store .now) j) (kid (c .before .before .before .before .before .before .before .before .loop .num) (part (c .before .before .before .before .before .before .before .before .before .before .before .args .store .now) (c .before .before .before .before .before .before .before .before .loop .low))) _ _ (n .lists) (c .before .before .before .before .before .before .before .before .loop .inv .3),
-      walk-on (λ j. treeAt (c .before .before .before .before .before .before .before .before .before .before .before .args .level) (c .before .before .before .before .before .before .before .before .before .before .before .args .store .now) j) (passing (c .before .before .before .before .before .before .before .before .before .before .before .args .store .now) (c .before .before .before .before .before .before .before .before .before .before .before .args .trail)) (pathIn (c .before .before .before .before .before .before .before .before .before .before .before .args .prefix)) (c .before .before .before .before .before .before .before .before .before .before .before .args .hi .now) (c .before .before .before .before .before .before .before .before .loop .num) (part (c .before .before .before .before .before .before .before .before .before .before .before .args .store .now) (c .before .before .before .before .before .before .before .before .loop .low)) (c .before .before .before .before .before .k .given .0 .0) (part (c .before .before .before .before .before .before .before .before .before .before .before .args .store .now) (c .before .before .before .before .before .k .given .0 .1 .0)) _ (kidsE (listed (c .before .before .before .before .before .before .before .before .before .before .before .args .store .now) ((c .before .before .before .before .before .k .given .0 .1 .1 .0) .at) ((c .before .before .before .before .before .k .given .0 .1 .1 .0) .end))) (c .before .before .before .before .before .before .before .before .loop .total) (c .before .count-node2 .result) _ _ (n .lists) (c .before .count-node2 .ensures .0) (c .capped-sum2 .ensures .0) (c .before .before .before .before .before .before .before .before .loop .inv .4),
-    )
+count-children-loop-again t c = let n = kid-next t (c .before .before .before .before) in (
+  omega arith,
+  n .place,
+  c .capped-sum2 .ensures .1,
+  later-usable (nodesOf (length (c .before .before .before .before .before .before .before .before .before .before .before .args .store .now))) (λ j. treeAt (c .before .before .before .before .before .before .before .before .before .before .before .args .level) (c .before .before .before .before .before .before .before .before .before .before .before .args .store .now) j) (kid (c .before .before .before .before .before .before .before .before .loop .num) (part (c .before .before .before .before .before .before .before .before .before .before .before .args .store .now) (c .before .before .before .before .before .before .before .before .loop .low))) _ _ (n .lists) (c .before .before .before .before .before .before .before .before .loop .inv .3),
+  walk-on (λ j. treeAt (c .before .before .before .before .before .before .before .before .before .before .before .args .level) (c .before .before .before .before .before .before .before .before .before .before .before .args .store .now) j) (passing (c .before .before .before .before .before .before .before .before .before .before .before .args .store .now) (c .before .before .before .before .before .before .before .before .before .before .before .args .trail)) (pathIn (c .before .before .before .before .before .before .before .before .before .before .before .args .prefix)) (c .before .before .before .before .before .before .before .before .before .before .before .args .hi .now) (c .before .before .before .before .before .before .before .before .loop .num) (part (c .before .before .before .before .before .before .before .before .before .before .before .args .store .now) (c .before .before .before .before .before .before .before .before .loop .low)) (c .before .before .before .before .before .k .given .0 .0) (part (c .before .before .before .before .before .before .before .before .before .before .before .args .store .now) (c .before .before .before .before .before .k .given .0 .1 .0)) _ (kidsE (listed (c .before .before .before .before .before .before .before .before .before .before .before .args .store .now) ((c .before .before .before .before .before .k .given .0 .1 .1 .0) .at) ((c .before .before .before .before .before .k .given .0 .1 .1 .0) .end))) (c .before .before .before .before .before .before .before .before .loop .total) (c .before .count-node2 .result) _ _ (n .lists) (c .before .count-node2 .ensures .0) (c .capped-sum2 .ensures .0) (c .before .before .before .before .before .before .before .before .loop .inv .4),
+  later-sound (c .before .before .before .before .before .before .before .before .before .before .before .args .store .now) (c .before .before .before .before .before .before .before .before .before .before .before .args .level) (c .before .before .before .before .before .before .before .before .loop .num) (c .before .before .before .before .before .before .before .before .loop .low) (c .before .before .before .before .before .before .before .before .loop .c) (c .before .before .before .before .before .before .before .before .before .before .before .args .prefix) (c .before .before .before .before .before .before .before .before .before .before .before .args .hi .now) (c .before .before .before .before .before .before .before .before .loop .inv .5) _ _ _ (n .lists),
+)
 
 count-node-common-length-requires : (t : ℕ) → count-node-lts.Need-common-length-requires (
   common-length-reads.Asked,
@@ -337,6 +352,8 @@ count-node-common-length-requires : (t : ℕ) → count-node-lts.Need-common-len
   extend-reads.Learnt,
   u16-at-reads.Asked,
   u16-at-reads.Learnt,
+  count-leaf-reads.Asked,
+  count-leaf-reads.Learnt,
   count-entries-reads.Asked,
   count-entries-reads.Learnt,
   read-child-reads.Asked,
@@ -357,6 +374,8 @@ count-node-sub-room : (t : ℕ) → count-node-lts.Need-sub-room (
   extend-reads.Learnt,
   u16-at-reads.Asked,
   u16-at-reads.Learnt,
+  count-leaf-reads.Asked,
+  count-leaf-reads.Learnt,
   count-entries-reads.Asked,
   count-entries-reads.Learnt,
   read-child-reads.Asked,
@@ -368,7 +387,7 @@ count-node-sub-room : (t : ℕ) → count-node-lts.Need-sub-room (
   capped-sum-reads.Asked,
   capped-sum-reads.Learnt,
 ) (count-node-at t) count-node.Post
-count-node-sub-room t c = let r = (c .before .before .before .before .before .pre .1) .room in omega arith
+count-node-sub-room t c = let r = (c .before .before .before .before .before .pre .1 .0) .room in omega arith
 
 count-node-returns : (t : ℕ) → count-node-lts.Need-returns (
   common-length-reads.Asked,
@@ -377,6 +396,8 @@ count-node-returns : (t : ℕ) → count-node-lts.Need-returns (
   extend-reads.Learnt,
   u16-at-reads.Asked,
   u16-at-reads.Learnt,
+  count-leaf-reads.Asked,
+  count-leaf-reads.Learnt,
   count-entries-reads.Asked,
   count-entries-reads.Learnt,
   read-child-reads.Asked,
@@ -388,7 +409,7 @@ count-node-returns : (t : ℕ) → count-node-lts.Need-returns (
   capped-sum-reads.Asked,
   capped-sum-reads.Learnt,
 ) (count-node-at t) count-node.Post
-count-node-returns t c = let p : length ((c .before .before .before .before .before .before .args .prefix) .bytes) ≡ 64 = search needs in let r = (c .before .before .before .before .before .before .pre .1) .room in (node-long (c .before .before .before .before .before .before .args .store .now) (c .before .before .before .before .before .before .args .level) (c .before .before .before .before .before .before .args .num) (c .before .before .before .before .before .before .args .prefix) (c .before .before .before .before .before .before .args .trail) (c .before .before .before .before .before .before .pre .1) (c .before .before .before .before .before .before .args .lo .now) (c .before .before .before .before .before .before .args .hi .now) (c .before .before .common-length .result) (c .before .before .common-length .ensures .0) (omega arith) (omega arith), omega arith)
+count-node-returns t c = let p : length ((c .before .before .before .before .before .before .args .prefix) .bytes) ≡ 64 = search needs in let r = (c .before .before .before .before .before .before .pre .1 .0) .room in (node-long (c .before .before .before .before .before .before .args .store .now) (c .before .before .before .before .before .before .args .level) (c .before .before .before .before .before .before .args .num) (c .before .before .before .before .before .before .args .prefix) (c .before .before .before .before .before .before .args .trail) (c .before .before .before .before .before .before .pre .1 .0) (c .before .before .before .before .before .before .args .lo .now) (c .before .before .before .before .before .before .args .hi .now) (c .before .before .common-length .result) (c .before .before .common-length .ensures .0) (omega arith) (omega arith), omega arith)
 
 count-node-sub-extend : (t : ℕ) → count-node-lts.Need-sub-extend (
   common-length-reads.Asked,
@@ -397,6 +418,8 @@ count-node-sub-extend : (t : ℕ) → count-node-lts.Need-sub-extend (
   extend-reads.Learnt,
   u16-at-reads.Asked,
   u16-at-reads.Learnt,
+  count-leaf-reads.Asked,
+  count-leaf-reads.Learnt,
   count-entries-reads.Asked,
   count-entries-reads.Learnt,
   read-child-reads.Asked,
@@ -417,6 +440,8 @@ count-node-part-extend-start : (t : ℕ) → count-node-lts.Need-part-extend-sta
   extend-reads.Learnt,
   u16-at-reads.Asked,
   u16-at-reads.Learnt,
+  count-leaf-reads.Asked,
+  count-leaf-reads.Learnt,
   count-entries-reads.Asked,
   count-entries-reads.Learnt,
   read-child-reads.Asked,
@@ -437,6 +462,8 @@ count-node-part-extend-end : (t : ℕ) → count-node-lts.Need-part-extend-end (
   extend-reads.Learnt,
   u16-at-reads.Asked,
   u16-at-reads.Learnt,
+  count-leaf-reads.Asked,
+  count-leaf-reads.Learnt,
   count-entries-reads.Asked,
   count-entries-reads.Learnt,
   read-child-reads.Asked,
@@ -457,6 +484,8 @@ count-node-extend-requires : (t : ℕ) → count-node-lts.Need-extend-requires (
   extend-reads.Learnt,
   u16-at-reads.Asked,
   u16-at-reads.Learnt,
+  count-leaf-reads.Asked,
+  count-leaf-reads.Learnt,
   count-entries-reads.Asked,
   count-entries-reads.Learnt,
   read-child-reads.Asked,
@@ -468,7 +497,7 @@ count-node-extend-requires : (t : ℕ) → count-node-lts.Need-extend-requires (
   capped-sum-reads.Asked,
   capped-sum-reads.Learnt,
 ) (count-node-at t) count-node.Post
-count-node-extend-requires t c κs = let l : length (take ((c .before .before .before .common-length .result) - 0) (c .before .before .before .before .before .before .before .args .lo .now)) ≡ (c .before .before .before .common-length .result) - 0 = length-take-le ((c .before .before .before .common-length .result) - 0) (c .before .before .before .before .before .before .before .args .lo .now) (omega arith) in let r = (c .before .before .before .before .before .before .before .pre .1) .room in omega arith
+count-node-extend-requires t c κs = let l : length (take ((c .before .before .before .common-length .result) - 0) (c .before .before .before .before .before .before .before .args .lo .now)) ≡ (c .before .before .before .common-length .result) - 0 = length-take-le ((c .before .before .before .common-length .result) - 0) (c .before .before .before .before .before .before .before .args .lo .now) (omega arith) in let r = (c .before .before .before .before .before .before .before .pre .1 .0) .room in omega arith
 
 count-node-mul-at : (t : ℕ) → count-node-lts.Need-mul-at (
   common-length-reads.Asked,
@@ -477,6 +506,8 @@ count-node-mul-at : (t : ℕ) → count-node-lts.Need-mul-at (
   extend-reads.Learnt,
   u16-at-reads.Asked,
   u16-at-reads.Learnt,
+  count-leaf-reads.Asked,
+  count-leaf-reads.Learnt,
   count-entries-reads.Asked,
   count-entries-reads.Learnt,
   read-child-reads.Asked,
@@ -488,7 +519,7 @@ count-node-mul-at : (t : ℕ) → count-node-lts.Need-mul-at (
   capped-sum-reads.Asked,
   capped-sum-reads.Learnt,
 ) (count-node-at t) count-node.Post
-count-node-mul-at t c = let w = node-inside (c .before .before .before .before .before .before .before .before .args .store .now) (c .before .before .before .before .before .before .before .before .args .num) (c .before .before .before .before .before .before .before .before .args .level) ((c .before .before .before .before .before .before .before .before .pre .1) .reads) in omega arith
+count-node-mul-at t c = let w = node-inside (c .before .before .before .before .before .before .before .before .args .store .now) (c .before .before .before .before .before .before .before .before .args .num) (c .before .before .before .before .before .before .before .before .args .level) ((c .before .before .before .before .before .before .before .before .pre .1 .0) .reads) in omega arith
 
 count-node-u16-at-requires : (t : ℕ) → count-node-lts.Need-u16-at-requires (
   common-length-reads.Asked,
@@ -497,6 +528,8 @@ count-node-u16-at-requires : (t : ℕ) → count-node-lts.Need-u16-at-requires (
   extend-reads.Learnt,
   u16-at-reads.Asked,
   u16-at-reads.Learnt,
+  count-leaf-reads.Asked,
+  count-leaf-reads.Learnt,
   count-entries-reads.Asked,
   count-entries-reads.Learnt,
   read-child-reads.Asked,
@@ -508,7 +541,7 @@ count-node-u16-at-requires : (t : ℕ) → count-node-lts.Need-u16-at-requires (
   capped-sum-reads.Asked,
   capped-sum-reads.Learnt,
 ) (count-node-at t) count-node.Post
-count-node-u16-at-requires t c κs = let w = node-inside (c .before .before .before .before .before .before .before .before .args .store .now) (c .before .before .before .before .before .before .before .before .args .num) (c .before .before .before .before .before .before .before .before .args .level) ((c .before .before .before .before .before .before .before .before .pre .1) .reads) in omega arith
+count-node-u16-at-requires t c κs = let w = node-inside (c .before .before .before .before .before .before .before .before .args .store .now) (c .before .before .before .before .before .before .before .before .args .num) (c .before .before .before .before .before .before .before .before .args .level) ((c .before .before .before .before .before .before .before .before .pre .1 .0) .reads) in omega arith
 
 count-node-add-from : (t : ℕ) → count-node-lts.Need-add-from (
   common-length-reads.Asked,
@@ -517,6 +550,8 @@ count-node-add-from : (t : ℕ) → count-node-lts.Need-add-from (
   extend-reads.Learnt,
   u16-at-reads.Asked,
   u16-at-reads.Learnt,
+  count-leaf-reads.Asked,
+  count-leaf-reads.Learnt,
   count-entries-reads.Asked,
   count-entries-reads.Learnt,
   read-child-reads.Asked,
@@ -528,7 +563,7 @@ count-node-add-from : (t : ℕ) → count-node-lts.Need-add-from (
   capped-sum-reads.Asked,
   capped-sum-reads.Learnt,
 ) (count-node-at t) count-node.Post
-count-node-add-from t c = let w = node-inside (c .before .before .before .before .before .before .before .before .before .args .store .now) (c .before .before .before .before .before .before .before .before .before .args .num) (c .before .before .before .before .before .before .before .before .before .args .level) ((c .before .before .before .before .before .before .before .before .before .pre .1) .reads) in omega arith
+count-node-add-from t c = let w = node-inside (c .before .before .before .before .before .before .before .before .before .args .store .now) (c .before .before .before .before .before .before .before .before .before .args .num) (c .before .before .before .before .before .before .before .before .before .args .level) ((c .before .before .before .before .before .before .before .before .before .pre .1 .0) .reads) in omega arith
 
 count-node-add-end : (t : ℕ) → count-node-lts.Need-add-end (
   common-length-reads.Asked,
@@ -537,6 +572,8 @@ count-node-add-end : (t : ℕ) → count-node-lts.Need-add-end (
   extend-reads.Learnt,
   u16-at-reads.Asked,
   u16-at-reads.Learnt,
+  count-leaf-reads.Asked,
+  count-leaf-reads.Learnt,
   count-entries-reads.Asked,
   count-entries-reads.Learnt,
   read-child-reads.Asked,
@@ -548,15 +585,17 @@ count-node-add-end : (t : ℕ) → count-node-lts.Need-add-end (
   capped-sum-reads.Asked,
   capped-sum-reads.Learnt,
 ) (count-node-at t) count-node.Post
-count-node-add-end t c = let w = node-inside (c .before .before .before .before .before .before .before .before .before .args .store .now) (c .before .before .before .before .before .before .before .before .before .args .num) (c .before .before .before .before .before .before .before .before .before .args .level) ((c .before .before .before .before .before .before .before .before .before .pre .1) .reads) in omega arith
+count-node-add-end t c = let w = node-inside (c .before .before .before .before .before .before .before .before .before .args .store .now) (c .before .before .before .before .before .before .before .before .before .args .num) (c .before .before .before .before .before .before .before .before .before .args .level) ((c .before .before .before .before .before .before .before .before .before .pre .1 .0) .reads) in omega arith
 
-count-node-count-entries-requires : (t : ℕ) → count-node-lts.Need-count-entries-requires (
+count-node-sub-count-leaf : (t : ℕ) → count-node-lts.Need-sub-count-leaf (
   common-length-reads.Asked,
   common-length-reads.Learnt,
   extend-reads.Asked,
   extend-reads.Learnt,
   u16-at-reads.Asked,
   u16-at-reads.Learnt,
+  count-leaf-reads.Asked,
+  count-leaf-reads.Learnt,
   count-entries-reads.Asked,
   count-entries-reads.Learnt,
   read-child-reads.Asked,
@@ -568,7 +607,139 @@ count-node-count-entries-requires : (t : ℕ) → count-node-lts.Need-count-entr
   capped-sum-reads.Asked,
   capped-sum-reads.Learnt,
 ) (count-node-at t) count-node.Post
-count-node-count-entries-requires t c κs = let w = node-inside (c .before .before .before .before .before .before .before .before .before .args .store .now) (c .before .before .before .before .before .before .before .before .before .args .num) (c .before .before .before .before .before .before .before .before .before .args .level) ((c .before .before .before .before .before .before .before .before .before .pre .1) .reads) in let l : length (take ((c .before .before .before .before .before .common-length .result) - 0) (c .before .before .before .before .before .before .before .before .before .args .lo .now)) ≡ (c .before .before .before .before .before .common-length .result) - 0 = length-take-le ((c .before .before .before .before .before .common-length .result) - 0) (c .before .before .before .before .before .before .before .before .before .args .lo .now) (omega arith) in let r = (c .before .before .before .before .before .before .before .before .before .pre .1) .room in (omega arith, omega arith, omega arith, trail-wider (c .before .before .before .before .before .before .before .before .before .args .store .now) ((c .before .before .before .before .before .before .before .before .before .args .prefix) .len) ((c .before .extend .result) .len) (c .before .before .before .before .before .before .before .before .before .args .trail) (omega arith) ((c .before .before .before .before .before .before .before .before .before .pre .1) .trail))
+count-node-sub-count-leaf t c = search needs
+
+count-node-part-count-leaf-start : (t : ℕ) → count-node-lts.Need-part-count-leaf-start (
+  common-length-reads.Asked,
+  common-length-reads.Learnt,
+  extend-reads.Asked,
+  extend-reads.Learnt,
+  u16-at-reads.Asked,
+  u16-at-reads.Learnt,
+  count-leaf-reads.Asked,
+  count-leaf-reads.Learnt,
+  count-entries-reads.Asked,
+  count-entries-reads.Learnt,
+  read-child-reads.Asked,
+  read-child-reads.Learnt,
+  lengthen-trail-reads.Asked,
+  lengthen-trail-reads.Learnt,
+  count-children-below t,
+  count-children.Post,
+  capped-sum-reads.Asked,
+  capped-sum-reads.Learnt,
+) (count-node-at t) count-node.Post
+count-node-part-count-leaf-start t c = search needs
+
+count-node-part-count-leaf-end : (t : ℕ) → count-node-lts.Need-part-count-leaf-end (
+  common-length-reads.Asked,
+  common-length-reads.Learnt,
+  extend-reads.Asked,
+  extend-reads.Learnt,
+  u16-at-reads.Asked,
+  u16-at-reads.Learnt,
+  count-leaf-reads.Asked,
+  count-leaf-reads.Learnt,
+  count-entries-reads.Asked,
+  count-entries-reads.Learnt,
+  read-child-reads.Asked,
+  read-child-reads.Learnt,
+  lengthen-trail-reads.Asked,
+  lengthen-trail-reads.Learnt,
+  count-children-below t,
+  count-children.Post,
+  capped-sum-reads.Asked,
+  capped-sum-reads.Learnt,
+) (count-node-at t) count-node.Post
+count-node-part-count-leaf-end t c = search needs
+
+count-node-sub-count-leaf-2 : (t : ℕ) → count-node-lts.Need-sub-count-leaf-2 (
+  common-length-reads.Asked,
+  common-length-reads.Learnt,
+  extend-reads.Asked,
+  extend-reads.Learnt,
+  u16-at-reads.Asked,
+  u16-at-reads.Learnt,
+  count-leaf-reads.Asked,
+  count-leaf-reads.Learnt,
+  count-entries-reads.Asked,
+  count-entries-reads.Learnt,
+  read-child-reads.Asked,
+  read-child-reads.Learnt,
+  lengthen-trail-reads.Asked,
+  lengthen-trail-reads.Learnt,
+  count-children-below t,
+  count-children.Post,
+  capped-sum-reads.Asked,
+  capped-sum-reads.Learnt,
+) (count-node-at t) count-node.Post
+count-node-sub-count-leaf-2 t c = search needs
+
+count-node-part-count-leaf-start-2 : (t : ℕ) → count-node-lts.Need-part-count-leaf-start-2 (
+  common-length-reads.Asked,
+  common-length-reads.Learnt,
+  extend-reads.Asked,
+  extend-reads.Learnt,
+  u16-at-reads.Asked,
+  u16-at-reads.Learnt,
+  count-leaf-reads.Asked,
+  count-leaf-reads.Learnt,
+  count-entries-reads.Asked,
+  count-entries-reads.Learnt,
+  read-child-reads.Asked,
+  read-child-reads.Learnt,
+  lengthen-trail-reads.Asked,
+  lengthen-trail-reads.Learnt,
+  count-children-below t,
+  count-children.Post,
+  capped-sum-reads.Asked,
+  capped-sum-reads.Learnt,
+) (count-node-at t) count-node.Post
+count-node-part-count-leaf-start-2 t c = search needs
+
+count-node-part-count-leaf-end-2 : (t : ℕ) → count-node-lts.Need-part-count-leaf-end-2 (
+  common-length-reads.Asked,
+  common-length-reads.Learnt,
+  extend-reads.Asked,
+  extend-reads.Learnt,
+  u16-at-reads.Asked,
+  u16-at-reads.Learnt,
+  count-leaf-reads.Asked,
+  count-leaf-reads.Learnt,
+  count-entries-reads.Asked,
+  count-entries-reads.Learnt,
+  read-child-reads.Asked,
+  read-child-reads.Learnt,
+  lengthen-trail-reads.Asked,
+  lengthen-trail-reads.Learnt,
+  count-children-below t,
+  count-children.Post,
+  capped-sum-reads.Asked,
+  capped-sum-reads.Learnt,
+) (count-node-at t) count-node.Post
+count-node-part-count-leaf-end-2 t c = search needs
+
+count-node-count-leaf-requires : (t : ℕ) → count-node-lts.Need-count-leaf-requires (
+  common-length-reads.Asked,
+  common-length-reads.Learnt,
+  extend-reads.Asked,
+  extend-reads.Learnt,
+  u16-at-reads.Asked,
+  u16-at-reads.Learnt,
+  count-leaf-reads.Asked,
+  count-leaf-reads.Learnt,
+  count-entries-reads.Asked,
+  count-entries-reads.Learnt,
+  read-child-reads.Asked,
+  read-child-reads.Learnt,
+  lengthen-trail-reads.Asked,
+  lengthen-trail-reads.Learnt,
+  count-children-below t,
+  count-children.Post,
+  capped-sum-reads.Asked,
+  capped-sum-reads.Learnt,
+) (count-node-at t) count-node.Post
+count-node-count-leaf-requires t c κs = let w = node-inside (c .before .before .before .before .before .before .before .before .before .before .before .before .args .store .now) (c .before .before .before .before .before .before .before .before .before .before .before .before .args .num) (c .before .before .before .before .before .before .before .before .before .before .before .before .args .level) ((c .before .before .before .before .before .before .before .before .before .before .before .before .pre .1 .0) .reads) in let l : length (take ((c .before .before .before .before .before .before .before .before .common-length .result) - 0) (c .before .before .before .before .before .before .before .before .before .before .before .before .args .lo .now)) ≡ (c .before .before .before .before .before .before .before .before .common-length .result) - 0 = length-take-le ((c .before .before .before .before .before .before .before .before .common-length .result) - 0) (c .before .before .before .before .before .before .before .before .before .before .before .before .args .lo .now) (omega arith) in let r = (c .before .before .before .before .before .before .before .before .before .before .before .before .pre .1 .0) .room in (omega arith, omega arith, omega arith, trail-wider (c .before .before .before .before .before .before .before .before .before .before .before .before .args .store .now) ((c .before .before .before .before .before .before .before .before .before .before .before .before .args .prefix) .len) ((c .before .before .before .before .extend .result) .len) (c .before .before .before .before .before .before .before .before .before .before .before .before .args .trail) (omega arith) ((c .before .before .before .before .before .before .before .before .before .before .before .before .pre .1 .0) .trail), leaf-keyed (c .before .before .before .before .before .before .before .before .before .before .before .before .args .prefix) (c .before .before .before .before .before .before .before .before .before .before .before .before .args .lo .now) (c .before .before .before .before .before .before .before .before .before .before .before .before .args .hi .now) (c .before .before .before .before .before .before .before .before .common-length .result) (c .before .before .before .before .before .before .before .before .common-length .ensures .0) (c .before .before .before .before .extend .result) (c .before .before .before .before .extend .ensures .0) (c .before .before .before .before .before .before .before .before .before .before .before .before .args .store .now) (c .before .before .before .before .before .before .before .before .before .before .before .before .args .level) (c .before .before .before .before .before .before .before .before .before .before .before .before .args .num) (c .before .before .before .before .before .before .before .before .before .before .before .before .pre .1 .0 .reads) (c .before .before .before .before .before .before .before .before .before .before .before .before .pre .1 .1) (c .before .before .before .u16-at .result) (c .before .before .before .u16-at .ensures .0) (omega arith))
 
 count-node-returns-2 : (t : ℕ) → count-node-lts.Need-returns-2 (
   common-length-reads.Asked,
@@ -577,6 +748,8 @@ count-node-returns-2 : (t : ℕ) → count-node-lts.Need-returns-2 (
   extend-reads.Learnt,
   u16-at-reads.Asked,
   u16-at-reads.Learnt,
+  count-leaf-reads.Asked,
+  count-leaf-reads.Learnt,
   count-entries-reads.Asked,
   count-entries-reads.Learnt,
   read-child-reads.Asked,
@@ -588,7 +761,29 @@ count-node-returns-2 : (t : ℕ) → count-node-lts.Need-returns-2 (
   capped-sum-reads.Asked,
   capped-sum-reads.Learnt,
 ) (count-node-at t) count-node.Post
-count-node-returns-2 t c = let w = node-inside (c .before .before .before .before .before .before .before .before .before .before .before .args .store .now) (c .before .before .before .before .before .before .before .before .before .before .before .args .num) (c .before .before .before .before .before .before .before .before .before .before .before .args .level) ((c .before .before .before .before .before .before .before .before .before .before .before .pre .1) .reads) in (node-leaf (c .before .before .before .before .before .before .before .before .before .before .before .args .store .now) (c .before .before .before .before .before .before .before .before .before .before .before .args .level) (c .before .before .before .before .before .before .before .before .before .before .before .args .num) (c .before .before .before .before .before .before .before .before .before .before .before .args .prefix) (c .before .before .before .before .before .before .before .before .before .before .before .args .trail) (c .before .before .before .before .before .before .before .before .before .before .before .pre .1) (c .before .before .before .before .before .before .before .before .before .before .before .args .lo .now) (c .before .before .before .before .before .before .before .before .before .before .before .args .hi .now) (c .before .before .before .before .before .before .before .common-length .result) (c .before .before .before .before .before .before .before .common-length .ensures .0) (c .before .before .before .extend .result) (c .before .before .before .extend .ensures .0) (c .before .before .u16-at .result) (c .before .count-entries .result) (c .before .before .u16-at .ensures .0) (c .before .count-entries .ensures .0) (omega arith) (omega arith), omega arith)
+count-node-returns-2 t c = let w = node-inside (c .before .before .before .before .before .before .before .before .before .before .before .before .before .args .store .now) (c .before .before .before .before .before .before .before .before .before .before .before .before .before .args .num) (c .before .before .before .before .before .before .before .before .before .before .before .before .before .args .level) ((c .before .before .before .before .before .before .before .before .before .before .before .before .before .pre .1 .0) .reads) in (node-leaf (c .before .before .before .before .before .before .before .before .before .before .before .before .before .args .store .now) (c .before .before .before .before .before .before .before .before .before .before .before .before .before .args .level) (c .before .before .before .before .before .before .before .before .before .before .before .before .before .args .num) (c .before .before .before .before .before .before .before .before .before .before .before .before .before .args .prefix) (c .before .before .before .before .before .before .before .before .before .before .before .before .before .args .trail) (c .before .before .before .before .before .before .before .before .before .before .before .before .before .pre .1 .0) (c .before .before .before .before .before .before .before .before .before .before .before .before .before .args .lo .now) (c .before .before .before .before .before .before .before .before .before .before .before .before .before .args .hi .now) (c .before .before .before .before .before .before .before .before .before .common-length .result) (c .before .before .before .before .before .before .before .before .before .common-length .ensures .0) (c .before .before .before .before .before .extend .result) (c .before .before .before .before .before .extend .ensures .0) (c .before .before .before .before .u16-at .result) (c .count-leaf .result) (c .before .before .before .before .u16-at .ensures .0) (c .count-leaf .ensures .0) (omega arith) (omega arith), omega arith)
+
+count-node-count-entries-requires : (t : ℕ) → count-node-lts.Need-count-entries-requires (
+  common-length-reads.Asked,
+  common-length-reads.Learnt,
+  extend-reads.Asked,
+  extend-reads.Learnt,
+  u16-at-reads.Asked,
+  u16-at-reads.Learnt,
+  count-leaf-reads.Asked,
+  count-leaf-reads.Learnt,
+  count-entries-reads.Asked,
+  count-entries-reads.Learnt,
+  read-child-reads.Asked,
+  read-child-reads.Learnt,
+  lengthen-trail-reads.Asked,
+  lengthen-trail-reads.Learnt,
+  count-children-below t,
+  count-children.Post,
+  capped-sum-reads.Asked,
+  capped-sum-reads.Learnt,
+) (count-node-at t) count-node.Post
+count-node-count-entries-requires t c κs = let w = node-inside (c .before .before .before .before .before .before .before .before .before .before .args .store .now) (c .before .before .before .before .before .before .before .before .before .before .args .num) (c .before .before .before .before .before .before .before .before .before .before .args .level) ((c .before .before .before .before .before .before .before .before .before .before .pre .1 .0) .reads) in let l : length (take ((c .before .before .before .before .before .before .common-length .result) - 0) (c .before .before .before .before .before .before .before .before .before .before .args .lo .now)) ≡ (c .before .before .before .before .before .before .common-length .result) - 0 = length-take-le ((c .before .before .before .before .before .before .common-length .result) - 0) (c .before .before .before .before .before .before .before .before .before .before .args .lo .now) (omega arith) in let r = (c .before .before .before .before .before .before .before .before .before .before .pre .1 .0) .room in (omega arith, omega arith, omega arith, trail-wider (c .before .before .before .before .before .before .before .before .before .before .args .store .now) ((c .before .before .before .before .before .before .before .before .before .before .args .prefix) .len) ((c .before .before .extend .result) .len) (c .before .before .before .before .before .before .before .before .before .before .args .trail) (omega arith) ((c .before .before .before .before .before .before .before .before .before .before .pre .1 .0) .trail))
 
 count-node-read-child-requires : (t : ℕ) → count-node-lts.Need-read-child-requires (
   common-length-reads.Asked,
@@ -597,6 +792,8 @@ count-node-read-child-requires : (t : ℕ) → count-node-lts.Need-read-child-re
   extend-reads.Learnt,
   u16-at-reads.Asked,
   u16-at-reads.Learnt,
+  count-leaf-reads.Asked,
+  count-leaf-reads.Learnt,
   count-entries-reads.Asked,
   count-entries-reads.Learnt,
   read-child-reads.Asked,
@@ -608,7 +805,7 @@ count-node-read-child-requires : (t : ℕ) → count-node-lts.Need-read-child-re
   capped-sum-reads.Asked,
   capped-sum-reads.Learnt,
 ) (count-node-at t) count-node.Post
-count-node-read-child-requires t c κs = let w = node-inside (c .before .before .before .before .before .before .before .before .before .before .before .args .store .now) (c .before .before .before .before .before .before .before .before .before .before .before .args .num) (c .before .before .before .before .before .before .before .before .before .before .before .args .level) ((c .before .before .before .before .before .before .before .before .before .before .before .pre .1) .reads) in omega arith
+count-node-read-child-requires t c κs = let w = node-inside (c .before .before .before .before .before .before .before .before .before .before .before .args .store .now) (c .before .before .before .before .before .before .before .before .before .before .before .args .num) (c .before .before .before .before .before .before .before .before .before .before .before .args .level) ((c .before .before .before .before .before .before .before .before .before .before .before .pre .1 .0) .reads) in omega arith
 
 count-node-enum-known-first : (t : ℕ) → count-node-lts.Need-enum-known-first (
   common-length-reads.Asked,
@@ -617,6 +814,8 @@ count-node-enum-known-first : (t : ℕ) → count-node-lts.Need-enum-known-first
   extend-reads.Learnt,
   u16-at-reads.Asked,
   u16-at-reads.Learnt,
+  count-leaf-reads.Asked,
+  count-leaf-reads.Learnt,
   count-entries-reads.Asked,
   count-entries-reads.Learnt,
   read-child-reads.Asked,
@@ -637,6 +836,8 @@ count-node-enum-told : (t : ℕ) → count-node-lts.Need-enum-told (
   extend-reads.Learnt,
   u16-at-reads.Asked,
   u16-at-reads.Learnt,
+  count-leaf-reads.Asked,
+  count-leaf-reads.Learnt,
   count-entries-reads.Asked,
   count-entries-reads.Learnt,
   read-child-reads.Asked,
@@ -657,6 +858,8 @@ count-node-returns-3 : (t : ℕ) → count-node-lts.Need-returns-3 (
   extend-reads.Learnt,
   u16-at-reads.Asked,
   u16-at-reads.Learnt,
+  count-leaf-reads.Asked,
+  count-leaf-reads.Learnt,
   count-entries-reads.Asked,
   count-entries-reads.Learnt,
   read-child-reads.Asked,
@@ -668,7 +871,7 @@ count-node-returns-3 : (t : ℕ) → count-node-lts.Need-returns-3 (
   capped-sum-reads.Asked,
   capped-sum-reads.Learnt,
 ) (count-node-at t) count-node.Post
-count-node-returns-3 t c = let w = node-inside (c .before .before .before .before .before .before .before .before .before .before .before .before .before .before .args .store .now) (c .before .before .before .before .before .before .before .before .before .before .before .before .before .before .args .num) (c .before .before .before .before .before .before .before .before .before .before .before .before .before .before .args .level) ((c .before .before .before .before .before .before .before .before .before .before .before .before .before .before .pre .1) .reads) in (node-bare (c .before .before .before .before .before .before .before .before .before .before .before .before .before .before .args .store .now) (c .before .before .before .before .before .before .before .before .before .before .before .before .before .before .args .level) (c .before .before .before .before .before .before .before .before .before .before .before .before .before .before .args .num) (c .before .before .before .before .before .before .before .before .before .before .before .before .before .before .args .prefix) (c .before .before .before .before .before .before .before .before .before .before .before .before .before .before .args .trail) (c .before .before .before .before .before .before .before .before .before .before .before .before .before .before .pre .1) (c .before .before .before .before .before .before .before .before .before .before .before .before .before .before .args .lo .now) (c .before .before .before .before .before .before .before .before .before .before .before .before .before .before .args .hi .now) (c .before .before .before .before .before .before .before .before .before .before .common-length .result) (c .before .before .before .before .before .before .before .before .before .before .common-length .ensures .0) (c .before .before .before .before .before .before .extend .result) (c .before .before .before .before .before .before .extend .ensures .0) (c .before .before .before .before .before .u16-at .result) (c .before .before .before .before .count-entries .result) (c .before .before .before .before .before .u16-at .ensures .0) (c .before .before .before .before .count-entries .ensures .0) (omega arith) (omega arith) (pends-end _ _ _ _ (c .before .before .read-child .ensures) (c .enum-told .given .1)), omega arith)
+count-node-returns-3 t c = let w = node-inside (c .before .before .before .before .before .before .before .before .before .before .before .before .before .before .args .store .now) (c .before .before .before .before .before .before .before .before .before .before .before .before .before .before .args .num) (c .before .before .before .before .before .before .before .before .before .before .before .before .before .before .args .level) ((c .before .before .before .before .before .before .before .before .before .before .before .before .before .before .pre .1 .0) .reads) in (node-bare (c .before .before .before .before .before .before .before .before .before .before .before .before .before .before .args .store .now) (c .before .before .before .before .before .before .before .before .before .before .before .before .before .before .args .level) (c .before .before .before .before .before .before .before .before .before .before .before .before .before .before .args .num) (c .before .before .before .before .before .before .before .before .before .before .before .before .before .before .args .prefix) (c .before .before .before .before .before .before .before .before .before .before .before .before .before .before .args .trail) (c .before .before .before .before .before .before .before .before .before .before .before .before .before .before .pre .1 .0) (c .before .before .before .before .before .before .before .before .before .before .before .before .before .before .args .lo .now) (c .before .before .before .before .before .before .before .before .before .before .before .before .before .before .args .hi .now) (c .before .before .before .before .before .before .before .before .before .before .common-length .result) (c .before .before .before .before .before .before .before .before .before .before .common-length .ensures .0) (c .before .before .before .before .before .before .extend .result) (c .before .before .before .before .before .before .extend .ensures .0) (c .before .before .before .before .before .u16-at .result) (c .before .before .before .count-entries .result) (c .before .before .before .before .before .u16-at .ensures .0) (c .before .before .before .count-entries .ensures .0) (omega arith) (omega arith) (pends-end _ _ _ _ (c .before .before .read-child .ensures) (c .enum-told .given .1)), omega arith)
 
 count-node-lengthen-trail-requires : (t : ℕ) → count-node-lts.Need-lengthen-trail-requires (
   common-length-reads.Asked,
@@ -677,6 +880,8 @@ count-node-lengthen-trail-requires : (t : ℕ) → count-node-lts.Need-lengthen-
   extend-reads.Learnt,
   u16-at-reads.Asked,
   u16-at-reads.Learnt,
+  count-leaf-reads.Asked,
+  count-leaf-reads.Learnt,
   count-entries-reads.Asked,
   count-entries-reads.Learnt,
   read-child-reads.Asked,
@@ -688,7 +893,7 @@ count-node-lengthen-trail-requires : (t : ℕ) → count-node-lts.Need-lengthen-
   capped-sum-reads.Asked,
   capped-sum-reads.Learnt,
 ) (count-node-at t) count-node.Post
-count-node-lengthen-trail-requires t c κs = let l : length (take ((c .before .before .before .before .before .before .before .before .before .before .before .common-length .result) - 0) (c .before .before .before .before .before .before .before .before .before .before .before .before .before .before .before .args .lo .now)) ≡ (c .before .before .before .before .before .before .before .before .before .before .before .common-length .result) - 0 = length-take-le ((c .before .before .before .before .before .before .before .before .before .before .before .common-length .result) - 0) (c .before .before .before .before .before .before .before .before .before .before .before .before .before .before .before .args .lo .now) (omega arith) in let d = (c .before .before .before .before .before .before .before .before .before .before .before .before .before .before .before .pre .1) .deep in (omega arith, trail-wider (c .before .before .before .before .before .before .before .before .before .before .before .before .before .before .before .args .store .now) ((c .before .before .before .before .before .before .before .before .before .before .before .before .before .before .before .args .prefix) .len) ((c .before .before .before .before .before .before .before .extend .result) .len) (c .before .before .before .before .before .before .before .before .before .before .before .before .before .before .before .args .trail) (omega arith) ((c .before .before .before .before .before .before .before .before .before .before .before .before .before .before .before .pre .1) .trail), node-above (c .before .before .before .before .before .before .before .before .before .before .before .before .before .before .before .args .store .now) (c .before .before .before .before .before .before .before .before .before .before .before .before .before .before .before .args .level) (c .before .before .before .before .before .before .before .before .before .before .before .before .before .before .before .args .num) ((c .before .before .before .before .before .before .before .extend .result) .len) ((c .before .before .before .before .before .before .before .before .before .before .before .before .before .before .before .pre .1) .reads))
+count-node-lengthen-trail-requires t c κs = let l : length (take ((c .before .before .before .before .before .before .before .before .before .before .before .common-length .result) - 0) (c .before .before .before .before .before .before .before .before .before .before .before .before .before .before .before .args .lo .now)) ≡ (c .before .before .before .before .before .before .before .before .before .before .before .common-length .result) - 0 = length-take-le ((c .before .before .before .before .before .before .before .before .before .before .before .common-length .result) - 0) (c .before .before .before .before .before .before .before .before .before .before .before .before .before .before .before .args .lo .now) (omega arith) in let d = (c .before .before .before .before .before .before .before .before .before .before .before .before .before .before .before .pre .1 .0) .deep in (omega arith, trail-wider (c .before .before .before .before .before .before .before .before .before .before .before .before .before .before .before .args .store .now) ((c .before .before .before .before .before .before .before .before .before .before .before .before .before .before .before .args .prefix) .len) ((c .before .before .before .before .before .before .before .extend .result) .len) (c .before .before .before .before .before .before .before .before .before .before .before .before .before .before .before .args .trail) (omega arith) ((c .before .before .before .before .before .before .before .before .before .before .before .before .before .before .before .pre .1 .0) .trail), node-above (c .before .before .before .before .before .before .before .before .before .before .before .before .before .before .before .args .store .now) (c .before .before .before .before .before .before .before .before .before .before .before .before .before .before .before .args .level) (c .before .before .before .before .before .before .before .before .before .before .before .before .before .before .before .args .num) ((c .before .before .before .before .before .before .before .extend .result) .len) ((c .before .before .before .before .before .before .before .before .before .before .before .before .before .before .before .pre .1 .0) .reads))
 
 count-node-sub-count-children : (t : ℕ) → count-node-lts.Need-sub-count-children (
   common-length-reads.Asked,
@@ -697,6 +902,8 @@ count-node-sub-count-children : (t : ℕ) → count-node-lts.Need-sub-count-chil
   extend-reads.Learnt,
   u16-at-reads.Asked,
   u16-at-reads.Learnt,
+  count-leaf-reads.Asked,
+  count-leaf-reads.Learnt,
   count-entries-reads.Asked,
   count-entries-reads.Learnt,
   read-child-reads.Asked,
@@ -717,6 +924,8 @@ count-node-sub-count-children-2 : (t : ℕ) → count-node-lts.Need-sub-count-ch
   extend-reads.Learnt,
   u16-at-reads.Asked,
   u16-at-reads.Learnt,
+  count-leaf-reads.Asked,
+  count-leaf-reads.Learnt,
   count-entries-reads.Asked,
   count-entries-reads.Learnt,
   read-child-reads.Asked,
@@ -737,6 +946,8 @@ count-node-part-count-children-start : (t : ℕ) → count-node-lts.Need-part-co
   extend-reads.Learnt,
   u16-at-reads.Asked,
   u16-at-reads.Learnt,
+  count-leaf-reads.Asked,
+  count-leaf-reads.Learnt,
   count-entries-reads.Asked,
   count-entries-reads.Learnt,
   read-child-reads.Asked,
@@ -757,6 +968,8 @@ count-node-part-count-children-end : (t : ℕ) → count-node-lts.Need-part-coun
   extend-reads.Learnt,
   u16-at-reads.Asked,
   u16-at-reads.Learnt,
+  count-leaf-reads.Asked,
+  count-leaf-reads.Learnt,
   count-entries-reads.Asked,
   count-entries-reads.Learnt,
   read-child-reads.Asked,
@@ -777,6 +990,8 @@ count-node-count-children-requires : (t : ℕ) → count-node-lts.Need-count-chi
   extend-reads.Learnt,
   u16-at-reads.Asked,
   u16-at-reads.Learnt,
+  count-leaf-reads.Asked,
+  count-leaf-reads.Learnt,
   count-entries-reads.Asked,
   count-entries-reads.Learnt,
   read-child-reads.Asked,
@@ -788,9 +1003,8 @@ count-node-count-children-requires : (t : ℕ) → count-node-lts.Need-count-chi
   capped-sum-reads.Asked,
   capped-sum-reads.Learnt,
 ) (count-node-at t) count-node.Post
-count-node-count-children-requires t c κs =
-    let q = c .before .before .before .before .before .before .before .before .before .before .before .before .before .before .before .before .before .pre .0 in let m = c .before .before .before .before .before .before .before .before .before .before .before .before .before .common-length .ensures .1 in let g = c .before .before .before .before .before .before .before .before .before .before .before .if1 .left in let x = c .before .before .before .before .before .before .before .before .before .extend .ensures .1 in let v = c .before .before .before .before .before .before .if2 .left in let w = node-inside (c .before .before .before .before .before .before .before .before .before .before .before .before .before .before .before .before .before .args .store .now) (c .before .before .before .before .before .before .before .before .before .before .before .before .before .before .before .before .before .args .num) (c .before .before .before .before .before .before .before .before .before .before .before .before .before .before .before .before .before .args .level) ((c .before .before .before .before .before .before .before .before .before .before .before .before .before .before .before .before .before .pre .1) .reads) in let l : length (take ((c .before .before .before .before .before .before .before .before .before .before .before .before .before .common-length .result) - 0) (c .before .before .before .before .before .before .before .before .before .before .before .before .before .before .before .before .before .args .lo .now)) ≡ (c .before .before .before .before .before .before .before .before .before .before .before .before .before .common-length .result) - 0 = length-take-le ((c .before .before .before .before .before .before .before .before .before .before .before .before .before .common-length .result) - 0) (c .before .before .before .before .before .before .before .before .before .before .before .before .before .before .before .before .before .args .lo .now) (omega arith) in let r = (c .before .before .before .before .before .before .before .before .before .before .before .before .before .before .before .before .before .pre .1) .room in let n = first-next t (c .before .before) in
-    (omega arith, kids-ready (c .before .before .before .before .before .before .before .before .before .before .before .before .before .before .before .before .before .args .store .now) (c .before .before .before .before .before .before .before .before .before .before .before .before .before .before .before .before .before .args .level) (c .before .before .before .before .before .before .before .before .before .before .before .before .before .before .before .before .before .args .num) (c .before .before .before .before .before .before .before .before .before .before .before .before .before .before .before .before .before .args .prefix) (c .before .before .before .before .before .before .before .before .before .before .before .before .before .before .before .before .before .args .trail) (c .before .before .before .before .before .before .before .before .before .before .before .before .before .before .before .before .before .pre .1) (c .before .before .before .before .before .before .before .before .before .before .before .before .before .before .before .before .before .args .lo .now) (c .before .before .before .before .before .before .before .before .before .before .before .before .before .before .before .before .before .args .hi .now) (c .before .before .before .before .before .before .before .before .before .before .before .before .before .common-length .result) (c .before .before .before .before .before .before .before .before .before .before .before .before .before .common-length .ensures .0) (c .before .before .before .before .before .before .before .before .before .extend .result) (c .before .before .before .before .before .before .before .before .before .extend .ensures .0) (c .before .before .before .before .before .before .before .before .u16-at .result) (c .before .before .before .before .before .before .before .count-entries .result) (c .before .before .before .before .before .before .before .before .u16-at .ensures .0) (c .before .before .before .before .before .before .before .count-entries .ensures .0) (omega arith) (c .before .before .before .first .given .0 .0) (c .before .before .before .first .given .0 .1 .0) (c .before .before .before .first .given .0 .1 .1 .0) (first-next t (c .before .before)) (c .before .lengthen-trail .result) (c .before .lengthen-trail .ensures) (omega arith) (omega arith))
+count-node-count-children-requires t c κs = let q = c .before .before .before .before .before .before .before .before .before .before .before .before .before .before .before .before .before .pre .0 in let m = c .before .before .before .before .before .before .before .before .before .before .before .before .before .common-length .ensures .1 in let g = c .before .before .before .before .before .before .before .before .before .before .before .if1 .left in let x = c .before .before .before .before .before .before .before .before .before .extend .ensures .1 in let v = c .before .before .before .before .before .before .before .if2 .left in let w = node-inside (c .before .before .before .before .before .before .before .before .before .before .before .before .before .before .before .before .before .args .store .now) (c .before .before .before .before .before .before .before .before .before .before .before .before .before .before .before .before .before .args .num) (c .before .before .before .before .before .before .before .before .before .before .before .before .before .before .before .before .before .args .level) ((c .before .before .before .before .before .before .before .before .before .before .before .before .before .before .before .before .before .pre .1 .0) .reads) in let l : length (take ((c .before .before .before .before .before .before .before .before .before .before .before .before .before .common-length .result) - 0) (c .before .before .before .before .before .before .before .before .before .before .before .before .before .before .before .before .before .args .lo .now)) ≡ (c .before .before .before .before .before .before .before .before .before .before .before .before .before .common-length .result) - 0 = length-take-le ((c .before .before .before .before .before .before .before .before .before .before .before .before .before .common-length .result) - 0) (c .before .before .before .before .before .before .before .before .before .before .before .before .before .before .before .before .before .args .lo .now) (omega arith) in let r = (c .before .before .before .before .before .before .before .before .before .before .before .before .before .before .before .before .before .pre .1 .0) .room in let n = first-next t (c .before .before) in
+    (omega arith, (kids-ready (c .before .before .before .before .before .before .before .before .before .before .before .before .before .before .before .before .before .args .store .now) (c .before .before .before .before .before .before .before .before .before .before .before .before .before .before .before .before .before .args .level) (c .before .before .before .before .before .before .before .before .before .before .before .before .before .before .before .before .before .args .num) (c .before .before .before .before .before .before .before .before .before .before .before .before .before .before .before .before .before .args .prefix) (c .before .before .before .before .before .before .before .before .before .before .before .before .before .before .before .before .before .args .trail) (c .before .before .before .before .before .before .before .before .before .before .before .before .before .before .before .before .before .pre .1 .0) (c .before .before .before .before .before .before .before .before .before .before .before .before .before .before .before .before .before .args .lo .now) (c .before .before .before .before .before .before .before .before .before .before .before .before .before .before .before .before .before .args .hi .now) (c .before .before .before .before .before .before .before .before .before .before .before .before .before .common-length .result) (c .before .before .before .before .before .before .before .before .before .before .before .before .before .common-length .ensures .0) (c .before .before .before .before .before .before .before .before .before .extend .result) (c .before .before .before .before .before .before .before .before .before .extend .ensures .0) (c .before .before .before .before .before .before .before .before .u16-at .result) (c .before .before .before .before .before .before .count-entries .result) (c .before .before .before .before .before .before .before .before .u16-at .ensures .0) (c .before .before .before .before .before .before .count-entries .ensures .0) (omega arith) (c .before .before .before .first .given .0 .0) (c .before .before .before .first .given .0 .1 .0) (c .before .before .before .first .given .0 .1 .1 .0) (first-next t (c .before .before)) (c .before .lengthen-trail .result) (c .before .lengthen-trail .ensures) (omega arith) (omega arith), kids-sound (c .before .before .before .before .before .before .before .before .before .before .before .before .before .before .before .before .before .args .prefix) (c .before .before .before .before .before .before .before .before .before .before .before .before .before .before .before .before .before .args .lo .now) (c .before .before .before .before .before .before .before .before .before .before .before .before .before .before .before .before .before .args .hi .now) (c .before .before .before .before .before .before .before .before .before .before .before .before .before .common-length .result) (c .before .before .before .before .before .before .before .before .before .before .before .before .before .common-length .ensures .0) (c .before .before .before .before .before .before .before .before .before .extend .result) (c .before .before .before .before .before .before .before .before .before .extend .ensures .0) (c .before .before .before .before .before .before .before .before .before .before .before .before .before .before .before .before .before .args .store .now) (c .before .before .before .before .before .before .before .before .before .before .before .before .before .before .before .before .before .args .level) (c .before .before .before .before .before .before .before .before .before .before .before .before .before .before .before .before .before .args .num) (c .before .before .before .before .before .before .before .before .before .before .before .before .before .before .before .before .before .pre .1 .0 .reads) (c .before .before .before .before .before .before .before .before .before .before .before .before .before .before .before .before .before .pre .1 .1) (c .before .before .before .before .before .before .before .before .u16-at .result) (c .before .before .before .before .before .before .before .before .u16-at .ensures .0) (omega arith) _ _ _ (first-next t (c .before .before))))
 
 count-node-capped-sum-requires : (t : ℕ) → count-node-lts.Need-capped-sum-requires (
   common-length-reads.Asked,
@@ -799,6 +1013,8 @@ count-node-capped-sum-requires : (t : ℕ) → count-node-lts.Need-capped-sum-re
   extend-reads.Learnt,
   u16-at-reads.Asked,
   u16-at-reads.Learnt,
+  count-leaf-reads.Asked,
+  count-leaf-reads.Learnt,
   count-entries-reads.Asked,
   count-entries-reads.Learnt,
   read-child-reads.Asked,
@@ -819,6 +1035,8 @@ count-node-returns-4 : (t : ℕ) → count-node-lts.Need-returns-4 (
   extend-reads.Learnt,
   u16-at-reads.Asked,
   u16-at-reads.Learnt,
+  count-leaf-reads.Asked,
+  count-leaf-reads.Learnt,
   count-entries-reads.Asked,
   count-entries-reads.Learnt,
   read-child-reads.Asked,
@@ -830,26 +1048,26 @@ count-node-returns-4 : (t : ℕ) → count-node-lts.Need-returns-4 (
   capped-sum-reads.Asked,
   capped-sum-reads.Learnt,
 ) (count-node-at t) count-node.Post
-count-node-returns-4 t c =
-    let q = c .before .before .before .before .before .before .before .before .before .before .before .before .before .before .before .before .before .before .before .pre .0 in let m = c .before .before .before .before .before .before .before .before .before .before .before .before .before .before .before .common-length .ensures .1 in let g = c .before .before .before .before .before .before .before .before .before .before .before .before .before .if1 .left in let x = c .before .before .before .before .before .before .before .before .before .before .before .extend .ensures .1 in let v = c .before .before .before .before .before .before .before .before .if2 .left in let l : length (take ((c .before .before .before .before .before .before .before .before .before .before .before .before .before .before .before .common-length .result) - 0) (c .before .before .before .before .before .before .before .before .before .before .before .before .before .before .before .before .before .before .before .args .lo .now)) ≡ (c .before .before .before .before .before .before .before .before .before .before .before .before .before .before .before .common-length .result) - 0 = length-take-le ((c .before .before .before .before .before .before .before .before .before .before .before .before .before .before .before .common-length .result) - 0) (c .before .before .before .before .before .before .before .before .before .before .before .before .before .before .before .before .before .before .before .args .lo .now) (omega arith) in let r = (c .before .before .before .before .before .before .before .before .before .before .before .before .before .before .before .before .before .before .before .pre .1) .room in
+count-node-returns-4 t c = let q = c .before .before .before .before .before .before .before .before .before .before .before .before .before .before .before .before .before .before .before .pre .0 in let m = c .before .before .before .before .before .before .before .before .before .before .before .before .before .before .before .common-length .ensures .1 in let g = c .before .before .before .before .before .before .before .before .before .before .before .before .before .if1 .left in let x = c .before .before .before .before .before .before .before .before .before .before .before .extend .ensures .1 in let v = c .before .before .before .before .before .before .before .before .before .if2 .left in let l : length (take ((c .before .before .before .before .before .before .before .before .before .before .before .before .before .before .before .common-length .result) - 0) (c .before .before .before .before .before .before .before .before .before .before .before .before .before .before .before .before .before .before .before .args .lo .now)) ≡ (c .before .before .before .before .before .before .before .before .before .before .before .before .before .before .before .common-length .result) - 0 = length-take-le ((c .before .before .before .before .before .before .before .before .before .before .before .before .before .before .before .common-length .result) - 0) (c .before .before .before .before .before .before .before .before .before .before .before .before .before .before .before .before .before .before .before .args .lo .now) (omega arith) in let r = (c .before .before .before .before .before .before .before .before .before .before .before .before .before .before .before .before .before .before .before .pre .1 .0) .room in
     let h = here-length t (c .before .before .before .before .before .before .before .before .before .before .before) in
-    (node-inner (c .before .before .before .before .before .before .before .before .before .before .before .before .before .before .before .before .before .before .before .args .store .now) (c .before .before .before .before .before .before .before .before .before .before .before .before .before .before .before .before .before .before .before .args .level) (c .before .before .before .before .before .before .before .before .before .before .before .before .before .before .before .before .before .before .before .args .num) (c .before .before .before .before .before .before .before .before .before .before .before .before .before .before .before .before .before .before .before .args .prefix) (c .before .before .before .before .before .before .before .before .before .before .before .before .before .before .before .before .before .before .before .args .trail) (c .before .before .before .before .before .before .before .before .before .before .before .before .before .before .before .before .before .before .before .pre .1) (c .before .before .before .before .before .before .before .before .before .before .before .before .before .before .before .before .before .before .before .args .lo .now) (c .before .before .before .before .before .before .before .before .before .before .before .before .before .before .before .before .before .before .before .args .hi .now) (c .before .before .before .before .before .before .before .before .before .before .before .before .before .before .before .common-length .result) (c .before .before .before .before .before .before .before .before .before .before .before .before .before .before .before .common-length .ensures .0) (c .before .before .before .before .before .before .before .before .before .before .before .extend .result) (c .before .before .before .before .before .before .before .before .before .before .before .extend .ensures .0) (c .before .before .before .before .before .before .before .before .before .before .u16-at .result) (c .before .before .before .before .before .before .before .before .before .count-entries .result) (c .before .before .before .before .before .before .before .before .before .before .u16-at .ensures .0) (c .before .before .before .before .before .before .before .before .before .count-entries .ensures .0) (omega arith) (c .before .before .before .before .before .first .given .0 .0) (c .before .before .before .before .before .first .given .0 .1 .0) (c .before .before .before .before .before .first .given .0 .1 .1 .0) (first-next t (c .before .before .before .before)) (c .before .before .before .lengthen-trail .result) (c .before .before .before .lengthen-trail .ensures) (c .before .count-children .result) _ (omega arith) (c .before .count-children .ensures .0) (c .capped-sum .ensures .0), c .capped-sum .ensures .1)
+    (node-inner (c .before .before .before .before .before .before .before .before .before .before .before .before .before .before .before .before .before .before .before .args .store .now) (c .before .before .before .before .before .before .before .before .before .before .before .before .before .before .before .before .before .before .before .args .level) (c .before .before .before .before .before .before .before .before .before .before .before .before .before .before .before .before .before .before .before .args .num) (c .before .before .before .before .before .before .before .before .before .before .before .before .before .before .before .before .before .before .before .args .prefix) (c .before .before .before .before .before .before .before .before .before .before .before .before .before .before .before .before .before .before .before .args .trail) (c .before .before .before .before .before .before .before .before .before .before .before .before .before .before .before .before .before .before .before .pre .1 .0) (c .before .before .before .before .before .before .before .before .before .before .before .before .before .before .before .before .before .before .before .args .lo .now) (c .before .before .before .before .before .before .before .before .before .before .before .before .before .before .before .before .before .before .before .args .hi .now) (c .before .before .before .before .before .before .before .before .before .before .before .before .before .before .before .common-length .result) (c .before .before .before .before .before .before .before .before .before .before .before .before .before .before .before .common-length .ensures .0) (c .before .before .before .before .before .before .before .before .before .before .before .extend .result) (c .before .before .before .before .before .before .before .before .before .before .before .extend .ensures .0) (c .before .before .before .before .before .before .before .before .before .before .u16-at .result) (c .before .before .before .before .before .before .before .before .count-entries .result) (c .before .before .before .before .before .before .before .before .before .before .u16-at .ensures .0) (c .before .before .before .before .before .before .before .before .count-entries .ensures .0) (omega arith) (c .before .before .before .before .before .first .given .0 .0) (c .before .before .before .before .before .first .given .0 .1 .0) (c .before .before .before .before .before .first .given .0 .1 .1 .0) (first-next t (c .before .before .before .before)) (c .before .before .before .lengthen-trail .result) (c .before .before .before .lengthen-trail .ensures) (c .before .count-children .result) _ (omega arith) (c .before .count-children .ensures .0) (c .capped-sum .ensures .0), c .capped-sum .ensures .1)
 
 pub +count-children+count-node-spec : {M : Type 1} → statement M
-+count-children+count-node-spec = close μ-count-children μ-count-node (λ t. count-children-lts.spec (
-  read-child-reads.Asked,
-  read-child-reads.Learnt,
-  count-node-below t,
-  count-node.Post,
-  capped-sum-reads.Asked,
-  capped-sum-reads.Learnt,
-)
++count-children+count-node-spec =
+    close μ-count-children μ-count-node (λ t. count-children-lts.spec (
+      read-child-reads.Asked,
+      read-child-reads.Learnt,
+      count-node-below t,
+      count-node.Post,
+      capped-sum-reads.Asked,
+      capped-sum-reads.Learnt,
+    )
     (count-children-at t)
     count-children.Post
     count-children-Inv-loop
     count-children-μ-loop
     (count-children-loop-holds t)
-    (count-kids-read-child-requires t)
+    (count-children-read-child-requires t)
     (count-children-enum-known-k t)
     (count-children-enum-told t)
     (count-children-sub-count-node t)
@@ -875,6 +1093,8 @@ pub +count-children+count-node-spec : {M : Type 1} → statement M
       extend-reads.Learnt,
       u16-at-reads.Asked,
       u16-at-reads.Learnt,
+      count-leaf-reads.Asked,
+      count-leaf-reads.Learnt,
       count-entries-reads.Asked,
       count-entries-reads.Learnt,
       read-child-reads.Asked,
@@ -899,8 +1119,15 @@ pub +count-children+count-node-spec : {M : Type 1} → statement M
     (count-node-u16-at-requires t)
     (count-node-add-from t)
     (count-node-add-end t)
-    (count-node-count-entries-requires t)
+    (count-node-sub-count-leaf t)
+    (count-node-part-count-leaf-start t)
+    (count-node-part-count-leaf-end t)
+    (count-node-sub-count-leaf-2 t)
+    (count-node-part-count-leaf-start-2 t)
+    (count-node-part-count-leaf-end-2 t)
+    (count-node-count-leaf-requires t)
     (count-node-returns-2 t)
+    (count-node-count-entries-requires t)
     (count-node-read-child-requires t)
     (count-node-enum-known-first t)
     (count-node-enum-told t)

@@ -1,6 +1,7 @@
 -- `live_count` meets its contract: the count from the root, where nothing is lifted and no node stands above.
 -- Relies on specs/RootSteps.
-use Rattle.live.specs.RootSteps.{one-node, root-ready, root-counts}
+use Rattle.live.specs.RootSteps.{one-node, root-ready, root-counts, tree-is, empty-prefix}
+use Rattle.live.specs.NotedSteps.{root-sound}
 use native.Mathlib.Omega.{arith}
 use mathlib.Core.Path.{refl}
 use borrow.Author.Needs.{needs}
@@ -26,7 +27,7 @@ slice-aggregate-count-node : tie.Need-slice-aggregate-count-node
 slice-aggregate-count-node c = search needs
 
 count-node-requires : tie.Need-count-node-requires
-count-node-requires c κs = root-ready (c .before .before .before .before .before .before .args .store .now) (c .before .before .before .before .before .before .pre) _ _ (c .before .before .before .before .u16-at .ensures .0) (c .before .before .before .u16-at2 .ensures .0) _ _ refl refl
+count-node-requires c κs = (root-ready (c .before .before .before .before .before .before .args .store .now) (c .before .before .before .before .before .before .pre) _ _ (c .before .before .before .before .u16-at .ensures .0) (c .before .before .before .u16-at2 .ensures .0) _ _ refl refl, root-sound (c .before .before .before .before .before .before .args .store .now) _ _ _ _ (c .before .before .before .before .before .before .pre .tree) (tree-is (c .before .before .before .before .before .before .args .store .now) (c .before .before .before .before .before .before .pre) _ _ (c .before .before .before .before .u16-at .ensures .0) (c .before .before .before .u16-at2 .ensures .0)) (empty-prefix (c .before .before .before .before .before .before .args .store .now) (c .before .before .before .before .before .before .pre) _ _ (c .before .before .before .before .u16-at .ensures .0) (c .before .before .before .u16-at2 .ensures .0) _ refl) refl)
 
 returns : tie.Need-returns
 returns c = root-counts (c .before .before .before .before .before .before .before .args .store .now) (c .before .before .before .before .before .before .before .pre) _ _ (c .before .before .before .before .before .u16-at .ensures .0) (c .before .before .before .before .u16-at2 .ensures .0) _ _ _ _ refl refl refl (c .count-node .ensures .0)

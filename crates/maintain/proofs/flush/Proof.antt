@@ -5,7 +5,7 @@ use borrow.Author.Needs.{needs}
 use borrow.Author.Tests.{not-true, not-false}
 use Rattle.rebuild.specs.Callers.{to-keep}
 use Rattle.ready.specs.Asked.{asked-fit, refused-meets}
-use Rattle.maintain.specs.Steps.{passed, reached, not-interior, flushed-done}
+use Rattle.maintain.specs.Steps.{passed, reached, not-interior, upheld-done}
 use Rattle.maintain.proofs.flush.Statement.{statement}
 use Rattle.maintain.proofs.flush.Tie as tie
 
@@ -28,7 +28,7 @@ same-length-2 : tie.Need-same-length-2
 same-length-2 c = search needs
 
 returns : tie.Need-returns
-returns c = not-interior _ _ _ _ (asked-fit _ _ _ _ (c .before .before .before .before .before .before .ask .ensures) _ (c .before .before .before .before .enum-told .given .1)) _ _ (c .before .is-interior .ensures) (not-true _ (c .if1 .taken))
+returns c = not-interior _ _ _ _ _ (asked-fit _ _ _ _ (c .before .before .before .before .before .before .ask .ensures) _ (c .before .before .before .before .enum-told .given .1)) _ _ (c .before .is-interior .ensures) (not-true _ (c .if1 .taken))
 
 act-flush-requires : tie.Need-act-flush-requires
 act-flush-requires c κs = (passed _ _ _ _ (asked-fit _ _ _ _ (c .before .before .before .before .before .before .before .before .ask .ensures) _ (c .before .before .before .before .before .before .enum-told .given .1)), sym (c .before .before .before .is-interior .ensures) ∙ not-false _ (c .before .before .if1 .left))
@@ -49,7 +49,7 @@ same-length-6 : tie.Need-same-length-6
 same-length-6 c = search needs
 
 returns-3 : tie.Need-returns-3
-returns-3 c = flushed-done _ _ _ _ (asked-fit _ _ _ _ (c .before .before .before .before .before .before .before .before .before .before .before .before .before .ask .ensures) _ (c .before .before .before .before .before .before .before .before .before .before .before .enum-told .given .1)) _ _ (c .before .before .before .before .before .before .before .before .is-interior .ensures) (not-false _ (c .before .before .before .before .before .before .before .if1 .left)) _ _ (c .before .before .before .before .act-flush .ensures)
+returns-3 c = upheld-done _ _ _ _ _ (asked-fit _ _ _ _ (c .before .before .before .before .before .before .before .before .before .before .before .before .before .ask .ensures) _ (c .before .before .before .before .before .before .before .before .before .before .before .enum-told .given .1)) _ _ (c .before .before .before .before .before .before .before .before .is-interior .ensures) (not-false _ (c .before .before .before .before .before .before .before .if1 .left)) _ _ (c .before .before .before .before .act-flush .ensures)
 
 pub flush-spec : {M : Type 1} → statement M
 flush-spec =

@@ -1,6 +1,7 @@
-use Rattle.node_check.specs.Leaf.{leaf-start}
+-- `check_leaf` meets its contract: the walk that asks only of the first and the last key whether the leaf owns it. Relies on specs/Ends.
 use borrow.Author.Tests.{not-true, not-false}
-use Rattle.node_check.specs.Leaf.{prevIn, PrevFits, leafRun, leaf-bad, leaf-end, leaf-other, leaf-stop, leaf-on, start-fits, key-fits}
+use Rattle.node_check.specs.Leaf.{prevIn, PrevFits, leafRun, start-fits, key-fits}
+use Rattle.node_check.specs.Ends.{walkRun, walk-is, leaf-start, leaf-bad, leaf-end, leaf-other, leaf-stop, leaf-on}
 use Rattle.path.specs.Fed.{shapeIs}
 use Rattle.search.specs.Pairs.{pairIs, pair-places}
 use Rattle.search.specs.declared.Pair.{Pair}
@@ -17,7 +18,7 @@ use Rattle.node_check.proofs.check_leaf.Tie as tie
 
 abbrev Inv-loop : tie.InvT-loop
 Inv-loop s from end lo hi sh c₀ prev₀ c prev =
-    (c .end ≡ end) × PrevFits (length s) prev × (leafRun (shapeIs sh) lo hi (prevIn s prev) (entriesFrom s (c .at) (c .end)) ≡ leafRun (shapeIs sh) lo hi none (entriesFrom s from end))
+    (c .end ≡ end) × PrevFits (length s) prev × (walkRun (shapeIs sh) lo hi (prevIn s prev) (entriesFrom s (c .at) (c .end)) ≡ leafRun (shapeIs sh) lo hi none (entriesFrom s from end))
 
 abbrev μ-loop : tie.MeasureT-loop
 μ-loop s from end lo hi sh c₀ prev₀ c prev = end - c .at
@@ -35,7 +36,7 @@ places-in c =
     (record { low = omega arith; rises = omega arith; high = omega arith }, record { low = omega arith; rises = omega arith; high = omega arith })
 
 loop-holds : tie.Need-loop-holds Inv-loop μ-loop
-loop-holds c = (refl, start-fits _, leaf-start _ _ _ _ _)
+loop-holds c = (refl, start-fits _, leaf-start _ _ _ _ _ ∙ walk-is _ _ _ _)
 
 step-requires : tie.Need-step-requires Inv-loop μ-loop
 step-requires c κs = omega arith
@@ -83,8 +84,11 @@ loop-again c =
       leaf-on _ _ _ _ _ _ _ _ _ _ _ (c .before .row-good .result) (n .first) (pair-is-of (c .before .before)) (c .before .row-good .ensures) (not-false _ (c .if2 .left)) (c .before .before .before .before .before .before .before .before .before .before .before .before .loop .inv .2),
     )
 
+ends-below-requires : tie.Need-ends-below-requires Inv-loop μ-loop
+ends-below-requires c κs = c .before .before .loop .inv .1
+
 returns-4 : tie.Need-returns-4 Inv-loop μ-loop
-returns-4 c = leaf-end _ _ _ _ _ _ (entries-end _ _ _ (omega arith)) (c .before .before .loop .inv .2)
+returns-4 c = leaf-end _ _ _ _ _ _ _ (entries-end _ _ _ (omega arith)) (c .ends-below .ensures) (c .before .before .before .loop .inv .2)
 
 pub check-leaf-spec : {M : Type 1} → statement M
 check-leaf-spec =
@@ -105,4 +109,5 @@ check-leaf-spec =
     returns-3
     loop-less
     loop-again
+    ends-below-requires
     returns-4)

@@ -1,15 +1,20 @@
+-- `row_good` meets its contract. Relies on specs/Ends.
 use borrow.Author.Tests.{not-true, not-false}
-use Rattle.node_check.specs.Leaf.{row-long, row-back, row-out, row-shape}
 use native.Mathlib.Omega.{arith}
+use Rattle.node_check.specs.Ends.{row-long, row-back, row-shape}
 use borrow.Author.Needs.{needs}
 use Rattle.node_check.proofs.row_good.Statement.{statement}
 use Rattle.node_check.proofs.row_good.Tie as tie
+use Rattle.node_check.proofs.row_good.Reads as reads
+use Rattle.node_check.proofs.row_good.Lts as lts
+use Rattle.node_check.proofs.follows_on.Reads as follows-on-reads
+use Rattle.path.proofs.goes_on.Reads as goes-on-reads
 
 sub-if1 : tie.Need-sub-if1
 sub-if1 c = search needs
 
 returns : tie.Need-returns
-returns c = row-long _ _ _ _ _ (c .before .before .before .before .args .s .now) (c .before .before .before .before .args .v) (c .before .before .before .before .pre .2) (omega arith)
+returns c = row-long _ _ _ _ (c .before .before .before .args .s .now) (c .before .before .before .args .v) (c .before .before .before .pre .2) (omega arith)
 
 sub-follows-on : tie.Need-sub-follows-on
 sub-follows-on c = search needs
@@ -24,22 +29,7 @@ follows-on-requires : tie.Need-follows-on-requires
 follows-on-requires c κs = search needs
 
 returns-2 : tie.Need-returns-2
-returns-2 c = row-back _ _ _ _ _ (c .before .before .before .before .before .before .before .args .s .now) (c .before .before .before .before .before .before .before .args .v) (c .before .before .before .before .before .before .before .pre .2) (c .before .follows-on .result) (c .before .follows-on .ensures) (not-true _ (c .if2 .taken))
-
-sub-owned : tie.Need-sub-owned
-sub-owned c = search needs
-
-part-owned-start : tie.Need-part-owned-start
-part-owned-start c = search needs
-
-part-owned-end : tie.Need-part-owned-end
-part-owned-end c = search needs
-
-owned-requires : tie.Need-owned-requires
-owned-requires c κs = search needs
-
-returns-3 : tie.Need-returns-3
-returns-3 c = row-out _ _ _ _ _ (c .before .before .before .before .before .before .before .before .before .before .args .s .now) (c .before .before .before .before .before .before .before .before .before .before .args .v) (c .before .before .before .before .before .before .before .before .before .before .pre .2) (c .before .owned .result) (c .before .owned .ensures) (not-true _ (c .if3 .taken))
+returns-2 c = row-back _ _ _ _ (c .before .before .before .before .before .before .args .s .now) (c .before .before .before .before .before .before .args .v) (c .before .before .before .before .before .before .pre .2) (c .before .follows-on .result) (c .before .follows-on .ensures) (not-true _ (c .if2 .taken))
 
 sub-goes-on : tie.Need-sub-goes-on
 sub-goes-on c = search needs
@@ -53,8 +43,8 @@ part-goes-on-end c = search needs
 goes-on-requires : tie.Need-goes-on-requires
 goes-on-requires c κs = search needs
 
-returns-4 : tie.Need-returns-4
-returns-4 c = row-shape _ _ _ _ _ (c .before .before .before .before .before .before .before .before .before .before .before .before .args .s .now) (c .before .before .before .before .before .before .before .before .before .before .before .before .args .v) (c .before .before .before .before .before .before .before .before .before .before .before .before .pre .2) (omega arith) (c .before .before .before .before .before .before .follows-on .result) (c .before .before .before .owned .result) _ (c .before .before .before .before .before .before .follows-on .ensures) (not-false _ (c .before .before .before .before .before .if2 .left)) (c .before .before .before .owned .ensures) (not-false _ (c .before .before .if3 .left)) (c .goes-on .ensures)
+returns-3 : tie.Need-returns-3
+returns-3 c = row-shape _ _ _ _ (c .before .before .before .before .before .before .before .before .args .s .now) (c .before .before .before .before .before .before .before .before .args .v) (c .before .before .before .before .before .before .before .before .pre .2) (omega arith) (c .before .before .before .follows-on .result) _ (c .before .before .before .follows-on .ensures) (not-false _ (c .before .before .if2 .left)) (c .goes-on .ensures)
 
 pub row-good-spec : {M : Type 1} → statement M
 row-good-spec =
@@ -67,13 +57,8 @@ row-good-spec =
     part-follows-on-end
     follows-on-requires
     returns-2
-    sub-owned
-    part-owned-start
-    part-owned-end
-    owned-requires
-    returns-3
     sub-goes-on
     part-goes-on-start
     part-goes-on-end
     goes-on-requires
-    returns-4)
+    returns-3)

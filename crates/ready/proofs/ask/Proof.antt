@@ -1,11 +1,9 @@
 -- `ready::ask` meets its contract: one law of specs/Steps for each way out.
 -- Assumes nothing.
 use native.Mathlib.Omega.{arith}
-use mathlib.Core.Path.{_≡_, sym, _∙_}
-use lib.ListN.{length}
+use mathlib.Core.Path.{sym, _∙_}
 use borrow.Author.Needs.{needs}
 use borrow.Author.Tests.{not-true, not-false}
-use Rattle.soundness.specs.Judged.{whole-long}
 use Rattle.ready.specs.Steps.{ragged-store, short-work, unsound-store, sound-store}
 use Rattle.ready.proofs.ask.Statement.{statement}
 use Rattle.ready.proofs.ask.Tie as tie
@@ -23,11 +21,7 @@ returns-2 : tie.Need-returns-2
 returns-2 c = short-work _ _ _ (omega arith)
 
 judge-requires : tie.Need-judge-requires
-judge-requires c κs =
-    let w = sym (c .before .before .before .whole-nodes .ensures) ∙ not-false _ (c .before .before .if1 .left) in
-    let n = whole-long _ w in
-    let h : length (c .before .before .before .before .before .before .args .seen .now) ≡ 1024 = search needs in
-    (w, omega (arith, n .1))
+judge-requires c κs = sym (c .before .before .before .whole-nodes .ensures) ∙ not-false _ (c .before .before .if1 .left)
 
 enum-known-c : tie.Need-enum-known-c
 enum-known-c c = search needs

@@ -1,13 +1,10 @@
 use borrow.Author.Needs.{needs}
-use Rattle.soundness.specs.Judged.{verdict-yes, verdict-no, whole-long}
+use Rattle.soundness.specs.Judged.{verdict-yes, verdict-no}
 use Rattle.soundness.proofs.is_sound.Statement.{statement}
 use Rattle.soundness.proofs.is_sound.Tie as tie
 
-slice-aggregate-judge : tie.Need-slice-aggregate-judge
-slice-aggregate-judge c = search needs
-
 judge-requires : tie.Need-judge-requires
-judge-requires c κs = let w = whole-long _ (c .before .before .pre) in (c .before .before .pre, w .1)
+judge-requires c κs = search needs
 
 enum-told : tie.Need-enum-told
 enum-told c = search needs
@@ -16,12 +13,12 @@ enum-told-2 : tie.Need-enum-told-2
 enum-told-2 c = search needs
 
 returns : tie.Need-returns
-returns c = verdict-no _ _ _ (c .before .before .before .judge .ensures) (c .enum-told2 .given .1)
+returns c = verdict-no _ _ _ (c .before .before .judge .ensures) (c .enum-told2 .given .1)
 
 returns-2 : tie.Need-returns-2
-returns-2 c = verdict-yes _ _ _ _ (c .before .before .before .judge .ensures) (c .enum-told .given .1)
+returns-2 c = verdict-yes _ _ _ _ (c .before .before .judge .ensures) (c .enum-told .given .1)
 
 pub is-sound-spec : {M : Type 1} → statement M
 is-sound-spec =
     tie.close
-    (tie.spec slice-aggregate-judge judge-requires enum-told enum-told-2 returns returns-2)
+    (tie.spec judge-requires enum-told enum-told-2 returns returns-2)

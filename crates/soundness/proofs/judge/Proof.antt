@@ -5,7 +5,7 @@ use Rattle.soundness.proofs.judge.Statement.{statement}
 use Rattle.soundness.proofs.judge.Tie as tie
 
 check-tree-requires : tie.Need-check-tree-requires
-check-tree-requires c κs = let w = whole-long _ (c .before .before .before .pre .0) in (w .0, c .before .before .before .pre .1)
+check-tree-requires c κs = let w = whole-long _ (c .before .before .pre) in w
 
 enum-known-c : tie.Need-enum-known-c
 enum-known-c c = search needs
@@ -13,41 +13,26 @@ enum-known-c c = search needs
 enum-told : tie.Need-enum-told
 enum-told c = search needs
 
-same-length : tie.Need-same-length
-same-length c = search needs
-
 returns : tie.Need-returns
-returns c = judged-no-tree _ _ _ (c .before .before .before .before .check-tree .ensures) (c .enum-told .given .1)
+returns c = judged-no-tree _ _ _ (c .before .before .check-tree .ensures) (c .enum-told .given .1)
 
 u16-at-requires : tie.Need-u16-at-requires
-u16-at-requires c κs = let w = whole-long _ (c .before .before .before .before .before .before .before .before .before .pre .0) in omega (arith, w .0)
-
-same-length-2 : tie.Need-same-length-2
-same-length-2 c = search needs
+u16-at-requires c κs = let w = whole-long _ (c .before .before .before .before .before .before .pre) in omega (arith, w .0)
 
 returns-2 : tie.Need-returns-2
-returns-2 c = judged-settled-yes _ _ _ (c .before .before .before .before .before .before .before .before .before .before .check-tree .ensures) _ (c .before .before .before .before .before .before .c .given .1) (c .before .before .before .before .before .before .before .before .before .before .before .before .before .before .pre .0) _ (c .before .before .before .before .u16-at .ensures .0) (omega arith) (omega arith)
-
-same-length-3 : tie.Need-same-length-3
-same-length-3 c = search needs
+returns-2 c = judged-settled-yes _ _ _ (c .before .before .before .before .before .before .before .before .check-tree .ensures) _ (c .before .before .before .before .before .before .c .given .1) (c .before .before .before .before .before .before .before .before .before .before .before .pre) _ (c .before .before .before .before .u16-at .ensures .0) (omega arith) (omega arith)
 
 returns-3 : tie.Need-returns-3
-returns-3 c = judged-settled-no _ _ _ (c .before .before .before .before .before .before .before .before .before .before .check-tree .ensures) _ (c .before .before .before .before .before .before .c .given .1) (c .before .before .before .before .before .before .before .before .before .before .before .before .before .before .pre .0) _ (c .before .before .before .before .u16-at .ensures .0) (omega arith) (λ h. omega arith)
+returns-3 c = judged-settled-no _ _ _ (c .before .before .before .before .before .before .before .before .check-tree .ensures) _ (c .before .before .before .before .before .before .c .given .1) (c .before .before .before .before .before .before .before .before .before .before .before .pre) _ (c .before .before .before .before .u16-at .ensures .0) (omega arith) (λ h. omega arith)
 
 live-count-requires : tie.Need-live-count-requires
-live-count-requires c κs = count-it _ _ _ (c .before .before .before .before .before .before .before .before .check-tree .ensures) _ (c .before .before .before .before .c .given .1)
-
-same-length-4 : tie.Need-same-length-4
-same-length-4 c = search needs
+live-count-requires c κs = count-it _ _ _ (c .before .before .before .before .before .before .check-tree .ensures) _ (c .before .before .before .before .c .given .1)
 
 returns-4 : tie.Need-returns-4
-returns-4 c = judged-yes _ _ _ (c .before .before .before .before .before .before .before .before .before .before .check-tree .ensures) _ (c .before .before .before .before .before .before .c .given .1) (c .before .before .before .before .before .before .before .before .before .before .before .before .before .before .pre .0) _ (c .before .before .before .before .u16-at .ensures .0) _ (c .before .live-count .ensures) (omega arith)
-
-same-length-5 : tie.Need-same-length-5
-same-length-5 c = search needs
+returns-4 c = judged-yes _ _ _ (c .before .before .before .before .before .before .before .before .check-tree .ensures) _ (c .before .before .before .before .before .before .c .given .1) (c .before .before .before .before .before .before .before .before .before .before .before .pre) _ (c .before .before .before .before .u16-at .ensures .0) _ (c .before .live-count .ensures) (omega arith)
 
 returns-5 : tie.Need-returns-5
-returns-5 c = judged-no _ _ _ (c .before .before .before .before .before .before .before .before .before .before .check-tree .ensures) _ (c .before .before .before .before .before .before .c .given .1) (c .before .before .before .before .before .before .before .before .before .before .before .before .before .before .pre .0) _ (c .before .before .before .before .u16-at .ensures .0) _ (c .before .live-count .ensures) (λ h. omega arith)
+returns-5 c = judged-no _ _ _ (c .before .before .before .before .before .before .before .before .check-tree .ensures) _ (c .before .before .before .before .before .before .c .given .1) (c .before .before .before .before .before .before .before .before .before .before .before .pre) _ (c .before .before .before .before .u16-at .ensures .0) _ (c .before .live-count .ensures) (λ h. omega arith)
 
 pub judge-spec : {M : Type 1} → statement M
 judge-spec =
@@ -56,15 +41,10 @@ judge-spec =
     check-tree-requires
     enum-known-c
     enum-told
-    same-length
     returns
     u16-at-requires
-    same-length-2
     returns-2
-    same-length-3
     returns-3
     live-count-requires
-    same-length-4
     returns-4
-    same-length-5
     returns-5)

@@ -1,28 +1,34 @@
--- `all_zero` is `zeros` of the part. The invariant: what is left is all zero just when the whole part is.
+use borrow.Author.Needs.{needs}
+-- `all_zero` is `zeros` of the part. The invariant: the part is all zero just when the bytes read and those left are.
 -- Relies on Layout.
 use Prim.Native.Nat.{_-_}
-use mathlib.Core.Path.{_≡_, refl, sym, _∙_}
+use mathlib.Core.Path.{_≡_, refl}
+use mathlib.Core.Bool.{_&&_}
 use native.Mathlib.Omega.{arith}
+use lib.Dec.{eqb}
 use Rattle.image.specs.Bytes.{zeros}
 use Rattle.node.specs.Cut.{cut}
-use Rattle.tree_check.specs.Layout.{zeros-end, zeros-stop, zeros-on}
+use Rattle.tree_check.specs.Layout.{zeros-on, zeros-done}
 use Rattle.tree_check.proofs.all_zero.Statement.{statement}
 use Rattle.tree_check.proofs.all_zero.Tie as tie
+use Rattle.tree_check.proofs.all_zero.Reads as reads
+use Rattle.tree_check.proofs.all_zero.Lts as lts
+use Rattle.tree_check.proofs.larger.Reads as larger-reads
 
 abbrev Inv-loop : tie.InvT-loop
-Inv-loop s from end i₀ i = zeros (cut s i end) ≡ zeros (cut s from end)
+Inv-loop s from end i₀ most₀ i most = (eqb most 0 && zeros (cut s i end)) ≡ zeros (cut s from end)
 
 abbrev μ-loop : tie.MeasureT-loop
-μ-loop s from end i₀ i = end - i
+μ-loop s from end i₀ most₀ i most = end - i
 
 loop-holds : tie.Need-loop-holds Inv-loop μ-loop
 loop-holds c = refl
 
-shared-slice-read-if1 : tie.Need-shared-slice-read-if1 Inv-loop μ-loop
-shared-slice-read-if1 c = omega arith
+shared-slice-read-larger : tie.Need-shared-slice-read-larger Inv-loop μ-loop
+shared-slice-read-larger c = omega arith
 
-returns : tie.Need-returns Inv-loop μ-loop
-returns c = zeros-stop (c .before .before .before .before .args .s .now) (c .before .before .before .loop .i) (c .before .before .before .before .args .end) _ (omega arith) (omega arith) (λ h. omega arith) (c .before .before .before .loop .inv)
+larger-requires : tie.Need-larger-requires Inv-loop μ-loop
+larger-requires c κs = search needs
 
 add-i : tie.Need-add-i Inv-loop μ-loop
 add-i c = omega arith
@@ -31,10 +37,10 @@ loop-less : tie.Need-loop-less Inv-loop μ-loop
 loop-less c = omega arith
 
 loop-again : tie.Need-loop-again Inv-loop μ-loop
-loop-again c = zeros-on (c .before .before .before .before .args .s .now) (c .before .before .before .loop .i) (c .before .before .before .before .args .end) _ (omega arith) (omega arith) (omega arith) (c .before .before .before .loop .inv)
+loop-again c = zeros-on (c .before .before .before .before .before .args .s .now) (c .before .before .before .loop .i) (c .before .before .before .before .before .args .end) _ (eqb (c .before .before .before .loop .most) 0) (eqb (c .larger .result) 0) (omega arith) (omega arith) (c .larger .ensures) (c .before .before .before .loop .inv)
 
-returns-2 : tie.Need-returns-2 Inv-loop μ-loop
-returns-2 c = sym (zeros-end (c .before .before .args .s .now) (c .before .loop .i) (c .before .before .args .end) (omega arith)) ∙ c .before .loop .inv
+returns : tie.Need-returns Inv-loop μ-loop
+returns c = zeros-done (c .before .before .before .args .s .now) (c .before .loop .i) (c .before .before .before .args .end) _ (eqb (c .before .loop .most) 0) (omega arith) (c .before .loop .inv)
 
 pub all-zero-spec : {M : Type 1} → statement M
 all-zero-spec =
@@ -43,9 +49,9 @@ all-zero-spec =
     Inv-loop
     μ-loop
     loop-holds
-    shared-slice-read-if1
-    returns
+    shared-slice-read-larger
+    larger-requires
     add-i
     loop-less
     loop-again
-    returns-2)
+    returns)

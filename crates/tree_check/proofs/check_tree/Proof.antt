@@ -2,6 +2,8 @@
 -- Relies on RootSteps.
 use borrow.Author.Tests.{not-true, not-false}
 use lib.ListN.{length}
+use mathlib.Core.Path.{_≡_}
+use native.Mathlib.Omega.{arith}
 use Rattle.tree_check.specs.RootSteps.{bad-head, from-root}
 use borrow.Author.Needs.{needs}
 use Rattle.tree_check.proofs.check_tree.Statement.{statement}
@@ -37,11 +39,10 @@ slice-aggregate-check-node c = search needs
 check-node-requires : tie.Need-check-node-requires
 check-node-requires c κs = search needs
 
-same-length : tie.Need-same-length
-same-length c = search needs
-
 returns-2 : tie.Need-returns-2
-returns-2 c = from-root (c .before .before .before .before .before .before .before .before .before .before .before .before .before .before .before .before .args .store .now) (c .before .before .before .before .before .before .before .before .before .before .before .before .before .before .before .before .pre .0) _ (c .before .before .before .before .before .before .before .before .before .before .before .before .before .header-good .ensures) (not-false _ (c .before .before .before .before .before .before .before .before .before .before .before .before .if1 .left)) (length (c .before .before .before .before .before .before .before .before .before .before .before .before .before .before .before .before .args .seen .now)) (c .before .before .before .before .before .before .before .before .before .before .before .before .before .before .before .before .pre .1) _ (c .before .before .before .before .before .before .before .before .before .before .clear .ensures) _ _ (c .before .before .before .before .before .before .before .u16-at .ensures .0) (c .before .before .before .before .before .before .u16-at2 .ensures .0) _ _ (c .before .before .check-node .ensures)
+returns-2 c =
+    let h : length (c .before .before .before .before .before .before .before .before .before .before .before .args .seen .now) ≡ 1024 = search needs in
+    from-root (c .before .before .before .before .before .before .before .before .before .before .before .args .store .now) (c .before .before .before .before .before .before .before .before .before .before .before .pre .0) _ (c .before .before .before .before .before .before .before .before .before .header-good .ensures) (not-false _ (c .before .before .before .before .before .before .before .before .if1 .left)) (length (c .before .before .before .before .before .before .before .before .before .before .before .args .seen .now)) (omega (arith, c .before .before .before .before .before .before .before .before .before .before .before .pre .1)) _ (c .before .before .before .before .before .before .clear .ensures) _ _ (c .before .before .before .before .before .u16-at .ensures .0) (c .before .before .before .before .u16-at2 .ensures .0) _ _ (c .check-node .ensures)
 
 pub check-tree-spec : {M : Type 1} → statement M
 check-tree-spec =
@@ -57,5 +58,4 @@ check-tree-spec =
     part-check-node-end
     slice-aggregate-check-node
     check-node-requires
-    same-length
     returns-2)

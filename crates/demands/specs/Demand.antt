@@ -1,0 +1,134 @@
+-- Demand 3, from the contracts of the calls: for every list of calls on a store just made, the answers are the plain map's, and the image
+-- at the end means what the map then holds.
+use Prim.Native.Nat.{ℕ, zero, suc, _+_, _*_, _≤_}
+use mathlib.Core.Path.{_≡_, refl, sym, ap, _∙_}
+use mathlib.Core.List.{List, [], _∷_}
+use mathlib.Core.Bool.{Bool, true, false}
+use lib.ListN.{length}
+use Rattle.image.specs.Table.{Row, find}
+use Rattle.image.specs.Image.{nodesOf, wholeNodes, headerOf}
+use Rattle.image.specs.Sound.{sound, tableOf, valueIn}
+use Rattle.image.specs.Calls.{Call, acts, keeps, asks, Upkeep, move, Answer, numberOf, refused, Question, ask, firstNo, workLong, questions, answerAt, tableAt, tableAfter}
+use Rattle.laws.specs.LookupTable.{means-table}
+use Rattle.image.specs.Upkeep.{changed}
+use Rattle.image.specs.PlainMap.{plainFirstNo, reported, tableOn, answersOn}
+use Rattle.image.specs.Contract.{nodeQuestions, firstNoOn, Besides, Bounded, MoveKeeps, Meets, Made, Run, stop, call}
+
+-- the answers of a run that the demand speaks of
+unfoldable pub reportedOf : List Call → List Answer → List Answer
+reportedOf [] later = []
+reportedOf (c ∷ cs) [] = []
+reportedOf (c ∷ cs) (a ∷ later) = reported c a (reportedOf cs later)
+
+-- a store that goes with the plain map of n nodes and the table t
+pub record Represents (n : ℕ) (t : List Row) (s : List ℕ) : Type 0 where
+  pub whole : wholeNodes (length s) ≡ true
+  pub is-sound : sound s ≡ true
+  pub nodes : nodesOf (length s) ≡ n
+  pub table : tableOf s ≡ t
+
+skip : (b : Bool) (qs : List Question) → firstNo (ask 1 b ∷ ask 2 true ∷ qs) ≡ firstNo (ask 1 b ∷ qs)
+unfolding firstNo
+skip true qs = refl
+skip false qs = refl
+
+-- the store's questions are the plain map's
+same-no : (n : ℕ) (t : List Row) (s : List ℕ) (c : Call) → Represents n t s → nodeQuestions c s ≡ [] → firstNoOn s c ≡ plainFirstNo n c t
+unfolding firstNoOn plainFirstNo
+same-no n t s c g e =
+    rw (g .whole, g .is-sound, e, g .nodes, g .table) (skip (workLong n c) (questions n c t))
+
+-- a flush or heal leaves the table, whatever its number
+table-kept : (k : ℕ) (u : Upkeep) (i : ℕ) (work : List ℕ) (t : List Row) → tableAt k (keeps u i work) t ≡ t
+unfolding tableAt tableAfter
+table-kept zero u i work t = refl
+table-kept (suc k) u i work t = refl
+
+module _ (n : ℕ) (t : List Row) (s : List ℕ) (g : Represents n t s) where
+  -- where no node is asked for, number, table and answer are the plain map's
+  no-node-table : (c : Call) {a : Answer} {s′ w′ : List ℕ} → Meets s c a s′ w′ → nodeQuestions c s ≡ [] → tableOf s′ ≡ tableAt (plainFirstNo n c t) c t
+  no-node-table c m e = m .table ∙ rw (same-no n t s c g e, g .table)
+
+  no-node-answer : (c : Call) {a : Answer} {s′ w′ : List ℕ} → Meets s c a s′ w′ → nodeQuestions c s ≡ [] → a ≡ answerAt (plainFirstNo n c t) c t
+  no-node-answer c m e = m .answer ∙ rw (same-no n t s c g e, g .table)
+
+  -- what a call leaves goes with what the plain map then holds
+  table-goes : (c : Call) {a : Answer} {s′ w′ : List ℕ} → Meets s c a s′ w′ → tableOf s′ ≡ tableAt (plainFirstNo n c t) c t
+  unfolding nodeQuestions
+  table-goes (acts x work) m = no-node-table (acts x work) m refl
+  table-goes (keeps u i work) m = m .table ∙ table-kept _ u i work (tableOf s) ∙ g .table ∙ sym (table-kept _ u i work t)
+  table-goes (asks q buffer) m = no-node-table (asks q buffer) m refl
+
+  answer-goes : (c : Call) {a : Answer} {s′ w′ : List ℕ} (later : List Answer) → Meets s c a s′ w′
+      → reported c a later ≡ reported c (answerAt (plainFirstNo n c t) c t) later
+  unfolding nodeQuestions reported
+  answer-goes (acts x work) later m = ap (λ b. b ∷ later) (no-node-answer (acts x work) m refl)
+  answer-goes (keeps u i work) later m = refl
+  answer-goes (asks q buffer) later m = ap (λ b. b ∷ later) (no-node-answer (asks q buffer) m refl)
+
+  stays-sound : (c : Call) {a : Answer} {s′ w′ : List ℕ} → Meets s c a s′ w′ → sound s′ ≡ true
+  stays-sound c {a} {s′} {w′} m = by-number (firstNoOn s c) refl
+    where
+      by-number : (k : ℕ) → firstNoOn s c ≡ k → sound s′ ≡ true
+      by-number zero e = m .leaves e
+      by-number (suc k) e = rw (m .stays k e) (g .is-sound)
+
+  goes-on : (c : Call) {a : Answer} {s′ w′ : List ℕ} → Meets s c a s′ w′ → Represents n (tableAt (plainFirstNo n c t) c t) s′
+  goes-on c m =
+      record {
+        whole = rw (m .size) (g .whole);
+        is-sound = stays-sound c m;
+        nodes = rw (m .size) (g .nodes);
+        table = table-goes c m;
+      }
+
+-- the answers of a run, and the store that it leaves
+pub run-answers : (n : ℕ) (t : List Row) {s s′ : List ℕ} {cs : List Call} {later : List Answer}
+    → Represents n t s → Run s cs later s′ → reportedOf cs later ≡ answersOn n cs t
+unfolding reportedOf answersOn
+run-answers n t g stop = refl
+run-answers n t {s} g (call {c = c} {a = a} {cs = cs} {later = later} m r) =
+    ap (λ l. reported c a l) (run-answers n (tableAt (plainFirstNo n c t) c t) (goes-on n t s g c m) r)
+    ∙ answer-goes n t s g c (answersOn n cs (tableAt (plainFirstNo n c t) c t)) m
+
+pub run-goes : (n : ℕ) (t : List Row) {s s′ : List ℕ} {cs : List Call} {later : List Answer}
+    → Represents n t s → Run s cs later s′ → Represents n (tableOn n cs t) s′
+unfolding tableOn
+run-goes n t g stop = g
+run-goes n t {s} g (call {c = c} m r) = run-goes n (tableAt (plainFirstNo n c t) c t) (goes-on n t s g c m) r
+
+-- a list of calls agrees with the plain map
+pub record Agrees (n : ℕ) (cs : List Call) (given : List Answer) (s′ : List ℕ) : Type 0 where
+  pub answers : reportedOf cs given ≡ answersOn n cs []
+  pub image : (p : List ℕ) → valueIn s′ p ≡ find p (tableOn n cs [])
+
+agrees : {s s′ : List ℕ} {cs : List Call} {given : List Answer} → Made s → Run s cs given s′ → Agrees (nodesOf (length s)) cs given s′
+agrees {s} {s′} {cs} made r =
+    let g : Represents (nodesOf (length s)) [] s = record { whole = made .whole; is-sound = made .is-sound; nodes = refl; table = made .empty } in
+    let g′ : Represents (nodesOf (length s)) (tableOn (nodesOf (length s)) cs []) s′ = run-goes (nodesOf (length s)) [] g r in
+    record {
+      answers = run-answers (nodesOf (length s)) [] g r;
+      image = λ p. means-table s′ (g′ .is-sound) p ∙ ap (λ t. find p t) (g′ .table);
+    }
+
+-- an answer with the number 0 is that of an accepted call
+zero-is-accepted : (k : ℕ) (c : Call) (t : List Row) → numberOf (answerAt k c t) ≡ 0 → k ≡ 0
+unfolding answerAt numberOf refused
+zero-is-accepted zero c t e = refl
+zero-is-accepted (suc k) (acts a work) t e = e
+zero-is-accepted (suc k) (keeps u i work) t e = e
+zero-is-accepted (suc k) (asks q buffer) t e = e
+
+move-keeps : {s s′ w′ from to work : List ℕ} {a : Answer} → Meets s (acts (move from to) work) a s′ w′ → numberOf a ≡ 0 → MoveKeeps s s′ from to
+unfolding Besides
+move-keeps {s} {from = from} {to = to} {work = work} m e =
+    m .also (zero-is-accepted (firstNoOn s (acts (move from to) work)) (acts (move from to) work) (tableOf s) (ap numberOf (sym (m .answer)) ∙ e))
+
+-- Demand 3, whole.
+pub record Demand : Type 0 where
+  pub lists : {s s′ : List ℕ} {cs : List Call} {given : List Answer} → Made s → Run s cs given s′ → Agrees (nodesOf (length s)) cs given s′
+  pub moves : {s s′ w′ from to work : List ℕ} {a : Answer} → Meets s (acts (move from to) work) a s′ w′ → numberOf a ≡ 0
+      → Bounded s → changed (nodesOf (length s)) s s′ ≤ 16 * headerOf s .levels + 8
+
+pub demand : Demand
+demand = record { lists = agrees; moves = λ m e. move-keeps m e .few }

@@ -1,0 +1,42 @@
+-- Document 01: "A listing holds its place, the last path given. The place is lent to each step, which moves it on. A refused step does not
+-- change it." The definitions that the listing's contracts cite. Relies on: the questions and answers of next.
+use Prim.Native.Nat.{ℕ, zero, suc}
+use mathlib.Core.Path.{_≡_}
+use mathlib.Core.List.{List, [], _∷_}
+use mathlib.Core.Bool.{true, cond}
+use mathlib.Core.Option.{Option, some}
+use lib.ListN.{take, replicate}
+use lib.Dec.{leb}
+use Rattle.image.specs.Bytes.{before}
+use Rattle.image.specs.Path.{pathLimit}
+use Rattle.image.specs.Table.{Row, leastAfter}
+use Rattle.image.specs.Sound.{tableOf}
+use Rattle.image.specs.Calls.{asks, next}
+use Rattle.image.specs.Contract.{firstNoOn}
+use Rattle.image.specs.declared.Listing.{Listing}
+
+-- The path at a place: its first len bytes, the empty string before the first step. A length over 64 is of no path; such a place gets
+-- what next answers to a malformed one, here the single byte 00.
+unfoldable pub lastPath : Listing → List ℕ
+lastPath p = cond (leb (p .len) pathLimit) (take (p .len) (p .last)) (0 ∷ [])
+
+-- a buffer that is long enough for any path, so that question 5 is a yes
+unfoldable pub blank : List ℕ
+blank = replicate 64 0
+
+-- the number that a step answers: that of next with the place's path as its second
+unfoldable pub stepNo : List ℕ → List ℕ → Listing → ℕ
+stepNo s below p = firstNoOn s (asks (next below (lastPath p)) blank)
+
+-- the path at the place after a step of which k is the first no
+unfoldable pub pathAt : ℕ → List ℕ → List ℕ → List Row → Option (List ℕ)
+pathAt zero below q t = leastAfter below q t
+pathAt (suc k) below q t = some q
+
+-- The contract of a step on the store s, with its place p before and p′ after. Left free: the bytes of an accepted step's place behind
+-- its path.
+pub record Steps (s below : List ℕ) (p : Listing) (number : ℕ) (p′ : Listing) : Type 0 where
+  pub answer : number ≡ stepNo s below p
+  pub path : some (lastPath p′) ≡ pathAt (stepNo s below p) below (lastPath p) (tableOf s)
+  pub rises : stepNo s below p ≡ 0 → before (lastPath p) (lastPath p′) ≡ true
+  pub stays : (k : ℕ) → stepNo s below p ≡ suc k → p′ ≡ p

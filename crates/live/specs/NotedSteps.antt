@@ -1,0 +1,280 @@
+-- Step lemmas of the count of a leaf by notes, and that the tree stays sound on the way down.
+-- Relies on the definitions of Noted, on the contracts of notes, and on the laws of sound trees (laws: LookupTable; reading: SeekHere).
+use Prim.Native.Nat.{ℕ, zero, suc, _+_, _-_, _*_, _<_, _≤_}
+use mathlib.Core.Path.{_≡_, refl, sym, ap, ap₂, subst, _∙_}
+use mathlib.Core.List.{List, [], _∷_, _++_, append-assoc}
+use mathlib.Core.Bool.{Bool, true, false, _&&_, not, cond, false≢true, and-true}
+use mathlib.Core.Option.{Option, none, some}
+use native.Mathlib.Omega.{arith}
+use lib.ListN.{length, take, drop, getD}
+use lib.Seq.{drop-append-le}
+use Rattle.image.specs.Bytes.{u16, before, shared}
+use Rattle.image.specs.Path.{wellFormed, owns}
+use Rattle.image.specs.Entry as defined
+use Rattle.image.specs.Table.{Row, everyKey, underPrefix}
+use Rattle.image.specs.Image.{Tree, leaf, interior, Forest, tree, Kid, nodesOf, pairThen, pairsOf, forestOf, treeAt, treeOf}
+use Rattle.image.specs.Meaning.{Said, nothing, says, newer, highOf}
+use Rattle.image.specs.Sound.{soundTree, soundForest, lowest, highest}
+use Rattle.octets.specs.Beginnings.{shared-left, shared-right}
+use Rattle.octets.specs.Order.{and-left, and-right, before-append, shared-append, begins-split}
+use Rattle.laws.specs.Rising.{both}
+use Rattle.laws.specs.LookupTable.{parts, inner}
+use Rattle.laws.specs.Filter.{Rowed, leaf-rowed}
+use Rattle.reading.specs.Relative.{lifts, usable}
+use Rattle.node.specs.Cut.{cut, cut-drop}
+use Rattle.node.specs.Places.{part}
+use Rattle.node.specs.Entries.{listed}
+use Rattle.node.specs.declared.Place.{Place}
+use Rattle.node.specs.declared.Cursor.{Cursor}
+use Rattle.search.specs.Hear.{newestE, saysE, speaks}
+use Rattle.search.specs.Own.{kid, kidsE}
+use Rattle.lookup.specs.Look.{listing, leaf-at, interior-at, inside-splits, part-rest}
+use Rattle.notes.specs.Notes as notes
+use Rattle.live.specs.Live.{holdsNoMessage, one, short}
+use Rattle.live.specs.Walk.{passes, passing, TrailIn, decides, countE, NextChild}
+use Rattle.live.specs.Noted.{quietAbove, quietTrail, keyed, SoundNode, SoundKids}
+use Rattle.live.specs.Steps.{as-path}
+use Rattle.live.specs.PathBuffers.{pathIn}
+use Rattle.live.specs.WalkLaws.{shared-take}
+use Rattle.live.specs.declared.path_buffer.PathBuffer.{PathBuffer}
+use Rattle.live.specs.declared.Trail.{Trail}
+
+-- messages that say nothing are silent one by one
+no-newer : (a b : Said) → holdsNoMessage (newer a b) ≡ not (speaks a) && holdsNoMessage b
+unfolding holdsNoMessage newer speaks
+no-newer nothing nothing = refl
+no-newer nothing (says v) = refl
+no-newer (says u) nothing = refl
+no-newer (says u) (says v) = refl
+
+silent-all : (es : List defined.Entry) (r : List ℕ) → holdsNoMessage (newestE es r) ≡ notes.areSilent es r
+unfolding newestE notes.areSilent
+silent-all [] r = unfold holdsNoMessage in refl
+silent-all (e ∷ es) r = no-newer (saysE e r) (newestE es r) ∙ ap (λ x. not (speaks (saysE e r)) && x) (silent-all es r)
+
+and-assoc : (a b c : Bool) → (a && b) && c ≡ a && (b && c)
+and-assoc true b c = refl
+and-assoc false b c = refl
+
+-- a path under the prefix passes the trail if it is short and nothing above is on its key
+pub passes-quiet : (s nodes ls X : List ℕ) (d : ℕ) (k : List ℕ) → ((i : ℕ) → i < d → getD ls i 0 ≤ length X)
+    → passes s nodes ls d (X ++ k) ≡ short (X ++ k) && quietAbove s nodes ls X d k
+unfolding passes quietAbove
+passes-quiet s nodes ls X zero k h = sym (and-true (short (X ++ k)))
+passes-quiet s nodes ls X (suc d) k h =
+    ap₂ (λ a b. a && b) (passes-quiet s nodes ls X d k (λ i l. h i (omega arith)))
+    (ap (λ r. holdsNoMessage (newestE (listing s (getD nodes d 0)) r)) (drop-append-le (getD ls d 0) X k (h d (omega arith)))
+    ∙ silent-all (listing s (getD nodes d 0)) (drop (getD ls d 0) X ++ k))
+    ∙ and-assoc (short (X ++ k)) (quietAbove s nodes ls X d k) (notes.areSilent (listing s (getD nodes d 0)) (drop (getD ls d 0) X ++ k))
+
+above-step : (s nodes ls X k : List ℕ) (d : ℕ) → 0 < d → quietAbove s nodes ls X d k
+    ≡ quietAbove s nodes ls X (d - 1) k && notes.areSilent (listing s (getD nodes (d - 1) 0)) (drop (getD ls (d - 1) 0) X ++ k)
+unfolding quietAbove
+above-step s nodes ls X k zero h = absurd (omega arith)
+above-step s nodes ls X k (suc d) h = let z : suc d - 1 ≡ d = omega arith in rw z
+
+-- the loop over the trail
+pub record Trailing (s lo hi nodes ls X : List ℕ) (d₀ : ℕ) (ns : List ℕ) (n d : ℕ) : Type 0 where
+  pub few : n ≤ 64
+  pub fits : notes.NotesFit s ns n
+  pub tells : (k : List ℕ) → owns lo hi k ≡ true → notes.quiet s ns n k && quietAbove s nodes ls X d k ≡ quietAbove s nodes ls X d₀ k
+
+module _ (s lo hi nodes ls X : List ℕ) (d₀ : ℕ) where
+  pub trailing-start : (ns : List ℕ) → Trailing s lo hi nodes ls X d₀ ns 0 d₀
+  unfolding notes.quiet
+  trailing-start ns = record { few = omega arith; fits = λ i l. absurd (omega arith); tells = λ k o. refl }
+
+  module _ (ns : List ℕ) (n d : ℕ) (inv : Trailing s lo hi nodes ls X d₀ ns n d) where
+    pub trailing-end : d ≤ 0 → (ms : List ℕ) → notes.Gathered s lo hi (λ k. quietAbove s nodes ls X d₀ k) ms 0 ns n
+    unfolding notes.quiet quietAbove
+    trailing-end l ms =
+        let z : d ≡ 0 = omega arith in
+        record {
+          few = let a = inv .few in omega arith;
+          fits = λ m. inv .fits;
+          tells = λ m k o. sym (and-true (notes.quiet s ns n k)) ∙ sym (ap (λ e. notes.quiet s ns n k && quietAbove s nodes ls X e k) z) ∙ inv .tells k o;
+        }
+
+    pub trailing-full : (ms after : List ℕ) → notes.Gathered s lo hi (λ k. quietAbove s nodes ls X d₀ k) ms 0 after 65
+    trailing-full ms after = record { few = omega arith; fits = λ m. absurd (omega arith); tells = λ m. absurd (omega arith) }
+
+    moved : (q a b : Bool) → (q && b) && a ≡ q && (a && b)
+    moved true true b = and-true b
+    moved true false true = refl
+    moved true false false = refl
+    moved false a b = refl
+
+    pub trailing-on : (len : ℕ) (w after : List ℕ) (r : ℕ) → 0 < d → len ≡ u16 s (getD nodes (d - 1) 0 * 1024) → w ≡ drop (getD ls (d - 1) 0) X
+        → notes.Gathered s lo hi (λ k. notes.areSilent (listed s (getD nodes (d - 1) 0 * 1024 + 8) (getD nodes (d - 1) 0 * 1024 + 8 + len)) (w ++ k)) ns n after r
+        → r ≤ 64 → Trailing s lo hi nodes ls X d₀ after r (d - 1)
+    trailing-on len w after r h el ew g l =
+        record {
+          few = l;
+          fits = g .fits l;
+          tells = λ k o.
+              ap (λ x. x && quietAbove s nodes ls X (d - 1) k) (g .tells l k o ∙ here k)
+              ∙ moved (notes.quiet s ns n k) (quietAbove s nodes ls X (d - 1) k) (notes.areSilent (listing s (getD nodes (d - 1) 0)) (drop (getD ls (d - 1) 0) X ++ k))
+              ∙ ap (λ x. notes.quiet s ns n k && x) (sym (above-step s nodes ls X k d h))
+              ∙ inv .tells k o;
+        }
+      where
+        here : (k : List ℕ) → notes.quiet s ns n k && notes.areSilent (listed s (getD nodes (d - 1) 0 * 1024 + 8) (getD nodes (d - 1) 0 * 1024 + 8 + len)) (w ++ k)
+            ≡ notes.quiet s ns n k && notes.areSilent (listing s (getD nodes (d - 1) 0)) (drop (getD ls (d - 1) 0) X ++ k)
+        here k =
+            ap₂ (λ e v. notes.quiet s ns n k && notes.areSilent (listed s (getD nodes (d - 1) 0 * 1024 + 8) (getD nodes (d - 1) 0 * 1024 + 8 + e)) (v ++ k)) el ew
+
+-- the prefix without its first bytes, as a part is made
+pub prefix-rest : (p : PathBuffer) (k : ℕ) → k ≤ p .len → take (p .len - k) (drop k (p .bytes)) ≡ drop k (pathIn p)
+prefix-rest p k h =
+    let z : 0 + k ≡ k = omega arith in
+    ap (λ i. take (p .len - i) (drop i (p .bytes))) (sym z) ∙ sym (cut-drop (p .bytes) 0 (p .len) k (omega arith)) ∙ ap (λ l. drop k l) (as-path p (p .len) (p .bytes) refl refl)
+
+-- THE COUNT OF A LEAF
+same-one : (b : Bool) → notes.one b ≡ one b
+unfolding notes.one one
+same-one true = refl
+same-one false = refl
+
+pub quiet-count : (X lo hi : List ℕ) (ok test : List ℕ → Bool) (es : List defined.Entry) → keyed X lo hi es ≡ true
+    → ((k : List ℕ) → owns lo hi k ≡ true → ok (X ++ k) ≡ short (X ++ k) && test k) → notes.countQuiet test es ≡ countE ok X es
+unfolding keyed notes.countQuiet countE decides
+quiet-count X lo hi ok test [] h f = refl
+quiet-count X lo hi ok test (defined.pair k v ∷ es) h f =
+    let a : owns lo hi k && short (X ++ k) ≡ true = and-left _ _ h in
+    let b : ok (X ++ k) ≡ test k = f k (and-left _ _ a) ∙ ap (λ x. x && test k) (and-right (owns lo hi k) _ a) in
+    ap₂ (λ x y. x + y) (same-one (test k) ∙ ap one (sym b)) (quiet-count X lo hi ok test es (and-right (owns lo hi k && short (X ++ k)) _ h) f)
+quiet-count X lo hi ok test (defined.child i k ∷ es) h f = absurd (false≢true h)
+quiet-count X lo hi ok test (defined.message m ∷ es) h f = absurd (false≢true h)
+
+module _ (s : List ℕ) (p : PathBuffer) (t : Trail) (lo hi : List ℕ) (es : List defined.Entry) where
+  pub leaf-counted : (ms ns : List ℕ) (n r : ℕ) → keyed (pathIn p) lo hi es ≡ true → TrailIn s (length (pathIn p)) t
+      → notes.Gathered s lo hi (λ k. quietTrail s t (pathIn p) k) ms 0 ns n → n ≤ 64
+      → r ≡ notes.countQuiet (λ k. notes.quiet s ns n k) es → r ≡ countE (passing s t) (pathIn p) es
+  leaf-counted ms ns n r h f g l e =
+      e ∙ quiet-count (pathIn p) lo hi (passing s t) (λ k. notes.quiet s ns n k) es h
+      (λ k o. passes-quiet s (t .nodes) (t .lifts) (pathIn p) (t .depth) k (λ i m. f .each i m .lifted)
+      ∙ ap (λ x. short (pathIn p ++ k) && x) (sym (g .tells l k o ∙ first k)))
+    where
+      first : (k : List ℕ) → notes.quiet s ms 0 k && quietTrail s t (pathIn p) k ≡ quietTrail s t (pathIn p) k
+      first k = unfold notes.quiet in refl
+
+-- THE TREE IS SOUND ON THE WAY DOWN
+owns-under : (X lo hi k : List ℕ) → owns (X ++ lo) (X ++ hi) (X ++ k) ≡ owns lo hi k
+unfolding owns
+owns-under X lo hi k = rw (before-append X k lo, before-append X k hi)
+
+split-first : (X lo hi k v : List ℕ) (ts : List Row) → everyKey (owns (X ++ lo) (X ++ hi)) (underPrefix X (record { key = k; value = v } ∷ ts)) ≡ true
+    → everyKey wellFormed (underPrefix X (record { key = k; value = v } ∷ ts)) ≡ true
+    → (owns lo hi k ≡ true) × (short (X ++ k) ≡ true) × (everyKey (owns (X ++ lo) (X ++ hi)) (underPrefix X ts) ≡ true) × (everyKey wellFormed (underPrefix X ts) ≡ true)
+unfolding everyKey underPrefix wellFormed short
+split-first X lo hi k v ts o f =
+    (sym (owns-under X lo hi k) ∙ and-left _ _ o, and-left _ _ (and-left _ _ f), and-right (owns (X ++ lo) (X ++ hi) (X ++ k)) _ o, and-right (wellFormed (X ++ k)) _ f)
+
+pairs-keyed : (X lo hi : List ℕ) (es : List defined.Entry) (rs : List Row) → pairsOf es ≡ some rs → everyKey (owns (X ++ lo) (X ++ hi)) (underPrefix X rs) ≡ true
+    → everyKey wellFormed (underPrefix X rs) ≡ true → keyed X lo hi es ≡ true
+unfolding pairsOf keyed
+pairs-keyed X lo hi [] rs h o f = refl
+pairs-keyed X lo hi (defined.pair k v ∷ es) rs h o f = go (pairsOf es) refl (pairs-keyed X lo hi es)
+  where
+    go : (x : Option (List Row)) → pairsOf es ≡ x
+        → ((ts : List Row) → pairsOf es ≡ some ts → everyKey (owns (X ++ lo) (X ++ hi)) (underPrefix X ts) ≡ true → everyKey wellFormed (underPrefix X ts) ≡ true → keyed X lo hi es ≡ true)
+        → owns lo hi k && short (X ++ k) && keyed X lo hi es ≡ true
+    go none e ih = let q : none ≡ some rs = unfold pairThen in rw e at h in let z : _≡_ {A = ℕ} 0 1 = cc in absurd (omega arith)
+    go (some ts) e ih =
+        let q : some (record { key = k; value = v } ∷ ts) ≡ some rs = unfold pairThen in rw e at h in
+        let p : rs ≡ record { key = k; value = v } ∷ ts = cc in
+        let a = first-key p in
+        both (both (a .0) (a .1)) (ih ts e (a .2) (a .3))
+      where
+        first-key : rs ≡ record { key = k; value = v } ∷ ts
+            → (owns lo hi k ≡ true) × (short (X ++ k) ≡ true) × (everyKey (owns (X ++ lo) (X ++ hi)) (underPrefix X ts) ≡ true) × (everyKey wellFormed (underPrefix X ts) ≡ true)
+        first-key p = split-first X lo hi k v ts (rw p at o) (rw p at f)
+pairs-keyed X lo hi (defined.child i k ∷ es) rs h o f = let q : none ≡ some rs = unfold pairThen in h in let z : _≡_ {A = ℕ} 0 1 = cc in absurd (omega arith)
+pairs-keyed X lo hi (defined.message m ∷ es) rs h o f = let q : none ≡ some rs = unfold pairThen in h in let z : _≡_ {A = ℕ} 0 1 = cc in absurd (omega arith)
+
+-- the pivots in full, and what the node lifts of them
+module _ (p : PathBuffer) (lo hi : List ℕ) (k : ℕ) (ek : k ≡ length (shared lo hi)) (here : PathBuffer) (eh : pathIn here ≡ pathIn p ++ take (k - 0) (drop 0 lo)) where
+  here-is : pathIn here ≡ pathIn p ++ shared lo hi
+  here-is =
+      let z : k - 0 ≡ length (shared lo hi) = omega arith in
+      eh ∙ ap (λ l. pathIn p ++ l) (ap (λ n. take n lo) z ∙ shared-take lo hi)
+
+  lifted-is : shared (pathIn p ++ lo) (pathIn p ++ hi) ≡ pathIn here
+  lifted-is = shared-append (pathIn p) lo hi ∙ sym here-is
+
+  low-is : pathIn p ++ lo ≡ pathIn here ++ drop k lo
+  low-is =
+      let a : shared lo hi ++ drop k lo ≡ lo = ap (λ n. shared lo hi ++ drop n lo) ek ∙ begins-split (shared lo hi) lo (shared-left lo hi) in
+      ap (λ l. pathIn p ++ l) (sym a) ∙ sym (append-assoc (pathIn p) (shared lo hi) (drop k lo)) ∙ ap (λ l. l ++ drop k lo) (sym here-is)
+
+  high-is : pathIn p ++ hi ≡ pathIn here ++ drop k hi
+  high-is =
+      let a : shared lo hi ++ drop k hi ≡ hi = ap (λ n. shared lo hi ++ drop n hi) ek ∙ begins-split (shared lo hi) hi (shared-right lo hi) in
+      ap (λ l. pathIn p ++ l) (sym a) ∙ sym (append-assoc (pathIn p) (shared lo hi) (drop k hi)) ∙ ap (λ l. l ++ drop k hi) (sym here-is)
+
+  module _ (s : List ℕ) (level num : ℕ) (u : usable (nodesOf (length s)) (treeAt level s num) ≡ true) (e : SoundNode s level num p lo hi)
+      (len : ℕ) (el : len ≡ u16 s (num * 1024)) where
+    -- the keys of a leaf are its own
+    pub leaf-keyed : level ≤ 1 → keyed (pathIn here) (take (length lo - k) (drop k lo)) (take (length hi - k) (drop k hi)) (listed s (num * 1024 + 8) (num * 1024 + 8 + len)) ≡ true
+    leaf-keyed l =
+        let n = leaf-at s num level l u in
+        let a : soundTree (leaf num (n .rs)) (pathIn p ++ lo) (pathIn p ++ hi) ≡ true = ap (λ t. soundTree t (pathIn p ++ lo) (pathIn p ++ hi)) (sym (n .tree)) ∙ e in
+        let r = leaf-rowed num (n .rs) (pathIn p ++ lo) (pathIn p ++ hi) a in
+        let o : everyKey (owns (pathIn here ++ drop k lo) (pathIn here ++ drop k hi)) (underPrefix (pathIn here) (n .rs)) ≡ true
+        = ap₂ (λ x y. everyKey (owns x y) (underPrefix (pathIn here) (n .rs))) (sym low-is) (sym high-is)
+        ∙ ap (λ x. everyKey (owns (pathIn p ++ lo) (pathIn p ++ hi)) (underPrefix x (n .rs))) (sym lifted-is) ∙ r .owned in
+        let f : everyKey wellFormed (underPrefix (pathIn here) (n .rs)) ≡ true = ap (λ x. everyKey wellFormed (underPrefix x (n .rs))) (sym lifted-is) ∙ r .formed in
+        let g : listed s (num * 1024 + 8) (num * 1024 + 8 + len) ≡ n .es = ap (λ m. listed s (num * 1024 + 8) (num * 1024 + 8 + m)) el ∙ n .node .lists in
+        ap (λ es. keyed (pathIn here) (take (length lo - k) (drop k lo)) (take (length hi - k) (drop k hi)) es) g
+        ∙ ap₂ (λ x y. keyed (pathIn here) x y (n .es)) (part-rest k lo) (part-rest k hi)
+        ∙ pairs-keyed (pathIn here) (drop k lo) (drop k hi) (n .es) (n .rs) (n .pairs) o f
+
+    -- the children of an interior node
+    pub kids-sound : 2 ≤ level → (first : ℕ) (pivot : Place) (next : Cursor) → NextChild s (num * 1024 + 8) (num * 1024 + 8 + len) first pivot next
+        → SoundKids s (level - 1) first pivot next here (take (length hi - k) (drop k hi))
+    kids-sound l first pivot next nc =
+        let n = interior-at s num level l u in
+        let q = inside-splits (n .es) (n .x) (n .splits) in
+        let a : soundTree (interior num (forestOf (λ j. treeAt (level - 1) s j) (n .x .kids)) (n .x .messages)) (pathIn p ++ lo) (pathIn p ++ hi) ≡ true
+        = ap (λ t. soundTree t (pathIn p ++ lo) (pathIn p ++ hi)) (sym (n .tree)) ∙ e in
+        let b = inner num (forestOf (λ j. treeAt (level - 1) s j) (n .x .kids)) (n .x .messages) (pathIn p ++ lo) (pathIn p ++ hi) a in
+        let g : listed s (num * 1024 + 8) (num * 1024 + 8 + len) ≡ n .es = ap (λ m. listed s (num * 1024 + 8) (num * 1024 + 8 + m)) el ∙ n .node .lists in
+        let c : kid first (part s pivot) ∷ kidsE (listed s (next .at) (next .end)) ≡ n .x .kids = sym (nc .lists) ∙ ap (λ es. kidsE es) g ∙ q .kids in
+        record {
+          low = pathIn p ++ lo;
+          sound =
+              ap (λ ks. soundForest (forestOf (λ j. treeAt (level - 1) s j) ks) (pathIn here) (pathIn p ++ lo) (pathIn here ++ take (length hi - k) (drop k hi))) c
+              ∙ ap (λ h. soundForest (forestOf (λ j. treeAt (level - 1) s j) (n .x .kids)) (pathIn here) (pathIn p ++ lo) (pathIn here ++ h)) (part-rest k hi)
+              ∙ ap₂ (λ x h. soundForest (forestOf (λ j. treeAt (level - 1) s j) (n .x .kids)) x (pathIn p ++ lo) h) (sym lifted-is) (sym high-is)
+              ∙ b .kids;
+        }
+
+-- the child in hand, the last one or with one after it, and those after it
+module _ (s : List ℕ) (level num : ℕ) (low : Place) (c : Cursor) (p : PathBuffer) (hi : List ℕ) (h : SoundKids s level num low c p hi) where
+  pub last-sound : kidsE (listed s (c .at) (c .end)) ≡ [] → SoundNode s level num p (part s low) hi
+  unfolding forestOf highOf
+  last-sound e =
+      let a : soundForest (forestOf (λ j. treeAt level s j) (kid num (part s low) ∷ [])) (pathIn p) (h .low) (pathIn p ++ hi) ≡ true
+      = ap (λ ks. soundForest (forestOf (λ j. treeAt level s j) (kid num (part s low) ∷ ks)) (pathIn p) (h .low) (pathIn p ++ hi)) (sym e) ∙ h .sound in
+      parts (part s low) (treeAt level s num) (forestOf (λ j. treeAt level s j) []) (pathIn p) (h .low) (pathIn p ++ hi) a .first
+
+  module _ (k : ℕ) (q : Place) (next : Cursor) (e : kidsE (listed s (c .at) (c .end)) ≡ kid k (part s q) ∷ kidsE (listed s (next .at) (next .end))) where
+    abbrev us : List Kid
+    us = kidsE (listed s (next .at) (next .end))
+
+    forest : soundForest (forestOf (λ j. treeAt level s j) (kid num (part s low) ∷ kid k (part s q) ∷ us)) (pathIn p) (h .low) (pathIn p ++ hi) ≡ true
+    forest = ap (λ ks. soundForest (forestOf (λ j. treeAt level s j) (kid num (part s low) ∷ ks)) (pathIn p) (h .low) (pathIn p ++ hi)) (sym e) ∙ h .sound
+
+    pub next-sound : SoundNode s level num p (part s low) (part s q)
+    unfolding forestOf highOf
+    next-sound = parts (part s low) (treeAt level s num) (forestOf (λ j. treeAt level s j) (kid k (part s q) ∷ us)) (pathIn p) (h .low) (pathIn p ++ hi) forest .first
+
+    pub later-sound : SoundKids s level k q next p hi
+    unfolding forestOf
+    later-sound = record { low = h .low; sound = parts (part s low) (treeAt level s num) (forestOf (λ j. treeAt level s j) (kid k (part s q) ∷ us)) (pathIn p) (h .low) (pathIn p ++ hi) forest .later }
+
+-- the root
+pub root-sound : (s : List ℕ) (levels root : ℕ) (p : PathBuffer) (lo : List ℕ) → soundTree (treeOf s) lowest highest ≡ true → treeAt levels s root ≡ treeOf s
+    → pathIn p ≡ [] → lo ≡ [] → SoundNode s levels root p lo highest
+root-sound s levels root p lo e t n l =
+    ap (λ x. soundTree x (pathIn p ++ lo) (pathIn p ++ highest)) t ∙ ap₂ (λ x y. soundTree (treeOf s) (x ++ y) (x ++ highest)) n l ∙ e

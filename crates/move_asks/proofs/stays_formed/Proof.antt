@@ -1,0 +1,37 @@
+use borrow.Author.Needs.{needs}
+use native.Mathlib.Omega.{arith}
+use Prim.Native.Nat.{ℕ, suc, _+_, _-_, _≤_, _<_}
+use mathlib.Core.Path.{_≡_, refl, sym, ap, _∙_}
+use mathlib.Core.List.{List, [], _∷_, _++_}
+use lib.ListN.{length, getD, take, drop}
+use Rattle.move_asks.specs.Walk.{nine-quick, nine-walk}
+use Rattle.move_asks.proofs.stays_formed.Statement.{statement}
+use Rattle.move_asks.proofs.stays_formed.Tie as tie
+use Rattle.move_asks.proofs.stays_formed.Reads as reads
+use Rattle.move_asks.proofs.stays_formed.Lts as lts
+use Rattle.move_asks.proofs.no_wider.Reads as no-wider-reads
+use Rattle.move_asks.proofs.rests_fit.Reads as rests-fit-reads
+use Rattle.path.proofs.feed.Reads as feed-reads
+
+feed-requires : tie.Need-feed-requires
+feed-requires c κs = search needs
+
+feed-requires-2 : tie.Need-feed-requires-2
+feed-requires-2 c κs = search needs
+
+no-wider-requires : tie.Need-no-wider-requires
+no-wider-requires c κs = search needs
+
+returns : tie.Need-returns
+returns c = search (needs, nine-quick)
+
+rests-fit-requires : tie.Need-rests-fit-requires
+rests-fit-requires c κs = search needs
+
+returns-2 : tie.Need-returns-2
+returns-2 c = search (needs, nine-walk)
+
+pub stays-formed-spec : {M : Type 1} → statement M
+stays-formed-spec =
+    tie.close
+    (tie.spec feed-requires feed-requires-2 no-wider-requires returns rests-fit-requires returns-2)

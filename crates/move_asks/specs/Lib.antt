@@ -1,0 +1,4 @@
+pub mod Judge
+pub mod Shorter
+pub mod Walk
+pub mod Below

@@ -1,0 +1,69 @@
+use borrow.Author.Needs.{needs}
+use native.Mathlib.Omega.{arith}
+use Prim.Native.Nat.{ℕ, suc, _+_, _-_, _≤_, _<_}
+use mathlib.Core.Path.{_≡_, refl, sym, ap, _∙_}
+use mathlib.Core.List.{List, [], _∷_, _++_}
+use lib.ListN.{length, getD, take, drop}
+use Rattle.move_ready.specs.Steps.{node-few, still-whole, ready-now, ready-rebuilt}
+use Rattle.move_ready.proofs.make_ready.Statement.{statement}
+use Rattle.move_ready.proofs.make_ready.Tie as tie
+use Rattle.move_ready.proofs.make_ready.Reads as reads
+use Rattle.move_ready.proofs.make_ready.Lts as lts
+use Rattle.move_ready.proofs.list_anew.Reads as list-anew-reads
+use Rattle.move_ready.proofs.may_swing.Reads as may-swing-reads
+use Rattle.octets.proofs.u16_at.Reads as u16-at-reads
+use Rattle.rebuild.proofs.rebuild.Reads as rebuild-reads
+use Rattle.spare.proofs.free_list.Reads as free-list-reads
+
+free-list-requires : tie.Need-free-list-requires
+free-list-requires c κs = let k = node-few (c .before .before .before .before .args .store .now) (c .before .before .before .before .pre .0 .whole) in (omega (arith, k .2), omega (arith, k .2))
+
+u16-at-requires : tie.Need-u16-at-requires
+u16-at-requires c κs = let k = node-few (c .before .before .before .before .before .before .before .before .args .store .now) (c .before .before .before .before .before .before .before .before .pre .0 .whole) in omega (arith, k .0)
+
+may-swing-requires : tie.Need-may-swing-requires
+may-swing-requires c κs = search needs
+
+same-length : tie.Need-same-length
+same-length c = search needs
+
+same-length-2 : tie.Need-same-length-2
+same-length-2 c = search needs
+
+returns : tie.Need-returns
+returns c = ready-now _ _ _ _ _ (c .before .before .before .before .before .before .before .before .before .before .before .pre .0) _ _ _ refl (c .before .before .before .before .before .before .free-list .ensures .0) (c .before .before .u16-at .ensures .0) _ (c .before .may-swing .ensures) (c .if1 .taken)
+
+rebuild-requires : tie.Need-rebuild-requires
+rebuild-requires c κs = search needs
+
+list-anew-requires : tie.Need-list-anew-requires
+list-anew-requires c κs = (still-whole _ _ _ _ (c .before .before .before .before .before .before .before .before .before .before .before .before .before .before .before .before .before .before .before .before .pre .0 .whole) (c .before .before .before .before .before .before .rebuild .ensures), c .before .before .before .before .before .before .rebuild .ensures .is-sound, search needs)
+
+same-length-3 : tie.Need-same-length-3
+same-length-3 c = search needs
+
+same-length-4 : tie.Need-same-length-4
+same-length-4 c = search needs
+
+same-length-5 : tie.Need-same-length-5
+same-length-5 c = search needs
+
+returns-2 : tie.Need-returns-2
+returns-2 c = ready-rebuilt _ _ _ _ _ (c .before .before .before .before .before .before .before .before .before .before .before .before .before .before .before .before .before .before .before .before .before .before .before .pre .0) _ _ _ refl (c .before .before .before .before .before .before .before .before .before .before .before .before .before .before .before .before .before .before .free-list .ensures .0) (c .before .before .before .before .before .before .before .before .before .before .before .before .before .before .u16-at .ensures .0) _ (c .before .before .before .before .before .before .before .before .before .before .before .before .before .may-swing .ensures) _ _ _ _ (c .before .before .before .before .before .before .before .before .before .before .before .before .if1 .left) (c .before .before .before .before .before .before .before .before .before .rebuild .ensures) (c .before .before .list-anew .ensures)
+
+pub make-ready-spec : {M : Type 1} → statement M
+make-ready-spec =
+    tie.close
+    (tie.spec
+    free-list-requires
+    u16-at-requires
+    may-swing-requires
+    same-length
+    same-length-2
+    returns
+    rebuild-requires
+    list-anew-requires
+    same-length-3
+    same-length-4
+    same-length-5
+    returns-2)

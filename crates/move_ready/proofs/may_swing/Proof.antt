@@ -1,0 +1,29 @@
+use borrow.Author.Needs.{needs}
+use native.Mathlib.Omega.{arith}
+use Prim.Native.Nat.{ℕ, suc, _+_, _-_, _≤_, _<_}
+use mathlib.Core.Path.{_≡_, refl, sym, ap, _∙_}
+use mathlib.Core.List.{List, [], _∷_, _++_}
+use lib.ListN.{length, getD, take, drop}
+use Rattle.move_ready.specs.Steps.{swing-waits, swing-high, swing-room}
+use Rattle.move_ready.proofs.may_swing.Statement.{statement}
+use Rattle.move_ready.proofs.may_swing.Tie as tie
+use Rattle.move_ready.proofs.may_swing.Reads as reads
+use Rattle.move_ready.proofs.may_swing.Lts as lts
+
+returns : tie.Need-returns
+returns c = search (needs, swing-waits)
+
+returns-2 : tie.Need-returns-2
+returns-2 c = search (needs, swing-high)
+
+mul-result : tie.Need-mul-result
+mul-result c = search needs
+
+add-result : tie.Need-add-result
+add-result c = search needs
+
+returns-3 : tie.Need-returns-3
+returns-3 c = search (needs, swing-room)
+
+pub may-swing-spec : {M : Type 1} → statement M
+may-swing-spec = tie.close (tie.spec returns returns-2 mul-result add-result returns-3)

@@ -1,0 +1,4 @@
+pub mod Root
+pub mod RootSteps
+pub mod RootLaws
+pub mod Head

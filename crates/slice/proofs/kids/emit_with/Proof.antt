@@ -1,0 +1,50 @@
+-- `emit_with` meets its contract: one entry behind the others.
+-- Relies on specs/KidSteps.
+use Rattle.slice.specs.KidSteps.{first-room, behind-fits, behind-put, behind-ends}
+use Rattle.slice.specs.Point.{kidLine}
+use Rattle.search.specs.Own.{kidsE}
+use Rattle.node.specs.Entries.{listed}
+use Rattle.node.specs.Places.{part}
+use Rattle.laws.specs.Encode.{bytesOf}
+use Rattle.image.specs.Entry.{child}
+use lib.ListN.{drop}
+use borrow.Author.Needs.{needs}
+use Rattle.slice.proofs.kids.emit_with.Statement.{statement}
+use Rattle.slice.proofs.kids.emit_with.Tie as tie
+
+emit-kids-requires : tie.Need-emit-kids-requires
+emit-kids-requires c κs = (c .before .before .before .pre .0, first-room (c .before .before .before .args .page .now) (kidLine (c .before .before .before .args .d) (c .before .before .before .args .n) (kidsE (listed (c .before .before .before .args .node .now) 8 (c .before .before .before .args .stop)))) (bytesOf (child (c .before .before .before .args .num) (drop (c .before .before .before .args .d) (part (c .before .before .before .args .node .now) (c .before .before .before .args .low))))) (c .before .before .before .pre .2), c .before .before .before .pre .3, c .before .before .before .pre .4)
+
+start-past-requires : tie.Need-start-past-requires
+start-past-requires c κs = search needs
+
+sub-emit-child : tie.Need-sub-emit-child
+sub-emit-child c = search needs
+
+part-emit-child-start : tie.Need-part-emit-child-start
+part-emit-child-start c = search needs
+
+part-emit-child-end : tie.Need-part-emit-child-end
+part-emit-child-end c = search needs
+
+emit-child-requires : tie.Need-emit-child-requires
+emit-child-requires c κs = (behind-fits (c .before .before .before .before .before .before .before .before .before .args .page .now) _ (kidLine (c .before .before .before .before .before .before .before .before .before .args .d) (c .before .before .before .before .before .before .before .before .before .args .n) (kidsE (listed (c .before .before .before .before .before .before .before .before .before .args .node .now) 8 (c .before .before .before .before .before .before .before .before .before .args .stop)))) (c .before .before .before .before .before .emit-kids .result) (c .before .before .before .before .before .before .before .before .before .args .num) (c .before .before .before .before .before .before .before .before .before .args .d) (c .before .before .before .before .before .before .before .before .before .args .node .now) (c .before .before .before .before .before .before .before .before .before .args .low) (c .before .before .start-past .result) (c .before .before .start-past .ensures .2) (c .before .before .before .before .before .before .before .before .before .pre .2) (c .before .before .before .before .before .emit-kids .ensures .1) (c .before .before .before .before .before .emit-kids .ensures .0) (search needs), search needs, c .before .before .before .before .before .before .before .before .before .pre .5)
+
+same-length : tie.Need-same-length
+same-length c = search needs
+
+returns : tie.Need-returns
+returns c = (behind-put (c .before .before .before .before .before .before .before .before .before .before .before .before .args .page .now) _ (kidLine (c .before .before .before .before .before .before .before .before .before .before .before .before .args .d) (c .before .before .before .before .before .before .before .before .before .before .before .before .args .n) (kidsE (listed (c .before .before .before .before .before .before .before .before .before .before .before .before .args .node .now) 8 (c .before .before .before .before .before .before .before .before .before .before .before .before .args .stop)))) (c .before .before .before .before .before .before .before .before .emit-kids .result) (c .before .before .before .before .before .before .before .before .before .before .before .before .args .num) (c .before .before .before .before .before .before .before .before .before .before .before .before .args .d) (c .before .before .before .before .before .before .before .before .before .before .before .before .args .node .now) (c .before .before .before .before .before .before .before .before .before .before .before .before .args .low) (c .before .before .before .before .before .start-past .result) (c .before .before .before .before .before .start-past .ensures .2) (c .before .before .before .before .before .before .before .before .before .before .before .before .pre .2) (c .before .before .before .before .before .before .before .before .emit-kids .ensures .1) (c .before .before .before .before .before .before .before .before .emit-kids .ensures .0) (search needs) _ (c .before .before .emit-child .ensures .0), behind-ends (c .before .before .before .before .before .before .before .before .before .before .before .before .args .page .now) _ (kidLine (c .before .before .before .before .before .before .before .before .before .before .before .before .args .d) (c .before .before .before .before .before .before .before .before .before .before .before .before .args .n) (kidsE (listed (c .before .before .before .before .before .before .before .before .before .before .before .before .args .node .now) 8 (c .before .before .before .before .before .before .before .before .before .before .before .before .args .stop)))) (c .before .before .before .before .before .before .before .before .emit-kids .result) (c .before .before .before .before .before .before .before .before .before .before .before .before .args .num) (c .before .before .before .before .before .before .before .before .before .before .before .before .args .d) (c .before .before .before .before .before .before .before .before .before .before .before .before .args .node .now) (c .before .before .before .before .before .before .before .before .before .before .before .before .args .low) (c .before .before .before .before .before .start-past .result) (c .before .before .before .before .before .start-past .ensures .2) (c .before .before .before .before .before .before .before .before .before .before .before .before .pre .2) (c .before .before .before .before .before .before .before .before .emit-kids .ensures .1) (c .before .before .before .before .before .before .before .before .emit-kids .ensures .0) (search needs) _ (c .before .before .emit-child .ensures .1))
+
+pub emit-with-spec : {M : Type 1} → statement M
+emit-with-spec =
+    tie.close
+    (tie.spec
+    emit-kids-requires
+    start-past-requires
+    sub-emit-child
+    part-emit-child-start
+    part-emit-child-end
+    emit-child-requires
+    same-length
+    returns)

@@ -1,0 +1,13 @@
+pub mod Point
+pub mod PointLaws
+pub mod PairSteps
+pub mod PointSteps
+pub mod KidSteps
+pub mod Left
+pub mod LeftSteps
+pub mod GapSteps
+pub mod Right
+pub mod RightLaws
+pub mod PieceSteps
+pub mod RightSteps
+pub mod Callers

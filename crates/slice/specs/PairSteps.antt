@@ -1,0 +1,95 @@
+-- Step lemmas of a leaf's part: which entries are written, one after the other, and the page. Relies on push's step lemmas of writers.
+use Prim.Native.Nat.{ℕ, _+_, _-_, _*_, _≤_}
+use mathlib.Core.Path.{_≡_, refl, sym, ap, ap₂, _∙_}
+use mathlib.Core.List.{List, [], _∷_, _++_, append-nil}
+use mathlib.Core.Bool.{Bool, true, false, not, cond}
+use native.Mathlib.Omega.{arith}
+use lib.ListN.{length, drop, length-append}
+use Rattle.image.specs.Bytes.{u16Bytes, before}
+use Rattle.image.specs.Entry as defined
+use Rattle.octets.specs.Order.{not-true}
+use Rattle.octets.specs.Put.{put}
+use Rattle.laws.specs.Encode.{restOf, kindOf, bytesOf}
+use Rattle.laws.specs.RowsRising.{is-true}
+use Rattle.laws.specs.WriteNode.{writeNode}
+use Rattle.laws.specs.Page.{page, page-length}
+use Rattle.packed.specs.Tidy.{zerosOf}
+use Rattle.pages.specs.Nodes.{page-is, node-written}
+use Rattle.node.specs.Cut.{cut}
+use Rattle.node.specs.Places.{part, entryIn}
+use Rattle.node.specs.declared.Place.{Place}
+use Rattle.node.specs.declared.Message.{Message}
+use Rattle.node.specs.declared.Entry.{Entry}
+use Rattle.push.specs.Kinds.{keyedEntry}
+use Rattle.slice.specs.Point.{onSide, sideLine}
+
+-- THE TEST
+module _ (left : Bool) (k q : List ℕ) (b : Bool) (t : b ≡ before q k) where
+  pub on-left : left ≡ true → b ≡ onSide left k q
+  unfolding onSide
+  on-left e = t ∙ ap (λ x. onSide x k q) (sym e)
+
+  pub on-right : left ≡ false → not b ≡ onSide left k q
+  unfolding onSide
+  on-right e = ap not t ∙ ap (λ x. onSide x k q) (sym e)
+
+-- ONE ENTRY
+module _ (s k : List ℕ) (left : Bool) (d : ℕ) (e : Entry) where
+  pub side-child : (i : ℕ) (p : Place) → e ≡ Entry.Child i p → sideLine left k d (entryIn s e ∷ []) ≡ []
+  unfolding sideLine
+  side-child i p q = ap (λ z. sideLine left k d (entryIn s z ∷ [])) q
+
+  pub side-message : (m : Message) → e ≡ Entry.Message m → sideLine left k d (entryIn s e ∷ []) ≡ []
+  unfolding sideLine
+  side-message m q = ap (λ z. sideLine left k d (entryIn s z ∷ [])) q
+
+  module _ (p v : Place) (q : e ≡ Entry.Pair p v) (b : Bool) (t : b ≡ onSide left k (part s p)) where
+    by-test : (x : Bool) → onSide left k (part s p) ≡ x
+        → sideLine left k d (entryIn s e ∷ []) ≡ cond x (bytesOf (defined.pair (drop d (part s p)) (part s v)) ++ []) []
+    unfolding sideLine
+    by-test x g =
+        ap (λ z. sideLine left k d (entryIn s z ∷ [])) q ∙ ap (λ z. cond z (bytesOf (defined.pair (drop d (part s p)) (part s v)) ++ []) []) g
+
+    pub side-not : not b ≡ true → sideLine left k d (entryIn s e ∷ []) ≡ []
+    side-not n = by-test false (sym t ∙ not-true b n)
+
+    keyed : (a u : List ℕ) → keyedEntry 1 a u ≡ bytesOf (defined.pair a u)
+    unfolding bytesOf restOf kindOf keyedEntry
+    keyed a u =
+        let z : 2 + length a + length u ≡ length (u16Bytes (length a) ++ (a ++ u)) = let n = length-append a u in omega arith in
+        ap (λ n. u16Bytes n ++ (u16Bytes 1 ++ (u16Bytes (length a) ++ (a ++ u)))) z
+
+    pub side-yes : not b ≡ false → (x : ℕ) → ((u : List ℕ) → cut u x (p .stop) ≡ drop d (cut u (p .start) (p .stop)))
+        → keyedEntry 1 (cut s x (p .stop)) (cut s (v .start) (v .stop)) ≡ sideLine left k d (entryIn s e ∷ [])
+    side-yes n x past =
+        ap (λ l. keyedEntry 1 l (part s v)) (past s) ∙ keyed (drop d (part s p)) (part s v) ∙ sym (append-nil (bytesOf (defined.pair (drop d (part s p)) (part s v))))
+        ∙ sym (by-test true (sym t ∙ is-true b n))
+
+-- ALL ENTRIES
+side-split : (left : Bool) (k : List ℕ) (d : ℕ) (e : defined.Entry) (es : List defined.Entry) → sideLine left k d (e ∷ es) ≡ sideLine left k d (e ∷ []) ++ sideLine left k d es
+unfolding sideLine
+side-split left k d (defined.pair q v) es = go (onSide left k q)
+  where
+    go : (x : Bool) → cond x (bytesOf (defined.pair (drop d q) v) ++ sideLine left k d es) (sideLine left k d es)
+        ≡ cond x (bytesOf (defined.pair (drop d q) v) ++ []) [] ++ sideLine left k d es
+    go true = ap (λ l. l ++ sideLine left k d es) (sym (append-nil (bytesOf (defined.pair (drop d q) v))))
+    go false = refl
+side-split left k d (defined.child i q) es = refl
+side-split left k d (defined.message m) es = refl
+
+pub side-cons : (left : Bool) (k : List ℕ) (d : ℕ) (es ts : List defined.Entry) (e : defined.Entry) → es ≡ e ∷ ts
+    → sideLine left k d es ≡ sideLine left k d (e ∷ []) ++ sideLine left k d ts
+side-cons left k d es ts e q = ap (sideLine left k d) q ∙ side-split left k d e ts
+
+pub side-none : (left : Bool) (k : List ℕ) (d : ℕ) (es : List defined.Entry) → es ≡ [] → sideLine left k d es ≡ []
+unfolding sideLine
+side-none left k d es q = ap (sideLine left k d) q
+
+-- A PAGE WRITTEN
+pub page-written : (s s′ p : List ℕ) (n kind level e : ℕ) (body : List ℕ) → length body ≤ 1016 → p ≡ put (zerosOf 1024) 8 body → e ≡ 8 + length body
+    → s′ ≡ put s (n * 1024) (put (put (put p 0 (u16Bytes (e - 8))) 2 (u16Bytes kind)) 4 (u16Bytes level)) → s′ ≡ writeNode s n (page kind level body)
+page-written s s′ p n kind level e body h a b c =
+    let z : e - 8 ≡ length body = omega arith in
+    let t : put (put (put p 0 (u16Bytes (e - 8))) 2 (u16Bytes kind)) 4 (u16Bytes level) ≡ page kind level body =
+    ap₂ (λ x y. put (put (put x 0 (u16Bytes y)) 2 (u16Bytes kind)) 4 (u16Bytes level)) a z ∙ page-is body kind level h in
+    node-written s (page kind level body) n s′ (page-length kind level body h) (c ∙ ap (put s (n * 1024)) t)

@@ -1,0 +1,156 @@
+-- The part of a node from a cut on, by the point where the cut falls: its pieces, which are at most two, and the entries of their pages.
+-- Definitions only.
+use Prim.Native.Nat.{ℕ, _+_, _*_, _<_, _≤_}
+use mathlib.Core.Path.{_≡_}
+use mathlib.Core.List.{List, [], _∷_, _++_}
+use mathlib.Core.Bool.{Bool, true, cond}
+use lib.ListN.{length, take, drop}
+use lib.Dec.{eqb}
+use Rattle.image.specs.Bytes.{before, shared}
+use Rattle.image.specs.Entry as defined
+use Rattle.image.specs.Image.{Tree, Forest, end, Kid, nodesOf, treeAt}
+use Rattle.laws.specs.Encode.{bytesOf}
+use Rattle.laws.specs.Page.{page, kidsOf}
+use Rattle.laws.specs.WriteNode.{writeNode}
+use Rattle.reading.specs.Relative.{kidHigh, usable}
+use Rattle.node.specs.Entries.{listed}
+use Rattle.node.specs.declared.Cursor.{Cursor}
+use Rattle.search.specs.Own.{kid, kidsE}
+use Rattle.push_laws.specs.Written.{smallNumbers}
+use Rattle.slicing.specs.Slice.{rightOf}
+use Rattle.slicing.specs.SliceFits.{fitsIn}
+use Rattle.slicing.specs.RightWrite.{rightWrite}
+use Rattle.slice.specs.declared.Parts.{Parts}
+use Rattle.slice.specs.Point.{Point, within, between, nowhere, freshIn}
+
+-- the children from the cut on, but for the one that holds it, and how many stand before them
+unfoldable pub skipOf : Point → ℕ
+skipOf (within n i low high) = n + 1
+skipOf (between n low) = n
+skipOf (nowhere n) = n
+
+unfoldable pub restOf : List Kid → List ℕ → List ℕ → List Kid
+restOf [] hi k = []
+restOf (c ∷ cs) hi k = cond (before k (kidHigh hi cs)) (cond (before (c .pivot) k) cs (c ∷ cs)) (restOf cs hi k)
+
+-- the pieces of the child that holds the cut, and the image with them
+unfoldable pub edgeAt : (ℕ → ℕ) → Bool → (ℕ → Tree) → List ℕ → ℕ → Point → Forest
+edgeAt fresh w under k at (within n i low high) = rightOf fresh w (under i) low high k at
+edgeAt fresh w under k at (between n low) = end
+edgeAt fresh w under k at (nowhere n) = end
+
+unfoldable pub rightAt : (ℕ → ℕ) → Bool → (ℕ → Tree) → ℕ → List ℕ → ℕ → List ℕ → Point → List ℕ
+rightAt fresh w under h k at s (within n i low high) = rightWrite fresh w (under i) h low high k at s
+rightAt fresh w under h k at s (between n low) = s
+rightAt fresh w under h k at s (nowhere n) = s
+
+-- what the code answers: the pieces with the first two numbers from `at` on, the pivot of the second in a buffer
+unfoldable pub piecesIn : ℕ → ℕ → List ℕ → List ℕ → Parts → List Kid
+piecesIn a b k out Parts.Nothing = []
+piecesIn a b k out Parts.Edge = kid a k ∷ []
+piecesIn a b k out (Parts.Rest n) = kid b (take n out) ∷ []
+piecesIn a b k out (Parts.Both n) = kid a k ∷ (kid b (take n out) ∷ [])
+
+unfoldable pub PartsFit : ℕ → Parts → Type 0
+PartsFit m Parts.Nothing = Unit
+PartsFit m Parts.Edge = Unit
+PartsFit m (Parts.Rest n) = n ≤ m
+PartsFit m (Parts.Both n) = n ≤ m
+
+unfoldable pub raiseKids : List ℕ → List Kid → List Kid
+raiseKids l [] = []
+raiseKids l (c ∷ cs) = kid (c .number) (l ++ c .pivot) ∷ raiseKids l cs
+
+-- the entries of all these children, each pivot without its first d bytes
+unfoldable pub allLine : ℕ → List Kid → List ℕ
+allLine d [] = []
+allLine d (c ∷ cs) = bytesOf (defined.child (c .number) (drop d (c .pivot))) ++ allLine d cs
+
+-- a node with these entries, if there are any
+unfoldable pub overBody : ℕ → ℕ → List ℕ → List ℕ → List ℕ
+overBody n h body s = cond (eqb (length body) 0) s (writeNode s n (page 2 h body))
+
+-- an edge and a rest over these children, as nodes n and m
+unfoldable pub wideBody : ℕ → ℕ → ℕ → List ℕ → List ℕ → List ℕ → List Kid → List Kid → List ℕ → List ℕ
+wideBody n m h k hi x eks rks s = overBody m h (allLine (length (shared x hi)) rks) (overBody n h (allLine (length (shared k x)) eks) s)
+
+-- the answer of a node, by that of its child, with a rest and without
+unfoldable pub withRest : ℕ → Parts → Parts
+withRest n Parts.Nothing = Parts.Rest n
+withRest n Parts.Edge = Parts.Both n
+withRest n (Parts.Rest m) = Parts.Both n
+withRest n (Parts.Both m) = Parts.Both n
+
+unfoldable pub edgeOnly : Parts → Parts
+edgeOnly Parts.Nothing = Parts.Nothing
+edgeOnly Parts.Edge = Parts.Edge
+edgeOnly (Parts.Rest m) = Parts.Edge
+edgeOnly (Parts.Both m) = Parts.Edge
+
+-- the one piece of a node over these children
+unfoldable pub oneNode : List Kid → Parts
+oneNode [] = Parts.Nothing
+oneNode (c ∷ cs) = Parts.Edge
+
+unfoldable pub headKid : ℕ → List ℕ → List Kid → List Kid
+headKid n lo [] = []
+headKid n lo (c ∷ cs) = kid n lo ∷ []
+
+pub record RightAsks (w : Bool) (s : List ℕ) (num level : ℕ) (lo hi k : List ℕ) (at : ℕ) (free : List ℕ) : Type 0 where
+  pub reads : usable (nodesOf (length s)) (treeAt level s num) ≡ true
+  pub small : fitsIn (rightOf (freshIn free) w (treeAt level s num) lo hi k at) ≡ true
+  pub above : before lo k ≡ true
+  pub below : before k hi ≡ true
+  pub few : nodesOf (length s) ≤ 1024
+  pub levels : level ≤ 8
+  pub enough : (at + 2 * level) * 2 ≤ length free
+  pub room : (i : ℕ) → i < at + 2 * level → freshIn free i * 1024 + 1024 ≤ length s
+
+unfoldable pub PointAsksRight : Bool → List ℕ → ℕ → List ℕ → ℕ → List ℕ → Point → Type 0
+PointAsksRight w s level k at free (within n i low high) = RightAsks w s i level low high k at free
+PointAsksRight w s level k at free (between n low) = Unit
+PointAsksRight w s level k at free (nowhere n) = Unit
+
+-- a right part written, and its pieces told
+pub record RightAs (w : Bool) (t : Tree) (level : ℕ) (lo hi k : List ℕ) (at : ℕ) (free lift s s′ out : List ℕ) (r : Parts) : Type 0 where
+  pub written : s′ ≡ rightWrite (freshIn free) w t level lo hi k at s
+  pub pieces : raiseKids lift (kidsOf (rightOf (freshIn free) w t lo hi k at)) ≡ piecesIn (freshIn free at) (freshIn free (at + 1)) (lift ++ k) out r
+  pub fit : PartsFit (length out) r
+
+pub record EdgeAs (w : Bool) (level : ℕ) (k : List ℕ) (at : ℕ) (free s s′ out : List ℕ) (x : Point) (r : Parts) : Type 0 where
+  pub written : s′ ≡ rightAt (freshIn free) w (λ j. treeAt level s j) level k at s x
+  pub pieces : kidsOf (edgeAt (freshIn free) w (λ j. treeAt level s j) k at x) ≡ piecesIn (freshIn free at) (freshIn free (at + 1)) k out r
+  pub fit : PartsFit (length out) r
+
+-- what the two nodes of a level ask, and the one
+pub record WideAsks (size level : ℕ) (node : List ℕ) (start : Cursor) (x hi k : List ℕ) (below : Parts) (out : List ℕ) (at : ℕ) (free : List ℕ) : Type 0 where
+  pub levels : level ≤ 8
+  pub enough : (at + 4) * 2 ≤ length free
+  pub room : (i : ℕ) → i < at + 4 → freshIn free i * 1024 + 1024 ≤ size
+  pub fit : PartsFit (length out) below
+  pub ends : start .end ≤ length node
+  pub numbers : smallNumbers (kidsE (listed node (start .at) (start .end))) ≡ true
+  pub edgeFits : length (allLine (length (shared k x)) (piecesIn (freshIn free (at + 2)) (freshIn free (at + 3)) k out below)) ≤ 1016
+  pub restFits : length (allLine (length (shared x hi)) (kidsE (listed node (start .at) (start .end)))) ≤ 1016
+
+pub record NarrowAsks (size level : ℕ) (node : List ℕ) (start : Cursor) (hi k : List ℕ) (below : Parts) (out : List ℕ) (at : ℕ) (free : List ℕ) : Type 0 where
+  pub levels : level ≤ 8
+  pub enough : (at + 3) * 2 ≤ length free
+  pub room : (i : ℕ) → i < at + 3 → freshIn free i * 1024 + 1024 ≤ size
+  pub fit : PartsFit (length out) below
+  pub ends : start .end ≤ length node
+  pub numbers : smallNumbers (kidsE (listed node (start .at) (start .end))) ≡ true
+  pub allFit : length (allLine (length (shared k hi)) (piecesIn (freshIn free (at + 1)) (freshIn free (at + 2)) k out below ++ kidsE (listed node (start .at) (start .end)))) ≤ 1016
+
+-- the same with the rest's own pivot, and what is told then
+unfoldable pub WideReady : ℕ → ℕ → List ℕ → Cursor → List ℕ → List ℕ → Parts → List ℕ → ℕ → List ℕ → Type 0
+WideReady size level node start hi k below out at free =
+    WideAsks size level node start (kidHigh hi (kidsE (listed node (start .at) (start .end)))) hi k below out at free
+
+pub record WideAs (level : ℕ) (node : List ℕ) (start : Cursor) (hi k : List ℕ) (below : Parts) (out : List ℕ) (at : ℕ) (free lift s s′ out′ : List ℕ) (r : Parts) : Type 0 where
+  pub written : s′ ≡ wideBody (freshIn free at) (freshIn free (at + 1)) level k hi (kidHigh hi (kidsE (listed node (start .at) (start .end))))
+      (piecesIn (freshIn free (at + 2)) (freshIn free (at + 3)) k out below) (kidsE (listed node (start .at) (start .end))) s
+  pub pieces : raiseKids lift (headKid (freshIn free at) k (piecesIn (freshIn free (at + 2)) (freshIn free (at + 3)) k out below)
+      ++ headKid (freshIn free (at + 1)) (kidHigh hi (kidsE (listed node (start .at) (start .end)))) (kidsE (listed node (start .at) (start .end))))
+      ≡ piecesIn (freshIn free at) (freshIn free (at + 1)) (lift ++ k) out′ r
+  pub fit : PartsFit (length out′) r

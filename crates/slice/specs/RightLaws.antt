@@ -1,0 +1,189 @@
+-- The right parts of a node over its children as they are read. Relies on slicing (edgeIn, restIn, packed, rightWrite).
+use Prim.Native.Nat.{ℕ, zero, suc, _+_, _*_, _≤_}
+use mathlib.Core.Path.{_≡_, refl, sym, ap, ap₂, _∙_}
+use mathlib.Core.List.{List, [], _∷_, _++_, append-assoc}
+use mathlib.Core.Bool.{Bool, true, false, _&&_, cond}
+use native.Mathlib.Omega.{arith}
+use lib.ListN.{length, drop, length-append}
+use lib.Dec.{leb}
+use borrow.Author.Tests.{leb-true, ne-eqb}
+use Rattle.image.specs.Bytes.{before, shared}
+use Rattle.image.specs.Entry as defined
+use Rattle.image.specs.Image.{Tree, Forest, end, tree, Kid, forestOf}
+use Rattle.octets.specs.Order.{and-left, and-right}
+use Rattle.laws.specs.Rising.{both}
+use Rattle.laws.specs.Encode.{bytesOf, bytesOfAll}
+use Rattle.laws.specs.Pieces.{joined, raise, lower, node, over}
+use Rattle.laws.specs.Page.{page, numberOf, childEntries, kidsOf}
+use Rattle.laws.specs.WriteNode.{writeNode}
+use Rattle.reading.specs.Relative.{kidHigh, high-at}
+use Rattle.slicing.specs.Slice.{restIn, edgeIn}
+use Rattle.slicing.specs.SliceFits.{kidsSize, shortIn, fits, fitsIn}
+use Rattle.slicing.specs.ReadBack.{kids-size}
+use Rattle.slicing.specs.SliceWrite.{pageOf}
+use Rattle.slicing.specs.RightWrite.{overWrite, rightWrite, edgeWrite}
+use Rattle.search.specs.Own.{kid}
+use Rattle.push.specs.WriteSteps.{child-length}
+use Rattle.slice.specs.Point.{within, between, pointOf, kidLine}
+use Rattle.slice.specs.Right.{skipOf, restOf, edgeAt, rightAt, raiseKids, allLine, overBody}
+
+-- THE REST
+module _ (hi k : List ℕ) where
+  pub rest-skip : (n : ℕ) (ks : List Kid) → (j : ℕ) → skipOf (pointOf n ks hi k) ≡ n + j → restOf ks hi k ≡ drop j ks
+  unfolding pointOf skipOf restOf
+  rest-skip n [] zero e = refl
+  rest-skip n [] (suc j) e = refl
+  rest-skip n (c ∷ cs) j e = go (before k (kidHigh hi cs)) refl (before (c .pivot) k) refl j e (rest-skip (n + 1) cs)
+    where
+      go : (x : Bool) → before k (kidHigh hi cs) ≡ x → (y : Bool) → before (c .pivot) k ≡ y → (j : ℕ) → skipOf (pointOf n (c ∷ cs) hi k) ≡ n + j
+          → ((i : ℕ) → skipOf (pointOf (n + 1) cs hi k) ≡ n + 1 + i → restOf cs hi k ≡ drop i cs) → restOf (c ∷ cs) hi k ≡ drop j (c ∷ cs)
+      go true a true b zero e ih = let z : n + 1 ≡ n + 0 = rw (a, b) at e in absurd (omega arith)
+      go true a true b (suc j) e ih = let z : n + 1 ≡ n + suc j = rw (a, b) at e in let y : 0 ≡ j = omega arith in rw (a, b) (ap (λ i. drop i cs) y)
+      go true a false b zero e ih = rw (a, b)
+      go true a false b (suc j) e ih = let z : n ≡ n + suc j = rw (a, b) at e in absurd (omega arith)
+      go false a y b zero e ih = let z : skipOf (pointOf (n + 1) cs hi k) ≡ n + 0 = rw a at e in let q = skip-most (n + 1) cs in absurd (omega arith)
+        where
+          skip-most : (m : ℕ) (us : List Kid) → m ≤ skipOf (pointOf m us hi k)
+          skip-most m [] = omega arith
+          skip-most m (u ∷ us) = step (before k (kidHigh hi us)) (before (u .pivot) k) (skip-most (m + 1) us)
+            where
+              step : (x y : Bool) → m + 1 ≤ skipOf (pointOf (m + 1) us hi k)
+                  → m ≤ skipOf (cond x (cond y (within m (u .number) (u .pivot) (kidHigh hi us)) (between m (u .pivot))) (pointOf (m + 1) us hi k))
+              step true true h = omega arith
+              step true false h = omega arith
+              step false y h = omega arith
+      go false a y b (suc j) e ih = let z : skipOf (pointOf (n + 1) cs hi k) ≡ n + suc j = rw a at e in rw a (ih j (omega arith))
+
+  raise-none : (f : Forest) → raise [] f ≡ f
+  unfolding raise
+  raise-none end = refl
+  raise-none (tree s t f) = ap (λ g. tree s t g) (raise-none f)
+
+  pub rest-is : (under : ℕ → Tree) (ks : List Kid) → restIn (forestOf under ks) [] hi k ≡ forestOf under (restOf ks hi k)
+  unfolding restIn forestOf restOf
+  rest-is under [] = refl
+  rest-is under (c ∷ cs) = go (before k (kidHigh hi cs)) refl (before (c .pivot) k) refl (rest-is under cs)
+    where
+      go : (x : Bool) → before k (kidHigh hi cs) ≡ x → (y : Bool) → before (c .pivot) k ≡ y → restIn (forestOf under cs) [] hi k ≡ forestOf under (restOf cs hi k)
+          → restIn (tree (c .pivot) (under (c .number)) (forestOf under cs)) [] hi k ≡ forestOf under (restOf (c ∷ cs) hi k)
+      go true a true b ih = rw (high-at under hi cs, a, b) (raise-none (forestOf under cs))
+      go true a false b ih = rw (high-at under hi cs, a, b) (ap (λ g. tree (c .pivot) (under (c .number)) g) (raise-none (forestOf under cs)))
+      go false a y b ih = rw (high-at under hi cs, a) ih
+
+  -- THE EDGE
+  pub edge-is : (fresh : ℕ → ℕ) (w : Bool) (under : ℕ → Tree) (n at : ℕ) (ks : List Kid)
+      → edgeIn fresh w (forestOf under ks) [] hi k at ≡ edgeAt fresh w under k at (pointOf n ks hi k)
+  unfolding edgeIn forestOf pointOf edgeAt
+  edge-is fresh w under n at [] = refl
+  edge-is fresh w under n at (c ∷ cs) = go (before k (kidHigh hi cs)) refl (before (c .pivot) k) refl (edge-is fresh w under (n + 1) at cs)
+    where
+      go : (x : Bool) → before k (kidHigh hi cs) ≡ x → (y : Bool) → before (c .pivot) k ≡ y
+          → edgeIn fresh w (forestOf under cs) [] hi k at ≡ edgeAt fresh w under k at (pointOf (n + 1) cs hi k)
+          → edgeIn fresh w (tree (c .pivot) (under (c .number)) (forestOf under cs)) [] hi k at ≡ edgeAt fresh w under k at (pointOf n (c ∷ cs) hi k)
+      go true a true b ih = rw (high-at under hi cs, a, b)
+      go true a false b ih = rw (high-at under hi cs, a, b)
+      go false a y b ih = rw (high-at under hi cs, a) ih
+
+  pub edge-write : (fresh : ℕ → ℕ) (w : Bool) (under : ℕ → Tree) (n h at : ℕ) (s : List ℕ) (ks : List Kid)
+      → edgeWrite fresh w (forestOf under ks) h [] hi k at s ≡ rightAt fresh w under h k at s (pointOf n ks hi k)
+  unfolding edgeWrite forestOf pointOf rightAt
+  edge-write fresh w under n h at s [] = refl
+  edge-write fresh w under n h at s (c ∷ cs) = go (before k (kidHigh hi cs)) refl (before (c .pivot) k) refl (edge-write fresh w under (n + 1) h at s cs)
+    where
+      go : (x : Bool) → before k (kidHigh hi cs) ≡ x → (y : Bool) → before (c .pivot) k ≡ y
+          → edgeWrite fresh w (forestOf under cs) h [] hi k at s ≡ rightAt fresh w under h k at s (pointOf (n + 1) cs hi k)
+          → edgeWrite fresh w (tree (c .pivot) (under (c .number)) (forestOf under cs)) h [] hi k at s ≡ rightAt fresh w under h k at s (pointOf n (c ∷ cs) hi k)
+      go true a true b ih = rw (high-at under hi cs, a, b)
+      go true a false b ih = rw (high-at under hi cs, a, b)
+      go false a y b ih = rw (high-at under hi cs, a) ih
+
+-- KIDS OF PIECES
+pub kids-raise : (l : List ℕ) (f : Forest) → kidsOf (raise l f) ≡ raiseKids l (kidsOf f)
+unfolding kidsOf raise raiseKids
+kids-raise l end = refl
+kids-raise l (tree s t f) = ap (λ ks. kid (numberOf t) (l ++ s) ∷ ks) (kids-raise l f)
+
+pub kids-joined : (f g : Forest) → kidsOf (joined f g) ≡ kidsOf f ++ kidsOf g
+unfolding kidsOf joined
+kids-joined end g = refl
+kids-joined (tree s t f) g = ap (λ ks. kid (numberOf t) s ∷ ks) (kids-joined f g)
+
+pub kids-forest : (under : ℕ → Tree) (ks : List Kid) → ((j : ℕ) → numberOf (under j) ≡ j) → kidsOf (forestOf under ks) ≡ ks
+unfolding kidsOf forestOf
+kids-forest under [] num = refl
+kids-forest under (c ∷ cs) num = ap₂ (λ i ks. kid i (c .pivot) ∷ ks) (num (c .number)) (kids-forest under cs num)
+
+pub fits-raise : (l : List ℕ) (f : Forest) → fitsIn (raise l f) ≡ fitsIn f
+unfolding fitsIn raise
+fits-raise l end = refl
+fits-raise l (tree s t f) = ap (λ b. fits t && b) (fits-raise l f)
+
+pub fits-lower : (l : List ℕ) (f : Forest) → fitsIn (lower l f) ≡ fitsIn f
+unfolding fitsIn lower
+fits-lower l end = refl
+fits-lower l (tree s t f) = ap (λ b. fits t && b) (fits-lower l f)
+
+pub fits-parts : (f g : Forest) → fitsIn (joined f g) ≡ true → (fitsIn f ≡ true) × (fitsIn g ≡ true)
+unfolding fitsIn joined
+fits-parts end g e = (refl, e)
+fits-parts (tree s t f) g e =
+    let z : (fitsIn f ≡ true) × (fitsIn g ≡ true) = fits-parts f g (and-right (fits t) _ e) in
+    (both (and-left (fits t) _ e) (z .0), z .1)
+
+-- LINES
+pub line-lower : (l : List ℕ) (f : Forest) → bytesOfAll (childEntries (lower l f)) ≡ allLine (length l) (kidsOf f)
+unfolding bytesOfAll childEntries lower allLine kidsOf
+line-lower l end = refl
+line-lower l (tree s t f) = ap (λ r. bytesOf (defined.child (numberOf t) (drop (length l) s)) ++ r) (line-lower l f)
+
+pub all-append : (d : ℕ) (ks us : List Kid) → allLine d (ks ++ us) ≡ allLine d ks ++ allLine d us
+unfolding allLine
+all-append d [] us = refl
+all-append d (c ∷ cs) us =
+    ap (λ r. bytesOf (defined.child (c .number) (drop d (c .pivot))) ++ r) (all-append d cs us)
+    ∙ sym (append-assoc (bytesOf (defined.child (c .number) (drop d (c .pivot)))) (allLine d cs) (allLine d us))
+
+pub all-long : (d : ℕ) (ks : List Kid) → 6 * length ks ≤ length (allLine d ks)
+unfolding allLine
+all-long d [] = omega arith
+all-long d (c ∷ cs) =
+    let a = length-append (bytesOf (defined.child (c .number) (drop d (c .pivot)))) (allLine d cs) in
+    let b = child-length (c .number) (drop d (c .pivot)) in
+    let e = all-long d cs in
+    omega arith
+
+pub line-all : (d n : ℕ) (ks : List Kid) → length ks ≤ n → kidLine d n ks ≡ allLine d ks
+unfolding kidLine allLine
+line-all d zero [] h = refl
+line-all d zero (c ∷ cs) h = absurd (omega arith)
+line-all d (suc n) [] h = refl
+line-all d (suc n) (c ∷ cs) h = ap (λ r. bytesOf (defined.child (c .number) (drop d (c .pivot))) ++ r) (line-all d n cs (omega arith))
+
+-- A NODE OVER PIECES, BY ITS ENTRIES
+pub over-body : (n h : ℕ) (lo hi : List ℕ) (g : Forest) (s : List ℕ) → overWrite n h lo hi g s ≡ overBody n h (allLine (length (shared lo hi)) (kidsOf g)) s
+unfolding overWrite overBody
+over-body n h lo hi end s = unfold kidsOf allLine in refl
+over-body n h lo hi (tree q t f) s =
+    let line : bytesOfAll (childEntries (lower (shared lo hi) (tree q t f))) ≡ allLine (length (shared lo hi)) (kidsOf (tree q t f)) = line-lower (shared lo hi) (tree q t f) in
+    let long : 6 ≤ length (allLine (length (shared lo hi)) (kidsOf (tree q t f))) = some-kids in
+    shown ∙ ap (λ b. writeNode s n (page 2 h b)) line
+    ∙ sym (ap (λ b. cond b s (writeNode s n (page 2 h (allLine (length (shared lo hi)) (kidsOf (tree q t f)))))) (ne-eqb (length (allLine (length (shared lo hi)) (kidsOf (tree q t f)))) 0 (λ z. omega arith)))
+  where
+    some-kids : 6 ≤ length (allLine (length (shared lo hi)) (kidsOf (tree q t f)))
+    some-kids = let a = all-long (length (shared lo hi)) (kidsOf (tree q t f)) in let b : 1 ≤ length (kidsOf (tree q t f)) = unfold kidsOf in (omega arith) in omega arith
+
+    shown : writeNode s n (pageOf h (node n lo hi (tree q t f))) ≡ writeNode s n (page 2 h (bytesOfAll (childEntries (lower (shared lo hi) (tree q t f)))))
+    shown = unfold pageOf node in refl
+
+pub over-fits : (n : ℕ) (lo hi : List ℕ) (g : Forest) → fitsIn (over n lo hi g) ≡ true → (length (allLine (length (shared lo hi)) (kidsOf g)) ≤ 1016) × (fitsIn g ≡ true)
+unfolding over fitsIn fits node
+over-fits n lo hi end e = (unfold kidsOf allLine in (omega arith), refl)
+over-fits n lo hi (tree q t f) e =
+    let g : Forest = tree q t f in
+    let a : leb (kidsSize (lower (shared lo hi) (tree q t f))) 1016 && shortIn (lower (shared lo hi) (tree q t f)) && fitsIn (lower (shared lo hi) (tree q t f)) ≡ true = and-left _ _ e in
+    let b : kidsSize (lower (shared lo hi) (tree q t f)) ≤ 1016 = leb-true (kidsSize (lower (shared lo hi) (tree q t f))) 1016 (and-left _ _ (and-left _ _ a)) in
+    let c = kids-size (lower (shared lo hi) (tree q t f)) in
+    let l = ap length (line-lower (shared lo hi) (tree q t f)) in (
+      omega arith,
+      sym (fits-lower (shared lo hi) (tree q t f)) ∙ and-right (leb (kidsSize (lower (shared lo hi) (tree q t f))) 1016 && shortIn (lower (shared lo hi) (tree q t f))) _ a,
+    )

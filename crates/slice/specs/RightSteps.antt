@@ -1,0 +1,552 @@
+-- Step lemmas of the right part: what is composed of a leaf and of an interior node, what the child that holds the cut is asked, and that
+-- the pages written are those of `rightWrite`. Relies on RightLaws and on slicing's laws of stripped pivots.
+use Prim.Native.Nat.{ℕ, zero, suc, _+_, _*_, _-_, _≤_}
+use mathlib.Core.Path.{_≡_, refl, sym, ap, ap₂, subst, _∙_}
+use mathlib.Core.List.{List, [], _∷_, _++_}
+use mathlib.Core.Bool.{Bool, true, false, _&&_, not}
+use native.Mathlib.Omega.{arith}
+use lib.ListN.{length, take, drop, length-append}
+use lib.Seq.{take-append-seam}
+use lib.Dec.{ltb, leb}
+use borrow.Author.Tests.{leb-true}
+use Rattle.image.specs.Bytes.{u16, before, shared}
+use Rattle.image.specs.Entry as defined
+use Rattle.image.specs.Table.{Row, underPrefix}
+use Rattle.image.specs.Image.{Tree, leaf, interior, Forest, end, tree, Kid, nodesOf, nodeBytes, treeAt, forestOf}
+use Rattle.image.specs.Meaning.{highOf}
+use Rattle.octets.specs.Order.{and-left, and-right, before-append}
+use Rattle.laws.specs.Encode.{bytesOfAll}
+use Rattle.laws.specs.Filter.{keep, since, lowerRows}
+use Rattle.laws.specs.Pieces.{joined, raise, node, over}
+use Rattle.laws.specs.Page.{page, numberOf, pairEntries, kidsOf}
+use Rattle.laws.specs.WriteNode.{writeNode}
+use Rattle.reading.specs.Relative.{kidHigh, high-at, usable, usableIn}
+use Rattle.slicing.specs.Slice.{restIn, packed, after, rightOf, edgeIn}
+use Rattle.slicing.specs.SliceFits.{pairsSize, fits, fitsIn}
+use Rattle.slicing.specs.ReadBack.{pairs-size}
+use Rattle.slicing.specs.SliceStrip.{split-low, split-high, split-cut, strip-shared, right-strip, right-leaf-bare, right-node-bare}
+use Rattle.slicing.specs.SliceWrite.{pageOf, number-read}
+use Rattle.slicing.specs.RightWrite.{overWrite, packedWrite, rightWrite, edgeWrite}
+use Rattle.slicing.specs.WriteStrip.{right-write-strip}
+use Rattle.node.specs.Cut.{cut}
+use Rattle.node.specs.Entries.{listed}
+use Rattle.node.specs.Places.{part}
+use Rattle.node.specs.declared.Place.{Place}
+use Rattle.node.specs.declared.Cursor.{Cursor}
+use Rattle.search.specs.Own.{kidsE}
+use Rattle.lookup.specs.Look.{listing, LeafAt, InteriorAt, leaf-at, interior-at, node-inside, inside-splits}
+use Rattle.push_laws.specs.Written.{smallNumbers}
+use Rattle.slice.specs.declared.Cut.{Cut}
+use Rattle.slice.specs.declared.Parts.{Parts}
+use Rattle.slice.specs.Point.{Point, within, between, nowhere, freshIn, pointOf, pointIn, CutAs, onSide, sideLine}
+use Rattle.slice.specs.PointLaws.{side-line}
+use Rattle.slice.specs.Right.{skipOf, restOf, edgeAt, rightAt, piecesIn, PartsFit, raiseKids, allLine, overBody, wideBody, oneNode, headKid, RightAsks, PointAsksRight, RightAs, EdgeAs, NarrowAsks, WideReady, WideAs}
+use Rattle.slice.specs.RightLaws.{rest-skip, rest-is, edge-is, edge-write, kids-raise, kids-joined, kids-forest, fits-raise, fits-parts, over-body, over-fits}
+use Rattle.slice.specs.LeftSteps.{small-kids, no-level, one-level, node-lists, node-short}
+
+under-none : (t : List Row) → underPrefix [] t ≡ t
+unfolding underPrefix
+under-none [] = refl
+under-none (r ∷ t) = ap (λ u. r ∷ u) (under-none t)
+
+-- KIDS OF A PIECE
+over-kids : (n : ℕ) (lo hi : List ℕ) (g : Forest) → kidsOf (over n lo hi g) ≡ headKid n lo (kidsOf g)
+over-kids n lo hi end = unfold over kidsOf headKid in refl
+over-kids n lo hi (tree q t f) = unfold over node kidsOf numberOf headKid in refl
+
+-- NODES OVER PIECES, WIDE AND NARROW
+module _ (n m : ℕ) (k hi : List ℕ) (e r : Forest) where
+  packed-wide : kidsOf (packed true n m k hi e r) ≡ headKid n k (kidsOf e) ++ headKid m (highOf [] hi r) (kidsOf r)
+  unfolding packed
+  packed-wide =
+      kids-joined (over n k (highOf [] hi r) e) (over m (highOf [] hi r) hi r)
+      ∙ ap₂ (λ x y. x ++ y) (over-kids n k (highOf [] hi r) e) (over-kids m (highOf [] hi r) hi r)
+
+  packed-narrow : kidsOf (packed false n m k hi e r) ≡ headKid n k (kidsOf e ++ kidsOf r)
+  unfolding packed
+  packed-narrow = over-kids n k hi (joined e r) ∙ ap (headKid n k) (kids-joined e r)
+
+  wide-fits : fitsIn (packed true n m k hi e r) ≡ true
+      → (length (allLine (length (shared k (highOf [] hi r))) (kidsOf e)) ≤ 1016) × (length (allLine (length (shared (highOf [] hi r) hi)) (kidsOf r)) ≤ 1016) × (fitsIn e ≡ true)
+  unfolding packed
+  wide-fits f =
+      let p = fits-parts (over n k (highOf [] hi r) e) (over m (highOf [] hi r) hi r) f in
+      let x = over-fits n k (highOf [] hi r) e (p .0) in
+      let y = over-fits m (highOf [] hi r) hi r (p .1) in
+      (x .0, y .0, x .1)
+
+  narrow-fits : fitsIn (packed false n m k hi e r) ≡ true → (length (allLine (length (shared k hi)) (kidsOf e ++ kidsOf r)) ≤ 1016) × (fitsIn e ≡ true)
+  unfolding packed
+  narrow-fits f =
+      let x = over-fits n k hi (joined e r) f in
+      let l = ap (λ q. length (allLine (length (shared k hi)) q)) (kids-joined e r) in
+      let a = x .0 in
+      (omega arith, fits-parts e r (x .1) .0)
+
+write-wide-is : (h n m : ℕ) (k hi : List ℕ) (e r : Forest) (s : List ℕ) → packedWrite true h n m k hi e r s ≡ wideBody n m h k hi (highOf [] hi r) (kidsOf e) (kidsOf r) s
+unfolding packedWrite wideBody
+write-wide-is h n m k hi e r s =
+    over-body m h (highOf [] hi r) hi r (overWrite n h k (highOf [] hi r) e s)
+    ∙ ap (overBody m h (allLine (length (shared (highOf [] hi r) hi)) (kidsOf r))) (over-body n h k (highOf [] hi r) e s)
+
+write-narrow-is : (h n m : ℕ) (k hi : List ℕ) (e r : Forest) (s : List ℕ) → packedWrite false h n m k hi e r s ≡ overBody n h (allLine (length (shared k hi)) (kidsOf e ++ kidsOf r)) s
+unfolding packedWrite
+write-narrow-is h n m k hi e r s =
+    over-body n h k hi (joined e r) s ∙ ap (λ q. overBody n h (allLine (length (shared k hi)) q) s) (kids-joined e r)
+
+one-told : (n m : ℕ) (lift k out : List ℕ) (ks : List Kid) → raiseKids lift (headKid n k ks) ≡ piecesIn n m (lift ++ k) out (oneNode ks)
+unfolding headKid raiseKids piecesIn oneNode
+one-told n m lift k out [] = refl
+one-told n m lift k out (c ∷ cs) = refl
+
+one-fit : (m : ℕ) (ks : List Kid) → PartsFit m (oneNode ks)
+unfolding PartsFit oneNode
+one-fit m [] = tt
+one-fit m (c ∷ cs) = tt
+
+small-drop : (n : ℕ) (ks : List Kid) → smallNumbers ks ≡ true → smallNumbers (drop n ks) ≡ true
+unfolding smallNumbers
+small-drop zero ks e = e
+small-drop (suc n) [] e = refl
+small-drop (suc n) (c ∷ cs) e = small-drop n cs (and-right (ltb (c .number) 65536) _ e)
+
+-- the point does not matter but for the high pivot
+skip-high : (s hi : List ℕ) (c : Cut) → skipOf (pointIn s [] c) ≡ skipOf (pointIn s hi c)
+unfolding skipOf pointIn
+skip-high s hi (Cut.Inner n i p q) = refl
+skip-high s hi (Cut.Last n i p) = refl
+skip-high s hi (Cut.Between n p) = refl
+skip-high s hi (Cut.Nowhere n) = refl
+
+-- THE CHILD THAT HOLDS THE CUT
+unfoldable PointIs : (ℕ → Tree) → ℕ → List ℕ → Point → Type 0
+PointIs under m k (within n i low high) = (usable m (under i) ≡ true) × (before low k ≡ true) × (before k high ≡ true)
+PointIs under m k (between n low) = Unit
+PointIs under m k (nowhere n) = Unit
+
+point-is : (under : ℕ → Tree) (hi k : List ℕ) (m : ℕ) (ks : List Kid) (n : ℕ) → usableIn m (forestOf under ks) ≡ true → PointIs under m k (pointOf n ks hi k)
+unfolding forestOf pointOf PointIs usableIn
+point-is under hi k m [] n u = tt
+point-is under hi k m (c ∷ cs) n u =
+    go (before k (kidHigh hi cs)) refl (before (c .pivot) k) refl (point-is under hi k m cs (n + 1) (and-right (usable m (under (c .number))) _ u))
+  where
+    go : (x : Bool) → before k (kidHigh hi cs) ≡ x → (y : Bool) → before (c .pivot) k ≡ y → PointIs under m k (pointOf (n + 1) cs hi k) → PointIs under m k (pointOf n (c ∷ cs) hi k)
+    go true a true b ih = rw (a, b) (and-left _ _ u, b, a)
+    go true a false b ih = rw (a, b) tt
+    go false a y b ih = rw a ih
+
+pub after-wide : (w : Bool) (at : ℕ) → w ≡ true → after w at ≡ at + 2
+unfolding after
+after-wide w at e = ap (λ v. after v at) e ∙ omega arith
+
+pub after-narrow : (w : Bool) (at : ℕ) → w ≡ false → after w at ≡ at + 1
+unfolding after
+after-narrow w at e = ap (λ v. after v at) e ∙ omega arith
+
+-- ONE NODE
+module _ (w : Bool) (s : List ℕ) (num level : ℕ) (lo hi k : List ℕ) (at : ℕ) (free : List ℕ) (pre : RightAsks w s num level lo hi k at free) where
+  pub right-inside : num * 1024 + 1024 ≤ length s
+  right-inside = node-inside s num level (pre .reads) .0
+
+  pub right-level : 1 ≤ level
+  right-level = go level (pre .reads)
+    where
+      go : (l : ℕ) → usable (nodesOf (length s)) (treeAt l s num) ≡ true → 1 ≤ l
+      go zero e = absurd (no-level (nodesOf (length s)) s num e)
+      go (suc l) e = omega arith
+
+  pub right-new : (new : ℕ) → new ≡ u16 free (at * 2) → new * 1024 + 1024 ≤ length s
+  unfolding freshIn
+  right-new new e = let r = pre .room at (let a = right-level in omega arith) in omega arith
+
+  module _ (bare : shared lo hi ≡ []) (node′ : List ℕ) (en : node′ ≡ nodeBytes s num) (len : ℕ) (el : len ≡ u16 node′ 0) where
+    pub right-short : len ≤ 1016
+    right-short = node-short s num level (pre .reads) node′ en len el
+
+    lists : listed node′ 8 (8 + len) ≡ listing s num
+    lists = node-lists s num level (pre .reads) node′ en len el
+
+    -- a leaf
+    module _ (leafy : level ≤ 1) (d : ℕ) (ed : d ≡ length (shared k hi)) where
+      leaf′ : LeafAt s num level
+      leaf′ = leaf-at s num level leafy (pre .reads)
+
+      abbrev kept : List Row
+      kept = lowerRows (shared k hi) (keep (since k) (leaf′ .rs))
+
+      part-is : rightOf (freshIn free) w (treeAt level s num) lo hi k at ≡ tree k (leaf (freshIn free at) kept) end
+      part-is = ap (λ t. rightOf (freshIn free) w t lo hi k at) (leaf′ .tree) ∙ right-leaf-bare (freshIn free) w num (leaf′ .rs) lo hi k at bare
+
+      line-is : bytesOfAll (pairEntries kept) ≡ sideLine false k d (listed node′ 8 (8 + len))
+      unfolding onSide
+      line-is =
+          side-line false k (shared k hi) (leaf′ .es) (leaf′ .rs) (leaf′ .pairs)
+          ∙ ap₂ (λ n es. sideLine false k n es) (sym ed) (sym (lists ∙ leaf′ .node .lists))
+
+      pub leaf-fits : length (sideLine false k d (listed node′ 8 (8 + len))) ≤ 1016
+      unfolding fits fitsIn
+      leaf-fits =
+          let a : leb (pairsSize kept) 1016 && true ≡ true = ap fitsIn (sym part-is) ∙ pre .small in
+          let b = ap length line-is in
+          omega (arith, leb-true (pairsSize kept) 1016 (and-left (leb (pairsSize kept) 1016) _ a), pairs-size kept)
+
+      leaf-written : (new : ℕ) (s′ : List ℕ) → new ≡ u16 free (at * 2) → s′ ≡ writeNode s new (page 1 1 (sideLine false k d (listed node′ 8 (8 + len))))
+          → s′ ≡ rightWrite (freshIn free) w (treeAt level s num) level lo hi k at s
+      unfolding freshIn
+      leaf-written new s′ e q =
+          q
+          ∙ ap₂ (λ n b. writeNode s n (page 1 1 b)) e (sym line-is)
+          ∙ ap (λ h. writeNode s (u16 free (at * 2)) (page 1 h (bytesOfAll (pairEntries kept)))) (sym (one-level (nodesOf (length s)) level s num leafy (pre .reads)))
+          ∙ shown
+          ∙ ap (λ t. rightWrite (freshIn free) w t level lo hi k at s) (sym (leaf′ .tree))
+        where
+          shown : writeNode s (u16 free (at * 2)) (page 1 level (bytesOfAll (pairEntries kept))) ≡ rightWrite (freshIn free) w (leaf num (leaf′ .rs)) level lo hi k at s
+          shown = unfold rightWrite pageOf freshIn in rw (bare, under-none (leaf′ .rs))
+
+      pub leaf-done : (lift out : List ℕ) (new : ℕ) (s′ : List ℕ) → new ≡ u16 free (at * 2) → s′ ≡ writeNode s new (page 1 1 (sideLine false k d (listed node′ 8 (8 + len))))
+          → RightAs w (treeAt level s num) level lo hi k at free lift s s′ out Parts.Edge
+      leaf-done lift out new s′ e q =
+          record {
+            written = leaf-written new s′ e q;
+            pieces = ap (λ f. raiseKids lift (kidsOf f)) part-is ∙ shown;
+            fit = unfold PartsFit in tt;
+          }
+        where
+          shown : raiseKids lift (kidsOf (tree k (leaf (freshIn free at) kept) end)) ≡ piecesIn (freshIn free at) (freshIn free (at + 1)) (lift ++ k) out Parts.Edge
+          shown = unfold raiseKids kidsOf piecesIn numberOf in refl
+
+    -- an interior node
+    module _ (inner : 2 ≤ level) (c : Cut) (as-cut : CutAs node′ hi (pointOf 0 (kidsE (listed node′ 8 (8 + len))) hi k) c) (start : Cursor)
+        (at-rest : kidsE (listed node′ (start .at) (start .end)) ≡ drop (skipOf (pointIn node′ [] c)) (kidsE (listed node′ 8 (8 + len)))) where
+      inner′ : InteriorAt s num level (level - 1)
+      inner′ = interior-at s num level inner (pre .reads)
+
+      abbrev ks : List Kid
+      ks = kidsE (listed node′ 8 (8 + len))
+
+      abbrev rks : List Kid
+      rks = kidsE (listed node′ (start .at) (start .end))
+
+      abbrev under : ℕ → Tree
+      under = λ j. treeAt (level - 1) s j
+
+      kids-are : inner′ .x .kids ≡ ks
+      kids-are = sym (ap kidsE (lists ∙ inner′ .node .lists) ∙ inside-splits (inner′ .es) (inner′ .x) (inner′ .splits) .kids)
+
+      usables : usableIn (nodesOf (length s)) (forestOf (λ j. treeAt (level - 1) s j) (kidsE (listed node′ 8 (8 + len)))) ≡ true
+      usables = ap (λ l. usableIn (nodesOf (length s)) (forestOf (λ j. treeAt (level - 1) s j) l)) (sym kids-are) ∙ inner′ .kids
+
+      tree-is : treeAt level s num ≡ interior num (forestOf (λ j. treeAt (level - 1) s j) (kidsE (listed node′ 8 (8 + len)))) (inner′ .x .messages)
+      tree-is = inner′ .tree ∙ ap (λ l. interior num (forestOf (λ j. treeAt (level - 1) s j) l) (inner′ .x .messages)) kids-are
+
+      pub kids-small : smallNumbers (kidsE (listed node′ (start .at) (start .end))) ≡ true
+      kids-small =
+          ap smallNumbers at-rest
+          ∙ small-drop (skipOf (pointIn node′ [] c)) ks (small-kids (nodesOf (length s)) (λ j. treeAt (level - 1) s j) ks (pre .few) (λ j. number-read (level - 1) s j) usables)
+
+      rest-kids : restOf (kidsE (listed node′ 8 (8 + len))) hi k ≡ kidsE (listed node′ (start .at) (start .end))
+      rest-kids =
+          let z : skipOf (pointOf 0 ks hi k) ≡ 0 + skipOf (pointIn node′ [] c) = ap skipOf (sym (as-cut .meant)) ∙ sym (skip-high node′ hi c) ∙ omega arith in
+          rest-skip hi k 0 ks (skipOf (pointIn node′ [] c)) z ∙ sym at-rest
+
+      abbrev edge : Forest
+      edge = edgeAt (freshIn free) w under k (after w at) (pointOf 0 ks hi k)
+
+      abbrev rest : Forest
+      rest = forestOf under rks
+
+      edge-same : edgeIn (freshIn free) w (forestOf (λ j. treeAt (level - 1) s j) (kidsE (listed node′ 8 (8 + len)))) [] hi k (after w at) ≡ edge
+      edge-same = edge-is hi k (freshIn free) w under 0 (after w at) ks
+
+      rest-same : restIn (forestOf (λ j. treeAt (level - 1) s j) (kidsE (listed node′ 8 (8 + len)))) [] hi k ≡ rest
+      rest-same = rest-is hi k under ks ∙ ap (forestOf under) rest-kids
+
+      kids-rest : kidsOf rest ≡ rks
+      kids-rest = kids-forest under rks (λ j. number-read (level - 1) s j)
+
+      part-is′ : rightOf (freshIn free) w (treeAt level s num) lo hi k at ≡ packed w (freshIn free at) (freshIn free (suc at)) k hi edge rest
+      part-is′ =
+          ap (λ t. rightOf (freshIn free) w t lo hi k at) tree-is
+          ∙ right-node-bare (freshIn free) w num (forestOf under ks) (inner′ .x .messages) lo hi k at bare
+          ∙ ap₂ (λ e r. packed w (freshIn free at) (freshIn free (suc at)) k hi e r) edge-same rest-same
+
+      packed-fits : fitsIn (packed w (freshIn free at) (freshIn free (suc at)) k hi edge rest) ≡ true
+      packed-fits = ap fitsIn (sym part-is′) ∙ pre .small
+
+      write-is : rightWrite (freshIn free) w (treeAt level s num) level lo hi k at s
+          ≡ packedWrite w level (freshIn free at) (freshIn free (suc at)) k hi edge rest (rightAt (freshIn free) w under (level - 1) k (after w at) s (pointOf 0 ks hi k))
+      write-is =
+          let v : level ≡ suc (level - 1) = omega arith in
+          ap₂ (λ h t. rightWrite (freshIn free) w t h lo hi k at s) v tree-is ∙ shown
+          ∙ ap₂ (λ e r. packedWrite w (suc (level - 1)) (freshIn free at) (freshIn free (suc at)) k hi e r (edgeWrite (freshIn free) w (forestOf under ks) (level - 1) [] hi k (after w at) s)) edge-same rest-same
+          ∙ ap₂ (λ h x. packedWrite w h (freshIn free at) (freshIn free (suc at)) k hi edge rest x) (sym v) (edge-write hi k (freshIn free) w under 0 (level - 1) (after w at) s ks)
+        where
+          shown : rightWrite (freshIn free) w (interior num (forestOf (λ j. treeAt (level - 1) s j) (kidsE (listed node′ 8 (8 + len)))) (inner′ .x .messages)) (suc (level - 1)) lo hi k at s
+              ≡ packedWrite w (suc (level - 1)) (freshIn free at) (freshIn free (suc at)) k hi
+              (edgeIn (freshIn free) w (forestOf (λ j. treeAt (level - 1) s j) (kidsE (listed node′ 8 (8 + len)))) [] hi k (after w at))
+              (restIn (forestOf (λ j. treeAt (level - 1) s j) (kidsE (listed node′ 8 (8 + len)))) [] hi k)
+              (edgeWrite (freshIn free) w (forestOf (λ j. treeAt (level - 1) s j) (kidsE (listed node′ 8 (8 + len)))) (level - 1) [] hi k (after w at) s)
+          shown = unfold rightWrite in rw bare
+
+      -- what the child is asked
+      asks-of : (x : Point) (a : ℕ) → a ≤ at + 2 → fitsIn (edgeAt (freshIn free) w under k a x) ≡ true → PointIs under (nodesOf (length s)) k x → PointAsksRight w s (level - 1) k a free x
+      unfolding PointIs PointAsksRight edgeAt
+      asks-of (within n i low high) a g f h =
+          record {
+            reads = h .0;
+            small = f;
+            above = h .1;
+            below = h .2;
+            few = pre .few;
+            levels = let b = pre .levels in omega arith;
+            enough = let b = pre .enough in omega arith;
+            room = λ j b. pre .room j (omega arith);
+          }
+      asks-of (between n low) a g f h = tt
+      asks-of (nowhere n) a g f h = tt
+
+      child-asks : (a : ℕ) → after w at ≡ a → a ≤ at + 2 → fitsIn edge ≡ true → PointAsksRight w s (level - 1) k a free (pointIn node′ hi c)
+      child-asks a e g f =
+          subst (PointAsksRight w s (level - 1) k a free) (sym (as-cut .meant))
+          (asks-of (pointOf 0 ks hi k) a g (ap (λ i. fitsIn (edgeAt (freshIn free) w under k i (pointOf 0 ks hi k))) (sym e) ∙ f) (point-is under hi k (nodesOf (length s)) ks 0 usables))
+
+      -- the child's answer
+      module _ (a : ℕ) (ea : after w at ≡ a) (s₁ out : List ℕ) (below : Parts) (ans : EdgeAs w (level - 1) k a free s s₁ out (pointIn node′ hi c) below) where
+        edge-kids : kidsOf edge ≡ piecesIn (freshIn free a) (freshIn free (a + 1)) k out below
+        edge-kids =
+            ap (λ i. kidsOf (edgeAt (freshIn free) w under k i (pointOf 0 ks hi k))) ea
+            ∙ ap (λ x. kidsOf (edgeAt (freshIn free) w under k a x)) (sym (as-cut .meant)) ∙ ans .pieces
+
+        first-is : s₁ ≡ rightAt (freshIn free) w under (level - 1) k (after w at) s (pointOf 0 ks hi k)
+        first-is =
+            ans .written ∙ ap (rightAt (freshIn free) w under (level - 1) k a s) (as-cut .meant)
+            ∙ ap (λ i. rightAt (freshIn free) w under (level - 1) k i s (pointOf 0 ks hi k)) (sym ea)
+
+        pub answer-fit : PartsFit (length out) below
+        answer-fit = ans .fit
+
+        -- wide: two nodes
+        module _ (ew : w ≡ true) (e2 : a ≡ at + 2) where
+          next : a + 1 ≡ at + 3
+          next = omega arith
+
+          kids-wide : kidsOf edge ≡ piecesIn (freshIn free (at + 2)) (freshIn free (at + 3)) k out below
+          kids-wide = edge-kids ∙ ap₂ (λ i j. piecesIn (freshIn free i) (freshIn free j) k out below) e2 next
+
+          high-is : highOf [] hi rest ≡ kidHigh hi rks
+          high-is = high-at under hi rks
+
+          m-is : freshIn free (suc at) ≡ freshIn free (at + 1)
+          m-is = let z : suc at ≡ at + 1 = omega arith in ap (freshIn free) z
+
+          wide-parts : (length (allLine (length (shared k (highOf [] hi rest))) (kidsOf edge)) ≤ 1016) × (length (allLine (length (shared (highOf [] hi rest) hi)) (kidsOf rest)) ≤ 1016) × (fitsIn edge ≡ true)
+          wide-parts =
+              wide-fits (freshIn free at) (freshIn free (suc at)) k hi edge rest
+              (ap (λ v. fitsIn (packed v (freshIn free at) (freshIn free (suc at)) k hi edge rest)) (sym ew) ∙ packed-fits)
+
+          pub wide-ready : (size : ℕ) → length s ≤ size → start .end ≤ length node′ → WideReady size level node′ start hi k below out at free
+          unfolding WideReady
+          wide-ready size big ends =
+              let p = wide-parts in
+              let x : allLine (length (shared k (highOf [] hi rest))) (kidsOf edge) ≡ allLine (length (shared k (kidHigh hi rks))) (piecesIn (freshIn free (at + 2)) (freshIn free (at + 3)) k out below) =
+              ap₂ (λ h q. allLine (length (shared k h)) q) high-is kids-wide in
+              let y : allLine (length (shared (highOf [] hi rest) hi)) (kidsOf rest) ≡ allLine (length (shared (kidHigh hi rks) hi)) rks = ap₂ (λ h q. allLine (length (shared h hi)) q) high-is kids-rest in
+              let lx = ap length x in
+              let ly = ap length y in
+              record {
+                levels = pre .levels;
+                enough = let b = pre .enough in omega arith;
+                room = λ i b. let q = pre .room i (omega arith) in omega arith;
+                fit = ans .fit;
+                ends = ends;
+                numbers = kids-small;
+                edgeFits = omega arith;
+                restFits = omega arith;
+              }
+
+          pub wide-done : (lift s₂ out′ : List ℕ) (r : Parts) → WideAs level node′ start hi k below out at free lift s₁ s₂ out′ r
+              → RightAs w (treeAt level s num) level lo hi k at free lift s s₂ out′ r
+          wide-done lift s₂ out′ r done =
+              record {
+                written =
+                    done .written
+                    ∙ sym (λ i. wideBody (freshIn free at) (m-is i) level k hi (high-is i) (kids-wide i) (kids-rest i) s₁)
+                    ∙ sym (write-wide-is level (freshIn free at) (freshIn free (suc at)) k hi edge rest s₁)
+                    ∙ (λ i. packedWrite (sym ew i) level (freshIn free at) (freshIn free (suc at)) k hi edge rest (first-is i))
+                    ∙ sym write-is;
+                pieces =
+                    ap (λ f. raiseKids lift (kidsOf f)) (part-is′ ∙ ap (λ v. packed v (freshIn free at) (freshIn free (suc at)) k hi edge rest) ew)
+                    ∙ ap (raiseKids lift) (packed-wide (freshIn free at) (freshIn free (suc at)) k hi edge rest)
+                    ∙ (λ i. raiseKids lift (headKid (freshIn free at) k (kids-wide i) ++ headKid (m-is i) (high-is i) (kids-rest i)))
+                    ∙ done .pieces;
+                fit = done .fit;
+              }
+
+        -- narrow: one node
+        module _ (ew : w ≡ false) (e1 : a ≡ at + 1) where
+          next′ : a + 1 ≡ at + 2
+          next′ = omega arith
+
+          kids-narrow : kidsOf edge ≡ piecesIn (freshIn free (at + 1)) (freshIn free (at + 2)) k out below
+          kids-narrow = edge-kids ∙ ap₂ (λ i j. piecesIn (freshIn free i) (freshIn free j) k out below) e1 next′
+
+          all-kids : kidsOf edge ++ kidsOf rest ≡ piecesIn (freshIn free (at + 1)) (freshIn free (at + 2)) k out below ++ rks
+          all-kids = ap₂ (λ x y. x ++ y) kids-narrow kids-rest
+
+          pub narrow-ready : (size : ℕ) → length s ≤ size → start .end ≤ length node′ → NarrowAsks size level node′ start hi k below out at free
+          narrow-ready size big ends =
+              let p = narrow-fits (freshIn free at) (freshIn free (suc at)) k hi edge rest
+              (ap (λ v. fitsIn (packed v (freshIn free at) (freshIn free (suc at)) k hi edge rest)) (sym ew) ∙ packed-fits) in
+              let x = ap (λ q. length (allLine (length (shared k hi)) q)) all-kids in
+              record {
+                levels = pre .levels;
+                enough = let b = pre .enough in omega arith;
+                room = λ i b. let q = pre .room i (omega arith) in omega arith;
+                fit = ans .fit;
+                ends = ends;
+                numbers = kids-small;
+                allFit = omega arith;
+              }
+
+          pub narrow-done : (lift s₂ : List ℕ) (r : Parts)
+              → s₂ ≡ overBody (freshIn free at) level (allLine (length (shared k hi)) (piecesIn (freshIn free (at + 1)) (freshIn free (at + 2)) k out below ++ kidsE (listed node′ (start .at) (start .end)))) s₁
+              → r ≡ oneNode (piecesIn (freshIn free (at + 1)) (freshIn free (at + 2)) k out below ++ kidsE (listed node′ (start .at) (start .end)))
+              → RightAs w (treeAt level s num) level lo hi k at free lift s s₂ out r
+          narrow-done lift s₂ r q er =
+              record {
+                written =
+                    q ∙ ap (λ l. overBody (freshIn free at) level (allLine (length (shared k hi)) l) s₁) (sym all-kids)
+                    ∙ sym (write-narrow-is level (freshIn free at) (freshIn free (suc at)) k hi edge rest s₁)
+                    ∙ (λ i. packedWrite (sym ew i) level (freshIn free at) (freshIn free (suc at)) k hi edge rest (first-is i))
+                    ∙ sym write-is;
+                pieces =
+                    ap (λ f. raiseKids lift (kidsOf f)) (part-is′ ∙ ap (λ v. packed v (freshIn free at) (freshIn free (suc at)) k hi edge rest) ew)
+                    ∙ ap (raiseKids lift) (packed-narrow (freshIn free at) (freshIn free (suc at)) k hi edge rest ∙ ap (headKid (freshIn free at) k) all-kids)
+                    ∙ one-told (freshIn free at) (freshIn free (at + 1)) lift k out (piecesIn (freshIn free (at + 1)) (freshIn free (at + 2)) k out below ++ rks)
+                    ∙ ap (piecesIn (freshIn free at) (freshIn free (at + 1)) (lift ++ k) out) (sym er);
+                fit = subst (PartsFit (length out)) (sym er) (one-fit (length out) (piecesIn (freshIn free (at + 1)) (freshIn free (at + 2)) k out below ++ rks));
+              }
+
+      -- what each way asks of the child
+      pub asks-wide : w ≡ true → PointAsksRight w s (level - 1) k (at + 2) free (pointIn node′ hi c)
+      asks-wide ew =
+          child-asks (at + 2) (after-wide w at ew) (omega arith)
+          (wide-fits (freshIn free at) (freshIn free (suc at)) k hi edge rest
+          (ap (λ v. fitsIn (packed v (freshIn free at) (freshIn free (suc at)) k hi edge rest)) (sym ew) ∙ packed-fits) .2)
+
+      pub asks-narrow : w ≡ false → PointAsksRight w s (level - 1) k (at + 1) free (pointIn node′ hi c)
+      asks-narrow ew =
+          child-asks (at + 1) (after-narrow w at ew) (omega arith)
+          (narrow-fits (freshIn free at) (freshIn free (suc at)) k hi edge rest
+          (ap (λ v. fitsIn (packed v (freshIn free at) (freshIn free (suc at)) k hi edge rest)) (sym ew) ∙ packed-fits) .1)
+
+-- THE CHILD WITHOUT WHAT IT LIFTS
+module _ (w : Bool) (s : List ℕ) (i level : ℕ) (low high k : List ℕ) (at : ℕ) (free : List ℕ) (pre : RightAsks w s i level low high k at free) (j : ℕ) (ej : j ≡ length (shared low high)) where
+  within-k : shared low high ++ drop (length (shared low high)) k ≡ k
+  within-k = split-cut low high k (pre .above) (pre .below)
+
+  pub strip-short : j ≤ length k
+  strip-short = let a = ap length within-k in let b = length-append (shared low high) (drop (length (shared low high)) k) in omega arith
+
+  pub strip-low : j ≤ length low
+  strip-low = let a = ap length (split-low low high) in let b = length-append (shared low high) (drop (length (shared low high)) low) in omega arith
+
+  pub strip-high : j ≤ length high
+  strip-high = let a = ap length (split-high low high) in let b = length-append (shared low high) (drop (length (shared low high)) high) in omega arith
+
+  pub lift-is : take (j - 0) (drop 0 k) ≡ shared low high
+  lift-is =
+      let z : j - 0 ≡ length (shared low high) = omega arith in
+      ap (λ n. take n k) z ∙ ap (take (length (shared low high))) (sym within-k) ∙ take-append-seam (shared low high) (drop (length (shared low high)) k)
+
+  module _ (low′ high′ k′ lift : List ℕ) (e : low′ ≡ drop j low) (f : high′ ≡ drop j high) (g : k′ ≡ drop j k) (h : lift ≡ take (j - 0) (drop 0 k)) where
+    el : low′ ≡ drop (length (shared low high)) low
+    el = e ∙ ap (λ n. drop n low) ej
+
+    eh : high′ ≡ drop (length (shared low high)) high
+    eh = f ∙ ap (λ n. drop n high) ej
+
+    ek : k′ ≡ drop (length (shared low high)) k
+    ek = g ∙ ap (λ n. drop n k) ej
+
+    stripped : rightOf (freshIn free) w (treeAt level s i) low high k at ≡ raise (shared low high) (rightOf (freshIn free) w (treeAt level s i) low′ high′ k′ at)
+    stripped =
+        right-strip low high (freshIn free) k (pre .above) (pre .below) w (treeAt level s i) at
+        ∙ sym (λ z. raise (shared low high) (rightOf (freshIn free) w (treeAt level s i) (el z) (eh z) (ek z) at))
+
+    pub strip-bare : shared low′ high′ ≡ []
+    strip-bare = ap₂ shared el eh ∙ strip-shared low high
+
+    pub strip-asks : RightAsks w s i level low′ high′ k′ at free
+    strip-asks =
+        record {
+          reads = pre .reads;
+          small = sym (fits-raise (shared low high) (rightOf (freshIn free) w (treeAt level s i) low′ high′ k′ at)) ∙ ap fitsIn (sym stripped) ∙ pre .small;
+          above =
+              ap₂ before el ek ∙ sym (before-append (shared low high) (drop (length (shared low high)) low) (drop (length (shared low high)) k))
+              ∙ ap₂ before (split-low low high) within-k ∙ pre .above;
+          below =
+              ap₂ before ek eh ∙ sym (before-append (shared low high) (drop (length (shared low high)) k) (drop (length (shared low high)) high))
+              ∙ ap₂ before within-k (split-high low high) ∙ pre .below;
+          few = pre .few;
+          levels = pre .levels;
+          enough = pre .enough;
+          room = pre .room;
+        }
+
+    pub strip-done : (s′ out : List ℕ) (r : Parts) → RightAs w (treeAt level s i) level low′ high′ k′ at free lift s s′ out r
+        → (s′ ≡ rightWrite (freshIn free) w (treeAt level s i) level low high k at s)
+        × (kidsOf (rightOf (freshIn free) w (treeAt level s i) low high k at) ≡ piecesIn (freshIn free at) (freshIn free (at + 1)) k out r) × PartsFit (length out) r
+    strip-done s′ out r ans = (
+      ans .written ∙ (λ z. rightWrite (freshIn free) w (treeAt level s i) level (el z) (eh z) (ek z) at s)
+          ∙ sym (right-write-strip (freshIn free) low high k (pre .above) (pre .below) w (treeAt level s i) level at s),
+      ap kidsOf stripped ∙ kids-raise (shared low high) (rightOf (freshIn free) w (treeAt level s i) low′ high′ k′ at)
+          ∙ ap (λ l. raiseKids l (kidsOf (rightOf (freshIn free) w (treeAt level s i) low′ high′ k′ at))) (sym (h ∙ lift-is)) ∙ ans .pieces
+          ∙ ap (λ l. piecesIn (freshIn free at) (freshIn free (at + 1)) l out r) (ap₂ (λ x y. x ++ y) (h ∙ lift-is) ek ∙ within-k),
+      ans .fit,
+    )
+
+-- BY THE ANSWER
+module _ (w : Bool) (s node′ hi k : List ℕ) (level at : ℕ) (free : List ℕ) (c : Cut) where
+  pub inner-asks : (n i : ℕ) (p q : Place) → c ≡ Cut.Inner n i p q → PointAsksRight w s level k at free (pointIn node′ hi c) → RightAsks w s i level (part node′ p) (part node′ q) k at free
+  unfolding PointAsksRight pointIn
+  inner-asks n i p q e h = subst (λ z. PointAsksRight w s level k at free (pointIn node′ hi z)) e h
+
+  pub last-asks : (n i : ℕ) (p : Place) → c ≡ Cut.Last n i p → PointAsksRight w s level k at free (pointIn node′ hi c) → RightAsks w s i level (part node′ p) hi k at free
+  unfolding PointAsksRight pointIn
+  last-asks n i p e h = subst (λ z. PointAsksRight w s level k at free (pointIn node′ hi z)) e h
+
+  module _ (s′ out : List ℕ) (r : Parts) where
+    pub inner-at : (n i : ℕ) (p q : Place) → c ≡ Cut.Inner n i p q
+        → (s′ ≡ rightWrite (freshIn free) w (treeAt level s i) level (part node′ p) (part node′ q) k at s)
+        × (kidsOf (rightOf (freshIn free) w (treeAt level s i) (part node′ p) (part node′ q) k at) ≡ piecesIn (freshIn free at) (freshIn free (at + 1)) k out r) × PartsFit (length out) r
+        → EdgeAs w level k at free s s′ out (pointIn node′ hi c) r
+    inner-at n i p q e h = subst (λ z. EdgeAs w level k at free s s′ out (pointIn node′ hi z) r) (sym e) (shown h)
+      where
+        shown : (s′ ≡ rightWrite (freshIn free) w (treeAt level s i) level (part node′ p) (part node′ q) k at s)
+            × (kidsOf (rightOf (freshIn free) w (treeAt level s i) (part node′ p) (part node′ q) k at) ≡ piecesIn (freshIn free at) (freshIn free (at + 1)) k out r) × PartsFit (length out) r
+            → EdgeAs w level k at free s s′ out (pointIn node′ hi (Cut.Inner n i p q)) r
+        shown g = record { written = unfold rightAt pointIn in g .0; pieces = unfold edgeAt pointIn in g .1; fit = g .2 }
+
+    pub last-at : (n i : ℕ) (p : Place) → c ≡ Cut.Last n i p
+        → (s′ ≡ rightWrite (freshIn free) w (treeAt level s i) level (part node′ p) hi k at s)
+        × (kidsOf (rightOf (freshIn free) w (treeAt level s i) (part node′ p) hi k at) ≡ piecesIn (freshIn free at) (freshIn free (at + 1)) k out r) × PartsFit (length out) r
+        → EdgeAs w level k at free s s′ out (pointIn node′ hi c) r
+    last-at n i p e h = subst (λ z. EdgeAs w level k at free s s′ out (pointIn node′ hi z) r) (sym e) (shown h)
+      where
+        shown : (s′ ≡ rightWrite (freshIn free) w (treeAt level s i) level (part node′ p) hi k at s)
+            × (kidsOf (rightOf (freshIn free) w (treeAt level s i) (part node′ p) hi k at) ≡ piecesIn (freshIn free at) (freshIn free (at + 1)) k out r) × PartsFit (length out) r
+            → EdgeAs w level k at free s s′ out (pointIn node′ hi (Cut.Last n i p)) r
+        shown g = record { written = unfold rightAt pointIn in g .0; pieces = unfold edgeAt pointIn in g .1; fit = g .2 }
+
+  pub between-at : (out : List ℕ) (n : ℕ) (p : Place) → c ≡ Cut.Between n p → EdgeAs w level k at free s s out (pointIn node′ hi c) Parts.Nothing
+  between-at out n p e = subst (λ z. EdgeAs w level k at free s s out (pointIn node′ hi z) Parts.Nothing) (sym e) shown
+    where
+      shown : EdgeAs w level k at free s s out (pointIn node′ hi (Cut.Between n p)) Parts.Nothing
+      shown = record { written = unfold rightAt pointIn in refl; pieces = unfold edgeAt pointIn kidsOf piecesIn in refl; fit = unfold PartsFit in tt }
+
+  pub nowhere-at : (out : List ℕ) (n : ℕ) → c ≡ Cut.Nowhere n → EdgeAs w level k at free s s out (pointIn node′ hi c) Parts.Nothing
+  nowhere-at out n e = subst (λ z. EdgeAs w level k at free s s out (pointIn node′ hi z) Parts.Nothing) (sym e) shown
+    where
+      shown : EdgeAs w level k at free s s out (pointIn node′ hi (Cut.Nowhere n)) Parts.Nothing
+      shown = record { written = unfold rightAt pointIn in refl; pieces = unfold edgeAt pointIn kidsOf piecesIn in refl; fit = unfold PartsFit in tt }

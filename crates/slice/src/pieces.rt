@@ -1,0 +1,122 @@
+// The pages of a right part: the pieces of the child that held the cut, and the children after it. Relies on kids and on the writers of
+// entries and pages; specs/Right says what stands in the pages.
+use crate::Cut;
+use crate::Parts;
+use crate::kids;
+use live::Pending;
+use node::Cursor;
+ghost use mathlib.Core.Path.{_≡_};
+ghost use mathlib.Core.List.{[], _++_};
+ghost use mathlib.Core.Bool.{true, not};
+ghost use Prim.Native.Nat.{_+_, _*_, _≤_, _<_};
+ghost use lib.ListN.{length, drop};
+ghost use lib.Dec.{eqb};
+ghost use Rattle.image.specs.Entry.{child};
+ghost use Rattle.laws.specs.Encode.{bytesOf};
+ghost use Rattle.octets.specs.Put.{put};
+ghost use Rattle.node.specs.Entries.{listed};
+ghost use Rattle.search.specs.Own.{kidsE};
+ghost use Rattle.push_laws.specs.Written.{smallNumbers};
+ghost use Rattle.slice.specs.Point.{kidLine, pointIn};
+ghost use Rattle.slice.specs.Right.{skipOf, piecesIn, PartsFit, allLine, overBody};
+
+// A child's entry, its pivot without the first d bytes. Gives the place behind it.
+fn emit_piece(page: &mut [u8], at: usize, num: usize, pivot: &[u8], d: usize) -> usize
+    requires { ⌜ (at + length (bytesOf (child num (drop d (now pivot)))) ≤ length (now page)) × (length (now page) ≤ 1024) × (num < 65536) ⌝ }
+    ensures { λ r. ⌜ (now (page .exit) ≡ put (now (page .entry)) at (bytesOf (child num (drop d (now (pivot .entry)))))) × (r ≡ at + length (bytesOf (child num (drop d (now (pivot .entry)))))) ⌝ }
+{
+    let n = pivot.len();
+    if n < d {
+        return pages::emit_child(page, at, num, &pivot[n..]);
+    }
+    pages::emit_child(page, at, num, &pivot[d..])
+}
+
+// The entries of the pieces. Gives the place behind them.
+fn emit_parts(
+    page: &mut [u8],
+    at: usize,
+    parts: Parts,
+    k: &[u8],
+    out: &[u8],
+    d: usize,
+    a: usize,
+    b: usize,
+) -> usize
+    requires { ⌜ PartsFit (length (now out)) parts × (at + length (allLine d (piecesIn a b (now k) (now out) parts)) ≤ length (now page)) × (length (now page) ≤ 1024) × (a < 65536) × (b < 65536) ⌝ }
+    ensures { λ r. ⌜ (now (page .exit) ≡ put (now (page .entry)) at (allLine d (piecesIn a b (now (k .entry)) (now (out .entry)) parts))) × (r ≡ at + length (allLine d (piecesIn a b (now (k .entry)) (now (out .entry)) parts))) ⌝ }
+{
+    match parts {
+        Parts::Nothing => at,
+        Parts::Edge => emit_piece(page, at, a, k, d),
+        Parts::Rest(n) => emit_piece(page, at, b, &out[0..n], d),
+        Parts::Both(n) => {
+            let to = emit_piece(page, at, a, k, d);
+            emit_piece(page, to, b, &out[0..n], d)
+        }
+    }
+}
+
+// A node over the pieces and the next children, if there are any. Tells whether there are.
+pub fn write_over(
+    store: &mut [u8],
+    num: usize,
+    level: usize,
+    parts: Parts,
+    k: &[u8],
+    out: &[u8],
+    a: usize,
+    b: usize,
+    node: &[u8],
+    start: Cursor,
+    count: usize,
+    d: usize,
+) -> bool
+    requires { ⌜ (num * 1024 + 1024 ≤ length (now store)) × (level < 65536) × PartsFit (length (now out)) parts × (a < 65536) × (b < 65536) × (start .end ≤ length (now node)) × (smallNumbers (kidsE (listed (now node) (start .at) (start .end))) ≡ true) × (length (allLine d (piecesIn a b (now k) (now out) parts) ++ kidLine d count (kidsE (listed (now node) (start .at) (start .end)))) ≤ 1016) ⌝ }
+    ensures { λ r. ⌜ (now (store .exit) ≡ overBody num level (allLine d (piecesIn a b (now (k .entry)) (now (out .entry)) parts) ++ kidLine d count (kidsE (listed (now (node .entry)) (start .at) (start .end)))) (now (store .entry))) × (r ≡ not (eqb (length (allLine d (piecesIn a b (now (k .entry)) (now (out .entry)) parts) ++ kidLine d count (kidsE (listed (now (node .entry)) (start .at) (start .end))))) 0)) ⌝ }
+{
+    let mut page = [0u8; 1024];
+    let to = emit_parts(&mut page, 8, parts, k, out, d, a, b);
+    let end = kids::emit_kids(&mut page, to, node, start, count, d);
+    if end == 8 {
+        return false;
+    }
+    push::message::write_page(store, num, &mut page, 2, level, end - 8);
+    true
+}
+
+// The cursor behind the next n children.
+fn skip_kids(node: &[u8], start: Cursor, n: usize) -> Cursor
+    requires { ⌜ start .end ≤ length (now node) ⌝ }
+    ensures { λ r. ⌜ (r .end ≤ length (now (node .entry))) × (kidsE (listed (now (node .entry)) (r .at) (r .end)) ≡ drop n (kidsE (listed (now (node .entry)) (start .at) (start .end)))) ⌝ }
+{
+    let mut c = start;
+    let mut left = n;
+    while 0 < left {
+        let Pending::Child(_, _, next) = live::read_child(node, c) else {
+            return c;
+        };
+        c = next;
+        left -= 1;
+    }
+    c
+}
+
+// The cursor at the children from the cut on, but for the one that holds it.
+pub fn rest_start(node: &[u8], stop: usize, cut: Cut) -> Cursor
+    requires { ⌜ stop ≤ length (now node) ⌝ }
+    ensures { λ r. ⌜ (r .end ≤ length (now (node .entry))) × (kidsE (listed (now (node .entry)) (r .at) (r .end)) ≡ drop (skipOf (pointIn (now (node .entry)) [] cut)) (kidsE (listed (now (node .entry)) 8 stop))) ⌝ }
+{
+    match cut {
+        Cut::Inner(n, _, _, _) => {
+            let c = skip_kids(node, Cursor { at: 8, end: stop }, n);
+            skip_kids(node, c, 1)
+        }
+        Cut::Last(n, _, _) => {
+            let c = skip_kids(node, Cursor { at: 8, end: stop }, n);
+            skip_kids(node, c, 1)
+        }
+        Cut::Between(n, _) => skip_kids(node, Cursor { at: 8, end: stop }, n),
+        Cut::Nowhere(n) => skip_kids(node, Cursor { at: 8, end: stop }, n),
+    }
+}

@@ -25,7 +25,7 @@ handed-step bytes i h =
     let y : suc i ≡ i + 1 = omega arith in
     ap (λ k. listed k bytes i) z ∙ ap (λ q. u16 bytes (i * 2) ∷ listed (length bytes / 2 - (i + 1)) bytes q) y
 
-listed-length : (k : ℕ) (bytes : List ℕ) (i : ℕ) → length (listed k bytes i) ≡ k
+pub listed-length : (k : ℕ) (bytes : List ℕ) (i : ℕ) → length (listed k bytes i) ≡ k
 unfolding listed
 listed-length zero bytes i = refl
 listed-length (suc k) bytes i = ap suc (listed-length k bytes (suc i))

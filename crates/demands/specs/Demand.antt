@@ -1,5 +1,6 @@
 -- Demand 3, from the contracts of the calls: for every list of calls on a store just made, the answers are the plain map's, and the image
--- at the end means what the map then holds.
+-- at the end is sound and means what the map then holds; and the node bound of a move. Record Demand has the statements.
+-- Relies on the contracts and the plain map (image) and, that lookup finds what the table has, on laws.
 use Prim.Native.Nat.{ℕ, zero, suc, _+_, _*_, _≤_}
 use mathlib.Core.Path.{_≡_, refl, sym, ap, _∙_}
 use mathlib.Core.List.{List, [], _∷_}
@@ -8,11 +9,13 @@ use lib.ListN.{length}
 use Rattle.image.specs.Table.{Row, find}
 use Rattle.image.specs.Image.{nodesOf, wholeNodes, headerOf}
 use Rattle.image.specs.Sound.{sound, tableOf, valueIn}
-use Rattle.image.specs.Calls.{Call, acts, keeps, asks, Upkeep, move, Answer, numberOf, refused, Question, ask, firstNo, workLong, questions, answerAt, tableAt, tableAfter}
+use Rattle.image.specs.Calls.{Call, acts, keeps, asks, Upkeep, move, Question, ask, firstNo, workLong, questions}
+use Rattle.image.specs.Calls.{Answer, numberOf, answerAt, tableAt, tableAfter}
 use Rattle.laws.specs.LookupTable.{means-table}
 use Rattle.image.specs.Upkeep.{changed}
 use Rattle.image.specs.PlainMap.{plainFirstNo, reported, tableOn, answersOn}
-use Rattle.image.specs.Contract.{nodeQuestions, firstNoOn, Besides, Bounded, MoveKeeps, Meets, Made, Run, stop, call}
+use Rattle.image.specs.Contract.{nodeQuestions, firstNoOn, Besides, Bounded, MoveKeeps, Meets, Made, MakeMeets, Run, stop, call}
+use Rattle.demands.specs.Contracts.{all-yes, stays-sound, run-size}
 
 -- the answers of a run that the demand speaks of
 unfoldable pub reportedOf : List Call → List Answer → List Answer
@@ -66,18 +69,11 @@ module _ (n : ℕ) (t : List Row) (s : List ℕ) (g : Represents n t s) where
   answer-goes (keeps u i work) later m = refl
   answer-goes (asks q buffer) later m = ap (λ b. b ∷ later) (no-node-answer (asks q buffer) m refl)
 
-  stays-sound : (c : Call) {a : Answer} {s′ w′ : List ℕ} → Meets s c a s′ w′ → sound s′ ≡ true
-  stays-sound c {a} {s′} {w′} m = by-number (firstNoOn s c) refl
-    where
-      by-number : (k : ℕ) → firstNoOn s c ≡ k → sound s′ ≡ true
-      by-number zero e = m .leaves e
-      by-number (suc k) e = rw (m .stays k e) (g .is-sound)
-
   goes-on : (c : Call) {a : Answer} {s′ w′ : List ℕ} → Meets s c a s′ w′ → Represents n (tableAt (plainFirstNo n c t) c t) s′
   goes-on c m =
       record {
         whole = rw (m .size) (g .whole);
-        is-sound = stays-sound c m;
+        is-sound = stays-sound m (g .is-sound);
         nodes = rw (m .size) (g .nodes);
         table = table-goes c m;
       }
@@ -97,38 +93,57 @@ unfolding tableOn
 run-goes n t g stop = g
 run-goes n t {s} g (call {c = c} m r) = run-goes n (tableAt (plainFirstNo n c t) c t) (goes-on n t s g c m) r
 
--- a list of calls agrees with the plain map
-pub record Agrees (n : ℕ) (cs : List Call) (given : List Answer) (s′ : List ℕ) : Type 0 where
+-- A list of calls agrees with the plain map of n nodes that begins with no rows. The answers are given and the store s′ is left; of the
+-- first store s only the length counts.
+pub record Agrees (n : ℕ) (cs : List Call) (given : List Answer) (s s′ : List ℕ) : Type 0 where
+  -- each call's number, length and whole buffer are the plain map's (flush and heal have no answer there)
   pub answers : reportedOf cs given ≡ answersOn n cs []
+  -- the image at the end is sound, and as long as at first
+  pub is-sound : sound s′ ≡ true
+  pub size : length s′ ≡ length s
+  -- it means exactly what the map then holds: as a table, and by lookup for every string of bytes
+  pub table : tableOf s′ ≡ tableOn n cs []
   pub image : (p : List ℕ) → valueIn s′ p ≡ find p (tableOn n cs [])
 
-agrees : {s s′ : List ℕ} {cs : List Call} {given : List Answer} → Made s → Run s cs given s′ → Agrees (nodesOf (length s)) cs given s′
+agrees : {s s′ : List ℕ} {cs : List Call} {given : List Answer} → Made s → Run s cs given s′ → Agrees (nodesOf (length s)) cs given s s′
 agrees {s} {s′} {cs} made r =
     let g : Represents (nodesOf (length s)) [] s = record { whole = made .whole; is-sound = made .is-sound; nodes = refl; table = made .empty } in
     let g′ : Represents (nodesOf (length s)) (tableOn (nodesOf (length s)) cs []) s′ = run-goes (nodesOf (length s)) [] g r in
     record {
       answers = run-answers (nodesOf (length s)) [] g r;
+      is-sound = g′ .is-sound;
+      size = run-size r;
+      table = g′ .table;
       image = λ p. means-table s′ (g′ .is-sound) p ∙ ap (λ t. find p t) (g′ .table);
     }
 
--- an answer with the number 0 is that of an accepted call
-zero-is-accepted : (k : ℕ) (c : Call) (t : List Row) → numberOf (answerAt k c t) ≡ 0 → k ≡ 0
-unfolding answerAt numberOf refused
-zero-is-accepted zero c t e = refl
-zero-is-accepted (suc k) (acts a work) t e = e
-zero-is-accepted (suc k) (keeps u i work) t e = e
-zero-is-accepted (suc k) (asks q buffer) t e = e
+-- an accepted make leaves a store just made, as long as the bytes that it was given
+agrees-made : {s₀ s s′ : List ℕ} {cs : List Call} {given : List Answer} → MakeMeets s₀ 0 s → Run s cs given s′
+    → Agrees (nodesOf (length s₀)) cs given s₀ s′
+agrees-made {s₀} {s} {s′} {cs} {given} m r =
+    let g : Agrees (nodesOf (length s)) cs given s s′ = agrees (m .leaves (sym (m .answer))) r in
+    record {
+      answers = rw (← m .size) (g .answers);
+      is-sound = g .is-sound;
+      size = g .size ∙ m .size;
+      table = rw (← m .size) (g .table);
+      image = rw (← m .size) (g .image);
+    }
 
 move-keeps : {s s′ w′ from to work : List ℕ} {a : Answer} → Meets s (acts (move from to) work) a s′ w′ → numberOf a ≡ 0 → MoveKeeps s s′ from to
 unfolding Besides
-move-keeps {s} {from = from} {to = to} {work = work} m e =
-    m .also (zero-is-accepted (firstNoOn s (acts (move from to) work)) (acts (move from to) work) (tableOf s) (ap numberOf (sym (m .answer)) ∙ e))
+move-keeps m e = m .also (all-yes m e)
 
 -- Demand 3, whole.
 pub record Demand : Type 0 where
-  pub lists : {s s′ : List ℕ} {cs : List Call} {given : List Answer} → Made s → Run s cs given s′ → Agrees (nodesOf (length s)) cs given s′
+  -- every list of calls on a store just made agrees with the plain map
+  pub lists : {s s′ : List ℕ} {cs : List Call} {given : List Answer} → Made s → Run s cs given s′ → Agrees (nodesOf (length s)) cs given s s′
+  -- so does every list after an accepted make, whatever the bytes were before it
+  pub made : {s₀ s s′ : List ℕ} {cs : List Call} {given : List Answer} → MakeMeets s₀ 0 s → Run s cs given s′
+      → Agrees (nodesOf (length s₀)) cs given s₀ s′
+  -- an accepted move on a settled store of L levels, at most 7, with at least 12 × L + 8 free nodes, changes at most 16 × L + 8 nodes
   pub moves : {s s′ w′ from to work : List ℕ} {a : Answer} → Meets s (acts (move from to) work) a s′ w′ → numberOf a ≡ 0
       → Bounded s → changed (nodesOf (length s)) s s′ ≤ 16 * headerOf s .levels + 8
 
 pub demand : Demand
-demand = record { lists = agrees; moves = λ m e. move-keeps m e .few }
+demand = record { lists = agrees; made = agrees-made; moves = λ m e. move-keeps m e .few }

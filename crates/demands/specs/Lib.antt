@@ -1,1 +1,7 @@
+pub mod Contracts
+pub mod FindMoved
+pub mod Touches
+pub mod Formed
 pub mod Demand
+pub mod Kept
+pub mod Brought

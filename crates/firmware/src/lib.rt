@@ -1,5 +1,5 @@
 // The calls for C, whose prototypes stand in include/splicelog.h. Each hands its slices to the call of the same name and turns the answer
-// into numbers. Relies on: make, query, edit and maintain for the calls; image for the answers and their numbers.
+// into numbers. Relies on: make, query, edit, rename and maintain for the calls; image for the answers and their numbers.
 use image::Found;
 use image::Outcome;
 use image::Refusal;
@@ -8,7 +8,7 @@ ghost use Prim.Native.Nat.{_≤_, _/_, _%_};
 ghost use mathlib.Core.Path.{_≡_};
 ghost use mathlib.Core.List.{[]};
 ghost use Rattle.image.specs.Answers.{refusalNumber, outcomeNumber, samenessNumber, samenessVerdict};
-ghost use Rattle.image.specs.Calls.{asks, get, next, filled, acts, keeps, put, drops, clear, settle, tidy, flush, heal, number};
+ghost use Rattle.image.specs.Calls.{asks, get, next, filled, acts, keeps, put, drops, clear, move, settle, tidy, flush, heal, number};
 ghost use Rattle.image.specs.Contract.{Meets, MakeMeets, SameMeets};
 ghost use Rattle.query.specs.Asked.{foundLength};
 ghost use Rattle.firmware.specs.Words.{foundNumber};
@@ -108,6 +108,13 @@ pub extern "C" fn splicelog_clear(store: &mut [u8], work: &mut [u8], path: &[u8]
     ensures { λ r. ⌜ Meets (now (store .entry)) (acts (clear (now (path .entry))) (now (work .entry))) (number r) (now (store .exit)) (now (work .exit)) ⌝ }
 {
     outcome_number(edit::clear(store, work, path))
+}
+
+#[no_mangle]
+pub extern "C" fn splicelog_move(store: &mut [u8], work: &mut [u8], from: &[u8], to: &[u8]) -> u32
+    ensures { λ r. ⌜ Meets (now (store .entry)) (acts (move (now (from .entry)) (now (to .entry))) (now (work .entry))) (number r) (now (store .exit)) (now (work .exit)) ⌝ }
+{
+    outcome_number(rename::move_paths(store, work, from, to))
 }
 
 #[no_mangle]

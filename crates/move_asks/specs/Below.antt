@@ -1,17 +1,17 @@
 -- The rows below a path, walked by next: how the walk starts, ends and goes on, and question 8.
 -- Relies on laws/specs/Follow (what follows a path in a rising table).
-use Prim.Native.Nat.{ℕ, suc, _<_, _≤_}
+use Prim.Native.Nat.{ℕ, _<_}
 use mathlib.Core.Path.{_≡_, refl, sym, ap, _∙_}
 use mathlib.Core.List.{List, [], _∷_}
-use mathlib.Core.Bool.{Bool, true, false, _&&_, not, cond, false≢true}
-use mathlib.Core.Option.{Option, none, some}
+use mathlib.Core.Bool.{Bool, true, false}
+use mathlib.Core.Option.{none, some}
 use native.Mathlib.Omega.{arith}
 use lib.ListN.{length}
-use Rattle.image.specs.Bytes.{before, begins}
+use Rattle.image.specs.Bytes.{begins}
 use Rattle.image.specs.Path.{wellFormed}
 use Rattle.image.specs.Table.{Row, everyKey, rowsBelow, rowsAfter, firstKey, leastAfter, leads, rising}
 use Rattle.image.specs.Calls.{isEmpty}
-use Rattle.octets.specs.Order.{and-left, and-right}
+use Rattle.octets.specs.Order.{and-left}
 use Rattle.laws.specs.Filter.{keep-passes, keep-rises}
 use Rattle.laws.specs.Follow.{formed-some, after-all, after-step}
 use Rattle.moving.specs.MovedRows.{keep-below}

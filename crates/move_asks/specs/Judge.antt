@@ -2,15 +2,14 @@
 -- is judged, after `to` was fed to the shape of a path.
 -- Relies on path/specs/Shape (feeding in pieces) and moving/specs/MovedRows (rows below a path, as a test).
 use Prim.Native.Nat.{ℕ}
-use mathlib.Core.Path.{_≡_, refl, sym, ap, ap₂, _∙_}
-use mathlib.Core.List.{List, [], _∷_, _++_}
+use mathlib.Core.Path.{_≡_, refl, sym, ap₂, _∙_}
+use mathlib.Core.List.{List, [], _∷_}
 use mathlib.Core.Bool.{Bool, true, false, _&&_, not}
 use lib.ListN.{length, drop}
 use Rattle.image.specs.Bytes.{begins}
 use Rattle.image.specs.Path.{wellFormed}
 use Rattle.image.specs.Table.{Row, everyKey, rowsBelow, withoutBelow, renamed, putAll, moved}
 use Rattle.octets.specs.Order.{and-left, and-right}
-use Rattle.laws.specs.Rising.{both}
 use Rattle.laws.specs.Filter.{every-with, keep-passes}
 use Rattle.path.specs.Shape.{Shape, fresh, feed, goesOn, shape-is}
 use Rattle.moving.specs.MovedRows.{keep-other, renamed-formed}

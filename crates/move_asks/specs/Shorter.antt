@@ -1,16 +1,16 @@
 -- The quick yes of question 9: where `to` has no more components and no more bytes than `from`, every rest that follows `from` follows `to`.
 -- Relies on path/specs/Shape.
 use Prim.Native.Nat.{ℕ, suc, _≤_, _<_}
-use mathlib.Core.Path.{_≡_, refl, sym, ap, ap₂, _∙_}
-use mathlib.Core.List.{List, [], _∷_, _++_, append-nil}
-use mathlib.Core.Bool.{Bool, true, false, _&&_, cond, false≢true}
+use mathlib.Core.Path.{_≡_, refl, sym, ap, _∙_}
+use mathlib.Core.List.{List, [], _∷_, append-nil}
+use mathlib.Core.Bool.{Bool, true, false, _&&_, false≢true}
 use native.Mathlib.Omega.{arith}
 use lib.ListN.{length, drop}
 use lib.Dec.{leb, ltb, eqb}
 use borrow.Author.Tests.{le-leb, leb-true, lt-ltb, ltb-true, eqb-true}
 use Rattle.image.specs.Bytes.{begins}
 use Rattle.image.specs.Path.{letter, pathLimit, wellFormed}
-use Rattle.image.specs.Table.{Row, everyKey, rowsBelow}
+use Rattle.image.specs.Table.{Row, everyKey}
 use Rattle.octets.specs.Order.{and-left, and-right, begins-split}
 use Rattle.laws.specs.Rising.{both}
 use Rattle.laws.specs.Filter.{keep-passes}

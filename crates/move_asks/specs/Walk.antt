@@ -3,15 +3,14 @@
 use Prim.Native.Nat.{ℕ, _+_, _-_, _<_, _≤_}
 use mathlib.Core.Path.{_≡_, refl, sym, ap, ap₂, _∙_}
 use mathlib.Core.List.{List, []}
-use mathlib.Core.Bool.{Bool, true, false, _&&_, not}
-use mathlib.Core.Option.{none, some}
+use mathlib.Core.Bool.{Bool, true, false, not}
 use native.Mathlib.Omega.{arith}
 use lib.ListN.{length, take, drop, length-take}
-use lib.Dec.{leb, ltb}
+use lib.Dec.{leb}
 use borrow.Author.Tests.{le-leb, lt-leb, leb-true, leb-false}
 use Rattle.image.specs.Bytes.{same, begins}
 use Rattle.image.specs.Path.{wellFormed, properBeginning, mayMove}
-use Rattle.image.specs.Table.{Row, rowsBelow, rowsAfter, leastAfter, moved, everyKey}
+use Rattle.image.specs.Table.{rowsBelow, rowsAfter, leastAfter, moved, everyKey}
 use Rattle.image.specs.Calls.{isEmpty}
 use Rattle.image.specs.Sound.{sound, tableOf}
 use Rattle.octets.specs.Beginnings.{begins-length}

@@ -1,7 +1,7 @@
 -- The steps of the questions of a move.
 -- Relies on move_ready/specs/Moved (each refusal's contract).
 use Prim.Native.Nat.{ℕ}
-use mathlib.Core.Path.{_≡_, refl, sym, ap, subst, _∙_}
+use mathlib.Core.Path.{_≡_, refl, sym, subst, _∙_}
 use mathlib.Core.List.{List}
 use mathlib.Core.Bool.{Bool, true, false, not, cond}
 use Rattle.image.specs.Bytes.{same}

@@ -1,24 +1,27 @@
 -- The call move from its steps: the questions in order, the path that stays, and the swing with the live count made right.
 -- Relies on moving's swung (what the swing leaves), on Prepared, and on finish's Finished.
-use Prim.Native.Nat.{ℕ, zero, suc, _+_, _*_, _≤_}
-use mathlib.Core.Path.{_≡_, refl, sym, ap, subst, _∙_}
-use mathlib.Core.List.{List, [], _∷_, _++_}
+use Prim.Native.Nat.{ℕ, zero, suc, _+_, _*_, _-_, _/_, _≤_, _<_}
+use mathlib.Core.Path.{_≡_, refl, sym, ap, ap₂, subst, _∙_}
+use mathlib.Core.List.{List, _∷_}
 use mathlib.Core.Bool.{Bool, true, false, _&&_, not, cond, false≢true}
 use native.Mathlib.Omega.{arith}
-use lib.ListN.{length, drop}
-use Rattle.image.specs.Bytes.{same, begins}
+use lib.ListN.{length, take, drop}
+use lib.Seq.{getD-take, length-take-le}
+use lib.Dec.{leb, eqb}
+use borrow.Author.Tests.{leb-true}
+use Rattle.image.specs.Bytes.{u16, same, begins}
 use Rattle.image.specs.Path.{wellFormed, properBeginning, mayMove}
-use Rattle.image.specs.Table.{Row, rowsBelow, moved, everyKey}
-use Rattle.image.specs.Image.{nodeBytes, nodesOf, wholeNodes, headerOf}
-use Rattle.image.specs.Sound.{sound, tableOf}
-use Rattle.image.specs.Upkeep.{settled, changed}
-use Rattle.image.specs.Calls.{acts, move, firstNo, workPerNode, isEmpty, questions, actQuestions, tableAfter, actTable}
-use Rattle.image.specs.Contract.{nodeQuestions, firstNoOn, Bounded, MoveKeeps, Besides, Meets}
+use Rattle.image.specs.Table.{rowsBelow, moved, everyKey}
+use Rattle.image.specs.Image.{nodeBytes, nodesOf, wholeNodes, headerOf, treeOf}
+use Rattle.image.specs.Sound.{sound, tableOf, isIn, numbers as nodes}
+use Rattle.image.specs.Upkeep.{changed}
+use Rattle.image.specs.Calls.{acts, move, firstNo, isEmpty, questions, actQuestions, tableAfter, actTable}
+use Rattle.image.specs.Contract.{nodeQuestions, firstNoOn, Besides, Meets}
 use Rattle.image.specs.Answers.{refusalNumber, outcomeAnswer}
 use Rattle.image.specs.declared.Refusal.{Refusal}
 use Rattle.image.specs.declared.Outcome.{Outcome}
-use Rattle.octets.specs.Order.{and-left, and-right, not-so, not-true, same-refl, same-turn}
-use Rattle.laws.specs.ButLive.{soundButLive, SoundParts, parts-of, sound-but-live}
+use Rattle.octets.specs.Order.{and-left, and-right, not-so, same-refl, same-turn}
+use Rattle.laws.specs.ButLive.{soundButLive, parts-of, sound-but-live}
 use Rattle.laws.specs.Follow.{table-rises}
 use Rattle.tree_check.specs.declared.Tally.{Tally}
 use Rattle.append_laws.specs.SetLive.{withLive, live-length, live-table, live-but}
@@ -27,9 +30,12 @@ use Rattle.rebuild.specs.Callers.{to-act, laterNo, act-meets, act-refused}
 use Rattle.finish.specs.Finished.{Finished, cleared-again}
 use Rattle.moving.specs.MoveImage.{Free, Roots, roots, moved-length}
 use Rattle.moving.specs.MoveDone.{movedStore}
-use Rattle.moving.specs.FreeList.{freeList}
+use Rattle.moving.specs.FreeList.{freeFrom, freeList}
+use Rattle.build.specs.Handed.{listed, handedFrom, handed}
+use Rattle.build.specs.HandedLaws.{listed-length}
 use Rattle.moving.specs.MoveBound.{Swung, swung-by}
-use Rattle.move_root.specs.Head.{swungWith, swung-right, swung-back}
+use Rattle.swing.specs.Head.{swungWith, swung-right, swung-back}
+use Rattle.swing.specs.Plan.{SwingAsks}
 use Rattle.ready.specs.Asked.{Fit, fit-number}
 use Rattle.move_ready.specs.Prepared.{Prepared}
 use Rattle.move_ready.specs.Unmoved.{moved-nowhere}
@@ -98,29 +104,66 @@ stays-meets s w w′ from to ok go e z =
     (record { unmoved = λ h. refl; few = λ h. omega (arith, changed-none (nodesOf (length s)) s) })
 
 -- THE SWING
--- what it asks
-pub record SwingAsks (s free from to : List ℕ) : Type 0 where
-  pub whole : wholeNodes (length s) ≡ true
-  pub is-sound : sound s ≡ true
-  pub is-settled : settled s ≡ true
-  pub low : headerOf s .levels ≤ 7
-  pub supply : Free s free
-  pub formed-from : wellFormed from ≡ true
-  pub formed-to : wellFormed to ≡ true
-  pub apart-from : begins from to ≡ false
-  pub apart-to : begins to from ≡ false
-  pub nine : everyKey wellFormed (moved from to (tableOf s)) ≡ true
+-- the numbers of the free nodes, as the swing is handed them
+free-length : (c i : ℕ) (is : List ℕ) → length (freeFrom c i is) ≤ c
+unfolding freeFrom
+free-length zero i is = omega arith
+free-length (suc c) i is = go (isIn i is) (free-length c (suc i) is)
+  where
+    go : (b : Bool) → length (freeFrom c (suc i) is) ≤ c → length (cond b (freeFrom c (suc i) is) (i ∷ freeFrom c (suc i) is)) ≤ suc c
+    go true h = omega arith
+    go false h = omega arith
+
+u16-take : (m : ℕ) (xs : List ℕ) (j : ℕ) → j + 1 < m → u16 (take m xs) j ≡ u16 xs j
+unfolding u16
+u16-take m xs j h = ap₂ (λ a b. a + 256 * b) (getD-take m xs j 0 (omega arith)) (getD-take m xs (j + 1) 0 (omega arith))
+
+listed-take : (k m : ℕ) (xs : List ℕ) (i : ℕ) → (i + k) * 2 ≤ m → listed k (take m xs) i ≡ listed k xs i
+unfolding listed
+listed-take zero m xs i h = refl
+listed-take (suc k) m xs i h = ap₂ (λ a l. a ∷ l) (u16-take m xs (i * 2) (omega arith)) (listed-take k m xs (suc i) (omega arith))
+
+module _ (s s₁ w w₁ numbers free : List ℕ) (r : ℕ) (whole : wholeNodes (length s) ≡ true) (p : Prepared s s₁ w w₁ numbers r) (e : free ≡ take (r * 2 - 0) (drop 0 numbers))
+    (long : length numbers ≡ 2048) where
+  few-free : r < 1024
+  unfolding freeList wholeNodes
+  few-free =
+      let a = listed-length r numbers 0 in
+      let b = ap length (p .are-listed) in
+      let c = free-length (nodesOf (length s₁) - 1) 1 (nodes (treeOf s₁)) in
+      let d : nodesOf (length s) ≤ 1024 = leb-true (nodesOf (length s)) 1024 (and-right (eqb (1024 * nodesOf (length s)) (length s) && leb 32 (nodesOf (length s))) _ whole) in
+      let f : nodesOf (length s₁) ≡ nodesOf (length s) = ap nodesOf (p .size) in
+      omega arith
+
+  pub list-end : r * 2 ≤ length numbers
+  list-end = let a = few-free in omega arith
+
+  free-is : free ≡ take (r * 2) numbers
+  free-is = let z : r * 2 - 0 ≡ r * 2 = omega arith in e ∙ ap (λ n. take n numbers) z
+
+  free-size : length free ≡ r * 2
+  free-size = ap length free-is ∙ length-take-le (r * 2) numbers list-end
+
+  even-handed : 2 * (length free / 2) ≡ length free
+  even-handed = let a = free-size in omega arith
+
+  handed-list : handed free ≡ freeList s₁
+  unfolding handed handedFrom
+  handed-list =
+      let z : length free / 2 - 0 ≡ r = let a = free-size in omega arith in
+      ap₂ (λ k b. listed k b 0) z free-is ∙ listed-take r (r * 2) numbers 0 (omega arith) ∙ p .are-listed
 
 -- a store that was made ready, after the questions
-pub swing-asks : (s s₁ w w₁ numbers free from to : List ℕ) (r : ℕ) → wholeNodes (length s) ≡ true → Prepared s s₁ w w₁ numbers r → free ≡ freeList s₁ → wellFormed from ≡ true
+pub swing-asks : (s s₁ w w₁ numbers free from to : List ℕ) (r : ℕ) → wholeNodes (length s) ≡ true → Prepared s s₁ w w₁ numbers r → free ≡ take (r * 2 - 0) (drop 0 numbers) → length numbers ≡ 2048 → wellFormed from ≡ true
     → wellFormed to ≡ true → mayMove from to ≡ true → same from to ≡ false → everyKey wellFormed (moved from to (tableOf s)) ≡ true → SwingAsks s₁ free from to
-swing-asks s s₁ w w₁ numbers free from to r whole p e a b c d q9 =
+swing-asks s s₁ w w₁ numbers free from to r whole p e long a b c d q9 =
     record {
       whole = ap wholeNodes (p .size) ∙ whole;
       is-sound = p .is-sound;
       is-settled = p .is-settled;
       low = p .low;
-      supply = subst (Free s₁) (sym e) (p .supply);
+      even = even-handed s s₁ w w₁ numbers free r whole p e long;
+      supply = subst (Free s₁) (sym (handed-list s s₁ w w₁ numbers free r whole p e long)) (p .supply);
       formed-from = a;
       formed-to = b;
       apart-from = apart from to c d .0;
@@ -130,34 +173,34 @@ swing-asks s s₁ w w₁ numbers free from to r whole p e a b c d q9 =
 
 module _ (s free from to : List ℕ) (k : SwingAsks s free from to) where
   W : List ℕ
-  W = movedStore s free from to
+  W = movedStore s (handed free) from to
 
-  done : Swung s (movedStore s free from to) from to
+  done : Swung s (movedStore s (handed free) from to) from to
   done =
-      swung-by s from to (k .whole) (k .is-sound) (k .is-settled) (k .low) (k .formed-from) (k .formed-to) (k .apart-from) (k .apart-to) (k .nine) free (k .supply)
+      swung-by s from to (k .whole) (k .is-sound) (k .is-settled) (k .low) (k .formed-from) (k .formed-to) (k .apart-from) (k .apart-to) (k .nine) (handed free) (k .supply)
 
-  but-live : soundButLive (movedStore s free from to) ≡ true
-  but-live = sound-but-live (movedStore s free from to) (done .isSound)
+  but-live : soundButLive (movedStore s (handed free) from to) ≡ true
+  but-live = sound-but-live (movedStore s (handed free) from to) (done .isSound)
 
-  module _ (s₂ : List ℕ) (live : ℕ) (live-few : live ≤ nodesOf (length s)) (e : s₂ ≡ swungWith live s free from to) where
-    with-live : s₂ ≡ withLive (movedStore s free from to) live
-    with-live = e ∙ swung-back s free from to live
+  module _ (s₂ : List ℕ) (live : ℕ) (live-few : live ≤ nodesOf (length s)) (e : s₂ ≡ swungWith live s (handed free) from to) where
+    with-live : s₂ ≡ withLive (movedStore s (handed free) from to) live
+    with-live = e ∙ swung-back s (handed free) from to live
 
-    same-nodes : nodesOf (length (movedStore s free from to)) ≡ nodesOf (length s)
+    same-nodes : nodesOf (length (movedStore s (handed free) from to)) ≡ nodesOf (length s)
     same-nodes = ap nodesOf (done .size)
 
     -- what the end of the call asks
     pub size-2 : length s₂ ≡ length s
-    size-2 = ap length with-live ∙ live-length (movedStore s free from to) live but-live ∙ done .size
+    size-2 = ap length with-live ∙ live-length (movedStore s (handed free) from to) live but-live ∙ done .size
 
     pub whole-2 : wholeNodes (length s₂) ≡ true
     whole-2 = ap wholeNodes size-2 ∙ k .whole
 
     pub but-live-2 : soundButLive s₂ ≡ true
-    but-live-2 = ap soundButLive with-live ∙ live-but (movedStore s free from to) live but-live (omega (arith, same-nodes))
+    but-live-2 = ap soundButLive with-live ∙ live-but (movedStore s (handed free) from to) live but-live (omega (arith, same-nodes))
 
     pub table-2 : tableOf s₂ ≡ moved from to (tableOf s)
-    table-2 = ap tableOf with-live ∙ live-table (movedStore s free from to) live but-live ∙ done .table
+    table-2 = ap tableOf with-live ∙ live-table (movedStore s (handed free) from to) live but-live ∙ done .table
 
     pub few-2 : length (tableOf s₂) ≤ nodesOf (length s₂)
     few-2 =
@@ -168,9 +211,9 @@ module _ (s free from to : List ℕ) (k : SwingAsks s free from to) where
         omega (arith, c .lives, c .few)
 
     -- and what it leaves: the move
-    pub exact-3 : (s₃ w₁ w₂ : List ℕ) → Finished s₂ s₃ w₁ w₂ → s₃ ≡ movedStore s free from to
+    pub exact-3 : (s₃ w₁ w₂ : List ℕ) → Finished s₂ s₃ w₁ w₂ → s₃ ≡ movedStore s (handed free) from to
     exact-3 s₃ w₁ w₂ z =
-        z .exact ∙ ap (withLive s₂) (ap length table-2) ∙ ap (λ x. withLive x (length (moved from to (tableOf s)))) e ∙ swung-right s free from to live
+        z .exact ∙ ap (withLive s₂) (ap length table-2) ∙ ap (λ x. withLive x (length (moved from to (tableOf s)))) e ∙ swung-right s (handed free) from to live
 
 -- the live count of node 0 is one that a header may have
 pub live-few : (s : List ℕ) → sound s ≡ true → headerOf s .live ≤ nodesOf (length s)
@@ -178,13 +221,13 @@ live-few s ok = parts-of s (sound-but-live s ok) .liveHigh
 
 -- THE CALL
 pub moved-meets : (s s₁ s₂ s₃ w w₁ w₂ numbers free from to : List ℕ) (r : ℕ) → wholeNodes (length s) ≡ true → firstNoOn s (acts (move from to) w) ≡ 0 → same from to ≡ false
-    → Prepared s s₁ w w₁ numbers r → SwingAsks s₁ free from to → s₂ ≡ swungWith (headerOf s₁ .live) s₁ free from to → Finished s₂ s₃ w₁ w₂
+    → Prepared s s₁ w w₁ numbers r → SwingAsks s₁ free from to → s₂ ≡ swungWith (headerOf s₁ .live) s₁ (handed free) from to → Finished s₂ s₃ w₁ w₂
     → Meets s (acts (move from to) w) (outcomeAnswer Outcome.Done) s₃ w₂
 unfolding tableAfter actTable Besides
 moved-meets s s₁ s₂ s₃ w w₁ w₂ numbers free from to r whole go differ p k e z =
     let l : headerOf s₁ .live ≤ nodesOf (length s₁) = live-few s₁ (p .is-sound) in
-    let d : Swung s₁ (movedStore s₁ free from to) from to = done s₁ free from to k in
-    let x : s₃ ≡ movedStore s₁ free from to = exact-3 s₁ free from to k s₂ (headerOf s₁ .live) l e s₃ w₁ w₂ z in
+    let d : Swung s₁ (movedStore s₁ (handed free) from to) from to = done s₁ free from to k in
+    let x : s₃ ≡ movedStore s₁ (handed free) from to = exact-3 s₁ free from to k s₂ (headerOf s₁ .live) l e s₃ w₁ w₂ z in
     let size : length s₂ ≡ length s = size-2 s₁ free from to k s₂ (headerOf s₁ .live) l e ∙ p .size in
     let n : nodesOf (length s₂) ≡ nodesOf (length s) = ap nodesOf size in
     act-meets s s₃ w₂ to-act go (z .is-sound)

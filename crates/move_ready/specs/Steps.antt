@@ -1,18 +1,16 @@
 -- The steps of make_ready.
 -- Relies on spare (the marks show the free nodes), tree_check (the tally shows whether a message waits) and rebuild's Rebuilt.
 use Prim.Native.Nat.{ℕ, _+_, _*_, _-_, _/_, _<_, _≤_}
-use mathlib.Core.Path.{_≡_, refl, sym, ap, subst, _∙_}
-use mathlib.Core.List.{List, []}
-use mathlib.Core.Bool.{Bool, true, false, _&&_, false≢true}
+use mathlib.Core.Path.{_≡_, refl, sym, ap, _∙_}
+use mathlib.Core.List.{List}
+use mathlib.Core.Bool.{Bool, true, false, _&&_}
 use native.Mathlib.Omega.{arith}
-use lib.ListN.{length, drop, replicate}
+use lib.ListN.{length}
 use lib.Dec.{eqb, leb}
-use borrow.Author.Tests.{eq-eqb, ne-eqb, le-leb, lt-leb, leb-true, eqb-true}
+use borrow.Author.Tests.{eq-eqb, ne-eqb, le-leb, lt-leb, leb-true}
 use Rattle.image.specs.Bytes.{u16}
 use Rattle.image.specs.Image.{nodesOf, wholeNodes, headerOf}
-use Rattle.image.specs.Sound.{sound, tableOf}
-use Rattle.image.specs.Upkeep.{settled, freeNodes}
-use Rattle.image.specs.Calls.{workPerNode}
+use Rattle.image.specs.Sound.{sound}
 use Rattle.image.specs.Contract.{Bounded}
 use Rattle.octets.specs.Order.{and-left, and-right, not-so}
 use Rattle.laws.specs.Rising.{both}
@@ -22,11 +20,10 @@ use Rattle.build.specs.Handed.{listed}
 use Rattle.tree_check.specs.declared.Tally.{Tally}
 use Rattle.tree_check.specs.declared.Checked.{Checked}
 use Rattle.tree_check.specs.Whole.{Verified}
-use Rattle.tree_check.specs.Callers.{Holds, verified-yes, verified-no, messages-settled}
+use Rattle.tree_check.specs.Callers.{verified-yes, verified-no, messages-settled}
 use Rattle.append_laws.specs.Append.{header-levels}
 use Rattle.rebuild.specs.Rebuild.{Rebuilt}
 use Rattle.finish.specs.Finished.{cleared-size, cleared-later}
-use Rattle.moving.specs.MoveImage.{Free}
 use Rattle.moving.specs.FreeList.{freeList, list-supply, free-supply, free-enough}
 use Rattle.spare.specs.Spare.{unmarked, free-listed, free-count}
 use Rattle.ready.specs.Asked.{Fit}

@@ -2,14 +2,12 @@
 -- Relies on the order's laws (octets) and on laws' rising tables.
 use Prim.Native.Nat.{ℕ}
 use mathlib.Core.Path.{_≡_, refl, sym, ap, ap₂, _∙_}
-use mathlib.Core.List.{List, [], _∷_, _++_}
-use mathlib.Core.Bool.{Bool, true, false, _&&_, not, cond, false≢true}
-use lib.ListN.{length, drop}
+use mathlib.Core.List.{List, [], _∷_}
+use mathlib.Core.Bool.{Bool, true, false, cond, false≢true}
 use Rattle.image.specs.Bytes.{same, before, begins}
 use Rattle.image.specs.Path.{below}
 use Rattle.image.specs.Table.{Row, withRow, rowsBelow, withoutBelow, renamed, putAll, moved, everyKey, leads, rising}
-use Rattle.octets.specs.Order.{and-left, and-right, same-refl, same-eq, before-irrefl, before-not-same, before-trans, before-asym, begins-split}
-use Rattle.laws.specs.Filter.{keep, keep-all}
+use Rattle.octets.specs.Order.{and-left, and-right, same-eq, before-irrefl, before-trans, before-asym, begins-split}
 
 renamed-same : (p : List ℕ) (t : List Row) → renamed p p (rowsBelow p t) ≡ rowsBelow p t
 unfolding rowsBelow below

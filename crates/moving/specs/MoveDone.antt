@@ -64,12 +64,12 @@ movedStore s free from to =
     writeNode (movedImage (from-list free) (headerOf s .levels) (treeOf s) from to s) 0
     (headPage (nodesOf (length s)) (from-list free (10 * headerOf s .levels)) (suc (headerOf s .levels)) (length (moved from to (tableOf s))))
 
-get-past : (xs : List ℕ) (i : ℕ) → length xs ≤ i → getD xs i 0 ≡ 0
+pub get-past : (xs : List ℕ) (i : ℕ) → length xs ≤ i → getD xs i 0 ≡ 0
 get-past [] i h = refl
 get-past (x ∷ xs) zero h = absurd (omega arith)
 get-past (x ∷ xs) (suc i) h = get-past xs i (omega arith)
 
-get-range : (n : ℕ) (xs : List ℕ) (i : ℕ) → 1 ≤ n → inRange n xs ≡ true → getD xs i 0 < n
+pub get-range : (n : ℕ) (xs : List ℕ) (i : ℕ) → 1 ≤ n → inRange n xs ≡ true → getD xs i 0 < n
 unfolding inRange
 get-range n [] i h e = h
 get-range n (x ∷ xs) zero h e = ltb-true x n (and-right (leb 1 x) _ (and-left _ _ e))

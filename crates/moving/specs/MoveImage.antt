@@ -65,7 +65,7 @@ range-hit n j (i ∷ is) e h = go (eqb j i) refl (range-hit n j is (and-right (l
         (omega arith, omega arith)
     go false q ih = ih (let z : 1 ≤ 0 + hits j is = rw q at h in omega arith)
 
-range-of : (n : ℕ) (is : List ℕ) → ((j : ℕ) → 1 ≤ hits j is → (1 ≤ j) × (j < n)) → inRange n is ≡ true
+pub range-of : (n : ℕ) (is : List ℕ) → ((j : ℕ) → 1 ≤ hits j is → (1 ≤ j) × (j < n)) → inRange n is ≡ true
 unfolding inRange hits
 range-of n [] h = refl
 range-of n (i ∷ is) h =
@@ -78,7 +78,7 @@ unfolding spent hits
 spent-list j xs zero at h = omega arith
 spent-list j xs (suc c) at h = rw (drop-cons xs at 0 (omega arith)) (omega (arith, spent-list j xs c (suc at) (omega arith)))
 
-hits-get : (xs : List ℕ) (i : ℕ) → i < length xs → 1 ≤ hits (getD xs i 0) xs
+pub hits-get : (xs : List ℕ) (i : ℕ) → i < length xs → 1 ≤ hits (getD xs i 0) xs
 unfolding hits
 hits-get [] i h = absurd (omega arith)
 hits-get (x ∷ xs) zero h = omega (arith, one-same x)

@@ -4,7 +4,7 @@
 pub mod gap;
 mod kids;
 mod pairs;
-mod pieces;
+pub mod pieces;
 mod point;
 pub mod right;
 

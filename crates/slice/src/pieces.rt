@@ -33,7 +33,7 @@ fn emit_piece(page: &mut [u8], at: usize, num: usize, pivot: &[u8], d: usize) ->
 }
 
 // The entries of the pieces. Gives the place behind them.
-fn emit_parts(
+pub fn emit_parts(
     page: &mut [u8],
     at: usize,
     parts: Parts,

@@ -11,6 +11,7 @@ use borrow.Author.Tests.{eq-eqb, ne-eqb}
 use Rattle.image.specs.Bytes.{u16}
 use Rattle.image.specs.Image.{nodesOf, treeOf}
 use Rattle.image.specs.Sound.{isIn, numbers}
+use Rattle.build.specs.HandedLaws.{listed-length}
 use Rattle.build.specs.Handed.{listed}
 use Rattle.tree_check.specs.declared.Tally.{Tally}
 use Rattle.tree_check.specs.Callers.{Holds}
@@ -42,11 +43,6 @@ marks-free s seen t n h e some =
 pub free-listed : (s seen bytes : List ℕ) (t : Tally) (n r : ℕ) → Holds s t seen → n ≡ nodesOf (length s) → 1 ≤ n → listed r bytes 0 ≡ unmarked (n - 1) 1 seen
     → listed r bytes 0 ≡ freeList s
 free-listed s seen bytes t n r h e some l = l ∙ marks-free s seen t n h e some
-
-listed-length : (k : ℕ) (bytes : List ℕ) (i : ℕ) → length (listed k bytes i) ≡ k
-unfolding listed
-listed-length zero bytes i = refl
-listed-length (suc k) bytes i = ap suc (listed-length k bytes (suc i))
 
 -- the j-th number of the list, as the code reads it
 listed-from : (k : ℕ) (bytes : List ℕ) (i j : ℕ) → j < k → getD (listed k bytes i) j 0 ≡ u16 bytes ((i + j) * 2)

@@ -1,17 +1,9 @@
 use borrow.Author.Needs.{needs}
-use native.Mathlib.Omega.{arith}
-use Prim.Native.Nat.{ℕ, suc, _+_, _-_, _≤_, _<_}
-use mathlib.Core.Path.{_≡_, refl, sym, ap, _∙_}
-use mathlib.Core.List.{List, [], _∷_, _++_}
-use lib.ListN.{length, getD, take, drop}
+use Prim.Native.Nat.{_-_}
 use Rattle.move_asks.specs.Walk.{not-begins, begins-or-same}
 use borrow.Author.Tests.{not-true, not-false}
 use Rattle.move_asks.proofs.begins_properly.Statement.{statement}
 use Rattle.move_asks.proofs.begins_properly.Tie as tie
-use Rattle.move_asks.proofs.begins_properly.Reads as reads
-use Rattle.move_asks.proofs.begins_properly.Lts as lts
-use Rattle.octets.proofs.begins_with.Reads as begins-with-reads
-use Rattle.octets.proofs.equal.Reads as equal-reads
 
 begins-with-requires : tie.Need-begins-with-requires
 begins-with-requires c κs = search needs

@@ -1,16 +1,8 @@
 use borrow.Author.Needs.{needs}
-use native.Mathlib.Omega.{arith}
-use Prim.Native.Nat.{ℕ, suc, _+_, _-_, _≤_, _<_}
-use mathlib.Core.Path.{_≡_, refl, sym, ap, _∙_}
-use mathlib.Core.List.{List, [], _∷_, _++_}
-use lib.ListN.{length, getD, take, drop}
+use Prim.Native.Nat.{_-_}
 use Rattle.move_asks.specs.Walk.{first-nests, second-says}
-use borrow.Author.Tests.{not-true, not-false}
 use Rattle.move_asks.proofs.may_move.Statement.{statement}
 use Rattle.move_asks.proofs.may_move.Tie as tie
-use Rattle.move_asks.proofs.may_move.Reads as reads
-use Rattle.move_asks.proofs.may_move.Lts as lts
-use Rattle.move_asks.proofs.begins_properly.Reads as begins-properly-reads
 
 begins-properly-requires : tie.Need-begins-properly-requires
 begins-properly-requires c κs = search needs

@@ -1,14 +1,8 @@
 use borrow.Author.Needs.{needs}
-use native.Mathlib.Omega.{arith}
-use Prim.Native.Nat.{ℕ, suc, _+_, _-_, _≤_, _<_}
-use mathlib.Core.Path.{_≡_, refl, sym, ap, _∙_}
-use mathlib.Core.List.{List, [], _∷_, _++_}
-use lib.ListN.{length, getD, take, drop}
+use Prim.Native.Nat.{_-_}
 use Rattle.move_asks.specs.Walk.{old-dead, new-dead, more-components, by-bytes}
 use Rattle.move_asks.proofs.no_wider.Statement.{statement}
 use Rattle.move_asks.proofs.no_wider.Tie as tie
-use Rattle.move_asks.proofs.no_wider.Reads as reads
-use Rattle.move_asks.proofs.no_wider.Lts as lts
 
 enum-known-old : tie.Need-enum-known-old
 enum-known-old c = search needs

@@ -1,19 +1,14 @@
 use borrow.Author.Needs.{needs}
 use native.Mathlib.Omega.{arith}
-use Prim.Native.Nat.{ℕ, suc, _+_, _-_, _≤_, _<_}
-use mathlib.Core.Path.{_≡_, refl, sym, ap, _∙_}
-use mathlib.Core.List.{List, [], _∷_, _++_}
-use lib.ListN.{length, getD, take, drop}
+use Prim.Native.Nat.{_-_, _≤_}
+use mathlib.Core.Path.{_≡_, refl}
+use lib.ListN.{length, take}
 use Rattle.move_asks.specs.Walk.{Undecided, fit-starts, cut-fits, fit-ends, fit-refuses, fit-goes-on, fit-shortens}
 use borrow.Author.Tests.{not-true, not-false}
 use Rattle.image.specs.Table.{rowsAfter, rowsBelow}
 use Rattle.image.specs.Sound.{tableOf}
 use Rattle.move_asks.proofs.rests_fit.Statement.{statement}
 use Rattle.move_asks.proofs.rests_fit.Tie as tie
-use Rattle.move_asks.proofs.rests_fit.Reads as reads
-use Rattle.move_asks.proofs.rests_fit.Lts as lts
-use Rattle.path.proofs.goes_on.Reads as goes-on-reads
-use Rattle.seek.proofs.next_path.Reads as next-path-reads
 
 abbrev Inv-loop : tie.InvT-loop
 Inv-loop store from shape last₀ size₀ cut last size = (size ≤ 64) × (length last ≡ 64) × (cut ≡ length from) × Undecided store from shape (take size last)

@@ -1,17 +1,8 @@
 use borrow.Author.Needs.{needs}
-use native.Mathlib.Omega.{arith}
-use Prim.Native.Nat.{ℕ, suc, _+_, _-_, _≤_, _<_}
-use mathlib.Core.Path.{_≡_, refl, sym, ap, _∙_}
-use mathlib.Core.List.{List, [], _∷_, _++_}
-use lib.ListN.{length, getD, take, drop}
+use Prim.Native.Nat.{_-_}
 use Rattle.move_asks.specs.Walk.{nine-quick, nine-walk}
 use Rattle.move_asks.proofs.stays_formed.Statement.{statement}
 use Rattle.move_asks.proofs.stays_formed.Tie as tie
-use Rattle.move_asks.proofs.stays_formed.Reads as reads
-use Rattle.move_asks.proofs.stays_formed.Lts as lts
-use Rattle.move_asks.proofs.no_wider.Reads as no-wider-reads
-use Rattle.move_asks.proofs.rests_fit.Reads as rests-fit-reads
-use Rattle.path.proofs.feed.Reads as feed-reads
 
 feed-requires : tie.Need-feed-requires
 feed-requires c κs = search needs

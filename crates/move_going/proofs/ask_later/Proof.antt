@@ -1,20 +1,10 @@
 use borrow.Author.Needs.{needs}
-use native.Mathlib.Omega.{arith}
-use Prim.Native.Nat.{ℕ, suc, _+_, _-_, _≤_, _<_}
-use mathlib.Core.Path.{_≡_, refl, sym, ap, _∙_}
-use mathlib.Core.List.{List, [], _∷_, _++_}
-use lib.ListN.{length, getD, take, drop}
+use Prim.Native.Nat.{_-_}
+use mathlib.Core.Path.{sym, _∙_}
 use borrow.Author.Tests.{not-true, not-false}
 use Rattle.move_going.specs.GoingSteps.{at-from, at-to, at-nested, at-absent, at-malformed, at-same, at-last}
 use Rattle.move_going.proofs.ask_later.Statement.{statement}
 use Rattle.move_going.proofs.ask_later.Tie as tie
-use Rattle.move_going.proofs.ask_later.Reads as reads
-use Rattle.move_going.proofs.ask_later.Lts as lts
-use Rattle.move_asks.proofs.any_below.Reads as any-below-reads
-use Rattle.move_asks.proofs.may_move.Reads as may-move-reads
-use Rattle.move_asks.proofs.stays_formed.Reads as stays-formed-reads
-use Rattle.octets.proofs.equal.Reads as equal-reads
-use Rattle.path.proofs.is_path.Reads as is-path-reads
 
 is-path-requires : tie.Need-is-path-requires
 is-path-requires c κs = search needs

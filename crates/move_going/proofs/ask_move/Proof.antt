@@ -1,16 +1,8 @@
 use borrow.Author.Needs.{needs}
-use native.Mathlib.Omega.{arith}
-use Prim.Native.Nat.{ℕ, suc, _+_, _-_, _≤_, _<_}
-use mathlib.Core.Path.{_≡_, refl, sym, ap, _∙_}
-use mathlib.Core.List.{List, [], _∷_, _++_}
-use lib.ListN.{length, getD, take, drop}
+use Prim.Native.Nat.{_-_}
 use Rattle.move_going.specs.GoingSteps.{fit-sound, not-fit, fit-asked}
 use Rattle.move_going.proofs.ask_move.Statement.{statement}
 use Rattle.move_going.proofs.ask_move.Tie as tie
-use Rattle.move_going.proofs.ask_move.Reads as reads
-use Rattle.move_going.proofs.ask_move.Lts as lts
-use Rattle.move_going.proofs.ask_later.Reads as ask-later-reads
-use Rattle.ready.proofs.ask.Reads as ask-reads
 
 ask-requires : tie.Need-ask-requires
 ask-requires c κs = search needs

@@ -1,16 +1,10 @@
 use borrow.Author.Needs.{needs}
 use native.Mathlib.Omega.{arith}
-use Prim.Native.Nat.{ℕ, suc, _+_, _-_, _≤_, _<_}
-use mathlib.Core.Path.{_≡_, refl, sym, ap, _∙_}
-use mathlib.Core.List.{List, [], _∷_, _++_}
-use lib.ListN.{length, getD, take, drop}
+use Prim.Native.Nat.{_-_}
+use mathlib.Core.Path.{refl}
 use Rattle.move_ready.specs.Steps.{node-few, never-unsound, listed-anew}
 use Rattle.move_ready.proofs.list_anew.Statement.{statement}
 use Rattle.move_ready.proofs.list_anew.Tie as tie
-use Rattle.move_ready.proofs.list_anew.Reads as reads
-use Rattle.move_ready.proofs.list_anew.Lts as lts
-use Rattle.spare.proofs.free_list.Reads as free-list-reads
-use Rattle.tree_check.proofs.check_tree.Reads as check-tree-reads
 
 check-tree-requires : tie.Need-check-tree-requires
 check-tree-requires c κs = let k = node-few (c .before .before .before .args .store .now) (c .before .before .before .pre .0) in (omega (arith, k .0), omega (arith, k .2, k .3))

@@ -1,19 +1,10 @@
 use borrow.Author.Needs.{needs}
 use native.Mathlib.Omega.{arith}
-use Prim.Native.Nat.{ℕ, suc, _+_, _-_, _≤_, _<_}
-use mathlib.Core.Path.{_≡_, refl, sym, ap, _∙_}
-use mathlib.Core.List.{List, [], _∷_, _++_}
-use lib.ListN.{length, getD, take, drop}
+use Prim.Native.Nat.{_-_}
+use mathlib.Core.Path.{refl}
 use Rattle.move_ready.specs.Steps.{node-few, still-whole, ready-now, ready-rebuilt}
 use Rattle.move_ready.proofs.make_ready.Statement.{statement}
 use Rattle.move_ready.proofs.make_ready.Tie as tie
-use Rattle.move_ready.proofs.make_ready.Reads as reads
-use Rattle.move_ready.proofs.make_ready.Lts as lts
-use Rattle.move_ready.proofs.list_anew.Reads as list-anew-reads
-use Rattle.move_ready.proofs.may_swing.Reads as may-swing-reads
-use Rattle.octets.proofs.u16_at.Reads as u16-at-reads
-use Rattle.rebuild.proofs.rebuild.Reads as rebuild-reads
-use Rattle.spare.proofs.free_list.Reads as free-list-reads
 
 free-list-requires : tie.Need-free-list-requires
 free-list-requires c κs = let k = node-few (c .before .before .before .before .args .store .now) (c .before .before .before .before .pre .0 .whole) in (omega (arith, k .2), omega (arith, k .2))

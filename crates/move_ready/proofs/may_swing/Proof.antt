@@ -1,14 +1,8 @@
 use borrow.Author.Needs.{needs}
-use native.Mathlib.Omega.{arith}
-use Prim.Native.Nat.{ℕ, suc, _+_, _-_, _≤_, _<_}
-use mathlib.Core.Path.{_≡_, refl, sym, ap, _∙_}
-use mathlib.Core.List.{List, [], _∷_, _++_}
-use lib.ListN.{length, getD, take, drop}
+use Prim.Native.Nat.{_-_}
 use Rattle.move_ready.specs.Steps.{swing-waits, swing-high, swing-room}
 use Rattle.move_ready.proofs.may_swing.Statement.{statement}
 use Rattle.move_ready.proofs.may_swing.Tie as tie
-use Rattle.move_ready.proofs.may_swing.Reads as reads
-use Rattle.move_ready.proofs.may_swing.Lts as lts
 
 returns : tie.Need-returns
 returns c = search (needs, swing-waits)

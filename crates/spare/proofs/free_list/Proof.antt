@@ -1,17 +1,14 @@
 use borrow.Author.Needs.{needs}
 use native.Mathlib.Omega.{arith}
-use Prim.Native.Nat.{ℕ, suc, _+_, _-_, _≤_, _<_}
-use mathlib.Core.Path.{_≡_, refl, sym, ap, _∙_}
-use mathlib.Core.List.{List, [], _∷_, _++_}
-use lib.ListN.{length, getD, take, drop}
+use Prim.Native.Nat.{_+_, _-_, _≤_}
+use mathlib.Core.Path.{_≡_, refl}
+use mathlib.Core.List.{_++_}
+use lib.ListN.{length}
 use Rattle.build.specs.Handed.{listed}
 use Rattle.spare.specs.Spare.{unmarked}
 use Rattle.spare.specs.SpareSteps.{list-first, list-more, list-last}
 use Rattle.spare.proofs.free_list.Statement.{statement}
 use Rattle.spare.proofs.free_list.Tie as tie
-use Rattle.spare.proofs.free_list.Reads as reads
-use Rattle.spare.proofs.free_list.Lts as lts
-use Rattle.spare.proofs.note_free.Reads as note-free-reads
 
 abbrev Inv-loop : tie.InvT-loop
 Inv-loop seen n numbers₀ k₀ i₀ numbers k i = (1 ≤ i) × (k + 1 ≤ i) × (i ≤ n + 1) × (length numbers ≡ length numbers₀) × (listed k numbers 0 ++ unmarked (n - i) i seen ≡ unmarked (n - 1) 1 seen)

@@ -1,15 +1,8 @@
 use borrow.Author.Needs.{needs}
-use native.Mathlib.Omega.{arith}
-use Prim.Native.Nat.{ℕ, suc, _+_, _-_, _≤_, _<_}
-use mathlib.Core.Path.{_≡_, refl, sym, ap, _∙_}
-use mathlib.Core.List.{List, [], _∷_, _++_}
-use lib.ListN.{length, getD, take, drop}
+use Prim.Native.Nat.{_-_}
 use Rattle.spare.specs.SpareSteps.{note-marked, note-unmarked}
 use Rattle.spare.proofs.note_free.Statement.{statement}
 use Rattle.spare.proofs.note_free.Tie as tie
-use Rattle.spare.proofs.note_free.Reads as reads
-use Rattle.spare.proofs.note_free.Lts as lts
-use Rattle.octets.proofs.put_u16.Reads as put-u16-reads
 
 element-copy-out-if1 : tie.Need-element-copy-out-if1
 element-copy-out-if1 c = search needs

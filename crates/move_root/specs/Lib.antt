@@ -1,4 +1,0 @@
-pub mod Root
-pub mod RootSteps
-pub mod RootLaws
-pub mod Head

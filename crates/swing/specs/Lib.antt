@@ -1,0 +1,9 @@
+pub mod Cuts
+pub mod Root
+pub mod RootLaws
+pub mod Head
+pub mod Plan
+pub mod Steps
+pub mod Code
+pub mod Between
+pub mod Asked

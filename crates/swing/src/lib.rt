@@ -1,0 +1,202 @@
+// The swing of a move on a settled store: its tree is cut at the ends of two ranges, the largest cut first, each next one on what lies left of
+// the last; the pieces go under a new root, those of `from` in the place of `to`; node 0 is written last. Every other node that is written
+// was free. Relies on slice (the cuts and the empty chain), on root (the new root's page) and on build (node 0).
+mod root;
+
+use slice::Parts;
+ghost use mathlib.Core.Path.{_≡_};
+ghost use mathlib.Core.Bool.{not};
+ghost use Prim.Native.Nat.{_*_, _≤_, _<_};
+ghost use lib.ListN.{length};
+ghost use Rattle.image.specs.Image.{headerOf};
+ghost use Rattle.octets.specs.Put.{put};
+ghost use Rattle.build.specs.Handed.{handed};
+ghost use Rattle.slicing.specs.Range.{past};
+ghost use Rattle.swing.specs.Cuts.{RangeAsks, RangeAs, BothAsks, BothAs, OutAsks, outIn, TakeAsks, takenOut, lowPlace};
+ghost use Rattle.swing.specs.Head.{swungWith};
+ghost use Rattle.swing.specs.Plan.{SwingAsks, Plan, PastPlan, swungOver};
+
+// What lies right of the two cut ranges.
+pub struct Cuts {
+    pub low: Parts,
+    pub high: Parts,
+}
+
+// The end of the range of a path: the path, then FF.
+fn put_past(bound: &mut [u8], path: &[u8])
+    requires { ⌜ length (now path) < length (now bound) ⌝ }
+    ensures { λ _. ⌜ now (bound .exit) ≡ put (now (bound .entry)) 0 (past (now (path .entry))) ⌝ }
+{
+    octets::copy_at(bound, 0, path);
+    let n = path.len();
+    bound[n] = 255;
+}
+
+// Cuts a tree whose high pivot is hi at both ends of a range: writes what lies left of its end, what lies right of it, and what lies left of
+// its path. Tells the pieces on the right.
+fn cut_range(
+    store: &mut [u8],
+    num: usize,
+    h: usize,
+    hi: &[u8],
+    bound: &[u8],
+    at: usize,
+    free: &[u8],
+    out: &mut [u8],
+) -> Parts
+    requires { ⌜ RangeAsks (now store) num h (now hi) (now bound) at (now free) × (length (now out) ≡ 1089) ⌝ }
+    ensures { λ r. ⌜ RangeAs (now (store .entry)) num h (now (hi .entry)) (now (bound .entry)) at (now (free .entry)) (now (store .exit)) (now (out .exit)) r ⌝ }
+{
+    let beside = at + h;
+    let below = at + 3 * h;
+    let inner = octets::u16_at(free, at * 2);
+    let n = bound.len() - 1;
+    slice::slice_left(store, num, h, &bound[0..0], hi, bound, at, free);
+    let parts = slice::right::slice_right(
+        store,
+        num,
+        h,
+        &bound[0..0],
+        hi,
+        bound,
+        beside,
+        free,
+        true,
+        &bound[0..0],
+        out,
+    );
+    slice::slice_left(
+        store,
+        inner,
+        h,
+        &bound[0..0],
+        bound,
+        &bound[0..n],
+        below,
+        free,
+    );
+    parts
+}
+
+// Cuts the tree of the store at both ranges, the higher one first.
+fn cut_both(
+    store: &mut [u8],
+    h: usize,
+    bound: &[u8],
+    limit: &[u8],
+    free: &[u8],
+    low: &mut [u8],
+    high: &mut [u8],
+) -> Cuts
+    requires { ⌜ BothAsks (now store) h (now bound) (now limit) (now free) × (length (now low) ≡ 1089) × (length (now high) ≡ 1089) ⌝ }
+    ensures { λ r. ⌜ BothAs (now (store .entry)) h (now (bound .entry)) (now (limit .entry)) (now (free .entry)) (now (store .exit)) (now (low .exit)) (now (high .exit)) r ⌝ }
+{
+    let root = octets::u16_at(store, 6);
+    let inner = octets::u16_at(free, 3 * h * 2);
+    let n = limit.len() - 1;
+    let top = [255u8; 1];
+    let right = cut_range(store, root, h, &top, limit, 0, free, high);
+    let left = cut_range(store, inner, h, &limit[0..n], bound, 4 * h, free, low);
+    Cuts {
+        low: left,
+        high: right,
+    }
+}
+
+// A range as one tree, and an empty chain for the place that it leaves.
+fn take_out(store: &mut [u8], num: usize, h: usize, bound: &[u8], free: &[u8])
+    requires { ⌜ OutAsks (now store) num h (now bound) (now free) ⌝ }
+    ensures { λ _. ⌜ now (store .exit) ≡ outIn (now (store .entry)) num h (now (bound .entry)) (now (free .entry)) ⌝ }
+{
+    let tail = 8 * h;
+    let gap = 9 * h;
+    let n = bound.len() - 1;
+    let mut out = [0u8; 1089];
+    slice::right::slice_right(
+        store,
+        num,
+        h,
+        &bound[0..0],
+        bound,
+        &bound[0..n],
+        tail,
+        free,
+        false,
+        &bound[0..0],
+        &mut out,
+    );
+    slice::gap::write_gap(store, h, &bound[0..n], bound, gap, free);
+}
+
+// Takes out the range that moves: the lower one where the move goes up.
+fn take_range(store: &mut [u8], h: usize, bound: &[u8], limit: &[u8], free: &[u8], up: bool)
+    requires { ⌜ TakeAsks (now store) h (now bound) (now limit) (now free) up ⌝ }
+    ensures { λ _. ⌜ now (store .exit) ≡ takenOut (now (store .entry)) h (now (bound .entry)) (now (limit .entry)) (now (free .entry)) up ⌝ }
+{
+    if up {
+        let lower = octets::u16_at(free, 4 * h * 2);
+        take_out(store, lower, h, bound, free);
+        return;
+    }
+    let higher = octets::u16_at(free, 0);
+    take_out(store, higher, h, limit, free);
+}
+
+// Where the number of the node under the lower path stands in the list of free nodes.
+fn low_place(h: usize, up: bool) -> usize
+    requires { ⌜ h ≤ 8 ⌝ }
+    ensures { λ r. ⌜ (r ≡ lowPlace h up) × (8 * h ≤ r) × (r ≤ 9 * h) ⌝ }
+{
+    if up {
+        return 9 * h;
+    }
+    8 * h
+}
+
+// The swing, told by the ends of the two ranges.
+fn swing_between(store: &mut [u8], free: &[u8], bound: &[u8], limit: &[u8], up: bool)
+    requires { ⌜ PastPlan (now store) (now free) (now bound) (now limit) up ⌝ }
+    ensures { λ _. ⌜ now (store .exit) ≡ swungOver (now (store .entry)) (now (free .entry)) (now (bound .entry)) (now (limit .entry)) up ⌝ }
+{
+    let h = octets::u16_at(store, 8);
+    let live = octets::u16_at(store, 10);
+    let num = octets::u16_at(free, 10 * h * 2);
+    let place = low_place(h, up);
+    let mut low = [0u8; 1089];
+    let mut high = [0u8; 1089];
+    let cuts = cut_both(store, h, bound, limit, free, &mut low, &mut high);
+    take_range(store, h, bound, limit, free, up);
+    let behind = cuts.low;
+    let last = cuts.high;
+    let lower = root::half_at(free, place, 5 * h, behind);
+    let higher = root::half_at(free, 17 * h - place, h, last);
+    root::write_root(store, h, bound, limit, free, lower, &low, higher, &high);
+    build::write_head(store, num, h + 1, live);
+}
+
+// The same, told by the two paths, the lower one first.
+fn swing_over(store: &mut [u8], free: &[u8], p: &[u8], r: &[u8], up: bool)
+    requires { ⌜ Plan (now store) (now free) (now p) (now r) up ⌝ }
+    ensures { λ _. ⌜ now (store .exit) ≡ swungOver (now (store .entry)) (now (free .entry)) (past (now (p .entry))) (past (now (r .entry))) up ⌝ }
+{
+    let mut bound = [0u8; 65];
+    put_past(&mut bound, p);
+    let b = p.len() + 1;
+    let mut limit = [0u8; 65];
+    put_past(&mut limit, r);
+    let l = r.len() + 1;
+    swing_between(store, free, &bound[0..b], &limit[0..l], up);
+}
+
+// What is below `from` comes below `to`, by at most 10 × L + 2 nodes: no node that was reachable is written but node 0, whose live count
+// is still the old one.
+pub fn swing(store: &mut [u8], free: &[u8], from: &[u8], to: &[u8])
+    requires { ⌜ SwingAsks (now store) (now free) (now from) (now to) ⌝ }
+    ensures { λ _. ⌜ now (store .exit) ≡ swungWith (headerOf (now (store .entry)) .live) (now (store .entry)) (handed (now (free .entry))) (now (from .entry)) (now (to .entry)) ⌝ }
+{
+    if octets::precedes(from, to) {
+        swing_over(store, free, from, to, true);
+        return;
+    }
+    swing_over(store, free, to, from, false);
+}

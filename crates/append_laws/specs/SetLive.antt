@@ -35,7 +35,7 @@ module _ (s : List ℕ) (live : ℕ) (e : soundButLive s ≡ true) where
   unfolding withLive
   live-length = let h = first-node s e in put-size s 10 (u16Bytes live) (omega arith)
 
-  other-stays : (j : ℕ) → (j ≡ 0 → ⊥) → nodeBytes (withLive s live) j ≡ nodeBytes s j
+  pub other-stays : (j : ℕ) → (j ≡ 0 → ⊥) → nodeBytes (withLive s live) j ≡ nodeBytes s j
   unfolding withLive
   other-stays j d = put-other s 0 10 (u16Bytes live) (first-node s e) (omega arith) j d
 

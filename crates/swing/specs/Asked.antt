@@ -11,7 +11,7 @@ use lib.Dec.{leb, eqb}
 use borrow.Author.Tests.{leb-true, leb-false, eqb-true}
 use Rattle.image.specs.Bytes.{u16, before}
 use Rattle.image.specs.Path.{wellFormed}
-use Rattle.image.specs.Image.{Tree, unread, leaf, interior, nodesOf, wholeNodes, headerOf, treeOf}
+use Rattle.image.specs.Image.{nodeBytes, Tree, unread, leaf, interior, nodesOf, wholeNodes, headerOf, treeOf}
 use Rattle.image.specs.Sound.{tableOf, highest, numbers, isIn}
 use Rattle.octets.specs.Beginnings.{begins-refl}
 use Rattle.octets.specs.Order.{and-left, and-right, not-so, same-false, before-total}
@@ -25,15 +25,19 @@ use Rattle.slicing.specs.SliceFits.{fits}
 use Rattle.slicing.specs.Range.{past, before-aside, formed-inside}
 use Rattle.laws.specs.WriteNode.{writeNode}
 use Rattle.moving.specs.Move.{rootOver, movedTree}
-use Rattle.moving.specs.MoveDone.{headPage, get-past, get-range}
+use Rattle.moving.specs.MoveDone.{headPage, movedStore, get-past, get-range}
 use Rattle.moving.specs.MoveLaws.{Well, move-well, short-past}
 use Rattle.moving.specs.MoveImage.{from-list, roots, range-hit, hits-once, hit-in, spent-list}
 use Rattle.moving.specs.MoveWrite.{movedImage}
 use Rattle.slice.specs.Point.{freshIn}
 use Rattle.swing.specs.Cuts.{front}
-use Rattle.swing.specs.Head.{swungWith}
+use Rattle.append_laws.specs.SetLive.{other-stays}
+use Rattle.laws.specs.ButLive.{sound-but-live}
+use Rattle.moving.specs.MoveBound.{Swung, swung-by as moved-swung}
+use Rattle.slicing.specs.SliceWrite.{in-hits}
+use Rattle.swing.specs.Head.{swungWith, swung-back}
 use Rattle.swing.specs.Steps.{past-length, front-past}
-use Rattle.swing.specs.Plan.{SwingAsks, underLow, underHigh, taken, takenPath, imageOver, swungOver, Plan, PastPlan}
+use Rattle.swing.specs.Plan.{SwingAsks, Swings, underLow, underHigh, taken, takenPath, imageOver, swungOver, Plan, PastPlan}
 
 -- THE LIST OF FREE NODES, as the laws and as the code read it
 listed-get : (k : ℕ) (bytes : List ℕ) (i j : ℕ) → j < k → getD (listed k bytes i) j 0 ≡ u16 bytes ((i + j) * 2)
@@ -164,6 +168,22 @@ module _ (s free from to : List ℕ) (k : SwingAsks s free from to) where
       ∙ ap (λ x. writeNode x 0 (headPage (nodesOf (length s)) (freshIn free (10 * headerOf s .levels)) (suc (headerOf s .levels)) (headerOf s .live))) e
       ∙ ap (λ (f : ℕ → ℕ). writeNode (movedImage f (headerOf s .levels) (treeOf s) from to s) 0 (headPage (nodesOf (length s)) (f (10 * headerOf s .levels)) (suc (headerOf s .levels)) (headerOf s .live))) (sym fresh-eq)
 
+  -- the nodes that were reachable
+  whole-swing : Swung s (movedStore s (handed free) from to) from to
+  whole-swing =
+      moved-swung s from to (k .whole) (k .is-sound) (k .is-settled) (k .low) (k .formed-from) (k .formed-to) (k .apart-from) (k .apart-to) (k .nine) (handed free) (k .supply)
+
+  swings : (s′ : List ℕ) → s′ ≡ swungWith (headerOf s .live) s (handed free) from to → Swings s s′ free from to
+  swings s′ e = record { exact = e; spares = λ j q. ap (λ x. nodeBytes x j) e ∙ beside j (from-one j q) ∙ whole-swing .spares j q }
+    where
+      from-one : (j : ℕ) → isIn j (numbers (treeOf s)) ≡ true → j ≡ 0 → ⊥
+      from-one j q z = let r = range-hit (nodesOf (length s)) j (numbers (treeOf s)) (roots s (k .is-sound) .within) (in-hits j (numbers (treeOf s)) q) in omega (arith, r .0)
+
+      beside : (j : ℕ) → (j ≡ 0 → ⊥) → nodeBytes (swungWith (headerOf s .live) s (handed free) from to) j ≡ nodeBytes (movedStore s (handed free) from to) j
+      beside j n =
+          ap (λ x. nodeBytes x j) (swung-back s (handed free) from to (headerOf s .live))
+          ∙ other-stays (movedStore s (handed free) from to) (headerOf s .live) (sound-but-live (movedStore s (handed free) from to) (whole-swing .isSound)) j n
+
   -- up
   module _ (e : before from to ≡ true) where
     tree-up : movedTree (freshIn free) (headerOf s .levels) (treeOf s) from to
@@ -177,8 +197,8 @@ module _ (s free from to : List ℕ) (k : SwingAsks s free from to) where
         plan from to true (formed-inside from (k .formed-from) .0) (before-aside from to highest e (k .apart-from)) (formed-inside to (k .formed-to) .1) (k .formed-from) (k .formed-to)
         (sym (ap fits tree-up) ∙ new-fits)
 
-    pub done-up : (s′ : List ℕ) → s′ ≡ swungOver s free (past from) (past to) true → s′ ≡ swungWith (headerOf s .live) s (handed free) from to
-    done-up s′ q = q ∙ swung-by true from to (unfold imageOver taken takenPath underLow underHigh movedImage in rw e)
+    pub done-up : (s′ : List ℕ) → s′ ≡ swungOver s free (past from) (past to) true → Swings s s′ free from to
+    done-up s′ q = swings s′ (q ∙ swung-by true from to (unfold imageOver taken takenPath underLow underHigh movedImage in rw e))
 
   -- down
   module _ (e : before from to ≡ false) where
@@ -196,8 +216,8 @@ module _ (s free from to : List ℕ) (k : SwingAsks s free from to) where
         plan to from false (formed-inside to (k .formed-to) .0) (before-aside to from highest before-down (k .apart-to)) (formed-inside from (k .formed-from) .1) (k .formed-to) (k .formed-from)
         (sym (ap fits tree-down) ∙ new-fits)
 
-    pub done-down : (s′ : List ℕ) → s′ ≡ swungOver s free (past to) (past from) false → s′ ≡ swungWith (headerOf s .live) s (handed free) from to
-    done-down s′ q = q ∙ swung-by false to from (unfold imageOver taken takenPath underLow underHigh movedImage in rw e)
+    pub done-down : (s′ : List ℕ) → s′ ≡ swungOver s free (past to) (past from) false → Swings s s′ free from to
+    done-down s′ q = swings s′ (q ∙ swung-by false to from (unfold imageOver taken takenPath underLow underHigh movedImage in rw e))
 
 -- THE ENDS OF THE RANGES, as the code lays them down
 pub end-laid : (path zeros bound : List ℕ) (n : ℕ) → n ≡ length path + 1 → bound ≡ put zeros 0 (past path) → take (n - 0) (drop 0 bound) ≡ past path

@@ -8,8 +8,8 @@ use Rattle.image.specs.Bytes.{before, begins}
 use Rattle.image.specs.Entry.{pivotLimit}
 use Rattle.image.specs.Path.{wellFormed}
 use Rattle.image.specs.Table.{moved, everyKey}
-use Rattle.image.specs.Image.{Tree, nodesOf, wholeNodes, headerOf, treeOf}
-use Rattle.image.specs.Sound.{sound, tableOf, highest}
+use Rattle.image.specs.Image.{Tree, nodeBytes, nodesOf, wholeNodes, headerOf, treeOf}
+use Rattle.image.specs.Sound.{sound, tableOf, highest, numbers, isIn}
 use Rattle.image.specs.Upkeep.{settled}
 use Rattle.laws.specs.WriteNode.{writeNode}
 use Rattle.laws.specs.Pieces.{Good}
@@ -24,6 +24,7 @@ use Rattle.moving.specs.MoveImage.{Free}
 use Rattle.moving.specs.MoveDone.{headPage}
 use Rattle.slice.specs.Point.{freshIn}
 use Rattle.swing.specs.Cuts.{front}
+use Rattle.swing.specs.Head.{swungWith}
 
 -- What the swing asks: a settled sound store with a level left, a list of free nodes, and the questions of a move of two paths that differ.
 pub record SwingAsks (s free from to : List ℕ) : Type 0 where
@@ -61,6 +62,11 @@ unfoldable pub swungOver : List ℕ → List ℕ → List ℕ → List ℕ → B
 swungOver s free bound limit up =
     writeNode (imageOver (freshIn free) (headerOf s .levels) (treeOf s) (front bound) (front limit) up s) 0
     (headPage (nodesOf (length s)) (freshIn free (10 * headerOf s .levels)) (suc (headerOf s .levels)) (headerOf s .live))
+
+-- What the swing leaves: moving's image, with the old live count; and every node that was reachable keeps its bytes (node 0 is none of them).
+pub record Swings (s s′ free from to : List ℕ) : Type 0 where
+  pub exact : s′ ≡ swungWith (headerOf s .live) s (handed free) from to
+  pub spares : (j : ℕ) → isIn j (numbers (treeOf s)) ≡ true → nodeBytes s′ j ≡ nodeBytes s j
 
 -- What the steps of a swing rely on: the facts of moving's laws, of the store before it.
 pub record Plan (s free p r : List ℕ) (up : Bool) : Type 0 where

@@ -5,16 +5,12 @@ mod root;
 
 use slice::Parts;
 ghost use mathlib.Core.Path.{_≡_};
-ghost use mathlib.Core.Bool.{not};
 ghost use Prim.Native.Nat.{_*_, _≤_, _<_};
 ghost use lib.ListN.{length};
-ghost use Rattle.image.specs.Image.{headerOf};
 ghost use Rattle.octets.specs.Put.{put};
-ghost use Rattle.build.specs.Handed.{handed};
 ghost use Rattle.slicing.specs.Range.{past};
 ghost use Rattle.swing.specs.Cuts.{RangeAsks, RangeAs, BothAsks, BothAs, OutAsks, outIn, TakeAsks, takenOut, lowPlace};
-ghost use Rattle.swing.specs.Head.{swungWith};
-ghost use Rattle.swing.specs.Plan.{SwingAsks, Plan, PastPlan, swungOver};
+ghost use Rattle.swing.specs.Plan.{SwingAsks, Swings, Plan, PastPlan, swungOver};
 
 // What lies right of the two cut ranges.
 pub struct Cuts {
@@ -192,7 +188,7 @@ fn swing_over(store: &mut [u8], free: &[u8], p: &[u8], r: &[u8], up: bool)
 // is still the old one.
 pub fn swing(store: &mut [u8], free: &[u8], from: &[u8], to: &[u8])
     requires { ⌜ SwingAsks (now store) (now free) (now from) (now to) ⌝ }
-    ensures { λ _. ⌜ now (store .exit) ≡ swungWith (headerOf (now (store .entry)) .live) (now (store .entry)) (handed (now (free .entry))) (now (from .entry)) (now (to .entry)) ⌝ }
+    ensures { λ _. ⌜ Swings (now (store .entry)) (now (store .exit)) (now (free .entry)) (now (from .entry)) (now (to .entry)) ⌝ }
 {
     if octets::precedes(from, to) {
         swing_over(store, free, from, to, true);

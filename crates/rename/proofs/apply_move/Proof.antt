@@ -27,7 +27,7 @@ swing-requires : tie.Need-swing-requires
 swing-requires c κs = swing-asked _ _ _ _ _ _ (c .before .before .before .before .before .before .before .before .before .before .before .before .before .before .before .before .pre) _ _ _ _ (c .before .before .before .before .before .before .before .before .make-ready .ensures) (search needs)
 
 finish-requires : tie.Need-finish-requires
-finish-requires c κs = finish-asked _ _ _ _ _ _ (c .before .before .before .before .before .before .before .before .before .before .before .before .before .before .before .before .before .before .before .before .before .pre) _ _ _ _ (c .before .before .before .before .before .before .before .before .before .before .before .before .before .make-ready .ensures) (search needs) _ (c .before .before .before .before .swing .ensures)
+finish-requires c κs = finish-asked _ _ _ _ _ _ (c .before .before .before .before .before .before .before .before .before .before .before .before .before .before .before .before .before .before .before .before .before .pre) _ _ _ _ (c .before .before .before .before .before .before .before .before .before .before .before .before .before .make-ready .ensures) (search needs) _ (c .before .before .before .before .swing .ensures .exact)
 
 same-length : tie.Need-same-length
 same-length c = search needs
@@ -36,7 +36,7 @@ same-length-2 : tie.Need-same-length-2
 same-length-2 c = search needs
 
 returns : tie.Need-returns
-returns c = applied _ _ _ _ _ _ (c .before .before .before .before .before .before .before .before .before .before .before .before .before .before .before .before .before .before .before .before .before .before .before .before .before .before .pre) _ _ _ _ (c .before .before .before .before .before .before .before .before .before .before .before .before .before .before .before .before .before .before .make-ready .ensures) (search needs) _ (c .before .before .before .before .before .before .before .before .before .swing .ensures) _ _ (c .before .before .before .before .finish .ensures)
+returns c = applied _ _ _ _ _ _ (c .before .before .before .before .before .before .before .before .before .before .before .before .before .before .before .before .before .before .before .before .before .before .before .before .before .before .pre) _ _ _ _ (c .before .before .before .before .before .before .before .before .before .before .before .before .before .before .before .before .before .before .make-ready .ensures) (search needs) _ (c .before .before .before .before .before .before .before .before .before .swing .ensures .exact) _ _ (c .before .before .before .before .finish .ensures)
 
 pub apply-move-spec : {M : Type 1} → statement M
 apply-move-spec =

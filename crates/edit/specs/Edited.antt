@@ -133,7 +133,7 @@ module _ (s s₁ s₂ s₃ w w₁ w₃ p v : List ℕ) (c : Change) (size : ℕ)
   same-nodes : nodesOf (length s₂) ≡ nodesOf (length s)
   same-nodes = ap nodesOf (appended .size ∙ roomy .length-same)
 
-  new-table : tableOf s₂ ≡ apply [] (messageOf c p v) (tableOf s)
+  pub new-table : tableOf s₂ ≡ apply [] (messageOf c p v) (tableOf s)
   new-table = appended .table ∙ ap (apply [] (messageOf c p v)) (roomy .table)
 
   pub few-rows : length (tableOf s₂) ≤ nodesOf (length s₂)

@@ -2,7 +2,7 @@
 use Prim.Native.Nat.{ℕ, suc, _*_, _/_, _<_, _≤_}
 use mathlib.Core.Path.{_≡_, refl, sym, ap, _∙_}
 use mathlib.Core.List.{List, [], _∷_}
-use mathlib.Core.Bool.{Bool, true, false, not, false≢true}
+use mathlib.Core.Bool.{Bool, true, false, not, cond, false≢true}
 use native.Mathlib.Omega.{arith}
 use lib.ListN.{length, drop, getD}
 use lib.Dec.{eqb}
@@ -19,12 +19,17 @@ use Rattle.node.specs.Whole.{Whole, whole-parts}
 use Rattle.tree_check.specs.declared.Checked.{Checked}
 use Rattle.tree_check.specs.declared.Tally.{Tally}
 use Rattle.tree_check.specs.Whole.{Verified}
-use Rattle.tree_check.specs.Callers.{Holds, verified-yes, verified-no}
+use Rattle.tree_check.specs.Callers.{verified-yes, verified-no}
 use Rattle.append_laws.specs.Append.{roomAtRoot, header-levels}
 use Rattle.rebuild.specs.Rebuild.{Rebuilt}
+use Rattle.ready.specs.Asked.{Fit}
 use Rattle.finish.specs.Finished.{cleared-size, cleared-later}
 use Rattle.edit.specs.Free.{FirstFree, all-in}
 use Rattle.edit.specs.declared.Spot.{Spot}
+
+-- seen has 1 for each node that the tree reaches, and 0 for the others
+pub record Marks (s seen : List ℕ) : Type 0 where
+  pub marked : (i : ℕ) → i < nodesOf (length s) → getD seen i 0 ≡ cond (isIn i (numbers (treeOf s))) 1 0
 
 -- node i is free, and a root of one level more is allowed
 pub record Free (s : List ℕ) (i : ℕ) : Type 0 where
@@ -64,23 +69,25 @@ above-held s b e f =
 pub above-deep : (s : List ℕ) (levels : ℕ) → levels ≡ u16 s 8 → 7 < levels → Above s 0
 above-deep s levels e h = record { some = λ q. absurd (q refl); none = λ q l u n z. let k = header-levels s in omega arith }
 
-pub above-unsound : (s : List ℕ) (seen : List ℕ) (c : Checked) → sound s ≡ true → Verified s c seen → c ≡ Checked.Unsound → Above s 0
-above-unsound s seen c ok v e = absurd (false≢true (sym (verified-no s c seen v e) ∙ sound-but-live s ok))
+pub unmarked-unsound : (s : List ℕ) (seen : List ℕ) (c : Checked) → sound s ≡ true → Verified s c seen → c ≡ Checked.Unsound → Above s 0
+unmarked-unsound s seen c ok v e = absurd (false≢true (sym (verified-no s c seen v e) ∙ sound-but-live s ok))
 
-pub above-found : (s seen : List ℕ) (c : Checked) (t : Tally) (n r levels : ℕ) → Verified s c seen → c ≡ Checked.Sound t → n ≡ nodesOf (length s) → levels ≡ u16 s 8 → levels ≤ 7
-    → FirstFree seen n r → Above s r
-above-found s seen c t n r levels v e z l h f =
+pub marks-told : (s seen : List ℕ) (c : Checked) (t : Tally) → Verified s c seen → c ≡ Checked.Sound t → Marks s seen
+marks-told s seen c t v e = record { marked = verified-yes s c t seen v e .reached }
+
+pub fit-marks : (s w : List ℕ) (t : Tally) (seen : List ℕ) → Fit s w t seen → Marks s seen
+fit-marks s w t seen f = record { marked = f .holds .reached }
+
+pub above-found : (s seen : List ℕ) (n r levels : ℕ) → Marks s seen → n ≡ nodesOf (length s) → levels ≡ u16 s 8 → levels ≤ 7 → FirstFree seen n r → Above s r
+above-found s seen n r levels held z l h f =
     record {
       some = λ q. some-free (f .free q);
       none = λ q k u m w. full u m (f .none w);
     }
   where
-    held : Holds s t seen
-    held = verified-yes s c t seen v e
-
     unmarked : (i : ℕ) (b : Bool) → isIn i (numbers (treeOf s)) ≡ b → i < nodesOf (length s) → getD seen i 0 ≡ 0 → isIn i (numbers (treeOf s)) ≡ false
     unmarked i false q k g = q
-    unmarked i true q k g = absurd (let y : getD seen i 0 ≡ 1 = held .reached i k ∙ rw q refl in omega arith)
+    unmarked i true q k g = absurd (let y : getD seen i 0 ≡ 1 = held .marked i k ∙ rw q refl in omega arith)
 
     some-free : (1 ≤ r) × (r < n) × (getD seen r 0 ≡ 0) → Free s r
     some-free (low, high, g) =
@@ -98,7 +105,7 @@ above-found s seen c t n r levels v e z l h f =
 
         marked : (i : ℕ) (b : Bool) → isIn i (numbers (treeOf s)) ≡ b → 1 ≤ i → i < nodesOf (length s) → isIn i (numbers (treeOf s)) ≡ true
         marked i true q low high = q
-        marked i false q low high = absurd (none i low (omega arith) (held .reached i high ∙ rw q refl))
+        marked i false q low high = absurd (none i low (omega arith) (held .marked i high ∙ rw q refl))
 
 -- the number of nodes as the code computes it
 pub nodes-are : (len : ℕ) → len / 1024 ≡ nodesOf len

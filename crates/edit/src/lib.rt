@@ -1,6 +1,6 @@
 // put, drop and clear: each becomes one message at the root. Where the root has no room, a new root is put above an old one that holds no
-// message; where that cannot be, the store is rebuilt first, and then one of the two always can. The live count is counted anew.
-// Relies on: append (the message), rebuild, live, and the marks of tree_check for a free node.
+// message; where that cannot be, the store is rebuilt first, and then one of the two always can. The live count follows by one lookup; after
+// a clear it is counted anew. Relies on: append (the message), rebuild, finish (the live count), and the marks of tree_check for a free node.
 use image::Outcome;
 use image::Refusal;
 use ready::Ready;
@@ -23,7 +23,8 @@ ghost use Rattle.image.specs.Contract.{Meets};
 ghost use Rattle.image.specs.Answers.{outcomeAnswer};
 ghost use Rattle.append_laws.specs.Append.{roomAtRoot, Appended};
 ghost use Rattle.edit.specs.Change.{messageOf, sizeOf, Allowed};
-ghost use Rattle.edit.specs.Room.{Above, Free, SpotFits, Roomy};
+ghost use Rattle.edit.specs.Known.{Known};
+ghost use Rattle.edit.specs.Room.{Marks, Above, Free, SpotFits, Roomy};
 ghost use Rattle.edit.specs.Edited.{Edited};
 
 // What is done to a path.
@@ -54,9 +55,10 @@ fn first_free(seen: &[u8; 1024], n: usize) -> usize
     0
 }
 
-// A free node for a new root above the old one; 0 where the root holds a message, there is no level left, or no node is free.
-fn free_above(store: &[u8]) -> usize
-    requires { ⌜ (wholeNodes (length (now store)) ≡ true) × (sound (now store) ≡ true) ⌝ }
+// A free node for a new root above the old one, by the marks of the nodes in use; 0 where the root holds a message, there is no level left, or no
+// node is free.
+fn free_above(store: &[u8], seen: &[u8; 1024]) -> usize
+    requires { ⌜ (wholeNodes (length (now store)) ≡ true) × (sound (now store) ≡ true) × Marks (now store) (now seen) ⌝ }
     ensures { λ r. ⌜ Above (now (store .entry)) r ⌝ }
 {
     if append::has_messages_at_root(store) {
@@ -66,23 +68,31 @@ fn free_above(store: &[u8]) -> usize
     if 7 < levels {
         return 0;
     }
+    first_free(seen, store.len() / 1024)
+}
+
+// The same in a store whose nodes are not marked.
+fn free_unmarked(store: &[u8]) -> usize
+    requires { ⌜ (wholeNodes (length (now store)) ≡ true) × (sound (now store) ≡ true) ⌝ }
+    ensures { λ r. ⌜ Above (now (store .entry)) r ⌝ }
+{
     let mut seen = [0u8; 1024];
     let c = tree_check::check_tree(store, &mut seen);
     let Checked::Sound(_) = c else {
         return 0;
     };
-    first_free(&seen, store.len() / 1024)
+    free_above(store, &seen)
 }
 
-// Makes room for a message of this size, and tells where.
-fn make_room(store: &mut [u8], work: &mut [u8], size: usize) -> Spot
-    requires { ⌜ (wholeNodes (length (now store)) ≡ true) × (sound (now store) ≡ true) × (workPerNode * nodesOf (length (now store)) ≤ length (now work)) × (size ≤ 1010) ⌝ }
+// Makes room for a message of this size, and tells where. The marks are those of the store as it is given.
+fn make_room(store: &mut [u8], work: &mut [u8], size: usize, seen: &[u8; 1024]) -> Spot
+    requires { ⌜ (wholeNodes (length (now store)) ≡ true) × (sound (now store) ≡ true) × (workPerNode * nodesOf (length (now store)) ≤ length (now work)) × (size ≤ 1010) × Marks (now store) (now seen) ⌝ }
     ensures { λ r. ⌜ Roomy (now (store .entry)) (now (store .exit)) (now (work .entry)) (now (work .exit)) size r ⌝ }
 {
     if append::fits_at_root(store, size) {
         return Spot::AtRoot;
     }
-    let free = free_above(store);
+    let free = free_above(store, seen);
     if free != 0 {
         return Spot::Above(free);
     }
@@ -90,7 +100,7 @@ fn make_room(store: &mut [u8], work: &mut [u8], size: usize) -> Spot
     if append::fits_at_root(store, size) {
         return Spot::AtRoot;
     }
-    Spot::Above(free_above(store))
+    Spot::Above(free_unmarked(store))
 }
 
 // How many bytes the entry of a change has.
@@ -140,15 +150,47 @@ fn add(store: &mut [u8], spot: Spot, change: Change, path: &[u8], value: &[u8])
     }
 }
 
+// How many paths there are after a change, by one lookup; 65,536 where that does not tell.
+fn count_after(store: &[u8], change: Change, path: &[u8]) -> usize
+    requires { ⌜ (wholeNodes (length (now store)) ≡ true) × (sound (now store) ≡ true) ⌝ }
+    ensures { λ r. ⌜ Known change (now (path .entry)) (tableOf (now (store .entry))) r ⌝ }
+{
+    let live = octets::u16_at(store, 10);
+    let found = lookup::value_of(store, path);
+    match change {
+        Change::Put => {
+            let Found::Nothing = found else {
+                return live;
+            };
+            live + 1
+        }
+        Change::Drop => {
+            let Found::Nothing = found else {
+                return live - 1;
+            };
+            live
+        }
+        Change::Clear => 65536,
+    }
+}
+
 // A change that the questions allow.
-fn apply_change(store: &mut [u8], work: &mut [u8], change: Change, path: &[u8], value: &[u8])
-    requires { ⌜ (wholeNodes (length (now store)) ≡ true) × (sound (now store) ≡ true) × (workPerNode * nodesOf (length (now store)) ≤ length (now work)) × Allowed change (now path) (now value) (tableOf (now store)) (nodesOf (length (now store))) ⌝ }
+fn apply_change(
+    store: &mut [u8],
+    work: &mut [u8],
+    seen: &[u8; 1024],
+    change: Change,
+    path: &[u8],
+    value: &[u8],
+)
+    requires { ⌜ (wholeNodes (length (now store)) ≡ true) × (sound (now store) ≡ true) × (workPerNode * nodesOf (length (now store)) ≤ length (now work)) × Allowed change (now path) (now value) (tableOf (now store)) (nodesOf (length (now store))) × Marks (now store) (now seen) ⌝ }
     ensures { λ _. ⌜ Edited (now (store .entry)) (now (store .exit)) (now (work .entry)) (now (work .exit)) (messageOf change (now (path .entry)) (now (value .entry))) ⌝ }
 {
+    let known = count_after(store, change, path);
     let size = entry_size(change, path.len(), value.len());
-    let spot = make_room(store, work, size);
+    let spot = make_room(store, work, size, seen);
     add(store, spot, change, path, value);
-    finish::finish(store, work);
+    finish::finish_known(store, work, known);
 }
 
 // Question 10: is the path present, or are fewer than n paths?
@@ -165,8 +207,14 @@ fn has_place(store: &[u8], path: &[u8]) -> bool
 }
 
 // put, on a store and a work area that are fit.
-fn put_fit(store: &mut [u8], work: &mut [u8], path: &[u8], value: &[u8]) -> Outcome
-    requires { ⌜ (wholeNodes (length (now store)) ≡ true) × (sound (now store) ≡ true) × (workPerNode * nodesOf (length (now store)) ≤ length (now work)) ⌝ }
+fn put_fit(
+    store: &mut [u8],
+    work: &mut [u8],
+    seen: &[u8; 1024],
+    path: &[u8],
+    value: &[u8],
+) -> Outcome
+    requires { ⌜ (wholeNodes (length (now store)) ≡ true) × (sound (now store) ≡ true) × (workPerNode * nodesOf (length (now store)) ≤ length (now work)) × Marks (now store) (now seen) ⌝ }
     ensures { λ r. ⌜ Meets (now (store .entry)) (acts (put (now (path .entry)) (now (value .entry))) (now (work .entry))) (outcomeAnswer r) (now (store .exit)) (now (work .exit)) ⌝ }
 {
     if !path::is_path(path) {
@@ -178,7 +226,7 @@ fn put_fit(store: &mut [u8], work: &mut [u8], path: &[u8], value: &[u8]) -> Outc
     if !has_place(store, path) {
         return Outcome::Refused(Refusal::Full);
     }
-    apply_change(store, work, Change::Put, path, value);
+    apply_change(store, work, seen, Change::Put, path, value);
     Outcome::Done
 }
 
@@ -190,19 +238,19 @@ pub fn put(store: &mut [u8], work: &mut [u8], path: &[u8], value: &[u8]) -> Outc
     let asked = ready::ask(store, work, &mut seen);
     match asked {
         Ready::Refused(refusal) => Outcome::Refused(refusal),
-        Ready::Fit(_) => put_fit(store, work, path, value),
+        Ready::Fit(_) => put_fit(store, work, &seen, path, value),
     }
 }
 
 // drop, on a store and a work area that are fit.
-fn drop_fit(store: &mut [u8], work: &mut [u8], path: &[u8]) -> Outcome
-    requires { ⌜ (wholeNodes (length (now store)) ≡ true) × (sound (now store) ≡ true) × (workPerNode * nodesOf (length (now store)) ≤ length (now work)) ⌝ }
+fn drop_fit(store: &mut [u8], work: &mut [u8], seen: &[u8; 1024], path: &[u8]) -> Outcome
+    requires { ⌜ (wholeNodes (length (now store)) ≡ true) × (sound (now store) ≡ true) × (workPerNode * nodesOf (length (now store)) ≤ length (now work)) × Marks (now store) (now seen) ⌝ }
     ensures { λ r. ⌜ Meets (now (store .entry)) (acts (drops (now (path .entry))) (now (work .entry))) (outcomeAnswer r) (now (store .exit)) (now (work .exit)) ⌝ }
 {
     if !path::is_path(path) {
         return Outcome::Refused(Refusal::Malformed);
     }
-    apply_change(store, work, Change::Drop, path, &path[0..0]);
+    apply_change(store, work, seen, Change::Drop, path, &path[0..0]);
     Outcome::Done
 }
 
@@ -214,19 +262,19 @@ pub fn drop(store: &mut [u8], work: &mut [u8], path: &[u8]) -> Outcome
     let asked = ready::ask(store, work, &mut seen);
     match asked {
         Ready::Refused(refusal) => Outcome::Refused(refusal),
-        Ready::Fit(_) => drop_fit(store, work, path),
+        Ready::Fit(_) => drop_fit(store, work, &seen, path),
     }
 }
 
 // clear, on a store and a work area that are fit.
-fn clear_fit(store: &mut [u8], work: &mut [u8], path: &[u8]) -> Outcome
-    requires { ⌜ (wholeNodes (length (now store)) ≡ true) × (sound (now store) ≡ true) × (workPerNode * nodesOf (length (now store)) ≤ length (now work)) ⌝ }
+fn clear_fit(store: &mut [u8], work: &mut [u8], seen: &[u8; 1024], path: &[u8]) -> Outcome
+    requires { ⌜ (wholeNodes (length (now store)) ≡ true) × (sound (now store) ≡ true) × (workPerNode * nodesOf (length (now store)) ≤ length (now work)) × Marks (now store) (now seen) ⌝ }
     ensures { λ r. ⌜ Meets (now (store .entry)) (acts (clear (now (path .entry))) (now (work .entry))) (outcomeAnswer r) (now (store .exit)) (now (work .exit)) ⌝ }
 {
     if !path::is_path(path) {
         return Outcome::Refused(Refusal::Malformed);
     }
-    apply_change(store, work, Change::Clear, path, &path[0..0]);
+    apply_change(store, work, seen, Change::Clear, path, &path[0..0]);
     Outcome::Done
 }
 
@@ -238,6 +286,6 @@ pub fn clear(store: &mut [u8], work: &mut [u8], path: &[u8]) -> Outcome
     let asked = ready::ask(store, work, &mut seen);
     match asked {
         Ready::Refused(refusal) => Outcome::Refused(refusal),
-        Ready::Fit(_) => clear_fit(store, work, path),
+        Ready::Fit(_) => clear_fit(store, work, &seen, path),
     }
 }

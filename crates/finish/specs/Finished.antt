@@ -46,6 +46,10 @@ finish-done s s′ w w′ live k whole e few l q z r =
       exact = q ∙ ap (withLive s) counted;
     }
 
+-- where the number is known, it needs no count
+pub known-cap : (n k : ℕ) → k ≤ 65535 → (k ≤ 65535 → k ≡ n) → k ≡ cap n
+known-cap n k h f = let e : k ≡ n = f h in e ∙ sym (cap-small n (omega arith))
+
 pub small-live : (s : List ℕ) (live : ℕ) → wholeNodes (length s) ≡ true → length (tableOf s) ≤ nodesOf (length s) → live ≡ cap (length (tableOf s))
     → (12 ≤ length s) × (length s ≤ 2000000) × (live < 65536)
 small-live s live whole few l =

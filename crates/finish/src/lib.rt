@@ -1,4 +1,4 @@
-// The end of every call that changes the map: the live count is counted anew and written, and the work area zeroed.
+// The end of every call that changes the map: the live count is written, counted anew where it is not known, and the work area zeroed.
 // Relies on live (the count), append (the count written) and build (the area zeroed).
 ghost use mathlib.Core.Path.{_≡_};
 ghost use mathlib.Core.Bool.{true};
@@ -7,8 +7,19 @@ ghost use lib.ListN.{length};
 ghost use Rattle.image.specs.Image.{nodesOf, wholeNodes};
 ghost use Rattle.image.specs.Sound.{tableOf};
 ghost use Rattle.image.specs.Calls.{workPerNode};
+ghost use Rattle.octets.specs.Cap.{cap};
 ghost use Rattle.laws.specs.ButLive.{soundButLive};
 ghost use Rattle.finish.specs.Finished.{Finished};
+
+// This live count written, and the work area zeroed.
+fn conclude(store: &mut [u8], work: &mut [u8], live: usize)
+    requires { ⌜ (wholeNodes (length (now store)) ≡ true) × (soundButLive (now store) ≡ true) × (length (tableOf (now store)) ≤ nodesOf (length (now store))) × (workPerNode * nodesOf (length (now store)) ≤ length (now work)) × (live ≡ cap (length (tableOf (now store)))) ⌝ }
+    ensures { λ _. ⌜ Finished (now (store .entry)) (now (store .exit)) (now (work .entry)) (now (work .exit)) ⌝ }
+{
+    append::set_live(store, live);
+    let k = 128 * (store.len() / 1024);
+    build::clear_area(work, k);
+}
 
 // The live count made right, and the work area zeroed.
 pub fn finish(store: &mut [u8], work: &mut [u8])
@@ -16,7 +27,17 @@ pub fn finish(store: &mut [u8], work: &mut [u8])
     ensures { λ _. ⌜ Finished (now (store .entry)) (now (store .exit)) (now (work .entry)) (now (work .exit)) ⌝ }
 {
     let live = live::live_count(store);
-    append::set_live(store, live);
-    let k = 128 * (store.len() / 1024);
-    build::clear_area(work, k);
+    conclude(store, work, live);
+}
+
+// The same with no count where the number of paths is known: 65,536 says that it is not.
+pub fn finish_known(store: &mut [u8], work: &mut [u8], known: usize)
+    requires { ⌜ (wholeNodes (length (now store)) ≡ true) × (soundButLive (now store) ≡ true) × (length (tableOf (now store)) ≤ nodesOf (length (now store))) × (workPerNode * nodesOf (length (now store)) ≤ length (now work)) × (known ≤ 65535 → known ≡ length (tableOf (now store))) ⌝ }
+    ensures { λ _. ⌜ Finished (now (store .entry)) (now (store .exit)) (now (work .entry)) (now (work .exit)) ⌝ }
+{
+    if 65535 < known {
+        finish(store, work);
+        return;
+    }
+    conclude(store, work, known);
 }

@@ -1,6 +1,7 @@
 use borrow.Author.Needs.{needs}
 use Rattle.rebuild.specs.Callers.{to-act}
 use Rattle.ready.specs.Asked.{asked-fit, refused-meets}
+use Rattle.edit.specs.Room.{fit-marks}
 use Rattle.edit.proofs.drop.Statement.{statement}
 use Rattle.edit.proofs.drop.Tie as tie
 
@@ -14,7 +15,7 @@ enum-told : tie.Need-enum-told
 enum-told c = search needs
 
 drop-fit-requires : tie.Need-drop-fit-requires
-drop-fit-requires c κs = let f = asked-fit _ _ _ _ (c .before .before .before .before .ask .ensures) _ (c .before .before .enum-told .given .1) in (f .whole, f .is-sound, f .long)
+drop-fit-requires c κs = let f = asked-fit _ _ _ _ (c .before .before .before .before .before .ask .ensures) _ (c .before .before .before .enum-told .given .1) in (f .whole, f .is-sound, f .long, fit-marks _ _ _ _ f)
 
 same-length : tie.Need-same-length
 same-length c = search needs

@@ -22,7 +22,7 @@ part-apply-change-end : tie.Need-part-apply-change-end
 part-apply-change-end c = search needs
 
 apply-change-requires : tie.Need-apply-change-requires
-apply-change-requires c κs = (c .before .before .before .before .before .before .before .before .pre .0, c .before .before .before .before .before .before .before .before .pre .1, c .before .before .before .before .before .before .before .before .pre .2, drop-allowed (c .before .before .before .before .before .before .before .before .args .store .now) (c .before .before .before .before .before .before .before .before .args .work .now) (c .before .before .before .before .before .before .before .before .pre .0) (c .before .before .before .before .before .before .before .before .pre .1) (c .before .before .before .before .before .before .before .before .pre .2) (c .before .before .before .before .before .before .before .before .args .path .now) _ (c .before .before .before .before .is-path .ensures) (not-false _ (c .before .before .before .if1 .left)) Change.Drop _ (omega arith) not-put-drop)
+apply-change-requires c κs = (c .before .before .before .before .before .before .before .before .pre .0, c .before .before .before .before .before .before .before .before .pre .1, c .before .before .before .before .before .before .before .before .pre .2, drop-allowed (c .before .before .before .before .before .before .before .before .args .store .now) (c .before .before .before .before .before .before .before .before .args .work .now) (c .before .before .before .before .before .before .before .before .pre .0) (c .before .before .before .before .before .before .before .before .pre .1) (c .before .before .before .before .before .before .before .before .pre .2) (c .before .before .before .before .before .before .before .before .args .path .now) _ (c .before .before .before .before .is-path .ensures) (not-false _ (c .before .before .before .if1 .left)) Change.Drop _ (omega arith) not-put-drop, c .before .before .before .before .before .before .before .before .pre .3)
 
 same-length : tie.Need-same-length
 same-length c = search needs

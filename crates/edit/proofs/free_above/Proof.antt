@@ -1,9 +1,6 @@
 use native.Mathlib.Omega.{arith}
-use Prim.Native.Nat.{_≤_}
-use mathlib.Core.Path.{subst}
-use borrow.Author.Needs.{needs}
 use Rattle.laws.specs.ButLive.{sound-but-live}
-use Rattle.edit.specs.Room.{above-held, above-deep, above-unsound, above-found, nodes-are, few-nodes}
+use Rattle.edit.specs.Room.{above-held, above-deep, above-found, nodes-are, few-nodes}
 use Rattle.edit.proofs.free_above.Statement.{statement}
 use Rattle.edit.proofs.free_above.Tie as tie
 
@@ -19,23 +16,11 @@ u16-at-requires c κs = omega (arith, few-nodes _ (c .before .before .before .pr
 returns-2 : tie.Need-returns-2
 returns-2 c = above-deep _ _ (c .before .u16-at .ensures .0) (omega arith)
 
-check-tree-requires : tie.Need-check-tree-requires
-check-tree-requires c κs = let w = few-nodes _ (c .before .before .before .before .before .before .pre .0) in (w .1, subst (λ k. k ≤ 1024) (nodes-are _) (w .0))
-
-enum-told : tie.Need-enum-told
-enum-told c = search needs
-
-enum-told-2 : tie.Need-enum-told-2
-enum-told-2 c = search needs
+first-free-requires : tie.Need-first-free-requires
+first-free-requires c κs = let w = few-nodes _ (c .before .before .before .before .before .pre .0) in omega (arith, w .0)
 
 returns-3 : tie.Need-returns-3
-returns-3 c = above-unsound _ _ _ (c .before .before .before .before .before .before .before .before .before .pre .1) (c .before .before .check-tree .ensures) (c .enum-told2 .given .1)
-
-first-free-requires : tie.Need-first-free-requires
-first-free-requires c κs = let w = few-nodes _ (c .before .before .before .before .before .before .before .before .before .before .pre .0) in omega (arith, w .0)
-
-returns-4 : tie.Need-returns-4
-returns-4 c = above-found _ _ _ _ _ _ _ (c .before .before .before .before .check-tree .ensures) (c .before .before .enum-told .given .1) (nodes-are _) (c .before .before .before .before .before .before .before .u16-at .ensures .0) (omega arith) (c .first-free .ensures)
+returns-3 c = above-found _ _ _ _ _ (c .before .before .before .before .before .before .pre .2) (nodes-are _) (c .before .before .u16-at .ensures .0) (omega arith) (c .first-free .ensures)
 
 pub free-above-spec : {M : Type 1} → statement M
 free-above-spec =
@@ -45,9 +30,5 @@ free-above-spec =
     returns
     u16-at-requires
     returns-2
-    check-tree-requires
-    enum-told
-    enum-told-2
-    returns-3
     first-free-requires
-    returns-4)
+    returns-3)

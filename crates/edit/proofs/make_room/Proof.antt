@@ -40,8 +40,8 @@ same-length-4 c = search needs
 returns-3 : tie.Need-returns-3
 returns-3 c = rebuilt-now _ _ _ _ _ (c .before .before .before .before .before .before .before .before .before .before .before .before .before .before .before .before .before .before .pre .0) (c .before .before .before .before .before .before .before .before .before .before .before .before .before .before .before .before .before .before .pre .2) (c .before .before .before .before .before .before .before .rebuild .ensures) _ (c .before .fits-at-root2 .ensures) (c .if3 .taken)
 
-free-above-requires-2 : tie.Need-free-above-requires-2
-free-above-requires-2 c κs = (ap (λ k. wholeNodes k) (c .before .before .before .before .before .before .before .before .rebuild .ensures .size) ∙ c .before .before .before .before .before .before .before .before .before .before .before .before .before .before .before .before .before .before .before .pre .0, c .before .before .before .before .before .before .before .before .rebuild .ensures .is-sound)
+free-unmarked-requires : tie.Need-free-unmarked-requires
+free-unmarked-requires c κs = (ap (λ k. wholeNodes k) (c .before .before .before .before .before .before .before .before .rebuild .ensures .size) ∙ c .before .before .before .before .before .before .before .before .before .before .before .before .before .before .before .before .before .before .before .pre .0, c .before .before .before .before .before .before .before .before .rebuild .ensures .is-sound)
 
 same-length-5 : tie.Need-same-length-5
 same-length-5 c = search needs
@@ -50,7 +50,7 @@ same-length-6 : tie.Need-same-length-6
 same-length-6 c = search needs
 
 returns-4 : tie.Need-returns-4
-returns-4 c = rebuilt-above _ _ _ _ _ (c .before .before .before .before .before .before .before .before .before .before .before .before .before .before .before .before .before .before .before .before .pre .0) (c .before .before .before .before .before .before .before .before .before .before .before .before .before .before .before .before .before .before .before .before .pre .2) (c .before .before .before .before .before .before .before .before .before .rebuild .ensures) _ (c .free-above2 .ensures)
+returns-4 c = rebuilt-above _ _ _ _ _ (c .before .before .before .before .before .before .before .before .before .before .before .before .before .before .before .before .before .before .before .before .pre .0) (c .before .before .before .before .before .before .before .before .before .before .before .before .before .before .before .before .before .before .before .before .pre .2) (c .before .before .before .before .before .before .before .before .before .rebuild .ensures) _ (c .free-unmarked .ensures)
 
 pub make-room-spec : {M : Type 1} → statement M
 make-room-spec =
@@ -67,7 +67,7 @@ make-room-spec =
     same-length-3
     same-length-4
     returns-3
-    free-above-requires-2
+    free-unmarked-requires
     same-length-5
     same-length-6
     returns-4)

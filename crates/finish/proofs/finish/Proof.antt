@@ -1,20 +1,14 @@
-use borrow.Author.Needs.{needs}
 use Rattle.live.specs.RootSteps.{countable}
-use Rattle.finish.specs.Finished.{finish-done, small-live, area-fits, len-kept}
+use borrow.Author.Needs.{needs}
+use Prim.Native.Nat.{_-_}
 use Rattle.finish.proofs.finish.Statement.{statement}
 use Rattle.finish.proofs.finish.Tie as tie
 
 live-count-requires : tie.Need-live-count-requires
 live-count-requires c κs = countable _ (c .before .before .before .pre .1)
 
-set-live-requires : tie.Need-set-live-requires
-set-live-requires c κs = small-live _ _ (c .before .before .before .before .before .pre .0) (c .before .before .before .before .before .pre .2) (c .before .live-count .ensures)
-
-mul-k : tie.Need-mul-k
-mul-k c = search needs
-
-clear-area-requires : tie.Need-clear-area-requires
-clear-area-requires c κs = area-fits (c .before .before .before .before .before .before .before .before .before .args .store .now) _ (c .before .before .before .before .before .before .before .before .before .args .work .now) _ (c .before .before .before .before .before .before .before .before .before .pre .1) (c .before .before .before .set-live .ensures) (c .before .before .before .before .before .before .before .before .before .pre .3)
+conclude-requires : tie.Need-conclude-requires
+conclude-requires c κs = search needs
 
 same-length : tie.Need-same-length
 same-length c = search needs
@@ -23,16 +17,8 @@ same-length-2 : tie.Need-same-length-2
 same-length-2 c = search needs
 
 returns : tie.Need-returns
-returns c = finish-done _ _ _ _ _ _ (c .before .before .before .before .before .before .before .before .before .before .before .before .pre .0) (c .before .before .before .before .before .before .before .before .before .before .before .before .pre .1) (c .before .before .before .before .before .before .before .before .before .before .before .before .pre .2) (c .before .before .before .before .before .before .before .before .live-count .ensures) (c .before .before .before .before .before .before .set-live .ensures) (len-kept (c .before .before .before .before .before .before .before .before .before .before .before .before .args .store .now) _ _ (c .before .before .before .before .before .before .before .before .before .before .before .before .pre .1) (c .before .before .before .before .before .before .set-live .ensures)) (c .before .before .clear-area .ensures)
+returns c = search needs
 
 pub finish-spec : {M : Type 1} → statement M
 finish-spec =
-    tie.close
-    (tie.spec
-    live-count-requires
-    set-live-requires
-    mul-k
-    clear-area-requires
-    same-length
-    same-length-2
-    returns)
+    tie.close (tie.spec live-count-requires conclude-requires same-length same-length-2 returns)

@@ -1,7 +1,7 @@
 -- A leaf whose keys rise is sound if its first key is not below the low pivot and its last key below the high one: the walk that asks no more.
 -- Relies on Leaf, whose walk asks of every key whether the leaf owns it, and on the order of strings.
 use Prim.Native.Nat.{ℕ, _-_, _<_, _≤_}
-use mathlib.Core.Path.{_≡_, refl, sym, ap, ap₂, subst, _∙_}
+use mathlib.Core.Path.{_≡_, refl, sym, ap, _∙_}
 use mathlib.Core.List.{List, [], _∷_}
 use mathlib.Core.Bool.{Bool, true, false, _&&_, not}
 use mathlib.Core.Option.{Option, none, some}
@@ -14,11 +14,13 @@ use Rattle.image.specs.Entry as defined
 use Rattle.octets.specs.Order.{not-so, before-trans}
 use Rattle.path.specs.Shape as machine
 use Rattle.node.specs.Cut.{cut-length}
+use Rattle.node.specs.Entries.{entriesFrom}
 use Rattle.node.specs.Places.{part, entryIn, Within}
 use Rattle.node.specs.declared.Place.{Place}
 use Rattle.node.specs.declared.Entry.{Entry}
 use Rattle.search.specs.declared.Pair.{Pair}
-use Rattle.search.specs.Pairs.{pairIs, pair-entry}
+use Rattle.search.specs.Pairs.{pairIs}
+use Rattle.search.specs.PairSteps.{Unpaired, unread, unlike}
 use Rattle.node_check.specs.declared.Prev.{Prev}
 use Rattle.node_check.specs.Leaf.{prevIn, follows, rowHere, leafList, leafRun}
 
@@ -173,32 +175,39 @@ module _ (sh : machine.Shape) (lo hi : List ℕ) where
   run-other prev (Entry.Message m) s none h = refl
   run-other prev (Entry.Message m) s (some es) h = refl
 
-  pub leaf-bad : (prev : Option (List ℕ)) (x : Option (List defined.Entry)) (X : Bool) → x ≡ none → walkRun sh lo hi prev x ≡ X → false ≡ X
+  leaf-bad : (prev : Option (List ℕ)) (x : Option (List defined.Entry)) (X : Bool) → x ≡ none → walkRun sh lo hi prev x ≡ X → false ≡ X
   unfolding walkRun
   leaf-bad prev x X q inv = rw q at inv
 
-  pub leaf-end : (prev : Option (List ℕ)) (x : Option (List defined.Entry)) (X b : Bool) → x ≡ some [] → b ≡ closes hi prev → walkRun sh lo hi prev x ≡ X → b ≡ X
+  leaf-end : (prev : Option (List ℕ)) (x : Option (List defined.Entry)) (X b : Bool) → x ≡ some [] → b ≡ closes hi prev → walkRun sh lo hi prev x ≡ X → b ≡ X
   unfolding walkRun walkList
   leaf-end prev x X b q h inv = h ∙ (rw q at inv)
 
-  pub leaf-other : (prev : Option (List ℕ)) (e : Entry) (s : List ℕ) (x y : Option (List defined.Entry)) (X : Bool) → x ≡ defined.entryThen (some (entryIn s e)) y
+  pub leaf-over : (prev : Option (List ℕ)) (x : Option (List defined.Entry)) (X b v : Bool) → x ≡ some [] → b ≡ closes hi prev → b ≡ v → walkRun sh lo hi prev x ≡ X → v ≡ X
+  leaf-over prev x X b v q h e inv = sym e ∙ leaf-end prev x X b q h inv
+
+  leaf-other : (prev : Option (List ℕ)) (e : Entry) (s : List ℕ) (x y : Option (List defined.Entry)) (X : Bool) → x ≡ defined.entryThen (some (entryIn s e)) y
       → pairIs e ≡ Pair.Other → walkRun sh lo hi prev x ≡ X → false ≡ X
   leaf-other prev e s x y X q h inv = sym (run-other prev e s y h) ∙ ap (λ o. walkRun sh lo hi prev o) (sym q) ∙ inv
 
-  step-is : (prev : Option (List ℕ)) (e : Entry) (p v : Place) (s : List ℕ) (x y : Option (List defined.Entry)) (X : Bool) → x ≡ defined.entryThen (some (entryIn s e)) y
-      → pairIs e ≡ Pair.Of p v → walkRun sh lo hi prev x ≡ X → rowNext sh lo prev (part s p) (part s v) && walkRun sh lo hi (some (part s p)) y ≡ X
-  step-is prev e p v s x y X q h inv =
-      let z : walkRun sh lo hi prev (defined.entryThen (some (defined.pair (part s p) (part s v))) y) ≡ X = rw (q, pair-entry e p v h) at inv in
+  pub leaf-unpaired : (prev : Option (List ℕ)) (s : List ℕ) (at end : ℕ) (X : Bool) → Unpaired s at end → at < end → walkRun sh lo hi prev (entriesFrom s at end) ≡ X → false ≡ X
+  leaf-unpaired prev s at end X (unread f g) h inv = leaf-bad prev (entriesFrom s at end) X (f h) inv
+  leaf-unpaired prev s at end X (unlike e c n o) h inv = leaf-other prev e s (entriesFrom s at end) (entriesFrom s (c .at) (c .end)) X (n .first) o inv
+
+  step-is : (prev : Option (List ℕ)) (p v : Place) (s : List ℕ) (x y : Option (List defined.Entry)) (X : Bool) → x ≡ defined.entryThen (some (entryIn s (Entry.Pair p v))) y
+      → walkRun sh lo hi prev x ≡ X → rowNext sh lo prev (part s p) (part s v) && walkRun sh lo hi (some (part s p)) y ≡ X
+  step-is prev p v s x y X q inv =
+      let z : walkRun sh lo hi prev (defined.entryThen (some (defined.pair (part s p) (part s v))) y) ≡ X = rw q at inv in
       sym (run-pair prev (part s p) (part s v) y) ∙ z
 
-  pub leaf-stop : (prev : Option (List ℕ)) (e : Entry) (p v : Place) (s : List ℕ) (x y : Option (List defined.Entry)) (X b : Bool) → x ≡ defined.entryThen (some (entryIn s e)) y
-      → pairIs e ≡ Pair.Of p v → b ≡ rowNext sh lo prev (part s p) (part s v) → b ≡ false → walkRun sh lo hi prev x ≡ X → false ≡ X
-  leaf-stop prev e p v s x y X b q h r f inv = rw (sym r ∙ f) at (step-is prev e p v s x y X q h inv)
+  pub leaf-stop : (prev : Option (List ℕ)) (p v : Place) (s : List ℕ) (x y : Option (List defined.Entry)) (X b : Bool) → x ≡ defined.entryThen (some (entryIn s (Entry.Pair p v))) y
+      → b ≡ rowNext sh lo prev (part s p) (part s v) → b ≡ false → walkRun sh lo hi prev x ≡ X → false ≡ X
+  leaf-stop prev p v s x y X b q r f inv = rw (sym r ∙ f) at (step-is prev p v s x y X q inv)
 
-  pub leaf-on : (prev : Option (List ℕ)) (e : Entry) (p v : Place) (s : List ℕ) (x y : Option (List defined.Entry)) (X b : Bool) → x ≡ defined.entryThen (some (entryIn s e)) y
-      → pairIs e ≡ Pair.Of p v → b ≡ rowNext sh lo prev (part s p) (part s v) → b ≡ true → walkRun sh lo hi prev x ≡ X → walkRun sh lo hi (prevIn s (Prev.Key p)) y ≡ X
+  pub leaf-on : (prev : Option (List ℕ)) (p v : Place) (s : List ℕ) (x y : Option (List defined.Entry)) (X b : Bool) → x ≡ defined.entryThen (some (entryIn s (Entry.Pair p v))) y
+      → b ≡ rowNext sh lo prev (part s p) (part s v) → b ≡ true → walkRun sh lo hi prev x ≡ X → walkRun sh lo hi (prevIn s (Prev.Key p)) y ≡ X
   unfolding prevIn
-  leaf-on prev e p v s x y X b q h r f inv = rw (sym r ∙ f) at (step-is prev e p v s x y X q h inv)
+  leaf-on prev p v s x y X b q r f inv = rw (sym r ∙ f) at (step-is prev p v s x y X q inv)
 
 -- one pair
 pub start-follows : (s lo k : List ℕ) (prev : Prev) (b : Bool) → prev ≡ Prev.Start → b ≡ before k lo → not b ≡ after lo (prevIn s prev) k

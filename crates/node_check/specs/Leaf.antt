@@ -1,26 +1,21 @@
 -- A sound leaf, pair by pair.
-use Prim.Native.Nat.{ℕ, _-_, _<_, _≤_}
+use Prim.Native.Nat.{ℕ, _-_}
 use mathlib.Core.Path.{_≡_, refl, sym, ap, ap₂, subst, _∙_}
 use mathlib.Core.List.{List, [], _∷_}
 use mathlib.Core.Bool.{Bool, true, false, _&&_}
 use mathlib.Core.Option.{Option, none, some}
 use native.Mathlib.Omega.{arith}
-use lib.ListN.{length}
-use borrow.Author.Tests.{le-leb, lt-leb}
 use Rattle.image.specs.Bytes.{before}
-use Rattle.image.specs.Path.{owns, valueFits, valueLimit}
+use Rattle.image.specs.Path.{owns, valueFits}
 use Rattle.image.specs.Entry as defined
 use Rattle.image.specs.Table.{Row, everyKey, leads, rising}
 use Rattle.image.specs.Image.{unread, leaf, pairThen, pairsOf, orNone, leafOf}
 use Rattle.image.specs.Sound.{valuesFit}
 use Rattle.path.specs.Shape as machine
 use Rattle.reading.specs.SoundHere as inside
-use Rattle.node.specs.Cut.{cut-length}
-use Rattle.node.specs.Places.{part, entryIn, Within}
+use Rattle.node.specs.Places.{part, Within}
 use Rattle.node.specs.declared.Place.{Place}
 use Rattle.node.specs.declared.Entry.{Entry}
-use Rattle.search.specs.declared.Pair.{Pair}
-use Rattle.search.specs.Pairs.{pairIs, pair-entry}
 use Rattle.node_check.specs.declared.Prev.{Prev}
 
 unfoldable pub prevIn : List ℕ → Prev → Option (List ℕ)

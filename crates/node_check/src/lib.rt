@@ -1,11 +1,12 @@
-// Whether a leaf, and the messages of an interior node, are sound.
+// Whether a leaf, and the messages of an interior node, are sound, and how many entries each has: one walk tells both.
+// Relies on node and search for the entries, on octets for their order and on path for the shape of their keys.
 use node::Cursor;
 use node::Entry;
 use node::Message;
 use node::Place;
 use node::Step;
 use path::Shape;
-use search::Pair;
+use search::PairStep;
 ghost use mathlib.Core.Path.{_≡_};
 ghost use Prim.Native.Nat.{_≤_};
 ghost use lib.ListN.{length};
@@ -13,11 +14,18 @@ ghost use Rattle.node.specs.Places.{Within, MessageWithin, part, messageIn};
 ghost use Rattle.reading.specs.SoundHere.{messageHere};
 ghost use Rattle.node_check.specs.Inside.{messagesRun};
 ghost use Rattle.node_check.specs.Messages.{noteIs};
-ghost use Rattle.node.specs.Entries.{entriesFrom};
+ghost use Rattle.node.specs.Entries.{entriesFrom, listed};
 ghost use Rattle.path.specs.Fed.{shapeIs};
 ghost use Rattle.node_check.specs.Leaf.{prevIn, PrevFits, leafRun};
 ghost use Rattle.node_check.specs.Ends.{after, rowNext, closes};
+ghost use Rattle.node_check.specs.Counted.{Counts};
 ghost use mathlib.Core.Option.{none};
+
+// That an entry is not sound; or that all are, and how many, shown up to 65,535.
+pub enum Counted {
+    Bad,
+    All(usize),
+}
 
 // The key before this one.
 pub enum Prev {
@@ -68,28 +76,30 @@ pub fn ends_below(s: &[u8], prev: Prev, hi: &[u8]) -> bool
     octets::precedes(&s[a..b], hi)
 }
 
-// Whether the entries from a place up to another are the pairs of a sound leaf. Its keys rise, so that only the first is held against the low
-// pivot, and only the last against the high one.
-pub fn check_leaf(s: &[u8], from: usize, end: usize, lo: &[u8], hi: &[u8], sh: Shape) -> bool
+// Whether the entries from a place up to another are the pairs of a sound leaf, and how many. Its keys rise, so that only the first is held
+// against the low pivot, and only the last against the high one.
+pub fn check_leaf(s: &[u8], from: usize, end: usize, lo: &[u8], hi: &[u8], sh: Shape) -> Counted
     requires { ⌜ end ≤ length (now s) ⌝ }
-    ensures { λ r. ⌜ r ≡ leafRun (shapeIs sh) (now (lo .entry)) (now (hi .entry)) none (entriesFrom (now (s .entry)) from end) ⌝ }
+    ensures { λ r. ⌜ Counts (leafRun (shapeIs sh) (now (lo .entry)) (now (hi .entry)) none (entriesFrom (now (s .entry)) from end)) (length (listed (now (s .entry)) from end)) r ⌝ }
 {
     let mut c = Cursor { at: from, end };
     let mut prev = Prev::Start;
+    let mut n: usize = 0;
     while c.at < end {
-        let Step::Read(e, next) = c.step(s) else {
-            return false;
-        };
-        let Pair::Of(p, v) = search::pair_of(e) else {
-            return false;
+        let PairStep::Read(p, v, next) = search::step_pair(s, c) else {
+            return Counted::Bad;
         };
         if !row_good(s, prev, p, v, lo, sh) {
-            return false;
+            return Counted::Bad;
         }
         prev = Prev::Key(p);
+        n += 1;
         c = next;
     }
-    ends_below(s, prev, hi)
+    if !ends_below(s, prev, hi) {
+        return Counted::Bad;
+    }
+    Counted::All(octets::capped_sum(n, 0))
 }
 
 // A message of an interior node.
@@ -145,23 +155,25 @@ pub fn message_good(s: &[u8], m: Message, lo: &[u8], hi: &[u8], sh: Shape) -> bo
     }
 }
 
-// Whether the entries from a place up to another are sound messages.
-pub fn check_messages(s: &[u8], from: usize, end: usize, lo: &[u8], hi: &[u8], sh: Shape) -> bool
+// Whether the entries from a place up to another are sound messages, and how many.
+pub fn check_messages(s: &[u8], from: usize, end: usize, lo: &[u8], hi: &[u8], sh: Shape) -> Counted
     requires { ⌜ end ≤ length (now s) ⌝ }
-    ensures { λ r. ⌜ r ≡ messagesRun (shapeIs sh) (now (lo .entry)) (now (hi .entry)) (entriesFrom (now (s .entry)) from end) ⌝ }
+    ensures { λ r. ⌜ Counts (messagesRun (shapeIs sh) (now (lo .entry)) (now (hi .entry)) (entriesFrom (now (s .entry)) from end)) (length (listed (now (s .entry)) from end)) r ⌝ }
 {
     let mut c = Cursor { at: from, end };
+    let mut n: usize = 0;
     while c.at < end {
         let Step::Read(e, next) = c.step(s) else {
-            return false;
+            return Counted::Bad;
         };
         let Note::Of(m) = note_of(e) else {
-            return false;
+            return Counted::Bad;
         };
         if !message_good(s, m, lo, hi, sh) {
-            return false;
+            return Counted::Bad;
         }
+        n += 1;
         c = next;
     }
-    true
+    Counted::All(octets::capped_sum(n, 0))
 }

@@ -1,13 +1,12 @@
 -- The code's shape as the definition's, and each case of a byte more.
 use Prim.Native.Nat.{ℕ, suc, _+_, _<_, _≤_}
-use mathlib.Core.Path.{_≡_, ap, _∙_}
+use mathlib.Core.Path.{_≡_, _∙_}
 use mathlib.Core.List.{List, []}
-use mathlib.Core.Bool.{Bool, false}
+use mathlib.Core.Bool.{Bool}
 use native.Mathlib.Omega.{arith}
 use native.Mathlib.Numerals.{add-one}
 use lib.ListN.{length, drop, getD, drop-of-length-le}
 use lib.Seq.{drop-cons}
-use lib.Dec.{eqb}
 use borrow.Author.Tests.{lt-ltb, le-ltb, le-leb, lt-leb, eq-eqb, ne-eqb}
 use Rattle.image.specs.Path.{letter, pathLimit, wellFormed}
 use Rattle.path.specs.Shape as defined
@@ -74,31 +73,6 @@ feed-step sh s i X r h e inv =
 pub feed-end : (sh : defined.Shape) (s : List ℕ) (i : ℕ) (X : defined.Shape) → length s ≤ i → defined.feed sh (drop i s) ≡ X → sh ≡ X
 unfolding defined.feed
 feed-end sh s i X h inv = rw (drop-of-length-le s h) at inv
-
-pub closed-dead : (sh : Shape) → sh ≡ Shape.Dead → false ≡ defined.closed (shapeIs sh)
-unfolding shapeIs defined.closed
-closed-dead sh e = rw e
-
-module _ (sh : Shape) (done here len : ℕ) (e : sh ≡ Shape.Partway done here len) where
-  pub closed-long : 64 < len → false ≡ defined.closed (shapeIs sh)
-  unfolding shapeIs defined.closed pathLimit
-  closed-long h = rw (e, lt-leb len 64 h)
-
-  pub closed-none : len ≤ 64 → done < 1 → false ≡ defined.closed (shapeIs sh)
-  unfolding shapeIs defined.closed pathLimit
-  closed-none h k = rw (e, le-leb len 64 h, lt-leb 1 done k)
-
-  pub closed-many : len ≤ 64 → 1 ≤ done → 8 < done → false ≡ defined.closed (shapeIs sh)
-  unfolding shapeIs defined.closed pathLimit
-  closed-many h k m = rw (e, le-leb len 64 h, le-leb 1 done k, lt-leb done 8 m)
-
-  pub closed-is : len ≤ 64 → 1 ≤ done → done ≤ 8 → eqb here 0 ≡ defined.closed (shapeIs sh)
-  unfolding shapeIs defined.closed pathLimit
-  closed-is h k m = rw (e, le-leb len 64 h, le-leb 1 done k, le-leb done 8 m)
-
-pub goes-is : (sh r : Shape) (s : List ℕ) (b : Bool) → shapeIs r ≡ defined.feed (shapeIs sh) s → b ≡ defined.closed (shapeIs r) → b ≡ defined.goesOn (shapeIs sh) s
-unfolding defined.goesOn
-goes-is sh r s b e f = f ∙ ap (λ x. defined.closed x) e
 
 -- from no byte on it is the definition
 pub path-is : (r : Bool) (p : List ℕ) → r ≡ defined.goesOn (shapeIs (Shape.Partway 0 0 0)) p → r ≡ wellFormed p

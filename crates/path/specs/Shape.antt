@@ -41,7 +41,7 @@ unfolding feed
 feed-append sh [] b = refl
 feed-append sh (x ∷ a) b = feed-append (fed sh x) a b
 
-feed-dead : (p : List ℕ) → closed (feed dead p) ≡ false
+pub feed-dead : (p : List ℕ) → closed (feed dead p) ≡ false
 unfolding feed fed closed
 feed-dead [] = refl
 feed-dead (b ∷ p) = feed-dead p
@@ -51,7 +51,7 @@ and-no true = refl
 and-no false = refl
 
 -- too many components, or too long a one, is never mended
-many : (done here : ℕ) (p : List ℕ) → 8 < done → readsOn done here p ≡ false
+pub many : (done here : ℕ) (p : List ℕ) → 8 < done → readsOn done here p ≡ false
 unfolding readsOn
 many done here [] h = rw (lt-leb done 8 h) (rw (le-leb 1 done (omega arith)))
 many done here (b ∷ p) h = go (eqb b 0) (leb 1 here && leb here 16) (letter b) (many (suc done) 0 p (omega arith)) (many done (suc here) p h)
@@ -62,7 +62,7 @@ many done here (b ∷ p) h = go (eqb b 0) (leb 1 here && leb here 16) (letter b)
     go false y true u v = v
     go false y false u v = refl
 
-wide : (done here : ℕ) (p : List ℕ) → 16 < here → readsOn done here p ≡ false
+pub wide : (done here : ℕ) (p : List ℕ) → 16 < here → readsOn done here p ≡ false
 unfolding readsOn
 wide done here [] h = rw (ne-eqb here 0 (λ e. omega arith)) (sym (and-no (leb 1 done && leb done 8)))
 wide done here (b ∷ p) h = rw (lt-leb here 16 h, le-leb 1 here (omega arith)) (go (eqb b 0) (letter b) (wide done (suc here) p (omega arith)))
@@ -73,7 +73,7 @@ wide done here (b ∷ p) h = rw (lt-leb here 16 h, le-leb 1 here (omega arith)) 
     go false false v = refl
 
 -- the state says what the definition says
-abbrev Says : ℕ → ℕ → ℕ → List ℕ → Type 0
+abbrev pub Says : ℕ → ℕ → ℕ → List ℕ → Type 0
 Says done here len p = closed (feed (partway done here len) p) ≡ leb (len + length p) pathLimit && readsOn done here p
 
 reads-nil : (done here len : ℕ) → Says done here len []
@@ -103,7 +103,7 @@ reads-cons done here len b p u v = go (ltb len pathLimit) refl (eqb b 0) refl (l
     go true k false e y f d m true g false n = rw (k, e, g, n) (feed-dead p ∙ no _ (wide done (suc here) p (let q : 16 ≤ here = ltb-false here 16 n in omega arith)))
     go true k false e y f d m false g w n = rw (k, e, g) (feed-dead p ∙ no _ refl)
 
-open-reads : (done here len : ℕ) (p : List ℕ) → Says done here len p
+pub open-reads : (done here len : ℕ) (p : List ℕ) → Says done here len p
 open-reads done here len [] = reads-nil done here len
 open-reads done here len (b ∷ p) = reads-cons done here len b p (open-reads (suc done) 0 (suc len) p) (open-reads done (suc here) (suc len) p)
 

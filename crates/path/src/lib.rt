@@ -1,9 +1,12 @@
 // Whether bytes are a well-formed path: a small state machine that is fed slice by slice, so that a suffix can be judged after a prefix
 // that is not stored. specs/Shape.antt proves it equal to the definition of the paper.
 ghost use mathlib.Core.Path.{_≡_};
+ghost use Prim.Native.Nat.{_≤_};
+ghost use lib.ListN.{length};
 ghost use Rattle.path.specs.Shape as defined;
 ghost use Rattle.path.specs.Fed.{shapeIs};
-ghost use Rattle.image.specs.Path.{wellFormed};
+ghost use Rattle.path.specs.Reads.{Reads};
+ghost use Rattle.image.specs.Path.{readsOn, wellFormed};
 
 // After some bytes: no path begins so; or whole components, bytes of the next one, and bytes in all.
 pub enum Shape {
@@ -61,9 +64,70 @@ pub fn feed(start: Shape, s: &[u8]) -> Shape
     sh
 }
 
-// Whether what was fed is a well-formed path.
-pub fn closed(sh: Shape) -> bool
-    ensures { λ r. ⌜ r ≡ defined.closed (shapeIs sh) ⌝ }
+// One byte more of a path within a path's length: no path goes on so; or whole components, and bytes of the next one.
+pub enum Reading {
+    Bad,
+    At(usize, usize),
+}
+
+// A byte after whole components and bytes of the next one. How long a component is, is asked at its end; most bytes are letters past `/`, and
+// are asked for first.
+fn read_byte(done: usize, here: usize, b: u8) -> Reading
+    requires { ⌜ (done ≤ 1000) × (here ≤ 1000) ⌝ }
+    ensures { λ r. ⌜ Reads done here b r ⌝ }
+{
+    if 47 < b {
+        if 126 < b {
+            return Reading::Bad;
+        }
+        return Reading::At(done, here + 1);
+    }
+    if b == 0 {
+        if here < 1 {
+            return Reading::Bad;
+        }
+        if 16 < here {
+            return Reading::Bad;
+        }
+        return Reading::At(done + 1, 0);
+    }
+    if b < 33 {
+        return Reading::Bad;
+    }
+    if b == 47 {
+        return Reading::Bad;
+    }
+    Reading::At(done, here + 1)
+}
+
+// Whether bytes that are few enough end a path, of which there are whole components and bytes of the next one.
+fn reads_on(done: usize, here: usize, s: &[u8]) -> bool
+    requires { ⌜ (done ≤ 8) × (here ≤ 16) × (length (now s) ≤ 64) ⌝ }
+    ensures { λ r. ⌜ r ≡ readsOn done here (now (s .entry)) ⌝ }
+{
+    let mut d = done;
+    let mut h = here;
+    let mut i = 0;
+    while i < s.len() {
+        let Reading::At(x, y) = read_byte(d, h, s[i]) else {
+            return false;
+        };
+        d = x;
+        h = y;
+        i += 1;
+    }
+    if d < 1 {
+        return false;
+    }
+    if 8 < d {
+        return false;
+    }
+    h == 0
+}
+
+// Whether what was fed and then s is a well-formed path. Its length is asked once.
+pub fn goes_on(sh: Shape, s: &[u8]) -> bool
+    ensures { λ r. ⌜ r ≡ defined.goesOn (shapeIs sh) (now (s .entry)) ⌝ }
 {
     let Shape::Partway(done, here, len) = sh else {
         return false;
@@ -71,20 +135,16 @@ pub fn closed(sh: Shape) -> bool
     if 64 < len {
         return false;
     }
-    if done < 1 {
+    if 64 - len < s.len() {
         return false;
     }
     if 8 < done {
         return false;
     }
-    here == 0
-}
-
-// Whether what was fed and then s is a well-formed path.
-pub fn goes_on(sh: Shape, s: &[u8]) -> bool
-    ensures { λ r. ⌜ r ≡ defined.goesOn (shapeIs sh) (now (s .entry)) ⌝ }
-{
-    closed(feed(sh, s))
+    if 16 < here {
+        return false;
+    }
+    reads_on(done, here, s)
 }
 
 // Whether s is a well-formed path.

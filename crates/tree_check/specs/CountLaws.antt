@@ -166,15 +166,3 @@ module _ (below : ℕ → Tree) where
   pub count-more : (i j : ℕ) (q : List ℕ) (l es : List defined.Entry) → l ≡ defined.child j q ∷ es → plus (countOf (below i)) (kidsCount below j es) ≡ kidsCount below i l
   unfolding kidsCount
   count-more i j q l es e = rw e
-
--- a list counted from its front
-pub count-done : (n X r : ℕ) (l : List defined.Entry) → l ≡ [] → n + length l ≡ X → r ≡ cap (n + 0) → r ≡ cap X
-count-done n X r l e inv h =
-    let z : length l ≡ 0 = rw e in
-    let q : n + 0 ≡ X = omega arith in
-    h ∙ ap (λ k. cap k) q
-
-pub count-on : (n X : ℕ) (l es : List defined.Entry) (e : defined.Entry) → l ≡ e ∷ es → n + length l ≡ X → n + 1 + length es ≡ X
-count-on n X l es e q inv =
-    let z : length l ≡ suc (length es) = rw q in
-    omega arith

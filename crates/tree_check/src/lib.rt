@@ -3,6 +3,7 @@
 use node::Cursor;
 use node::Place;
 use node::Step;
+use node_check::Counted;
 use path::Shape;
 use search::Kid;
 ghost use mathlib.Core.Path.{_≡_};
@@ -21,7 +22,6 @@ ghost use Rattle.node.specs.Entries.{entriesFrom, listed};
 ghost use Rattle.node.specs.Places.{Within, part};
 ghost use Rattle.path.specs.Fed.{shapeIs};
 ghost use Rattle.node_check.specs.Inside.{messagesRun, childRun, kidsRun};
-ghost use Rattle.octets.specs.Cap.{cap};
 ghost use Rattle.tree_check.specs.Count.{tallySum, countOf, onlyMessages, lastCount, kidsCount};
 ghost use Rattle.tree_check.specs.Answer.{Checks, withRest};
 ghost use Rattle.tree_check.specs.Held.{tallyIs, answerIs, flatIs, Adds};
@@ -165,23 +165,6 @@ pub fn laid_out(store: &[u8], num: usize, kind: usize, level: usize) -> bool
     all_zero(store, at + 8 + len, at + 1024)
 }
 
-// How many entries stand from a place up to another, as far as they read. The check of each entry has read it by then: this walks their headers only.
-pub fn count_entries(s: &[u8], from: usize, end: usize) -> usize
-    requires { ⌜ end ≤ length (now s) ⌝ }
-    ensures { λ r. ⌜ r ≡ cap (length (listed (now (s .entry)) from end)) ⌝ }
-{
-    let mut c = Cursor { at: from, end };
-    let mut n: usize = 0;
-    while c.at < end {
-        let Step::Read(_, next) = c.step(s) else {
-            return octets::capped_sum(n, 0);
-        };
-        n += 1;
-        c = next;
-    }
-    octets::capped_sum(n, 0)
-}
-
 // Whether a node of the store is a sound leaf, and how many pairs it holds.
 pub fn check_leaf(store: &[u8], num: usize, lo: &[u8], hi: &[u8], sh: Shape) -> Checked
     requires { ⌜ num * 1024 + 1024 ≤ length (now store) ⌝ }
@@ -194,10 +177,9 @@ pub fn check_leaf(store: &[u8], num: usize, lo: &[u8], hi: &[u8], sh: Shape) -> 
     let len = octets::u16_at(store, at);
     let from = at + 8;
     let end = from + len;
-    if !node_check::check_leaf(store, from, end, lo, hi, sh) {
+    let Counted::All(pairs) = node_check::check_leaf(store, from, end, lo, hi, sh) else {
         return Checked::Unsound;
-    }
-    let pairs = count_entries(store, from, end);
+    };
     Checked::Sound(Tally {
         pairs,
         messages: 0,
@@ -239,10 +221,9 @@ pub fn check_messages(s: &[u8], from: usize, end: usize, lo: &[u8], hi: &[u8], s
     requires { ⌜ end ≤ length (now s) ⌝ }
     ensures { λ r. ⌜ ((seen : List ℕ) → Checks (cond (messagesRun (shapeIs sh) (now (lo .entry)) (now (hi .entry)) (entriesFrom (now (s .entry)) from end)) (some seen) none) (onlyMessages (length (listed (now (s .entry)) from end))) r seen) ⌝ }
 {
-    if !node_check::check_messages(s, from, end, lo, hi, sh) {
+    let Counted::All(messages) = node_check::check_messages(s, from, end, lo, hi, sh) else {
         return Checked::Unsound;
-    }
-    let messages = count_entries(s, from, end);
+    };
     Checked::Sound(Tally {
         pairs: 0,
         messages,

@@ -1,11 +1,11 @@
--- `check_leaf` tells whether a node is a sound leaf, and counts its pairs.
--- Relies on LeafSteps.
 use Rattle.tree_check.specs.LeafSteps.{leaf-unlaid, leaf-few, leaf-unsound, leaf-all-sound}
+use Rattle.node_check.specs.Counted.{counts-no, counts-yes}
 use Rattle.path.specs.Fed.{shapeIs}
-use Prim.Native.Nat.{_≤_}
-use native.Mathlib.Omega.{arith}
 use borrow.Author.Tests.{not-true, not-false}
 use borrow.Author.Needs.{needs}
+use native.Mathlib.Omega.{arith}
+use Prim.Native.Nat.{_-_, _≤_}
+use mathlib.Core.Path.{refl}
 use Rattle.tree_check.proofs.check_leaf.Statement.{statement}
 use Rattle.tree_check.proofs.check_leaf.Tie as tie
 
@@ -33,14 +33,17 @@ add-end c = search needs
 check-leaf-requires : tie.Need-check-leaf-requires
 check-leaf-requires c κs = let f = few c in omega arith
 
-returns-2 : tie.Need-returns-2
-returns-2 c = leaf-unsound (c .before .before .before .before .before .before .before .before .args .store .now) (c .before .before .before .before .before .before .before .before .args .num) (shapeIs (c .before .before .before .before .before .before .before .before .args .sh)) (c .before .before .before .before .before .before .before .before .args .lo .now) (c .before .before .before .before .before .before .before .before .args .hi .now) (c .before .before .before .before .before .before .before .before .pre) _ (c .before .before .before .before .laid-out .ensures) (not-false _ (c .before .before .before .if1 .left)) _ (c .before .before .u16-at .ensures .0) _ (c .before .check-leaf .ensures) (not-true _ (c .if2 .taken))
+enum-known-pairs : tie.Need-enum-known-pairs
+enum-known-pairs c = search needs
 
-count-entries-requires : tie.Need-count-entries-requires
-count-entries-requires c κs = let f = few (c .before .before) in omega arith
+enum-told : tie.Need-enum-told
+enum-told c = search needs
+
+returns-2 : tie.Need-returns-2
+returns-2 c = leaf-unsound (c .before .before .before .before .before .before .before .before .before .args .store .now) (c .before .before .before .before .before .before .before .before .before .args .num) (shapeIs (c .before .before .before .before .before .before .before .before .before .args .sh)) (c .before .before .before .before .before .before .before .before .before .args .lo .now) (c .before .before .before .before .before .before .before .before .before .args .hi .now) (c .before .before .before .before .before .before .before .before .before .pre) _ (c .before .before .before .before .before .laid-out .ensures) (not-false _ (c .before .before .before .before .if1 .left)) _ (c .before .before .before .u16-at .ensures .0) _ refl (counts-no _ _ _ (c .before .before .check-leaf .ensures) (c .enum-told .given .1))
 
 returns-3 : tie.Need-returns-3
-returns-3 c = leaf-all-sound (c .before .before .before .before .before .before .before .before .before .args .store .now) (c .before .before .before .before .before .before .before .before .before .args .num) (shapeIs (c .before .before .before .before .before .before .before .before .before .args .sh)) (c .before .before .before .before .before .before .before .before .before .args .lo .now) (c .before .before .before .before .before .before .before .before .before .args .hi .now) (c .before .before .before .before .before .before .before .before .before .pre) _ (c .before .before .before .before .before .laid-out .ensures) (not-false _ (c .before .before .before .before .if1 .left)) _ (c .before .before .before .u16-at .ensures .0) _ (c .before .before .check-leaf .ensures) (not-false _ (c .before .if2 .left)) _ (c .count-entries .ensures)
+returns-3 c = leaf-all-sound (c .before .before .before .before .before .before .before .before .before .before .args .store .now) (c .before .before .before .before .before .before .before .before .before .before .args .num) (shapeIs (c .before .before .before .before .before .before .before .before .before .before .args .sh)) (c .before .before .before .before .before .before .before .before .before .before .args .lo .now) (c .before .before .before .before .before .before .before .before .before .before .args .hi .now) (c .before .before .before .before .before .before .before .before .before .before .pre) _ (c .before .before .before .before .before .before .laid-out .ensures) (not-false _ (c .before .before .before .before .before .if1 .left)) _ (c .before .before .before .before .u16-at .ensures .0) _ refl (counts-yes _ _ _ (c .before .before .before .check-leaf .ensures) _ (c .before .pairs .given .1)) _ (c .before .before .before .check-leaf .ensures .number _ (c .before .pairs .given .1))
 
 pub check-leaf-spec : {M : Type 1} → statement M
 check-leaf-spec =
@@ -53,6 +56,7 @@ check-leaf-spec =
     add-from
     add-end
     check-leaf-requires
+    enum-known-pairs
+    enum-told
     returns-2
-    count-entries-requires
     returns-3)

@@ -1,24 +1,25 @@
--- Messages of a node, checked and counted.
--- Relies on guard's check of messages and on ChildSteps.
-use borrow.Author.Tests.{not-true, not-false}
-use mathlib.Core.Path.{sym, _∙_}
 use Rattle.tree_check.specs.ChildSteps.{messages-unsound, messages-sound}
+use Rattle.node_check.specs.Counted.{counts-no, counts-yes}
 use borrow.Author.Needs.{needs}
+use Prim.Native.Nat.{_-_}
 use Rattle.tree_check.proofs.check_messages.Statement.{statement}
 use Rattle.tree_check.proofs.check_messages.Tie as tie
 
 check-messages-requires : tie.Need-check-messages-requires
 check-messages-requires c κs = search needs
 
-returns : tie.Need-returns
-returns c = messages-unsound _ _ (sym (c .before .check-messages .ensures) ∙ not-true _ (c .if1 .taken))
+enum-known-messages : tie.Need-enum-known-messages
+enum-known-messages c = search needs
 
-count-entries-requires : tie.Need-count-entries-requires
-count-entries-requires c κs = search needs
+enum-told : tie.Need-enum-told
+enum-told c = search needs
+
+returns : tie.Need-returns
+returns c = messages-unsound _ _ (counts-no _ _ _ (c .before .before .check-messages .ensures) (c .enum-told .given .1))
 
 returns-2 : tie.Need-returns-2
-returns-2 c = messages-sound _ _ (sym (c .before .before .check-messages .ensures) ∙ not-false _ (c .before .if1 .left)) _ (c .count-entries .ensures)
+returns-2 c = messages-sound _ _ (counts-yes _ _ _ (c .before .before .before .check-messages .ensures) _ (c .before .messages .given .1)) _ (c .before .before .before .check-messages .ensures .number _ (c .before .messages .given .1))
 
 pub check-messages-spec : {M : Type 1} → statement M
 check-messages-spec =
-    tie.close (tie.spec check-messages-requires returns count-entries-requires returns-2)
+    tie.close (tie.spec check-messages-requires enum-known-messages enum-told returns returns-2)

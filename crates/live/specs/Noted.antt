@@ -1,10 +1,10 @@
--- What the count of a leaf relies on and counts with: the keys of a leaf are its own, and the messages above it are noted once.
+-- What the count relies on and counts with: the keys of a leaf are its own, and the messages above a node are handed down as notes.
 -- Definitions only.
-use Prim.Native.Nat.{ℕ, zero, suc}
+use Prim.Native.Nat.{ℕ, zero, suc, _≤_}
 use mathlib.Core.Path.{_≡_}
 use mathlib.Core.List.{List, [], _∷_, _++_}
 use mathlib.Core.Bool.{Bool, true, false, _&&_}
-use lib.ListN.{length, drop, getD}
+use lib.ListN.{drop, getD}
 use Rattle.image.specs.Path.{owns}
 use Rattle.image.specs.Entry as defined
 use Rattle.image.specs.Image.{treeAt, forestOf}
@@ -15,8 +15,9 @@ use Rattle.node.specs.declared.Place.{Place}
 use Rattle.node.specs.declared.Cursor.{Cursor}
 use Rattle.search.specs.Own.{kid, kidsE}
 use Rattle.lookup.specs.Look.{listing}
-use Rattle.notes.specs.Notes.{areSilent}
+use Rattle.notes.specs.Notes.{NotesFit, quiet, areSilent}
 use Rattle.live.specs.Live.{short}
+use Rattle.live.specs.Walk.{passing}
 use Rattle.live.specs.PathBuffers.{pathIn}
 use Rattle.live.specs.declared.path_buffer.PathBuffer.{PathBuffer}
 use Rattle.live.specs.declared.Trail.{Trail}
@@ -37,10 +38,35 @@ keyed X lo hi (defined.pair k v ∷ es) = owns lo hi k && short (X ++ k) && keye
 keyed X lo hi (defined.child i k ∷ es) = false
 keyed X lo hi (defined.message m ∷ es) = false
 
--- the tree under a node is sound: its pivots lack what its parent lifts, which is the prefix; and the children from the one in hand on
+-- the tree under a node is sound: its pivots lack what its parent lifts, which is the prefix
 abbrev pub SoundNode : List ℕ → ℕ → ℕ → PathBuffer → List ℕ → List ℕ → Type 0
 SoundNode s level num p lo hi = soundTree (treeAt level s num) (pathIn p ++ lo) (pathIn p ++ hi) ≡ true
 
-pub record SoundKids (s : List ℕ) (level first : ℕ) (pivot : Place) (start : Cursor) (p : PathBuffer) (hi : List ℕ) : Type 0 where
+-- Notes tell which paths pass a trail: those under the prefix X whose keys are from lo up to hi. More than 64 notes tell nothing.
+pub record Tells (s : List ℕ) (t : Trail) (X lo hi ns : List ℕ) (n : ℕ) : Type 0 where
+  pub fits : n ≤ 64 → NotesFit s ns n
+  pub told : n ≤ 64 → (k : List ℕ) → owns lo hi k ≡ true → passing s t (X ++ k) ≡ short (X ++ k) && quiet s ns n k
+
+-- the same by notes of the node above, which sees the keys after w
+pub record Handed (s : List ℕ) (t : Trail) (X w lo hi ns : List ℕ) (n : ℕ) : Type 0 where
+  pub fits : n ≤ 64 → NotesFit s ns n
+  pub told : n ≤ 64 → (k : List ℕ) → owns lo hi k ≡ true → passing s t (X ++ k) ≡ short (X ++ k) && quiet s ns n (w ++ k)
+
+-- notes with those of a node's own messages after them
+pub record Joined (s : List ℕ) (num : ℕ) (lo hi ns : List ℕ) (n : ℕ) (after : List ℕ) (m : ℕ) : Type 0 where
+  pub fits : m ≤ 64 → NotesFit s after m
+  pub few : m ≤ 64 → n ≤ 64
+  pub told : m ≤ 64 → (k : List ℕ) → owns lo hi k ≡ true → quiet s after m k ≡ quiet s ns n k && areSilent (listing s num) k
+
+-- the entries of a leaf under the prefix X, and notes that tell of their keys
+pub record LeafTold (s : List ℕ) (t : Trail) (X : List ℕ) (es : List defined.Entry) (ns : List ℕ) (n : ℕ) : Type 0 where
+  pub lo : List ℕ
+  pub hi : List ℕ
+  pub keys : keyed X lo hi es ≡ true
+  pub tells : Tells s t X lo hi ns n
+
+-- the children from the one in hand on are sound, and notes tell of all that their node owns
+pub record SoundKids (s : List ℕ) (level first : ℕ) (pivot : Place) (start : Cursor) (p : PathBuffer) (hi : List ℕ) (t : Trail) (ns : List ℕ) (n : ℕ) : Type 0 where
   pub low : List ℕ
-  pub sound : soundForest (forestOf (λ j. treeAt level s j) (kid first (part s pivot) ∷ kidsE (listed s (start .at) (start .end)))) (pathIn p) low (pathIn p ++ hi) ≡ true
+  pub sound : soundForest (forestOf (λ j. treeAt level s j) (kid first (part s pivot) ∷ kidsE (listed s (start .at) (start .end)))) (pathIn p) (pathIn p ++ low) (pathIn p ++ hi) ≡ true
+  pub tells : Tells s t (pathIn p) low hi ns n

@@ -1,14 +1,14 @@
--- Step lemmas of the count of a leaf by notes, and that the tree stays sound on the way down.
+-- Step lemmas of the count by notes that are handed down, and that the tree stays sound on the way down.
 -- Relies on the definitions of Noted, on the contracts of notes, and on the laws of sound trees (laws: LookupTable; reading: SeekHere).
 use Prim.Native.Nat.{ℕ, zero, suc, _+_, _-_, _*_, _<_, _≤_}
-use mathlib.Core.Path.{_≡_, refl, sym, ap, ap₂, subst, _∙_}
+use mathlib.Core.Path.{_≡_, refl, sym, ap, ap₂, _∙_}
 use mathlib.Core.List.{List, [], _∷_, _++_, append-assoc}
-use mathlib.Core.Bool.{Bool, true, false, _&&_, not, cond, false≢true, and-true}
+use mathlib.Core.Bool.{Bool, true, false, _&&_, not, false≢true, and-true}
 use mathlib.Core.Option.{Option, none, some}
 use native.Mathlib.Omega.{arith}
 use lib.ListN.{length, take, drop, getD}
-use lib.Seq.{drop-append-le}
-use Rattle.image.specs.Bytes.{u16, before, shared}
+use lib.Seq.{drop-append-le, drop-at}
+use Rattle.image.specs.Bytes.{u16, shared}
 use Rattle.image.specs.Path.{wellFormed, owns}
 use Rattle.image.specs.Entry as defined
 use Rattle.image.specs.Table.{Row, everyKey, underPrefix}
@@ -18,10 +18,10 @@ use Rattle.image.specs.Sound.{soundTree, soundForest, lowest, highest}
 use Rattle.octets.specs.Beginnings.{shared-left, shared-right}
 use Rattle.octets.specs.Order.{and-left, and-right, before-append, shared-append, begins-split}
 use Rattle.laws.specs.Rising.{both}
-use Rattle.laws.specs.LookupTable.{parts, inner}
-use Rattle.laws.specs.Filter.{Rowed, leaf-rowed}
+use Rattle.laws.specs.LookupTable.{parts, inner, inside-not, not-low, high-under}
+use Rattle.laws.specs.Filter.{leaf-rowed}
 use Rattle.reading.specs.Relative.{lifts, usable}
-use Rattle.node.specs.Cut.{cut, cut-drop}
+use Rattle.node.specs.Cut.{cut-drop}
 use Rattle.node.specs.Places.{part}
 use Rattle.node.specs.Entries.{listed}
 use Rattle.node.specs.declared.Place.{Place}
@@ -31,8 +31,9 @@ use Rattle.search.specs.Own.{kid, kidsE}
 use Rattle.lookup.specs.Look.{listing, leaf-at, interior-at, inside-splits, part-rest}
 use Rattle.notes.specs.Notes as notes
 use Rattle.live.specs.Live.{holdsNoMessage, one, short}
-use Rattle.live.specs.Walk.{passes, passing, TrailIn, decides, countE, NextChild}
-use Rattle.live.specs.Noted.{quietAbove, quietTrail, keyed, SoundNode, SoundKids}
+use Rattle.live.specs.Walk.{passes, passing, TrailIn, Deeper, decides, countE, NextChild}
+use Rattle.live.specs.Noted.{quietAbove, quietTrail, keyed, Tells, Handed, Joined, LeafTold, SoundNode, SoundKids}
+use Rattle.live.specs.PathSteps.{path-length}
 use Rattle.live.specs.Steps.{as-path}
 use Rattle.live.specs.PathBuffers.{pathIn}
 use Rattle.live.specs.WalkLaws.{shared-take}
@@ -47,10 +48,27 @@ no-newer nothing (says v) = refl
 no-newer (says u) nothing = refl
 no-newer (says u) (says v) = refl
 
-silent-all : (es : List defined.Entry) (r : List ℕ) → holdsNoMessage (newestE es r) ≡ notes.areSilent es r
+pub silent-all : (es : List defined.Entry) (r : List ℕ) → holdsNoMessage (newestE es r) ≡ notes.areSilent es r
 unfolding newestE notes.areSilent
 silent-all [] r = unfold holdsNoMessage in refl
 silent-all (e ∷ es) r = no-newer (saysE e r) (newestE es r) ∙ ap (λ x. not (speaks (saysE e r)) && x) (silent-all es r)
+
+-- entries held against a rest one by one
+module _ (es : List defined.Entry) (r : List ℕ) (X : Bool) (inv : notes.areSilent es r ≡ X) where
+  pub silent-end : es ≡ [] → true ≡ X
+  unfolding notes.areSilent
+  silent-end q = rw q at inv
+
+  module _ (e : defined.Entry) (ts : List defined.Entry) (q : es ≡ e ∷ ts) (b : Bool) (f : b ≡ speaks (saysE e r)) where
+    here-silent : not (speaks (saysE e r)) && notes.areSilent ts r ≡ X
+    unfolding notes.areSilent
+    here-silent = rw q at inv
+
+    pub silent-stop : b ≡ true → false ≡ X
+    silent-stop g = rw (sym f ∙ g) at here-silent
+
+    pub silent-on : b ≡ false → notes.areSilent ts r ≡ X
+    silent-on g = rw (sym f ∙ g) at here-silent
 
 and-assoc : (a b c : Bool) → (a && b) && c ≡ a && (b && c)
 and-assoc true b c = refl
@@ -146,17 +164,76 @@ quiet-count X lo hi ok test (defined.pair k v ∷ es) h f =
 quiet-count X lo hi ok test (defined.child i k ∷ es) h f = absurd (false≢true h)
 quiet-count X lo hi ok test (defined.message m ∷ es) h f = absurd (false≢true h)
 
-module _ (s : List ℕ) (p : PathBuffer) (t : Trail) (lo hi : List ℕ) (es : List defined.Entry) where
-  pub leaf-counted : (ms ns : List ℕ) (n r : ℕ) → keyed (pathIn p) lo hi es ≡ true → TrailIn s (length (pathIn p)) t
-      → notes.Gathered s lo hi (λ k. quietTrail s t (pathIn p) k) ms 0 ns n → n ≤ 64
-      → r ≡ notes.countQuiet (λ k. notes.quiet s ns n k) es → r ≡ countE (passing s t) (pathIn p) es
-  leaf-counted ms ns n r h f g l e =
-      e ∙ quiet-count (pathIn p) lo hi (passing s t) (λ k. notes.quiet s ns n k) es h
-      (λ k o. passes-quiet s (t .nodes) (t .lifts) (pathIn p) (t .depth) k (λ i m. f .each i m .lifted)
-      ∙ ap (λ x. short (pathIn p ++ k) && x) (sym (g .tells l k o ∙ first k)))
-    where
-      first : (k : List ℕ) → notes.quiet s ms 0 k && quietTrail s t (pathIn p) k ≡ quietTrail s t (pathIn p) k
-      first k = unfold notes.quiet in refl
+pub leaf-counted : (s : List ℕ) (t : Trail) (X : List ℕ) (es : List defined.Entry) (ns : List ℕ) (n r : ℕ) → LeafTold s t X es ns n → n ≤ 64
+    → r ≡ notes.countQuiet (λ k. notes.quiet s ns n k) es → r ≡ countE (passing s t) X es
+leaf-counted s t X es ns n r h l e = e ∙ quiet-count X (h .lo) (h .hi) (passing s t) (λ k. notes.quiet s ns n k) es (h .keys) (h .tells .told l)
+
+-- NOTES HANDED DOWN
+first-quiet : (s ms : List ℕ) (k : List ℕ) (b : Bool) → notes.quiet s ms 0 k && b ≡ b
+unfolding notes.quiet
+first-quiet s ms k b = refl
+
+module _ (s : List ℕ) (t : Trail) (X lo hi ms ns : List ℕ) (r : ℕ) where
+  -- made of the notes of the node above, or of the trail
+  pub told-narrowed : (w above : List ℕ) (many : ℕ) → Handed s t X w lo hi above many → many ≤ 64
+      → notes.Gathered s lo hi (λ k. notes.quiet s above many (w ++ k)) ms 0 ns r → Tells s t X lo hi ns r
+  told-narrowed w above many h l g =
+      record {
+        fits = g .fits;
+        told = λ m k o. h .told l k o ∙ ap (λ x. short (X ++ k) && x) (sym (g .tells m k o ∙ first-quiet s ms k (notes.quiet s above many (w ++ k))));
+      }
+
+  pub told-trail : TrailIn s (length X) t → notes.Gathered s lo hi (λ k. quietTrail s t X k) ms 0 ns r → Tells s t X lo hi ns r
+  told-trail f g =
+      record {
+        fits = g .fits;
+        told = λ m k o.
+            passes-quiet s (t .nodes) (t .lifts) X (t .depth) k (λ i l. f .each i l .lifted)
+            ∙ ap (λ x. short (X ++ k) && x) (sym (g .tells m k o ∙ first-quiet s ms k (quietTrail s t X k)));
+      }
+
+-- a node's own messages noted after what it was handed
+module _ (s : List ℕ) (num : ℕ) (lo hi ns : List ℕ) (n : ℕ) where
+  pub joined-full : 64 < n → (after : List ℕ) → Joined s num lo hi ns n after 65
+  joined-full h after = record { fits = λ l. absurd (omega arith); few = λ l. absurd (omega arith); told = λ l. absurd (omega arith) }
+
+  pub joined-own : (len : ℕ) (w after : List ℕ) (m : ℕ) → n ≤ 64 → len ≡ u16 s (num * 1024) → w ≡ []
+      → notes.Gathered s lo hi (λ k. notes.areSilent (listed s (num * 1024 + 8) (num * 1024 + 8 + len)) (w ++ k)) ns n after m → Joined s num lo hi ns n after m
+  joined-own len w after m h el ew g =
+      record {
+        fits = g .fits;
+        few = λ l. h;
+        told = λ l k o. g .tells l k o ∙ ap₂ (λ e v. notes.quiet s ns n k && notes.areSilent (listed s (num * 1024 + 8) (num * 1024 + 8 + e)) (v ++ k)) el ew;
+      }
+
+  pub told-joined : (here : PathBuffer) (t r : Trail) (after : List ℕ) (m : ℕ) → here .len ≤ length (here .bytes) → Deeper s num (here .len) t r
+      → Tells s t (pathIn here) lo hi ns n → Joined s num lo hi ns n after m → Tells s r (pathIn here) lo hi after m
+  told-joined here t r after m w d h j =
+      record {
+        fits = j .fits;
+        told = λ l k o.
+            d .test (pathIn here ++ k)
+            ∙ ap₂ (λ x y. x && holdsNoMessage (newestE (listing s num) y)) (h .told (j .few l) k o) (drop-at (pathIn here) k (here .len) (path-length here w))
+            ∙ ap (λ y. (short (pathIn here ++ k) && notes.quiet s ns n k) && y) (silent-all (listing s num) k)
+            ∙ and-assoc (short (pathIn here ++ k)) (notes.quiet s ns n k) (notes.areSilent (listing s num) k)
+            ∙ ap (λ x. short (pathIn here ++ k) && x) (sym (j .told l k o));
+      }
+
+-- of fewer keys
+tells-within : (s : List ℕ) (t : Trail) (X lo hi a b ns : List ℕ) (n : ℕ) → ((k : List ℕ) → owns a b k ≡ true → owns lo hi k ≡ true) → Tells s t X lo hi ns n → Tells s t X a b ns n
+tells-within s t X lo hi a b ns n f h = record { fits = h .fits; told = λ l k o. h .told l k (f k o) }
+
+-- a child's range lies in its node's
+child-within : (s : List ℕ) (t : Tree) (f : Forest) (lifted lo hi : List ℕ) → soundForest (tree s t f) lifted lo hi ≡ true
+    → (q : List ℕ) → owns (lifted ++ s) (highOf lifted hi f) q ≡ true → owns lo hi q ≡ true
+child-within s t f lifted lo hi e q o = go (owns lo hi q) refl
+  where
+    go : (b : Bool) → owns lo hi q ≡ b → owns lo hi q ≡ true
+    go true x = x
+    go false x =
+        let p = parts s t f lifted lo hi e in
+        let z = inside-not lo hi (lifted ++ s) (highOf lifted hi f) q (not-low lo hi (lifted ++ s) (p .owned)) (high-under f lifted lo hi q (p .later)) x in
+        absurd (false≢true (sym z ∙ o))
 
 -- THE TREE IS SOUND ON THE WAY DOWN
 owns-under : (X lo hi k : List ℕ) → owns (X ++ lo) (X ++ hi) (X ++ k) ≡ owns lo hi k
@@ -212,10 +289,36 @@ module _ (p : PathBuffer) (lo hi : List ℕ) (k : ℕ) (ek : k ≡ length (share
       let a : shared lo hi ++ drop k hi ≡ hi = ap (λ n. shared lo hi ++ drop n hi) ek ∙ begins-split (shared lo hi) hi (shared-right lo hi) in
       ap (λ l. pathIn p ++ l) (sym a) ∙ sym (append-assoc (pathIn p) (shared lo hi) (drop k hi)) ∙ ap (λ l. l ++ drop k hi) (sym here-is)
 
+  -- what the node is handed, of its keys past what it lifts
+  pub handed : (s : List ℕ) (t : Trail) (ns : List ℕ) (n : ℕ) → Tells s t (pathIn p) lo hi ns n
+      → Handed s t (pathIn here) (take (k - 0) (drop 0 lo)) (take (length lo - k) (drop k lo)) (take (length hi - k) (drop k hi)) ns n
+  handed s t ns n h =
+      record {
+        fits = h .fits;
+        told = λ l x o.
+            ap (λ y. passing s t y) (longer x) ∙ h .told l (take (k - 0) (drop 0 lo) ++ x) (mine x o)
+            ∙ ap (λ y. short y && notes.quiet s ns n (take (k - 0) (drop 0 lo) ++ x)) (sym (longer x));
+      }
+    where
+      longer : (x : List ℕ) → pathIn here ++ x ≡ pathIn p ++ (take (k - 0) (drop 0 lo) ++ x)
+      longer x = ap (λ y. y ++ x) eh ∙ append-assoc (pathIn p) (take (k - 0) (drop 0 lo)) x
+
+      lift-is : take (k - 0) (drop 0 lo) ≡ shared lo hi
+      lift-is = let z : k - 0 ≡ length (shared lo hi) = omega arith in ap (λ n. take n lo) z ∙ shared-take lo hi
+
+      mine : (x : List ℕ) → owns (take (length lo - k) (drop k lo)) (take (length hi - k) (drop k hi)) x ≡ true → owns lo hi (take (k - 0) (drop 0 lo) ++ x) ≡ true
+      mine x o =
+          let a : shared lo hi ++ drop k lo ≡ lo = ap (λ n. shared lo hi ++ drop n lo) ek ∙ begins-split (shared lo hi) lo (shared-left lo hi) in
+          let b : shared lo hi ++ drop k hi ≡ hi = ap (λ n. shared lo hi ++ drop n hi) ek ∙ begins-split (shared lo hi) hi (shared-right lo hi) in
+          ap (λ y. owns lo hi (y ++ x)) lift-is
+          ∙ ap₂ (λ y z. owns y z (shared lo hi ++ x)) (sym a) (sym b)
+          ∙ owns-under (shared lo hi) (drop k lo) (drop k hi) x
+          ∙ ap₂ (λ y z. owns y z x) (sym (part-rest k lo)) (sym (part-rest k hi)) ∙ o
+
   module _ (s : List ℕ) (level num : ℕ) (u : usable (nodesOf (length s)) (treeAt level s num) ≡ true) (e : SoundNode s level num p lo hi)
       (len : ℕ) (el : len ≡ u16 s (num * 1024)) where
     -- the keys of a leaf are its own
-    pub leaf-keyed : level ≤ 1 → keyed (pathIn here) (take (length lo - k) (drop k lo)) (take (length hi - k) (drop k hi)) (listed s (num * 1024 + 8) (num * 1024 + 8 + len)) ≡ true
+    leaf-keyed : level ≤ 1 → keyed (pathIn here) (take (length lo - k) (drop k lo)) (take (length hi - k) (drop k hi)) (listed s (num * 1024 + 8) (num * 1024 + 8 + len)) ≡ true
     leaf-keyed l =
         let n = leaf-at s num level l u in
         let a : soundTree (leaf num (n .rs)) (pathIn p ++ lo) (pathIn p ++ hi) ≡ true = ap (λ t. soundTree t (pathIn p ++ lo) (pathIn p ++ hi)) (sym (n .tree)) ∙ e in
@@ -229,10 +332,15 @@ module _ (p : PathBuffer) (lo hi : List ℕ) (k : ℕ) (ek : k ≡ length (share
         ∙ ap₂ (λ x y. keyed (pathIn here) x y (n .es)) (part-rest k lo) (part-rest k hi)
         ∙ pairs-keyed (pathIn here) (drop k lo) (drop k hi) (n .es) (n .rs) (n .pairs) o f
 
+    pub leaf-told : level ≤ 1 → (t : Trail) (ns : List ℕ) (n : ℕ) → Tells s t (pathIn here) (take (length lo - k) (drop k lo)) (take (length hi - k) (drop k hi)) ns n
+        → LeafTold s t (pathIn here) (listed s (num * 1024 + 8) (num * 1024 + 8 + len)) ns n
+    leaf-told l t ns n h = record { lo = take (length lo - k) (drop k lo); hi = take (length hi - k) (drop k hi); keys = leaf-keyed l; tells = h }
+
     -- the children of an interior node
     pub kids-sound : 2 ≤ level → (first : ℕ) (pivot : Place) (next : Cursor) → NextChild s (num * 1024 + 8) (num * 1024 + 8 + len) first pivot next
-        → SoundKids s (level - 1) first pivot next here (take (length hi - k) (drop k hi))
-    kids-sound l first pivot next nc =
+        → (t : Trail) (ns : List ℕ) (m : ℕ) → Tells s t (pathIn here) (take (length lo - k) (drop k lo)) (take (length hi - k) (drop k hi)) ns m
+        → SoundKids s (level - 1) first pivot next here (take (length hi - k) (drop k hi)) t ns m
+    kids-sound l first pivot next nc t ns m h =
         let n = interior-at s num level l u in
         let q = inside-splits (n .es) (n .x) (n .splits) in
         let a : soundTree (interior num (forestOf (λ j. treeAt (level - 1) s j) (n .x .kids)) (n .x .messages)) (pathIn p ++ lo) (pathIn p ++ hi) ≡ true
@@ -241,37 +349,77 @@ module _ (p : PathBuffer) (lo hi : List ℕ) (k : ℕ) (ek : k ≡ length (share
         let g : listed s (num * 1024 + 8) (num * 1024 + 8 + len) ≡ n .es = ap (λ m. listed s (num * 1024 + 8) (num * 1024 + 8 + m)) el ∙ n .node .lists in
         let c : kid first (part s pivot) ∷ kidsE (listed s (next .at) (next .end)) ≡ n .x .kids = sym (nc .lists) ∙ ap (λ es. kidsE es) g ∙ q .kids in
         record {
-          low = pathIn p ++ lo;
+          low = take (length lo - k) (drop k lo);
           sound =
-              ap (λ ks. soundForest (forestOf (λ j. treeAt (level - 1) s j) ks) (pathIn here) (pathIn p ++ lo) (pathIn here ++ take (length hi - k) (drop k hi))) c
-              ∙ ap (λ h. soundForest (forestOf (λ j. treeAt (level - 1) s j) (n .x .kids)) (pathIn here) (pathIn p ++ lo) (pathIn here ++ h)) (part-rest k hi)
-              ∙ ap₂ (λ x h. soundForest (forestOf (λ j. treeAt (level - 1) s j) (n .x .kids)) x (pathIn p ++ lo) h) (sym lifted-is) (sym high-is)
+              ap (λ ks. soundForest (forestOf (λ j. treeAt (level - 1) s j) ks) (pathIn here) (pathIn here ++ take (length lo - k) (drop k lo)) (pathIn here ++ take (length hi - k) (drop k hi))) c
+              ∙ ap₂ (λ x h. soundForest (forestOf (λ j. treeAt (level - 1) s j) (n .x .kids)) (pathIn here) (pathIn here ++ x) (pathIn here ++ h)) (part-rest k lo) (part-rest k hi)
+              ∙ ap₂ (λ x h. soundForest (forestOf (λ j. treeAt (level - 1) s j) (n .x .kids)) (pathIn here) x h) (sym low-is) (sym high-is)
+              ∙ ap (λ x. soundForest (forestOf (λ j. treeAt (level - 1) s j) (n .x .kids)) x (pathIn p ++ lo) (pathIn p ++ hi)) (sym lifted-is)
               ∙ b .kids;
+          tells = h;
         }
 
 -- the child in hand, the last one or with one after it, and those after it
-module _ (s : List ℕ) (level num : ℕ) (low : Place) (c : Cursor) (p : PathBuffer) (hi : List ℕ) (h : SoundKids s level num low c p hi) where
-  pub last-sound : kidsE (listed s (c .at) (c .end)) ≡ [] → SoundNode s level num p (part s low) hi
-  unfolding forestOf highOf
-  last-sound e =
-      let a : soundForest (forestOf (λ j. treeAt level s j) (kid num (part s low) ∷ [])) (pathIn p) (h .low) (pathIn p ++ hi) ≡ true
-      = ap (λ ks. soundForest (forestOf (λ j. treeAt level s j) (kid num (part s low) ∷ ks)) (pathIn p) (h .low) (pathIn p ++ hi)) (sym e) ∙ h .sound in
-      parts (part s low) (treeAt level s num) (forestOf (λ j. treeAt level s j) []) (pathIn p) (h .low) (pathIn p ++ hi) a .first
+module _ (s : List ℕ) (level num : ℕ) (low : Place) (c : Cursor) (p : PathBuffer) (hi : List ℕ) (t : Trail) (ns : List ℕ) (n : ℕ) (h : SoundKids s level num low c p hi t ns n) where
+  abbrev At : ℕ → Tree
+  At j = treeAt level s j
+
+  -- notes that tell of the node tell of the child
+  told-child : (us : List Kid) (b : List ℕ) → soundForest (forestOf At (kid num (part s low) ∷ us)) (pathIn p) (pathIn p ++ h .low) (pathIn p ++ hi) ≡ true
+      → highOf (pathIn p) (pathIn p ++ hi) (forestOf At us) ≡ pathIn p ++ b → Tells s t (pathIn p) (part s low) b ns n
+  unfolding forestOf
+  told-child us b e q = tells-within s t (pathIn p) (h .low) hi (part s low) b ns n mine (h .tells)
+    where
+      mine : (k : List ℕ) → owns (part s low) b k ≡ true → owns (h .low) hi k ≡ true
+      mine k o =
+          sym (owns-under (pathIn p) (h .low) hi k)
+          ∙ child-within (part s low) (At num) (forestOf At us) (pathIn p) (pathIn p ++ h .low) (pathIn p ++ hi) e (pathIn p ++ k)
+          (ap (λ x. owns (pathIn p ++ part s low) x (pathIn p ++ k)) q ∙ owns-under (pathIn p) (part s low) b k ∙ o)
+
+  module _ (e : kidsE (listed s (c .at) (c .end)) ≡ []) where
+    last-forest : soundForest (forestOf At (kid num (part s low) ∷ [])) (pathIn p) (pathIn p ++ h .low) (pathIn p ++ hi) ≡ true
+    last-forest = ap (λ ks. soundForest (forestOf At (kid num (part s low) ∷ ks)) (pathIn p) (pathIn p ++ h .low) (pathIn p ++ hi)) (sym e) ∙ h .sound
+
+    pub last-sound : SoundNode s level num p (part s low) hi
+    unfolding forestOf highOf
+    last-sound = parts (part s low) (treeAt level s num) (forestOf At []) (pathIn p) (pathIn p ++ h .low) (pathIn p ++ hi) last-forest .first
+
+    pub last-told : Tells s t (pathIn p) (part s low) hi ns n
+    unfolding forestOf highOf
+    last-told = told-child [] hi last-forest refl
 
   module _ (k : ℕ) (q : Place) (next : Cursor) (e : kidsE (listed s (c .at) (c .end)) ≡ kid k (part s q) ∷ kidsE (listed s (next .at) (next .end))) where
     abbrev us : List Kid
     us = kidsE (listed s (next .at) (next .end))
 
-    forest : soundForest (forestOf (λ j. treeAt level s j) (kid num (part s low) ∷ kid k (part s q) ∷ us)) (pathIn p) (h .low) (pathIn p ++ hi) ≡ true
-    forest = ap (λ ks. soundForest (forestOf (λ j. treeAt level s j) (kid num (part s low) ∷ ks)) (pathIn p) (h .low) (pathIn p ++ hi)) (sym e) ∙ h .sound
+    forest : soundForest (forestOf At (kid num (part s low) ∷ kid k (part s q) ∷ us)) (pathIn p) (pathIn p ++ h .low) (pathIn p ++ hi) ≡ true
+    forest = ap (λ ks. soundForest (forestOf At (kid num (part s low) ∷ ks)) (pathIn p) (pathIn p ++ h .low) (pathIn p ++ hi)) (sym e) ∙ h .sound
 
     pub next-sound : SoundNode s level num p (part s low) (part s q)
     unfolding forestOf highOf
-    next-sound = parts (part s low) (treeAt level s num) (forestOf (λ j. treeAt level s j) (kid k (part s q) ∷ us)) (pathIn p) (h .low) (pathIn p ++ hi) forest .first
+    next-sound = parts (part s low) (treeAt level s num) (forestOf At (kid k (part s q) ∷ us)) (pathIn p) (pathIn p ++ h .low) (pathIn p ++ hi) forest .first
 
-    pub later-sound : SoundKids s level k q next p hi
+    pub next-told : Tells s t (pathIn p) (part s low) (part s q) ns n
+    unfolding forestOf highOf
+    next-told = told-child (kid k (part s q) ∷ us) (part s q) forest refl
+
+    pub later-sound : SoundKids s level k q next p hi t ns n
     unfolding forestOf
-    later-sound = record { low = h .low; sound = parts (part s low) (treeAt level s num) (forestOf (λ j. treeAt level s j) (kid k (part s q) ∷ us)) (pathIn p) (h .low) (pathIn p ++ hi) forest .later }
+    later-sound =
+        record {
+          low = h .low;
+          sound = parts (part s low) (treeAt level s num) (forestOf At (kid k (part s q) ∷ us)) (pathIn p) (pathIn p ++ h .low) (pathIn p ++ hi) forest .later;
+          tells = h .tells;
+        }
+
+-- above the root there is nothing to tell
+pub root-told : (s : List ℕ) (t : Trail) (X lo hi ns : List ℕ) → t .depth ≡ 0 → Tells s t X lo hi ns 0
+unfolding notes.quiet
+root-told s t X lo hi ns e =
+    record { fits = λ l i h. absurd (omega arith); told = λ l k o. ap (λ d. passes s (t .nodes) (t .lifts) d (X ++ k)) e ∙ at-top (X ++ k) ∙ sym (and-true (short (X ++ k))) }
+  where
+    at-top : (q : List ℕ) → passes s (t .nodes) (t .lifts) 0 q ≡ short q
+    at-top q = unfold passes in refl
 
 -- the root
 pub root-sound : (s : List ℕ) (levels root : ℕ) (p : PathBuffer) (lo : List ℕ) → soundTree (treeOf s) lowest highest ≡ true → treeAt levels s root ≡ treeOf s

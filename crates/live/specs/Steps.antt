@@ -4,7 +4,6 @@ use Prim.Native.Nat.{ℕ, zero, suc, _+_, _-_, _*_, _<_, _≤_}
 use mathlib.Core.Path.{_≡_, refl, sym, ap, subst, _∙_}
 use mathlib.Core.List.{List, [], _∷_, _++_}
 use mathlib.Core.Bool.{Bool, true, false, _&&_, not, cond, true≢false, and-true}
-use mathlib.Core.Option.{none, some}
 use native.Mathlib.Omega.{arith}
 use native.Mathlib.Numerals.{add-one}
 use lib.ListN.{length, take, drop, getD, set, length-append}
@@ -14,7 +13,6 @@ use borrow.Author.Tests.{le-leb, lt-leb, leb-true, leb-false, not-true, not-fals
 use Rattle.image.specs.Bytes.{u16}
 use Rattle.image.specs.Path.{pathLimit}
 use Rattle.image.specs.Entry as defined
-use Rattle.image.specs.Meaning.{Said, nothing, says}
 use Rattle.octets.specs.Order.{and-false}
 use Rattle.node.specs.Places.{part, entryIn, messageIn, Next}
 use Rattle.node.specs.declared.Cursor.{Cursor}
@@ -22,10 +20,9 @@ use Rattle.node.specs.Entries.{listed}
 use Rattle.node.specs.declared.Place.{Place}
 use Rattle.node.specs.declared.Message.{Message}
 use Rattle.node.specs.declared.Entry.{Entry}
-use Rattle.search.specs.declared.Heard.{Heard}
 use Rattle.search.specs.declared.Kid.{Kid}
 use Rattle.search.specs.Own.{kidIs, kidsE, kid-place, kids-none, kids-other, kids-more}
-use Rattle.search.specs.Hear.{heardIn, saysE, newestE, Hears, newer-nothing}
+use Rattle.search.specs.Hear.{saysE, newestE, newer-nothing}
 use Rattle.lookup.specs.Look.{listing, part-rest}
 use Rattle.live.specs.Live.{holdsNoMessage, one, short, Shortens}
 use Rattle.live.specs.PathBuffers.{pathIn}
@@ -34,20 +31,6 @@ use Rattle.live.specs.declared.path_buffer.PathBuffer.{PathBuffer}
 use Rattle.live.specs.declared.Trail.{Trail}
 use Rattle.live.specs.declared.Pending.{Pending}
 use Rattle.live.specs.Walk.{passes, passing, TrailIn, Above, Deeper, pushed, decides, countE, isMessage, hasMessage, NextChild, Pends}
-
--- what was heard is nothing, or something
-module _ (s : List ℕ) (X : Said) (r : Heard) (h : Hears s X r) where
-  pub heard-silent : r ≡ Heard.Silent → true ≡ holdsNoMessage X
-  unfolding heardIn holdsNoMessage
-  heard-silent e = let q : nothing ≡ X = rw e at (h .meant) in ap holdsNoMessage q
-
-  pub heard-gone : r ≡ Heard.Gone → false ≡ holdsNoMessage X
-  unfolding heardIn holdsNoMessage
-  heard-gone e = let q : says none ≡ X = rw e at (h .meant) in ap holdsNoMessage q
-
-  pub heard-value : (p : Place) → r ≡ Heard.Value p → false ≡ holdsNoMessage X
-  unfolding heardIn holdsNoMessage
-  heard-value p e = let q : says (some (part s p)) ≡ X = rw e at (h .meant) in ap holdsNoMessage q
 
 pub node-silent : (s : List ℕ) (num len : ℕ) (rest : List ℕ) (r : Bool) → len ≡ u16 s (num * 1024)
     → r ≡ holdsNoMessage (newestE (listed s (num * 1024 + 8) (num * 1024 + 8 + len)) rest) → r ≡ holdsNoMessage (newestE (listing s num) rest)

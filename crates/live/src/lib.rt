@@ -8,7 +8,6 @@ use node::Message;
 use node::Place;
 use node::Step;
 use path_buffer::PathBuffer;
-use search::Heard;
 use search::Kid;
 ghost use mathlib.Core.Path.{_≡_};
 ghost use mathlib.Core.Bool.{true};
@@ -26,8 +25,8 @@ ghost use Rattle.node.specs.Entries.{listed};
 ghost use Rattle.search.specs.Hear.{newestE};
 ghost use Rattle.search.specs.Own.{kid, kidsE};
 ghost use Rattle.lookup.specs.Look.{listing};
-ghost use Rattle.notes.specs.Notes.{Gathered};
-ghost use Rattle.live.specs.Noted.{quietTrail, keyed, SoundNode, SoundKids};
+ghost use Rattle.notes.specs.Notes.{NotesFit, Gathered};
+ghost use Rattle.live.specs.Noted.{quietTrail, Tells, Handed, Joined, LeafTold, SoundNode, SoundKids};
 ghost use Rattle.live.specs.Live.{holdsNoMessage, one, liveHere, liveKids};
 ghost use Rattle.live.specs.PathBuffers.{pathIn};
 ghost use Rattle.live.specs.Walk.{passing, TrailIn, Above, decides, countE, isMessage, hasMessage, Pends, Deeper, pushed, Ready, ReadyKids, Countable};
@@ -50,12 +49,17 @@ pub fn is_silent(store: &[u8], from: usize, end: usize, rest: &[u8]) -> bool
     requires { ⌜ end ≤ length (now store) ⌝ }
     ensures { λ r. ⌜ r ≡ holdsNoMessage (newestE (listed (now (store .entry)) from end) (now (rest .entry))) ⌝ }
 {
-    let h = search::newest(store, from, end, rest);
-    match h {
-        Heard::Silent => true,
-        Heard::Gone => false,
-        Heard::Value(_) => false,
+    let mut c = Cursor { at: from, end };
+    while c.at < end {
+        let Step::Read(e, next) = c.step(store) else {
+            return true;
+        };
+        if search::entry_speaks(store, e, rest) {
+            return false;
+        }
+        c = next;
     }
+    true
 }
 
 // Whether the messages of a node say nothing of a rest.
@@ -214,26 +218,60 @@ fn note_trail(
     n
 }
 
-// How many pairs of a leaf no node of the trail has a message on. The messages that can be on one are noted first, so that each pair is held
-// against these alone; where they have no room, each pair is held against all.
+// The messages above a node that can be on a key from lo up to hi, as notes: of those that the node above hands down, which sees the keys
+// after w, and where it has none to hand down, of the trail. Gives how many; 65 where there is no room.
+fn note_above(
+    store: &[u8],
+    here: PathBuffer,
+    trail: Trail,
+    w: &[u8],
+    lo: &[u8],
+    hi: &[u8],
+    above: &[usize; 64],
+    many: usize,
+    notes: &mut [usize],
+) -> usize
+    requires { ⌜ (here .len ≤ 64) × TrailIn (now store) (here .len) trail × Handed (now store) trail (pathIn here) (now w) (now lo) (now hi) (now above) many ⌝ }
+    ensures { λ r. ⌜ Tells (now (store .entry)) trail (pathIn here) (now (lo .entry)) (now (hi .entry)) (now (notes .exit)) r ⌝ }
+{
+    if 64 < many {
+        return note_trail(store, here, trail, lo, hi, notes);
+    }
+    notes::narrow(store, above, many, w, lo, hi, notes)
+}
+
+// A node's own messages that can be on a key from lo up to hi, noted after the n notes that it was handed. Gives how many there are then.
+fn note_own(store: &[u8], num: usize, lo: &[u8], hi: &[u8], notes: &mut [usize], n: usize) -> usize
+    requires { ⌜ (num * 1024 + 1024 ≤ length (now store)) × (u16 (now store) (num * 1024) ≤ 1016) × (n ≤ 64 → NotesFit (now store) (now notes) n) ⌝ }
+    ensures { λ r. ⌜ Joined (now (store .entry)) num (now (lo .entry)) (now (hi .entry)) (now (notes .entry)) n (now (notes .exit)) r ⌝ }
+{
+    if 64 < n {
+        return 65;
+    }
+    let at = num * 1024;
+    let len = octets::u16_at(store, at);
+    let from = at + 8;
+    notes::note_entries(store, from, from + len, &lo[0..0], lo, hi, notes, n)
+}
+
+// How many pairs of a leaf no node of the trail has a message on: each pair is held against the notes alone, and where these had no room,
+// against all that the trail has.
 pub fn count_leaf(
     store: &[u8],
     from: usize,
     end: usize,
     prefix: PathBuffer,
     trail: Trail,
-    lo: &[u8],
-    hi: &[u8],
+    notes: &[usize; 64],
+    n: usize,
 ) -> usize
-    requires { ⌜ (from ≤ end) × (end ≤ length (now store)) × (prefix .len ≤ 64) × TrailIn (now store) (prefix .len) trail × (keyed (pathIn prefix) (now lo) (now hi) (listed (now store) from end) ≡ true) ⌝ }
+    requires { ⌜ (from ≤ end) × (end ≤ length (now store)) × (prefix .len ≤ 64) × TrailIn (now store) (prefix .len) trail × LeafTold (now store) trail (pathIn prefix) (listed (now store) from end) (now notes) n ⌝ }
     ensures { λ r. ⌜ (r ≡ countE (passing (now (store .entry)) trail) (pathIn prefix) (listed (now (store .entry)) from end)) × (r + from ≤ end) ⌝ }
 {
-    let mut notes = [0usize; 64];
-    let n = note_trail(store, prefix, trail, lo, hi, &mut notes);
     if 64 < n {
         return count_entries(store, from, end, prefix, trail);
     }
-    notes::count_pairs(store, from, end, &notes, n)
+    notes::count_pairs(store, from, end, notes, n)
 }
 
 fn is_message(e: Entry) -> bool
@@ -302,7 +340,8 @@ pub fn read_child(store: &[u8], c: Cursor) -> Pending
     Pending::Child(k, p, next)
 }
 
-// How many entries under a node decide a path that passes the trail. The pivots lack what the parent lifts, which is the prefix.
+// How many entries under a node decide a path that passes the trail. The pivots lack what the parent lifts, which is the prefix; `above` has
+// `many` notes of the parent, which tell what the trail tells.
 pub fn count_node(
     store: &[u8],
     num: usize,
@@ -311,8 +350,10 @@ pub fn count_node(
     lo: &[u8],
     hi: &[u8],
     trail: Trail,
+    above: &[usize; 64],
+    many: usize,
 ) -> usize
-    requires { ⌜ Ready (now store) level num prefix trail × SoundNode (now store) level num prefix (now lo) (now hi) ⌝ }
+    requires { ⌜ Ready (now store) level num prefix trail × SoundNode (now store) level num prefix (now lo) (now hi) × Tells (now store) trail (pathIn prefix) (now lo) (now hi) (now above) many ⌝ }
     ensures { λ r. ⌜ (r ≡ cap (liveHere (treeAt level (now (store .entry)) num) (passing (now (store .entry)) trail) (pathIn prefix ++ shared (now (lo .entry)) (now (hi .entry))) (drop (lifts (now (lo .entry)) (now (hi .entry))) (now (hi .entry))))) × (r ≤ 65535) ⌝ }
 {
     let k = octets::common_length(lo, hi);
@@ -321,21 +362,45 @@ pub fn count_node(
         return 0;
     }
     let here = path_buffer::extend(prefix, &lo[0..k]);
+    let mut notes = [0usize; 64];
+    let n = note_above(
+        store,
+        here,
+        trail,
+        &lo[0..k],
+        &lo[k..],
+        &hi[k..],
+        above,
+        many,
+        &mut notes,
+    );
     let at = num * 1024;
     let len = octets::u16_at(store, at);
     let from = at + 8;
     let end = from + len;
     if level <= 1 {
-        return count_leaf(store, from, end, here, trail, &lo[k..], &hi[k..]);
+        return count_leaf(store, from, end, here, trail, &notes, n);
     }
     let own = count_entries(store, from, end, here, trail);
     let Pending::Child(first, pivot, next) = read_child(store, Cursor { at: from, end }) else {
         return own;
     };
     let lift = here.len;
-    let above = lengthen_trail(store, trail, num, lift);
-    let n = count_children(store, first, pivot, next, level - 1, here, &hi[k..], above);
-    octets::capped_sum(own, n)
+    let deeper = lengthen_trail(store, trail, num, lift);
+    let m = note_own(store, num, &lo[k..], &hi[k..], &mut notes, n);
+    let under = count_children(
+        store,
+        first,
+        pivot,
+        next,
+        level - 1,
+        here,
+        &hi[k..],
+        deeper,
+        &notes,
+        m,
+    );
+    octets::capped_sum(own, under)
 }
 
 // The same for a child and those that follow from the cursor on; a child's high pivot is the next one's low pivot, or else hi.
@@ -348,8 +413,10 @@ pub fn count_children(
     prefix: PathBuffer,
     hi: &[u8],
     trail: Trail,
+    notes: &[usize; 64],
+    n: usize,
 ) -> usize
-    requires { ⌜ ReadyKids (now store) level first pivot start prefix trail × SoundKids (now store) level first pivot start prefix (now hi) ⌝ }
+    requires { ⌜ ReadyKids (now store) level first pivot start prefix trail × SoundKids (now store) level first pivot start prefix (now hi) trail (now notes) n ⌝ }
     ensures { λ r. ⌜ (r ≡ cap (liveKids (forestOf (λ j. treeAt level (now (store .entry)) j) (kid first (part (now (store .entry)) pivot) ∷ kidsE (listed (now (store .entry)) (start .at) (start .end)))) (passing (now (store .entry)) trail) (pathIn prefix) (now (hi .entry)))) × (r ≤ 65535) ⌝ }
 {
     let mut c = start;
@@ -360,13 +427,23 @@ pub fn count_children(
         let a = low.start;
         let b = low.stop;
         let Pending::Child(k, p, next) = read_child(store, c) else {
-            let last = count_node(store, num, level, prefix, &store[a..b], hi, trail);
+            let last = count_node(store, num, level, prefix, &store[a..b], hi, trail, notes, n);
             return octets::capped_sum(total, last);
         };
         let x = p.start;
         let y = p.stop;
-        let n = count_node(store, num, level, prefix, &store[a..b], &store[x..y], trail);
-        total = octets::capped_sum(total, n);
+        let one = count_node(
+            store,
+            num,
+            level,
+            prefix,
+            &store[a..b],
+            &store[x..y],
+            trail,
+            notes,
+            n,
+        );
+        total = octets::capped_sum(total, one);
         num = k;
         low = p;
         c = next;
@@ -391,5 +468,16 @@ pub fn live_count(store: &[u8]) -> usize
         lifts,
         depth: 0,
     };
-    count_node(store, root, levels, prefix, &lo[0..0], &hi, trail)
+    let notes = [0usize; 64];
+    count_node(
+        store,
+        root,
+        levels,
+        prefix,
+        &lo[0..0],
+        &hi,
+        trail,
+        &notes,
+        0,
+    )
 }

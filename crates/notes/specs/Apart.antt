@@ -1,20 +1,20 @@
 -- Step lemmas of the functions on one note: what each exit owes.
 use Prim.Native.Nat.{ℕ, zero, suc, _+_, _-_, _*_, _/_, _%_, _<_, _≤_}
-use mathlib.Core.Path.{_≡_, refl, sym, ap, ap₂, subst, _∙_}
+use mathlib.Core.Path.{_≡_, refl, sym, ap, ap₂, _∙_}
 use mathlib.Core.List.{List, [], _∷_, _++_}
 use mathlib.Core.Bool.{Bool, true, false, _&&_, not, cond, true≢false, false≢true, and-true}
 use native.Mathlib.Omega.{arith}
-use lib.ListN.{length, take, drop, getD, length-append}
-use lib.Dec.{eqb, ltb}
+use lib.ListN.{length, drop, getD}
+use lib.Dec.{eqb}
 use borrow.Author.Tests.{eqb-true, ne-eqb}
 use Rattle.image.specs.Bytes.{same, before, begins, shared}
 use Rattle.image.specs.Path.{owns}
-use Rattle.octets.specs.Order.{and-left, and-right, and-false, not-so, not-true, not-false, same-eq, same-false, before-le, before-irrefl, before-eq, begins-split, begins-append, same-append, begins-trans}
+use Rattle.octets.specs.Order.{and-left, and-right, and-false, not-so, not-true, same-false, before-le, before-eq, begins-append, same-append}
 use Rattle.octets.specs.Beginnings.{begins-length, shared-right}
 use Rattle.laws.specs.LookupTable.{not-low, under-high}
 use Rattle.node.specs.Cut.{cut, cut-drop, cut-length, cut-nil}
 use Rattle.notes.specs.declared.Concern.{Concern}
-use Rattle.notes.specs.Notes.{on, noteSpeaks, quiet, NotesFit, Concerns}
+use Rattle.notes.specs.Notes.{on, noteSpeaks, quiet, Concerns}
 
 -- two strings that differ in a byte of both
 pub differ-begins : (x w k : List ℕ) → length (shared x w) < length x → length (shared x w) < length w → begins x (w ++ k) ≡ false

@@ -1,5 +1,5 @@
 -- Notes of messages: what a note says of a key, and what it is to note the messages of a node for a leaf. Definitions only.
-use Prim.Native.Nat.{ℕ, zero, suc, _+_, _*_, _/_, _%_, _<_, _≤_}
+use Prim.Native.Nat.{ℕ, zero, suc, _+_, _-_, _/_, _%_, _<_, _≤_}
 use mathlib.Core.Path.{_≡_}
 use mathlib.Core.List.{List, [], _∷_, _++_}
 use mathlib.Core.Bool.{Bool, true, false, _&&_, not}
@@ -60,6 +60,17 @@ pub record Gathered (s : List ℕ) (lo hi : List ℕ) (test : List ℕ → Bool)
   pub few : m ≤ 65
   pub fits : m ≤ 64 → NotesFit s after m
   pub tells : m ≤ 64 → (k : List ℕ) → owns lo hi k ≡ true → quiet s after m k ≡ quiet s notes n k && test k
+
+-- two notes on the same keys, where r says that they are seen to be; and the last of n notes and one more
+unfoldable pub Alike : List ℕ → ℕ → ℕ → Bool → Type 0
+Alike s u v r = r ≡ true → (k : List ℕ) → noteSpeaks s u k ≡ noteSpeaks s v k
+
+unfoldable pub Repeats : List ℕ → List ℕ → ℕ → ℕ → Bool → Type 0
+Repeats s notes n v r = r ≡ true → (1 ≤ n) × ((k : List ℕ) → noteSpeaks s (getD notes (n - 1) 0) k ≡ noteSpeaks s v k)
+
+-- what a message is to the keys, kept: whatever it is told of, the notes tell after
+unfoldable pub Kept : List ℕ → Concern → List ℕ → ℕ → List ℕ → ℕ → Type 0
+Kept s c notes n after m = (w lo hi : List ℕ) (test : List ℕ → Bool) → Concerned s w lo hi test c → Gathered s lo hi (λ k. test (w ++ k)) notes n after m
 
 -- the pairs in front of anything else that a test passes
 unfoldable pub one : Bool → ℕ

@@ -1,18 +1,20 @@
-// The messages above a leaf that can be on one of its keys, noted once for the leaf, so that each of its pairs is held against these alone.
+// The messages above a node that can be on one of its keys, as notes: a node's are made of its parent's and of the parent's own messages, and
+// each pair of a leaf is held against the leaf's alone.
 // A note is a number: where the suffix begins past what the leaf lifts, whether the message clears, and how long what is left of it is.
 use node::Cursor;
 use node::Entry;
 use node::Message;
 use node::Step;
-use search::Pair;
+use search::PairStep;
 ghost use mathlib.Core.Path.{_≡_};
+ghost use mathlib.Core.Bool.{not};
 ghost use mathlib.Core.List.{List, _++_};
 ghost use Prim.Native.Nat.{ℕ, _+_, _*_, _/_, _%_, _<_, _≤_};
 ghost use lib.ListN.{length};
 ghost use Rattle.node.specs.Cut.{cut};
 ghost use Rattle.node.specs.Places.{EntryWithin, MessageWithin, entryIn, messageIn};
 ghost use Rattle.node.specs.Entries.{listed};
-ghost use Rattle.notes.specs.Notes.{noteSpeaks, quiet, NotesFit, Concerns, Concerned, Gathered, one, isSilent, isSilentE, areSilent, countQuiet};
+ghost use Rattle.notes.specs.Notes.{noteSpeaks, quiet, NotesFit, Concerns, Concerned, Alike, Repeats, Gathered, Kept, one, isSilent, isSilentE, areSilent, countQuiet};
 
 // What a message is to the keys of a leaf: it is on none of them; or where it is told by a note; or it has no note.
 pub enum Concern {
@@ -103,6 +105,56 @@ pub fn concern_of_message(s: &[u8], m: Message, w: &[u8], lo: &[u8], hi: &[u8]) 
     }
 }
 
+// Whether two notes are seen to be on the same keys.
+fn alike(s: &[u8], u: usize, v: usize) -> bool
+    requires { ⌜ (u / 4096 + u % 2048 ≤ length (now s)) × (v / 4096 + v % 2048 ≤ length (now s)) ⌝ }
+    ensures { λ r. ⌜ Alike (now (s .entry)) u v r ⌝ }
+{
+    if u / 2048 % 2 != v / 2048 % 2 {
+        return false;
+    }
+    let a = u / 4096;
+    let b = a + u % 2048;
+    let x = v / 4096;
+    let y = x + v % 2048;
+    octets::equal(&s[a..b], &s[x..y])
+}
+
+// Whether a note says what the last one does: a path that is put again and again needs one note.
+fn repeats(s: &[u8], notes: &[usize], count: usize, v: usize) -> bool
+    requires { ⌜ (count ≤ length (now notes)) × NotesFit (now s) (now notes) count × (v / 4096 + v % 2048 ≤ length (now s)) ⌝ }
+    ensures { λ r. ⌜ Repeats (now (s .entry)) (now (notes .entry)) count v r ⌝ }
+{
+    if count < 1 {
+        return false;
+    }
+    alike(s, notes[count - 1], v)
+}
+
+// What a message is to the keys, kept behind `count` notes. Gives how many notes there are then; 65 where there is no room.
+pub fn keep(s: &[u8], c: Concern, notes: &mut [usize], count: usize) -> usize
+    requires { ⌜ (count ≤ 64) × NotesFit (now s) (now notes) count ⌝ }
+    ensures { λ r. ⌜ Kept (now (s .entry)) c (now (notes .entry)) count (now (notes .exit)) r ⌝ }
+{
+    match c {
+        Concern::Nothing => count,
+        Concern::Note(v) => {
+            if notes.len() <= count {
+                return 65;
+            }
+            if s.len() < v / 4096 + v % 2048 {
+                return 65;
+            }
+            if repeats(s, notes, count, v) {
+                return count;
+            }
+            notes[count] = v;
+            count + 1
+        }
+        Concern::Full => 65,
+    }
+}
+
 // A message noted after `count` notes, if it can be on a key. Gives how many notes there are then; 65 where there is no room.
 pub fn note_message(
     s: &[u8],
@@ -117,17 +169,51 @@ pub fn note_message(
     ensures { λ r. ⌜ Gathered (now (s .entry)) (now (lo .entry)) (now (hi .entry)) (λ k. isSilent (messageIn (now (s .entry)) m) (now (w .entry) ++ k)) (now (notes .entry)) count (now (notes .exit)) r ⌝ }
 {
     let c = concern_of_message(s, m, w, lo, hi);
-    match c {
-        Concern::Nothing => count,
-        Concern::Note(v) => {
-            if notes.len() <= count {
-                return 65;
-            }
-            notes[count] = v;
-            count + 1
+    keep(s, c, notes, count)
+}
+
+// The same of a note of the node above, which sees the keys after w.
+fn narrow_note(
+    s: &[u8],
+    v: usize,
+    w: &[u8],
+    lo: &[u8],
+    hi: &[u8],
+    notes: &mut [usize],
+    count: usize,
+) -> usize
+    requires { ⌜ (v / 4096 + v % 2048 ≤ length (now s)) × (count ≤ 64) × NotesFit (now s) (now notes) count ⌝ }
+    ensures { λ r. ⌜ Gathered (now (s .entry)) (now (lo .entry)) (now (hi .entry)) (λ k. not (noteSpeaks (now (s .entry)) v (now (w .entry) ++ k))) (now (notes .entry)) count (now (notes .exit)) r ⌝ }
+{
+    let a = v / 4096;
+    let b = a + v % 2048;
+    let c = concern_of(s, a, b, v / 2048 % 2 == 1, w, lo, hi);
+    keep(s, c, notes, count)
+}
+
+// The notes of the node above that can be on a key from lo up to hi, as notes of such keys. Gives how many; 65 where there is no room.
+pub fn narrow(
+    s: &[u8],
+    above: &[usize; 64],
+    many: usize,
+    w: &[u8],
+    lo: &[u8],
+    hi: &[u8],
+    notes: &mut [usize],
+) -> usize
+    requires { ⌜ (many ≤ 64) × NotesFit (now s) (now above) many ⌝ }
+    ensures { λ r. ⌜ Gathered (now (s .entry)) (now (lo .entry)) (now (hi .entry)) (λ k. quiet (now (s .entry)) (now (above .entry)) many (now (w .entry) ++ k)) (now (notes .entry)) 0 (now (notes .exit)) r ⌝ }
+{
+    let mut i = 0;
+    let mut n: usize = 0;
+    while i < many {
+        n = narrow_note(s, above[i], w, lo, hi, notes, n);
+        if 64 < n {
+            return 65;
         }
-        Concern::Full => 65,
+        i += 1;
     }
+    n
 }
 
 // The same of an entry.
@@ -196,10 +282,7 @@ pub fn count_pairs(s: &[u8], from: usize, end: usize, notes: &[usize; 64], count
     let mut c = Cursor { at: from, end };
     let mut n: usize = 0;
     while c.at < end {
-        let Step::Read(e, next) = c.step(s) else {
-            return n;
-        };
-        let Pair::Of(p, _) = search::pair_of(e) else {
+        let PairStep::Read(p, _, next) = search::step_pair(s, c) else {
             return n;
         };
         let a = p.start;

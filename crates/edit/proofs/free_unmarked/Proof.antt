@@ -1,3 +1,4 @@
+-- `free_unmarked` meets its contract: the nodes marked by a check, then free_above. Relies on specs/Room.
 use Rattle.edit.specs.Room.{unmarked-unsound, marks-told, nodes-are, few-nodes}
 use mathlib.Core.Path.{subst}
 use borrow.Author.Needs.{needs}

@@ -1,3 +1,4 @@
+-- `conclude` meets its contract: the count written, then the area zeroed. Relies on specs/Finished.
 use Rattle.finish.specs.Finished.{finish-done, small-live, area-fits, len-kept}
 use borrow.Author.Needs.{needs}
 use Prim.Native.Nat.{_-_}

@@ -1,3 +1,4 @@
+-- `finish` meets its contract: a count, and then conclude. Relies on the contract of live.
 use Rattle.live.specs.RootSteps.{countable}
 use borrow.Author.Needs.{needs}
 use Prim.Native.Nat.{_-_}

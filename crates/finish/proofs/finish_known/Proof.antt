@@ -1,3 +1,4 @@
+-- `finish_known` meets its contract: with a number that is known, or with a count. Relies on specs/Finished.
 use Rattle.finish.specs.Finished.{known-cap}
 use borrow.Author.Needs.{needs}
 use native.Mathlib.Omega.{arith}

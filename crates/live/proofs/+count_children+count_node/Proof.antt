@@ -1,8 +1,6 @@
 -- `count_node` and `count_children` meet their contracts. The level falls from a node to its children. The loop over the children: the
 -- total so far and the count of the child in hand and those after it make the count of all. Relies on specs/NodeSteps and specs/WalkLaws.
-use borrow.Author.Needs.{needs}
 use Prim.Native.Nat.{_≤_, _-_, _+_, _*_}
-use native.Mathlib.Omega.{arith}
 use lib.Seq.{length-take-le}
 use lib.ListN.{length, take}
 use mathlib.Core.List.{_∷_}
@@ -22,7 +20,13 @@ use Rattle.live.specs.Steps.{trail-wider, pends-child, pends-end}
 use Rattle.live.specs.WalkLaws.{walk-start, walk-last, walk-on, later-usable}
 use Rattle.live.specs.NodeSteps.{node-long, node-leaf, node-bare, kids-ready, node-inner, node-above, child-ready}
 use Rattle.live.specs.Noted.{SoundKids}
-use Rattle.live.specs.NotedSteps.{leaf-keyed, kids-sound, last-sound, next-sound, later-sound}
+use Rattle.live.specs.NotedSteps.{handed, told-joined, leaf-told, kids-sound, last-sound, last-told, next-sound, next-told, later-sound}
+use borrow.Author.Needs.{needs}
+use native.Mathlib.Omega.{arith}
+use Prim.Native.Nat.{ℕ, suc, _+_, _-_, _≤_, _<_}
+use mathlib.Core.Path.{_≡_, refl, sym, ap, _∙_}
+use mathlib.Core.List.{List, [], _∷_, _++_}
+use lib.ListN.{length, getD, take, drop}
 use Prim.Native.Nat.{ℕ, _<_}
 use borrow.Fn.Kinds.{In}
 use borrow.Fn.PlainCycle.{Measures, is, falls, and}
@@ -32,54 +36,56 @@ use Rattle.live.proofs.+count_children+count_node.Lts-count_children as
 use Rattle.live.proofs.count_node.Reads as count-node
 use Rattle.live.proofs.count_node.Kinds as count-node-kinds
 use Rattle.live.proofs.+count_children+count_node.Lts-count_node as count-node-lts
-use Rattle.octets.proofs.capped_sum.Reads as capped-sum-reads
 use Rattle.live.proofs.count_entries.Reads as count-entries-reads
-use Rattle.live.proofs.read_child.Reads as read-child-reads
-use Rattle.live.proofs.path_buffer.extend.Reads as extend-reads
+use Rattle.live.proofs.count_leaf.Reads as count-leaf-reads
 use Rattle.live.proofs.lengthen_trail.Reads as lengthen-trail-reads
+use Rattle.live.proofs.note_above.Reads as note-above-reads
+use Rattle.live.proofs.note_own.Reads as note-own-reads
+use Rattle.live.proofs.path_buffer.extend.Reads as extend-reads
+use Rattle.live.proofs.read_child.Reads as read-child-reads
+use Rattle.octets.proofs.capped_sum.Reads as capped-sum-reads
 use Rattle.octets.proofs.common_length.Reads as common-length-reads
 use Rattle.octets.proofs.u16_at.Reads as u16-at-reads
 use Rattle.live.proofs.+count_children+count_node.{statement}
 use Rattle.live.proofs.+count_children+count_node.Tie.{close}
-use Rattle.live.proofs.count_leaf.Reads as count-leaf-reads
 
-abbrev μ-count-children : Measures 2 count-children-kinds.ps ℕ
+abbrev μ-count-children : Measures 3 count-children-kinds.ps ℕ
 μ-count-children κs a = a .1 .1 .1 .1 .0 * 2 + 1
 
-abbrev μ-count-node : Measures 3 count-node-kinds.ps ℕ
+abbrev μ-count-node : Measures 4 count-node-kinds.ps ℕ
 μ-count-node κs a = a .1 .1 .0 * 2
 
-abbrev count-children-at : ℕ → In 2 count-children-kinds.ps
+abbrev count-children-at : ℕ → In 3 count-children-kinds.ps
 count-children-at t =
     and
-    2
+    3
     count-children-kinds.ps
-    (is 2 count-children-kinds.ps μ-count-children t)
+    (is 3 count-children-kinds.ps μ-count-children t)
     count-children.Pre
 
-abbrev count-children-below : ℕ → In 2 count-children-kinds.ps
+abbrev count-children-below : ℕ → In 3 count-children-kinds.ps
 count-children-below t =
     and
-    2
+    3
     count-children-kinds.ps
-    (falls 2 count-children-kinds.ps _<_ μ-count-children t)
+    (falls 3 count-children-kinds.ps _<_ μ-count-children t)
     count-children.Pre
 
-abbrev count-node-at : ℕ → In 3 count-node-kinds.ps
+abbrev count-node-at : ℕ → In 4 count-node-kinds.ps
 count-node-at t =
-    and 3 count-node-kinds.ps (is 3 count-node-kinds.ps μ-count-node t) count-node.Pre
+    and 4 count-node-kinds.ps (is 4 count-node-kinds.ps μ-count-node t) count-node.Pre
 
-abbrev count-node-below : ℕ → In 3 count-node-kinds.ps
+abbrev count-node-below : ℕ → In 4 count-node-kinds.ps
 count-node-below t =
-    and 3 count-node-kinds.ps (falls 3 count-node-kinds.ps _<_ μ-count-node t) count-node.Pre
+    and 4 count-node-kinds.ps (falls 4 count-node-kinds.ps _<_ μ-count-node t) count-node.Pre
 
 abbrev count-children-Inv-loop : count-children-lts.InvT-loop
-count-children-Inv-loop store first level prefix hi trail c₀ num₀ low₀ total₀ c num low total =
+count-children-Inv-loop store first level prefix hi trail notes n c₀ num₀ low₀ total₀ c num low total =
     (c .end ≤ length store) × Within 0 (length store) low × (total ≤ 65535) × (usableIn (nodesOf (length store)) (forestOf (λ j. treeAt level store j) (kid num (part store low) ∷ kidsE (listed store (c .at) (c .end)))) ≡ true)
-    × (cap (total + liveKids (forestOf (λ j. treeAt level store j) (kid num (part store low) ∷ kidsE (listed store (c .at) (c .end)))) (passing store trail) (pathIn prefix) hi) ≡ cap (liveKids (forestOf (λ j. treeAt level store j) (kid first (part store low₀) ∷ kidsE (listed store (c₀ .at) (c₀ .end)))) (passing store trail) (pathIn prefix) hi)) × SoundKids store level num low c prefix hi
+    × (cap (total + liveKids (forestOf (λ j. treeAt level store j) (kid num (part store low) ∷ kidsE (listed store (c .at) (c .end)))) (passing store trail) (pathIn prefix) hi) ≡ cap (liveKids (forestOf (λ j. treeAt level store j) (kid first (part store low₀) ∷ kidsE (listed store (c₀ .at) (c₀ .end)))) (passing store trail) (pathIn prefix) hi)) × SoundKids store level num low c prefix hi trail notes n
 
 abbrev count-children-μ-loop : count-children-lts.MeasureT-loop
-count-children-μ-loop store first level prefix hi trail c₀ num₀ low₀ total₀ c num low total = c .end - c .at
+count-children-μ-loop store first level prefix hi trail notes n c₀ num₀ low₀ total₀ c num low total = c .end - c .at
 
 -- the next child that was read, and where it leaves the cursor
 kid-next : (t : ℕ) (c : count-children-lts.After-known-told (
@@ -98,6 +104,8 @@ here-length : (t : ℕ) (c : count-node-lts.After-extend (
   common-length-reads.Learnt,
   extend-reads.Asked,
   extend-reads.Learnt,
+  note-above-reads.Asked,
+  note-above-reads.Learnt,
   u16-at-reads.Asked,
   u16-at-reads.Learnt,
   count-leaf-reads.Asked,
@@ -108,6 +116,8 @@ here-length : (t : ℕ) (c : count-node-lts.After-extend (
   read-child-reads.Learnt,
   lengthen-trail-reads.Asked,
   lengthen-trail-reads.Learnt,
+  note-own-reads.Asked,
+  note-own-reads.Learnt,
   count-children-below t,
   count-children.Post,
   capped-sum-reads.Asked,
@@ -120,6 +130,8 @@ first-next : (t : ℕ) (c : count-node-lts.After-known-told (
   common-length-reads.Learnt,
   extend-reads.Asked,
   extend-reads.Learnt,
+  note-above-reads.Asked,
+  note-above-reads.Learnt,
   u16-at-reads.Asked,
   u16-at-reads.Learnt,
   count-leaf-reads.Asked,
@@ -130,12 +142,14 @@ first-next : (t : ℕ) (c : count-node-lts.After-known-told (
   read-child-reads.Learnt,
   lengthen-trail-reads.Asked,
   lengthen-trail-reads.Learnt,
+  note-own-reads.Asked,
+  note-own-reads.Learnt,
   count-children-below t,
   count-children.Post,
   capped-sum-reads.Asked,
   capped-sum-reads.Learnt,
 ) (count-node-at t) count-node.Post)
-    → NextChild (c .before .before .before .before .before .before .before .before .before .before .before .before .before .before .before .args .store .now) (c .before .before .before .before .before .before .before .before .before .before .before .before .before .before .before .args .num * 1024 + 8) (c .before .before .before .before .before .before .before .before .before .before .before .before .before .before .before .args .num * 1024 + 8 + c .before .before .before .before .before .before .u16-at .result) (c .before .first .given .0 .0) (c .before .first .given .0 .1 .0) (c .before .first .given .0 .1 .1 .0)
+    → NextChild (c .before .before .before .before .before .before .before .before .before .before .before .before .before .before .before .before .before .before .before .before .before .args .store .now) (c .before .before .before .before .before .before .before .before .before .before .before .before .before .before .before .before .before .before .before .before .before .args .num * 1024 + 8) (c .before .before .before .before .before .before .before .before .before .before .before .before .before .before .before .before .before .before .before .before .before .args .num * 1024 + 8 + c .before .before .before .before .before .before .u16-at .result) (c .before .first .given .0 .0) (c .before .first .given .0 .1 .0) (c .before .first .given .0 .1 .1 .0)
 first-next t c = pends-child _ _ _ _ _ _ _ (c .before .before .before .read-child .ensures) (c .before .first .given .1)
 
 count-children-loop-holds : (t : ℕ) → count-children-lts.Need-loop-holds (
@@ -216,7 +230,7 @@ count-children-count-node-requires : (t : ℕ) → count-children-lts.Need-count
   capped-sum-reads.Asked,
   capped-sum-reads.Learnt,
 ) (count-children-at t) count-children.Post count-children-Inv-loop count-children-μ-loop
-count-children-count-node-requires t c κs = (omega arith, (child-ready (c .before .before .before .before .before .before .before .args .store .now) (c .before .before .before .before .before .before .before .args .level) (c .before .before .before .before .loop .num) (part (c .before .before .before .before .before .before .before .args .store .now) (c .before .before .before .before .loop .low)) (kidsE (listed (c .before .before .before .before .before .before .before .args .store .now) (c .before .before .before .before .loop .c .at) (c .before .before .before .before .loop .c .end))) (c .before .before .before .before .before .before .before .args .prefix) (c .before .before .before .before .before .before .before .args .trail) (c .before .before .before .before .loop .inv .3) ((c .before .before .before .before .before .before .before .pre .1 .0) .room) ((c .before .before .before .before .before .before .before .pre .1 .0) .trail) ((c .before .before .before .before .before .before .before .pre .1 .0) .deep), last-sound (c .before .before .before .before .before .before .before .args .store .now) (c .before .before .before .before .before .before .before .args .level) (c .before .before .before .before .loop .num) (c .before .before .before .before .loop .low) (c .before .before .before .before .loop .c) (c .before .before .before .before .before .before .before .args .prefix) (c .before .before .before .before .before .before .before .args .hi .now) (c .before .before .before .before .loop .inv .5) (pends-end _ _ _ _ (c .before .before .before .read-child .ensures) (c .before .enum-told .given .1))))
+count-children-count-node-requires t c κs = (omega arith, (child-ready (c .before .before .before .before .before .before .before .args .store .now) (c .before .before .before .before .before .before .before .args .level) (c .before .before .before .before .loop .num) (part (c .before .before .before .before .before .before .before .args .store .now) (c .before .before .before .before .loop .low)) (kidsE (listed (c .before .before .before .before .before .before .before .args .store .now) (c .before .before .before .before .loop .c .at) (c .before .before .before .before .loop .c .end))) (c .before .before .before .before .before .before .before .args .prefix) (c .before .before .before .before .before .before .before .args .trail) (c .before .before .before .before .loop .inv .3) ((c .before .before .before .before .before .before .before .pre .1 .0) .room) ((c .before .before .before .before .before .before .before .pre .1 .0) .trail) ((c .before .before .before .before .before .before .before .pre .1 .0) .deep), last-sound (c .before .before .before .before .before .before .before .args .store .now) (c .before .before .before .before .before .before .before .args .level) (c .before .before .before .before .loop .num) (c .before .before .before .before .loop .low) (c .before .before .before .before .loop .c) (c .before .before .before .before .before .before .before .args .prefix) (c .before .before .before .before .before .before .before .args .hi .now) (c .before .before .before .before .before .before .before .args .trail) (c .before .before .before .before .before .before .before .args .notes .now) (c .before .before .before .before .before .before .before .args .n) (c .before .before .before .before .loop .inv .5) (pends-end _ _ _ _ (c .before .before .before .read-child .ensures) (c .before .enum-told .given .1)), last-told (c .before .before .before .before .before .before .before .args .store .now) (c .before .before .before .before .before .before .before .args .level) (c .before .before .before .before .loop .num) (c .before .before .before .before .loop .low) (c .before .before .before .before .loop .c) (c .before .before .before .before .before .before .before .args .prefix) (c .before .before .before .before .before .before .before .args .hi .now) (c .before .before .before .before .before .before .before .args .trail) (c .before .before .before .before .before .before .before .args .notes .now) (c .before .before .before .before .before .before .before .args .n) (c .before .before .before .before .loop .inv .5) (pends-end _ _ _ _ (c .before .before .before .read-child .ensures) (c .before .enum-told .given .1))))
 
 count-children-capped-sum-requires : (t : ℕ) → count-children-lts.Need-capped-sum-requires (
   read-child-reads.Asked,
@@ -306,7 +320,7 @@ count-children-count-node-requires-2 : (t : ℕ) → count-children-lts.Need-cou
   capped-sum-reads.Asked,
   capped-sum-reads.Learnt,
 ) (count-children-at t) count-children.Post count-children-Inv-loop count-children-μ-loop
-count-children-count-node-requires-2 t c κs = (omega arith, (child-ready (c .before .before .before .before .before .before .before .before .before .args .store .now) (c .before .before .before .before .before .before .before .before .before .args .level) (c .before .before .before .before .before .before .loop .num) (part (c .before .before .before .before .before .before .before .before .before .args .store .now) (c .before .before .before .before .before .before .loop .low)) (kidsE (listed (c .before .before .before .before .before .before .before .before .before .args .store .now) (c .before .before .before .before .before .before .loop .c .at) (c .before .before .before .before .before .before .loop .c .end))) (c .before .before .before .before .before .before .before .before .before .args .prefix) (c .before .before .before .before .before .before .before .before .before .args .trail) (c .before .before .before .before .before .before .loop .inv .3) ((c .before .before .before .before .before .before .before .before .before .pre .1 .0) .room) ((c .before .before .before .before .before .before .before .before .before .pre .1 .0) .trail) ((c .before .before .before .before .before .before .before .before .before .pre .1 .0) .deep), next-sound (c .before .before .before .before .before .before .before .before .before .args .store .now) (c .before .before .before .before .before .before .before .before .before .args .level) (c .before .before .before .before .before .before .loop .num) (c .before .before .before .before .before .before .loop .low) (c .before .before .before .before .before .before .loop .c) (c .before .before .before .before .before .before .before .before .before .args .prefix) (c .before .before .before .before .before .before .before .before .before .args .hi .now) (c .before .before .before .before .before .before .loop .inv .5) (c .before .before .before .k .given .0 .0) (c .before .before .before .k .given .0 .1 .0) (c .before .before .before .k .given .0 .1 .1 .0) (kid-next t (c .before .before) .lists)))
+count-children-count-node-requires-2 t c κs = (omega arith, (child-ready (c .before .before .before .before .before .before .before .before .before .args .store .now) (c .before .before .before .before .before .before .before .before .before .args .level) (c .before .before .before .before .before .before .loop .num) (part (c .before .before .before .before .before .before .before .before .before .args .store .now) (c .before .before .before .before .before .before .loop .low)) (kidsE (listed (c .before .before .before .before .before .before .before .before .before .args .store .now) (c .before .before .before .before .before .before .loop .c .at) (c .before .before .before .before .before .before .loop .c .end))) (c .before .before .before .before .before .before .before .before .before .args .prefix) (c .before .before .before .before .before .before .before .before .before .args .trail) (c .before .before .before .before .before .before .loop .inv .3) ((c .before .before .before .before .before .before .before .before .before .pre .1 .0) .room) ((c .before .before .before .before .before .before .before .before .before .pre .1 .0) .trail) ((c .before .before .before .before .before .before .before .before .before .pre .1 .0) .deep), next-sound (c .before .before .before .before .before .before .before .before .before .args .store .now) (c .before .before .before .before .before .before .before .before .before .args .level) (c .before .before .before .before .before .before .loop .num) (c .before .before .before .before .before .before .loop .low) (c .before .before .before .before .before .before .loop .c) (c .before .before .before .before .before .before .before .before .before .args .prefix) (c .before .before .before .before .before .before .before .before .before .args .hi .now) (c .before .before .before .before .before .before .before .before .before .args .trail) (c .before .before .before .before .before .before .before .before .before .args .notes .now) (c .before .before .before .before .before .before .before .before .before .args .n) (c .before .before .before .before .before .before .loop .inv .5) (c .before .before .before .k .given .0 .0) (c .before .before .before .k .given .0 .1 .0) (c .before .before .before .k .given .0 .1 .1 .0) (kid-next t (c .before .before) .lists), next-told (c .before .before .before .before .before .before .before .before .before .args .store .now) (c .before .before .before .before .before .before .before .before .before .args .level) (c .before .before .before .before .before .before .loop .num) (c .before .before .before .before .before .before .loop .low) (c .before .before .before .before .before .before .loop .c) (c .before .before .before .before .before .before .before .before .before .args .prefix) (c .before .before .before .before .before .before .before .before .before .args .hi .now) (c .before .before .before .before .before .before .before .before .before .args .trail) (c .before .before .before .before .before .before .before .before .before .args .notes .now) (c .before .before .before .before .before .before .before .before .before .args .n) (c .before .before .before .before .before .before .loop .inv .5) (c .before .before .before .k .given .0 .0) (c .before .before .before .k .given .0 .1 .0) (c .before .before .before .k .given .0 .1 .1 .0) (kid-next t (c .before .before) .lists)))
 
 count-children-capped-sum-requires-2 : (t : ℕ) → count-children-lts.Need-capped-sum-requires-2 (
   read-child-reads.Asked,
@@ -342,7 +356,7 @@ count-children-loop-again t c = let n = kid-next t (c .before .before .before .b
   c .capped-sum2 .ensures .1,
   later-usable (nodesOf (length (c .before .before .before .before .before .before .before .before .before .before .before .args .store .now))) (λ j. treeAt (c .before .before .before .before .before .before .before .before .before .before .before .args .level) (c .before .before .before .before .before .before .before .before .before .before .before .args .store .now) j) (kid (c .before .before .before .before .before .before .before .before .loop .num) (part (c .before .before .before .before .before .before .before .before .before .before .before .args .store .now) (c .before .before .before .before .before .before .before .before .loop .low))) _ _ (n .lists) (c .before .before .before .before .before .before .before .before .loop .inv .3),
   walk-on (λ j. treeAt (c .before .before .before .before .before .before .before .before .before .before .before .args .level) (c .before .before .before .before .before .before .before .before .before .before .before .args .store .now) j) (passing (c .before .before .before .before .before .before .before .before .before .before .before .args .store .now) (c .before .before .before .before .before .before .before .before .before .before .before .args .trail)) (pathIn (c .before .before .before .before .before .before .before .before .before .before .before .args .prefix)) (c .before .before .before .before .before .before .before .before .before .before .before .args .hi .now) (c .before .before .before .before .before .before .before .before .loop .num) (part (c .before .before .before .before .before .before .before .before .before .before .before .args .store .now) (c .before .before .before .before .before .before .before .before .loop .low)) (c .before .before .before .before .before .k .given .0 .0) (part (c .before .before .before .before .before .before .before .before .before .before .before .args .store .now) (c .before .before .before .before .before .k .given .0 .1 .0)) _ (kidsE (listed (c .before .before .before .before .before .before .before .before .before .before .before .args .store .now) ((c .before .before .before .before .before .k .given .0 .1 .1 .0) .at) ((c .before .before .before .before .before .k .given .0 .1 .1 .0) .end))) (c .before .before .before .before .before .before .before .before .loop .total) (c .before .count-node2 .result) _ _ (n .lists) (c .before .count-node2 .ensures .0) (c .capped-sum2 .ensures .0) (c .before .before .before .before .before .before .before .before .loop .inv .4),
-  later-sound (c .before .before .before .before .before .before .before .before .before .before .before .args .store .now) (c .before .before .before .before .before .before .before .before .before .before .before .args .level) (c .before .before .before .before .before .before .before .before .loop .num) (c .before .before .before .before .before .before .before .before .loop .low) (c .before .before .before .before .before .before .before .before .loop .c) (c .before .before .before .before .before .before .before .before .before .before .before .args .prefix) (c .before .before .before .before .before .before .before .before .before .before .before .args .hi .now) (c .before .before .before .before .before .before .before .before .loop .inv .5) _ _ _ (n .lists),
+  later-sound (c .before .before .before .before .before .before .before .before .before .before .before .args .store .now) (c .before .before .before .before .before .before .before .before .before .before .before .args .level) (c .before .before .before .before .before .before .before .before .loop .num) (c .before .before .before .before .before .before .before .before .loop .low) (c .before .before .before .before .before .before .before .before .loop .c) (c .before .before .before .before .before .before .before .before .before .before .before .args .prefix) (c .before .before .before .before .before .before .before .before .before .before .before .args .hi .now) (c .before .before .before .before .before .before .before .before .before .before .before .args .trail) (c .before .before .before .before .before .before .before .before .before .before .before .args .notes .now) (c .before .before .before .before .before .before .before .before .before .before .before .args .n) (c .before .before .before .before .before .before .before .before .loop .inv .5) _ _ _ (n .lists),
 )
 
 count-node-common-length-requires : (t : ℕ) → count-node-lts.Need-common-length-requires (
@@ -350,6 +364,8 @@ count-node-common-length-requires : (t : ℕ) → count-node-lts.Need-common-len
   common-length-reads.Learnt,
   extend-reads.Asked,
   extend-reads.Learnt,
+  note-above-reads.Asked,
+  note-above-reads.Learnt,
   u16-at-reads.Asked,
   u16-at-reads.Learnt,
   count-leaf-reads.Asked,
@@ -360,6 +376,8 @@ count-node-common-length-requires : (t : ℕ) → count-node-lts.Need-common-len
   read-child-reads.Learnt,
   lengthen-trail-reads.Asked,
   lengthen-trail-reads.Learnt,
+  note-own-reads.Asked,
+  note-own-reads.Learnt,
   count-children-below t,
   count-children.Post,
   capped-sum-reads.Asked,
@@ -372,6 +390,8 @@ count-node-sub-room : (t : ℕ) → count-node-lts.Need-sub-room (
   common-length-reads.Learnt,
   extend-reads.Asked,
   extend-reads.Learnt,
+  note-above-reads.Asked,
+  note-above-reads.Learnt,
   u16-at-reads.Asked,
   u16-at-reads.Learnt,
   count-leaf-reads.Asked,
@@ -382,6 +402,8 @@ count-node-sub-room : (t : ℕ) → count-node-lts.Need-sub-room (
   read-child-reads.Learnt,
   lengthen-trail-reads.Asked,
   lengthen-trail-reads.Learnt,
+  note-own-reads.Asked,
+  note-own-reads.Learnt,
   count-children-below t,
   count-children.Post,
   capped-sum-reads.Asked,
@@ -394,6 +416,8 @@ count-node-returns : (t : ℕ) → count-node-lts.Need-returns (
   common-length-reads.Learnt,
   extend-reads.Asked,
   extend-reads.Learnt,
+  note-above-reads.Asked,
+  note-above-reads.Learnt,
   u16-at-reads.Asked,
   u16-at-reads.Learnt,
   count-leaf-reads.Asked,
@@ -404,6 +428,8 @@ count-node-returns : (t : ℕ) → count-node-lts.Need-returns (
   read-child-reads.Learnt,
   lengthen-trail-reads.Asked,
   lengthen-trail-reads.Learnt,
+  note-own-reads.Asked,
+  note-own-reads.Learnt,
   count-children-below t,
   count-children.Post,
   capped-sum-reads.Asked,
@@ -416,6 +442,8 @@ count-node-sub-extend : (t : ℕ) → count-node-lts.Need-sub-extend (
   common-length-reads.Learnt,
   extend-reads.Asked,
   extend-reads.Learnt,
+  note-above-reads.Asked,
+  note-above-reads.Learnt,
   u16-at-reads.Asked,
   u16-at-reads.Learnt,
   count-leaf-reads.Asked,
@@ -426,6 +454,8 @@ count-node-sub-extend : (t : ℕ) → count-node-lts.Need-sub-extend (
   read-child-reads.Learnt,
   lengthen-trail-reads.Asked,
   lengthen-trail-reads.Learnt,
+  note-own-reads.Asked,
+  note-own-reads.Learnt,
   count-children-below t,
   count-children.Post,
   capped-sum-reads.Asked,
@@ -438,6 +468,8 @@ count-node-part-extend-start : (t : ℕ) → count-node-lts.Need-part-extend-sta
   common-length-reads.Learnt,
   extend-reads.Asked,
   extend-reads.Learnt,
+  note-above-reads.Asked,
+  note-above-reads.Learnt,
   u16-at-reads.Asked,
   u16-at-reads.Learnt,
   count-leaf-reads.Asked,
@@ -448,6 +480,8 @@ count-node-part-extend-start : (t : ℕ) → count-node-lts.Need-part-extend-sta
   read-child-reads.Learnt,
   lengthen-trail-reads.Asked,
   lengthen-trail-reads.Learnt,
+  note-own-reads.Asked,
+  note-own-reads.Learnt,
   count-children-below t,
   count-children.Post,
   capped-sum-reads.Asked,
@@ -460,6 +494,8 @@ count-node-part-extend-end : (t : ℕ) → count-node-lts.Need-part-extend-end (
   common-length-reads.Learnt,
   extend-reads.Asked,
   extend-reads.Learnt,
+  note-above-reads.Asked,
+  note-above-reads.Learnt,
   u16-at-reads.Asked,
   u16-at-reads.Learnt,
   count-leaf-reads.Asked,
@@ -470,6 +506,8 @@ count-node-part-extend-end : (t : ℕ) → count-node-lts.Need-part-extend-end (
   read-child-reads.Learnt,
   lengthen-trail-reads.Asked,
   lengthen-trail-reads.Learnt,
+  note-own-reads.Asked,
+  note-own-reads.Learnt,
   count-children-below t,
   count-children.Post,
   capped-sum-reads.Asked,
@@ -482,6 +520,8 @@ count-node-extend-requires : (t : ℕ) → count-node-lts.Need-extend-requires (
   common-length-reads.Learnt,
   extend-reads.Asked,
   extend-reads.Learnt,
+  note-above-reads.Asked,
+  note-above-reads.Learnt,
   u16-at-reads.Asked,
   u16-at-reads.Learnt,
   count-leaf-reads.Asked,
@@ -492,6 +532,8 @@ count-node-extend-requires : (t : ℕ) → count-node-lts.Need-extend-requires (
   read-child-reads.Learnt,
   lengthen-trail-reads.Asked,
   lengthen-trail-reads.Learnt,
+  note-own-reads.Asked,
+  note-own-reads.Learnt,
   count-children-below t,
   count-children.Post,
   capped-sum-reads.Asked,
@@ -499,11 +541,13 @@ count-node-extend-requires : (t : ℕ) → count-node-lts.Need-extend-requires (
 ) (count-node-at t) count-node.Post
 count-node-extend-requires t c κs = let l : length (take ((c .before .before .before .common-length .result) - 0) (c .before .before .before .before .before .before .before .args .lo .now)) ≡ (c .before .before .before .common-length .result) - 0 = length-take-le ((c .before .before .before .common-length .result) - 0) (c .before .before .before .before .before .before .before .args .lo .now) (omega arith) in let r = (c .before .before .before .before .before .before .before .pre .1 .0) .room in omega arith
 
-count-node-mul-at : (t : ℕ) → count-node-lts.Need-mul-at (
+count-node-sub-note-above : (t : ℕ) → count-node-lts.Need-sub-note-above (
   common-length-reads.Asked,
   common-length-reads.Learnt,
   extend-reads.Asked,
   extend-reads.Learnt,
+  note-above-reads.Asked,
+  note-above-reads.Learnt,
   u16-at-reads.Asked,
   u16-at-reads.Learnt,
   count-leaf-reads.Asked,
@@ -514,18 +558,308 @@ count-node-mul-at : (t : ℕ) → count-node-lts.Need-mul-at (
   read-child-reads.Learnt,
   lengthen-trail-reads.Asked,
   lengthen-trail-reads.Learnt,
+  note-own-reads.Asked,
+  note-own-reads.Learnt,
   count-children-below t,
   count-children.Post,
   capped-sum-reads.Asked,
   capped-sum-reads.Learnt,
 ) (count-node-at t) count-node.Post
-count-node-mul-at t c = let w = node-inside (c .before .before .before .before .before .before .before .before .args .store .now) (c .before .before .before .before .before .before .before .before .args .num) (c .before .before .before .before .before .before .before .before .args .level) ((c .before .before .before .before .before .before .before .before .pre .1 .0) .reads) in omega arith
+count-node-sub-note-above t c = search needs
+
+count-node-part-note-above-start : (t : ℕ) → count-node-lts.Need-part-note-above-start (
+  common-length-reads.Asked,
+  common-length-reads.Learnt,
+  extend-reads.Asked,
+  extend-reads.Learnt,
+  note-above-reads.Asked,
+  note-above-reads.Learnt,
+  u16-at-reads.Asked,
+  u16-at-reads.Learnt,
+  count-leaf-reads.Asked,
+  count-leaf-reads.Learnt,
+  count-entries-reads.Asked,
+  count-entries-reads.Learnt,
+  read-child-reads.Asked,
+  read-child-reads.Learnt,
+  lengthen-trail-reads.Asked,
+  lengthen-trail-reads.Learnt,
+  note-own-reads.Asked,
+  note-own-reads.Learnt,
+  count-children-below t,
+  count-children.Post,
+  capped-sum-reads.Asked,
+  capped-sum-reads.Learnt,
+) (count-node-at t) count-node.Post
+count-node-part-note-above-start t c = search needs
+
+count-node-part-note-above-end : (t : ℕ) → count-node-lts.Need-part-note-above-end (
+  common-length-reads.Asked,
+  common-length-reads.Learnt,
+  extend-reads.Asked,
+  extend-reads.Learnt,
+  note-above-reads.Asked,
+  note-above-reads.Learnt,
+  u16-at-reads.Asked,
+  u16-at-reads.Learnt,
+  count-leaf-reads.Asked,
+  count-leaf-reads.Learnt,
+  count-entries-reads.Asked,
+  count-entries-reads.Learnt,
+  read-child-reads.Asked,
+  read-child-reads.Learnt,
+  lengthen-trail-reads.Asked,
+  lengthen-trail-reads.Learnt,
+  note-own-reads.Asked,
+  note-own-reads.Learnt,
+  count-children-below t,
+  count-children.Post,
+  capped-sum-reads.Asked,
+  capped-sum-reads.Learnt,
+) (count-node-at t) count-node.Post
+count-node-part-note-above-end t c = search needs
+
+count-node-sub-note-above-2 : (t : ℕ) → count-node-lts.Need-sub-note-above-2 (
+  common-length-reads.Asked,
+  common-length-reads.Learnt,
+  extend-reads.Asked,
+  extend-reads.Learnt,
+  note-above-reads.Asked,
+  note-above-reads.Learnt,
+  u16-at-reads.Asked,
+  u16-at-reads.Learnt,
+  count-leaf-reads.Asked,
+  count-leaf-reads.Learnt,
+  count-entries-reads.Asked,
+  count-entries-reads.Learnt,
+  read-child-reads.Asked,
+  read-child-reads.Learnt,
+  lengthen-trail-reads.Asked,
+  lengthen-trail-reads.Learnt,
+  note-own-reads.Asked,
+  note-own-reads.Learnt,
+  count-children-below t,
+  count-children.Post,
+  capped-sum-reads.Asked,
+  capped-sum-reads.Learnt,
+) (count-node-at t) count-node.Post
+count-node-sub-note-above-2 t c = search needs
+
+count-node-part-note-above-start-2 : (t : ℕ) → count-node-lts.Need-part-note-above-start-2 (
+  common-length-reads.Asked,
+  common-length-reads.Learnt,
+  extend-reads.Asked,
+  extend-reads.Learnt,
+  note-above-reads.Asked,
+  note-above-reads.Learnt,
+  u16-at-reads.Asked,
+  u16-at-reads.Learnt,
+  count-leaf-reads.Asked,
+  count-leaf-reads.Learnt,
+  count-entries-reads.Asked,
+  count-entries-reads.Learnt,
+  read-child-reads.Asked,
+  read-child-reads.Learnt,
+  lengthen-trail-reads.Asked,
+  lengthen-trail-reads.Learnt,
+  note-own-reads.Asked,
+  note-own-reads.Learnt,
+  count-children-below t,
+  count-children.Post,
+  capped-sum-reads.Asked,
+  capped-sum-reads.Learnt,
+) (count-node-at t) count-node.Post
+count-node-part-note-above-start-2 t c = search needs
+
+count-node-part-note-above-end-2 : (t : ℕ) → count-node-lts.Need-part-note-above-end-2 (
+  common-length-reads.Asked,
+  common-length-reads.Learnt,
+  extend-reads.Asked,
+  extend-reads.Learnt,
+  note-above-reads.Asked,
+  note-above-reads.Learnt,
+  u16-at-reads.Asked,
+  u16-at-reads.Learnt,
+  count-leaf-reads.Asked,
+  count-leaf-reads.Learnt,
+  count-entries-reads.Asked,
+  count-entries-reads.Learnt,
+  read-child-reads.Asked,
+  read-child-reads.Learnt,
+  lengthen-trail-reads.Asked,
+  lengthen-trail-reads.Learnt,
+  note-own-reads.Asked,
+  note-own-reads.Learnt,
+  count-children-below t,
+  count-children.Post,
+  capped-sum-reads.Asked,
+  capped-sum-reads.Learnt,
+) (count-node-at t) count-node.Post
+count-node-part-note-above-end-2 t c = search needs
+
+count-node-sub-note-above-3 : (t : ℕ) → count-node-lts.Need-sub-note-above-3 (
+  common-length-reads.Asked,
+  common-length-reads.Learnt,
+  extend-reads.Asked,
+  extend-reads.Learnt,
+  note-above-reads.Asked,
+  note-above-reads.Learnt,
+  u16-at-reads.Asked,
+  u16-at-reads.Learnt,
+  count-leaf-reads.Asked,
+  count-leaf-reads.Learnt,
+  count-entries-reads.Asked,
+  count-entries-reads.Learnt,
+  read-child-reads.Asked,
+  read-child-reads.Learnt,
+  lengthen-trail-reads.Asked,
+  lengthen-trail-reads.Learnt,
+  note-own-reads.Asked,
+  note-own-reads.Learnt,
+  count-children-below t,
+  count-children.Post,
+  capped-sum-reads.Asked,
+  capped-sum-reads.Learnt,
+) (count-node-at t) count-node.Post
+count-node-sub-note-above-3 t c = search needs
+
+count-node-part-note-above-start-3 : (t : ℕ) → count-node-lts.Need-part-note-above-start-3 (
+  common-length-reads.Asked,
+  common-length-reads.Learnt,
+  extend-reads.Asked,
+  extend-reads.Learnt,
+  note-above-reads.Asked,
+  note-above-reads.Learnt,
+  u16-at-reads.Asked,
+  u16-at-reads.Learnt,
+  count-leaf-reads.Asked,
+  count-leaf-reads.Learnt,
+  count-entries-reads.Asked,
+  count-entries-reads.Learnt,
+  read-child-reads.Asked,
+  read-child-reads.Learnt,
+  lengthen-trail-reads.Asked,
+  lengthen-trail-reads.Learnt,
+  note-own-reads.Asked,
+  note-own-reads.Learnt,
+  count-children-below t,
+  count-children.Post,
+  capped-sum-reads.Asked,
+  capped-sum-reads.Learnt,
+) (count-node-at t) count-node.Post
+count-node-part-note-above-start-3 t c = search needs
+
+count-node-part-note-above-end-3 : (t : ℕ) → count-node-lts.Need-part-note-above-end-3 (
+  common-length-reads.Asked,
+  common-length-reads.Learnt,
+  extend-reads.Asked,
+  extend-reads.Learnt,
+  note-above-reads.Asked,
+  note-above-reads.Learnt,
+  u16-at-reads.Asked,
+  u16-at-reads.Learnt,
+  count-leaf-reads.Asked,
+  count-leaf-reads.Learnt,
+  count-entries-reads.Asked,
+  count-entries-reads.Learnt,
+  read-child-reads.Asked,
+  read-child-reads.Learnt,
+  lengthen-trail-reads.Asked,
+  lengthen-trail-reads.Learnt,
+  note-own-reads.Asked,
+  note-own-reads.Learnt,
+  count-children-below t,
+  count-children.Post,
+  capped-sum-reads.Asked,
+  capped-sum-reads.Learnt,
+) (count-node-at t) count-node.Post
+count-node-part-note-above-end-3 t c = search needs
+
+count-node-slice-aggregate-note-above : (t : ℕ) → count-node-lts.Need-slice-aggregate-note-above (
+  common-length-reads.Asked,
+  common-length-reads.Learnt,
+  extend-reads.Asked,
+  extend-reads.Learnt,
+  note-above-reads.Asked,
+  note-above-reads.Learnt,
+  u16-at-reads.Asked,
+  u16-at-reads.Learnt,
+  count-leaf-reads.Asked,
+  count-leaf-reads.Learnt,
+  count-entries-reads.Asked,
+  count-entries-reads.Learnt,
+  read-child-reads.Asked,
+  read-child-reads.Learnt,
+  lengthen-trail-reads.Asked,
+  lengthen-trail-reads.Learnt,
+  note-own-reads.Asked,
+  note-own-reads.Learnt,
+  count-children-below t,
+  count-children.Post,
+  capped-sum-reads.Asked,
+  capped-sum-reads.Learnt,
+) (count-node-at t) count-node.Post
+count-node-slice-aggregate-note-above t c = search needs
+
+count-node-note-above-requires : (t : ℕ) → count-node-lts.Need-note-above-requires (
+  common-length-reads.Asked,
+  common-length-reads.Learnt,
+  extend-reads.Asked,
+  extend-reads.Learnt,
+  note-above-reads.Asked,
+  note-above-reads.Learnt,
+  u16-at-reads.Asked,
+  u16-at-reads.Learnt,
+  count-leaf-reads.Asked,
+  count-leaf-reads.Learnt,
+  count-entries-reads.Asked,
+  count-entries-reads.Learnt,
+  read-child-reads.Asked,
+  read-child-reads.Learnt,
+  lengthen-trail-reads.Asked,
+  lengthen-trail-reads.Learnt,
+  note-own-reads.Asked,
+  note-own-reads.Learnt,
+  count-children-below t,
+  count-children.Post,
+  capped-sum-reads.Asked,
+  capped-sum-reads.Learnt,
+) (count-node-at t) count-node.Post
+count-node-note-above-requires t c κs = let l : length (take ((c .before .before .before .before .before .before .before .before .common-length .result) - 0) (c .before .before .before .before .before .before .before .before .before .before .before .before .args .lo .now)) ≡ (c .before .before .before .before .before .before .before .before .common-length .result) - 0 = length-take-le ((c .before .before .before .before .before .before .before .before .common-length .result) - 0) (c .before .before .before .before .before .before .before .before .before .before .before .before .args .lo .now) (omega arith) in let r = (c .before .before .before .before .before .before .before .before .before .before .before .before .pre .1 .0) .room in (omega arith, trail-wider (c .before .before .before .before .before .before .before .before .before .before .before .before .args .store .now) ((c .before .before .before .before .before .before .before .before .before .before .before .before .args .prefix) .len) ((c .before .before .before .before .extend .result) .len) (c .before .before .before .before .before .before .before .before .before .before .before .before .args .trail) (omega arith) ((c .before .before .before .before .before .before .before .before .before .before .before .before .pre .1 .0) .trail), handed (c .before .before .before .before .before .before .before .before .before .before .before .before .args .prefix) (c .before .before .before .before .before .before .before .before .before .before .before .before .args .lo .now) (c .before .before .before .before .before .before .before .before .before .before .before .before .args .hi .now) (c .before .before .before .before .before .before .before .before .common-length .result) (c .before .before .before .before .before .before .before .before .common-length .ensures .0) (c .before .before .before .before .extend .result) (c .before .before .before .before .extend .ensures .0) (c .before .before .before .before .before .before .before .before .before .before .before .before .args .store .now) (c .before .before .before .before .before .before .before .before .before .before .before .before .args .trail) (c .before .before .before .before .before .before .before .before .before .before .before .before .args .above .now) (c .before .before .before .before .before .before .before .before .before .before .before .before .args .many) (c .before .before .before .before .before .before .before .before .before .before .before .before .pre .1 .2))
+
+count-node-mul-at : (t : ℕ) → count-node-lts.Need-mul-at (
+  common-length-reads.Asked,
+  common-length-reads.Learnt,
+  extend-reads.Asked,
+  extend-reads.Learnt,
+  note-above-reads.Asked,
+  note-above-reads.Learnt,
+  u16-at-reads.Asked,
+  u16-at-reads.Learnt,
+  count-leaf-reads.Asked,
+  count-leaf-reads.Learnt,
+  count-entries-reads.Asked,
+  count-entries-reads.Learnt,
+  read-child-reads.Asked,
+  read-child-reads.Learnt,
+  lengthen-trail-reads.Asked,
+  lengthen-trail-reads.Learnt,
+  note-own-reads.Asked,
+  note-own-reads.Learnt,
+  count-children-below t,
+  count-children.Post,
+  capped-sum-reads.Asked,
+  capped-sum-reads.Learnt,
+) (count-node-at t) count-node.Post
+count-node-mul-at t c = let w = node-inside (c .before .before .before .before .before .before .before .before .before .before .before .before .before .before .args .store .now) (c .before .before .before .before .before .before .before .before .before .before .before .before .before .before .args .num) (c .before .before .before .before .before .before .before .before .before .before .before .before .before .before .args .level) ((c .before .before .before .before .before .before .before .before .before .before .before .before .before .before .pre .1 .0) .reads) in omega arith
 
 count-node-u16-at-requires : (t : ℕ) → count-node-lts.Need-u16-at-requires (
   common-length-reads.Asked,
   common-length-reads.Learnt,
   extend-reads.Asked,
   extend-reads.Learnt,
+  note-above-reads.Asked,
+  note-above-reads.Learnt,
   u16-at-reads.Asked,
   u16-at-reads.Learnt,
   count-leaf-reads.Asked,
@@ -536,18 +870,22 @@ count-node-u16-at-requires : (t : ℕ) → count-node-lts.Need-u16-at-requires (
   read-child-reads.Learnt,
   lengthen-trail-reads.Asked,
   lengthen-trail-reads.Learnt,
+  note-own-reads.Asked,
+  note-own-reads.Learnt,
   count-children-below t,
   count-children.Post,
   capped-sum-reads.Asked,
   capped-sum-reads.Learnt,
 ) (count-node-at t) count-node.Post
-count-node-u16-at-requires t c κs = let w = node-inside (c .before .before .before .before .before .before .before .before .args .store .now) (c .before .before .before .before .before .before .before .before .args .num) (c .before .before .before .before .before .before .before .before .args .level) ((c .before .before .before .before .before .before .before .before .pre .1 .0) .reads) in omega arith
+count-node-u16-at-requires t c κs = let w = node-inside (c .before .before .before .before .before .before .before .before .before .before .before .before .before .before .args .store .now) (c .before .before .before .before .before .before .before .before .before .before .before .before .before .before .args .num) (c .before .before .before .before .before .before .before .before .before .before .before .before .before .before .args .level) ((c .before .before .before .before .before .before .before .before .before .before .before .before .before .before .pre .1 .0) .reads) in omega arith
 
 count-node-add-from : (t : ℕ) → count-node-lts.Need-add-from (
   common-length-reads.Asked,
   common-length-reads.Learnt,
   extend-reads.Asked,
   extend-reads.Learnt,
+  note-above-reads.Asked,
+  note-above-reads.Learnt,
   u16-at-reads.Asked,
   u16-at-reads.Learnt,
   count-leaf-reads.Asked,
@@ -558,18 +896,22 @@ count-node-add-from : (t : ℕ) → count-node-lts.Need-add-from (
   read-child-reads.Learnt,
   lengthen-trail-reads.Asked,
   lengthen-trail-reads.Learnt,
+  note-own-reads.Asked,
+  note-own-reads.Learnt,
   count-children-below t,
   count-children.Post,
   capped-sum-reads.Asked,
   capped-sum-reads.Learnt,
 ) (count-node-at t) count-node.Post
-count-node-add-from t c = let w = node-inside (c .before .before .before .before .before .before .before .before .before .args .store .now) (c .before .before .before .before .before .before .before .before .before .args .num) (c .before .before .before .before .before .before .before .before .before .args .level) ((c .before .before .before .before .before .before .before .before .before .pre .1 .0) .reads) in omega arith
+count-node-add-from t c = let w = node-inside (c .before .before .before .before .before .before .before .before .before .before .before .before .before .before .before .args .store .now) (c .before .before .before .before .before .before .before .before .before .before .before .before .before .before .before .args .num) (c .before .before .before .before .before .before .before .before .before .before .before .before .before .before .before .args .level) ((c .before .before .before .before .before .before .before .before .before .before .before .before .before .before .before .pre .1 .0) .reads) in omega arith
 
 count-node-add-end : (t : ℕ) → count-node-lts.Need-add-end (
   common-length-reads.Asked,
   common-length-reads.Learnt,
   extend-reads.Asked,
   extend-reads.Learnt,
+  note-above-reads.Asked,
+  note-above-reads.Learnt,
   u16-at-reads.Asked,
   u16-at-reads.Learnt,
   count-leaf-reads.Asked,
@@ -580,150 +922,22 @@ count-node-add-end : (t : ℕ) → count-node-lts.Need-add-end (
   read-child-reads.Learnt,
   lengthen-trail-reads.Asked,
   lengthen-trail-reads.Learnt,
+  note-own-reads.Asked,
+  note-own-reads.Learnt,
   count-children-below t,
   count-children.Post,
   capped-sum-reads.Asked,
   capped-sum-reads.Learnt,
 ) (count-node-at t) count-node.Post
-count-node-add-end t c = let w = node-inside (c .before .before .before .before .before .before .before .before .before .args .store .now) (c .before .before .before .before .before .before .before .before .before .args .num) (c .before .before .before .before .before .before .before .before .before .args .level) ((c .before .before .before .before .before .before .before .before .before .pre .1 .0) .reads) in omega arith
-
-count-node-sub-count-leaf : (t : ℕ) → count-node-lts.Need-sub-count-leaf (
-  common-length-reads.Asked,
-  common-length-reads.Learnt,
-  extend-reads.Asked,
-  extend-reads.Learnt,
-  u16-at-reads.Asked,
-  u16-at-reads.Learnt,
-  count-leaf-reads.Asked,
-  count-leaf-reads.Learnt,
-  count-entries-reads.Asked,
-  count-entries-reads.Learnt,
-  read-child-reads.Asked,
-  read-child-reads.Learnt,
-  lengthen-trail-reads.Asked,
-  lengthen-trail-reads.Learnt,
-  count-children-below t,
-  count-children.Post,
-  capped-sum-reads.Asked,
-  capped-sum-reads.Learnt,
-) (count-node-at t) count-node.Post
-count-node-sub-count-leaf t c = search needs
-
-count-node-part-count-leaf-start : (t : ℕ) → count-node-lts.Need-part-count-leaf-start (
-  common-length-reads.Asked,
-  common-length-reads.Learnt,
-  extend-reads.Asked,
-  extend-reads.Learnt,
-  u16-at-reads.Asked,
-  u16-at-reads.Learnt,
-  count-leaf-reads.Asked,
-  count-leaf-reads.Learnt,
-  count-entries-reads.Asked,
-  count-entries-reads.Learnt,
-  read-child-reads.Asked,
-  read-child-reads.Learnt,
-  lengthen-trail-reads.Asked,
-  lengthen-trail-reads.Learnt,
-  count-children-below t,
-  count-children.Post,
-  capped-sum-reads.Asked,
-  capped-sum-reads.Learnt,
-) (count-node-at t) count-node.Post
-count-node-part-count-leaf-start t c = search needs
-
-count-node-part-count-leaf-end : (t : ℕ) → count-node-lts.Need-part-count-leaf-end (
-  common-length-reads.Asked,
-  common-length-reads.Learnt,
-  extend-reads.Asked,
-  extend-reads.Learnt,
-  u16-at-reads.Asked,
-  u16-at-reads.Learnt,
-  count-leaf-reads.Asked,
-  count-leaf-reads.Learnt,
-  count-entries-reads.Asked,
-  count-entries-reads.Learnt,
-  read-child-reads.Asked,
-  read-child-reads.Learnt,
-  lengthen-trail-reads.Asked,
-  lengthen-trail-reads.Learnt,
-  count-children-below t,
-  count-children.Post,
-  capped-sum-reads.Asked,
-  capped-sum-reads.Learnt,
-) (count-node-at t) count-node.Post
-count-node-part-count-leaf-end t c = search needs
-
-count-node-sub-count-leaf-2 : (t : ℕ) → count-node-lts.Need-sub-count-leaf-2 (
-  common-length-reads.Asked,
-  common-length-reads.Learnt,
-  extend-reads.Asked,
-  extend-reads.Learnt,
-  u16-at-reads.Asked,
-  u16-at-reads.Learnt,
-  count-leaf-reads.Asked,
-  count-leaf-reads.Learnt,
-  count-entries-reads.Asked,
-  count-entries-reads.Learnt,
-  read-child-reads.Asked,
-  read-child-reads.Learnt,
-  lengthen-trail-reads.Asked,
-  lengthen-trail-reads.Learnt,
-  count-children-below t,
-  count-children.Post,
-  capped-sum-reads.Asked,
-  capped-sum-reads.Learnt,
-) (count-node-at t) count-node.Post
-count-node-sub-count-leaf-2 t c = search needs
-
-count-node-part-count-leaf-start-2 : (t : ℕ) → count-node-lts.Need-part-count-leaf-start-2 (
-  common-length-reads.Asked,
-  common-length-reads.Learnt,
-  extend-reads.Asked,
-  extend-reads.Learnt,
-  u16-at-reads.Asked,
-  u16-at-reads.Learnt,
-  count-leaf-reads.Asked,
-  count-leaf-reads.Learnt,
-  count-entries-reads.Asked,
-  count-entries-reads.Learnt,
-  read-child-reads.Asked,
-  read-child-reads.Learnt,
-  lengthen-trail-reads.Asked,
-  lengthen-trail-reads.Learnt,
-  count-children-below t,
-  count-children.Post,
-  capped-sum-reads.Asked,
-  capped-sum-reads.Learnt,
-) (count-node-at t) count-node.Post
-count-node-part-count-leaf-start-2 t c = search needs
-
-count-node-part-count-leaf-end-2 : (t : ℕ) → count-node-lts.Need-part-count-leaf-end-2 (
-  common-length-reads.Asked,
-  common-length-reads.Learnt,
-  extend-reads.Asked,
-  extend-reads.Learnt,
-  u16-at-reads.Asked,
-  u16-at-reads.Learnt,
-  count-leaf-reads.Asked,
-  count-leaf-reads.Learnt,
-  count-entries-reads.Asked,
-  count-entries-reads.Learnt,
-  read-child-reads.Asked,
-  read-child-reads.Learnt,
-  lengthen-trail-reads.Asked,
-  lengthen-trail-reads.Learnt,
-  count-children-below t,
-  count-children.Post,
-  capped-sum-reads.Asked,
-  capped-sum-reads.Learnt,
-) (count-node-at t) count-node.Post
-count-node-part-count-leaf-end-2 t c = search needs
+count-node-add-end t c = let w = node-inside (c .before .before .before .before .before .before .before .before .before .before .before .before .before .before .before .args .store .now) (c .before .before .before .before .before .before .before .before .before .before .before .before .before .before .before .args .num) (c .before .before .before .before .before .before .before .before .before .before .before .before .before .before .before .args .level) ((c .before .before .before .before .before .before .before .before .before .before .before .before .before .before .before .pre .1 .0) .reads) in omega arith
 
 count-node-count-leaf-requires : (t : ℕ) → count-node-lts.Need-count-leaf-requires (
   common-length-reads.Asked,
   common-length-reads.Learnt,
   extend-reads.Asked,
   extend-reads.Learnt,
+  note-above-reads.Asked,
+  note-above-reads.Learnt,
   u16-at-reads.Asked,
   u16-at-reads.Learnt,
   count-leaf-reads.Asked,
@@ -734,18 +948,22 @@ count-node-count-leaf-requires : (t : ℕ) → count-node-lts.Need-count-leaf-re
   read-child-reads.Learnt,
   lengthen-trail-reads.Asked,
   lengthen-trail-reads.Learnt,
+  note-own-reads.Asked,
+  note-own-reads.Learnt,
   count-children-below t,
   count-children.Post,
   capped-sum-reads.Asked,
   capped-sum-reads.Learnt,
 ) (count-node-at t) count-node.Post
-count-node-count-leaf-requires t c κs = let w = node-inside (c .before .before .before .before .before .before .before .before .before .before .before .before .args .store .now) (c .before .before .before .before .before .before .before .before .before .before .before .before .args .num) (c .before .before .before .before .before .before .before .before .before .before .before .before .args .level) ((c .before .before .before .before .before .before .before .before .before .before .before .before .pre .1 .0) .reads) in let l : length (take ((c .before .before .before .before .before .before .before .before .common-length .result) - 0) (c .before .before .before .before .before .before .before .before .before .before .before .before .args .lo .now)) ≡ (c .before .before .before .before .before .before .before .before .common-length .result) - 0 = length-take-le ((c .before .before .before .before .before .before .before .before .common-length .result) - 0) (c .before .before .before .before .before .before .before .before .before .before .before .before .args .lo .now) (omega arith) in let r = (c .before .before .before .before .before .before .before .before .before .before .before .before .pre .1 .0) .room in (omega arith, omega arith, omega arith, trail-wider (c .before .before .before .before .before .before .before .before .before .before .before .before .args .store .now) ((c .before .before .before .before .before .before .before .before .before .before .before .before .args .prefix) .len) ((c .before .before .before .before .extend .result) .len) (c .before .before .before .before .before .before .before .before .before .before .before .before .args .trail) (omega arith) ((c .before .before .before .before .before .before .before .before .before .before .before .before .pre .1 .0) .trail), leaf-keyed (c .before .before .before .before .before .before .before .before .before .before .before .before .args .prefix) (c .before .before .before .before .before .before .before .before .before .before .before .before .args .lo .now) (c .before .before .before .before .before .before .before .before .before .before .before .before .args .hi .now) (c .before .before .before .before .before .before .before .before .common-length .result) (c .before .before .before .before .before .before .before .before .common-length .ensures .0) (c .before .before .before .before .extend .result) (c .before .before .before .before .extend .ensures .0) (c .before .before .before .before .before .before .before .before .before .before .before .before .args .store .now) (c .before .before .before .before .before .before .before .before .before .before .before .before .args .level) (c .before .before .before .before .before .before .before .before .before .before .before .before .args .num) (c .before .before .before .before .before .before .before .before .before .before .before .before .pre .1 .0 .reads) (c .before .before .before .before .before .before .before .before .before .before .before .before .pre .1 .1) (c .before .before .before .u16-at .result) (c .before .before .before .u16-at .ensures .0) (omega arith))
+count-node-count-leaf-requires t c κs = let w = node-inside (c .before .before .before .before .before .before .before .before .before .before .before .before .before .before .before .before .before .args .store .now) (c .before .before .before .before .before .before .before .before .before .before .before .before .before .before .before .before .before .args .num) (c .before .before .before .before .before .before .before .before .before .before .before .before .before .before .before .before .before .args .level) ((c .before .before .before .before .before .before .before .before .before .before .before .before .before .before .before .before .before .pre .1 .0) .reads) in let l : length (take ((c .before .before .before .before .before .before .before .before .before .before .before .before .before .common-length .result) - 0) (c .before .before .before .before .before .before .before .before .before .before .before .before .before .before .before .before .before .args .lo .now)) ≡ (c .before .before .before .before .before .before .before .before .before .before .before .before .before .common-length .result) - 0 = length-take-le ((c .before .before .before .before .before .before .before .before .before .before .before .before .before .common-length .result) - 0) (c .before .before .before .before .before .before .before .before .before .before .before .before .before .before .before .before .before .args .lo .now) (omega arith) in let r = (c .before .before .before .before .before .before .before .before .before .before .before .before .before .before .before .before .before .pre .1 .0) .room in (omega arith, omega arith, omega arith, trail-wider (c .before .before .before .before .before .before .before .before .before .before .before .before .before .before .before .before .before .args .store .now) ((c .before .before .before .before .before .before .before .before .before .before .before .before .before .before .before .before .before .args .prefix) .len) ((c .before .before .before .before .before .before .before .before .before .extend .result) .len) (c .before .before .before .before .before .before .before .before .before .before .before .before .before .before .before .before .before .args .trail) (omega arith) ((c .before .before .before .before .before .before .before .before .before .before .before .before .before .before .before .before .before .pre .1 .0) .trail), leaf-told (c .before .before .before .before .before .before .before .before .before .before .before .before .before .before .before .before .before .args .prefix) (c .before .before .before .before .before .before .before .before .before .before .before .before .before .before .before .before .before .args .lo .now) (c .before .before .before .before .before .before .before .before .before .before .before .before .before .before .before .before .before .args .hi .now) (c .before .before .before .before .before .before .before .before .before .before .before .before .before .common-length .result) (c .before .before .before .before .before .before .before .before .before .before .before .before .before .common-length .ensures .0) (c .before .before .before .before .before .before .before .before .before .extend .result) (c .before .before .before .before .before .before .before .before .before .extend .ensures .0) (c .before .before .before .before .before .before .before .before .before .before .before .before .before .before .before .before .before .args .store .now) (c .before .before .before .before .before .before .before .before .before .before .before .before .before .before .before .before .before .args .level) (c .before .before .before .before .before .before .before .before .before .before .before .before .before .before .before .before .before .args .num) (c .before .before .before .before .before .before .before .before .before .before .before .before .before .before .before .before .before .pre .1 .0 .reads) (c .before .before .before .before .before .before .before .before .before .before .before .before .before .before .before .before .before .pre .1 .1) (c .before .before .u16-at .result) (c .before .before .u16-at .ensures .0) (omega arith) _ _ _ (c .before .before .before .before .note-above .ensures))
 
 count-node-returns-2 : (t : ℕ) → count-node-lts.Need-returns-2 (
   common-length-reads.Asked,
   common-length-reads.Learnt,
   extend-reads.Asked,
   extend-reads.Learnt,
+  note-above-reads.Asked,
+  note-above-reads.Learnt,
   u16-at-reads.Asked,
   u16-at-reads.Learnt,
   count-leaf-reads.Asked,
@@ -756,18 +974,22 @@ count-node-returns-2 : (t : ℕ) → count-node-lts.Need-returns-2 (
   read-child-reads.Learnt,
   lengthen-trail-reads.Asked,
   lengthen-trail-reads.Learnt,
+  note-own-reads.Asked,
+  note-own-reads.Learnt,
   count-children-below t,
   count-children.Post,
   capped-sum-reads.Asked,
   capped-sum-reads.Learnt,
 ) (count-node-at t) count-node.Post
-count-node-returns-2 t c = let w = node-inside (c .before .before .before .before .before .before .before .before .before .before .before .before .before .args .store .now) (c .before .before .before .before .before .before .before .before .before .before .before .before .before .args .num) (c .before .before .before .before .before .before .before .before .before .before .before .before .before .args .level) ((c .before .before .before .before .before .before .before .before .before .before .before .before .before .pre .1 .0) .reads) in (node-leaf (c .before .before .before .before .before .before .before .before .before .before .before .before .before .args .store .now) (c .before .before .before .before .before .before .before .before .before .before .before .before .before .args .level) (c .before .before .before .before .before .before .before .before .before .before .before .before .before .args .num) (c .before .before .before .before .before .before .before .before .before .before .before .before .before .args .prefix) (c .before .before .before .before .before .before .before .before .before .before .before .before .before .args .trail) (c .before .before .before .before .before .before .before .before .before .before .before .before .before .pre .1 .0) (c .before .before .before .before .before .before .before .before .before .before .before .before .before .args .lo .now) (c .before .before .before .before .before .before .before .before .before .before .before .before .before .args .hi .now) (c .before .before .before .before .before .before .before .before .before .common-length .result) (c .before .before .before .before .before .before .before .before .before .common-length .ensures .0) (c .before .before .before .before .before .extend .result) (c .before .before .before .before .before .extend .ensures .0) (c .before .before .before .before .u16-at .result) (c .count-leaf .result) (c .before .before .before .before .u16-at .ensures .0) (c .count-leaf .ensures .0) (omega arith) (omega arith), omega arith)
+count-node-returns-2 t c = let w = node-inside (c .before .before .before .before .before .before .before .before .before .before .before .before .before .before .before .before .before .before .args .store .now) (c .before .before .before .before .before .before .before .before .before .before .before .before .before .before .before .before .before .before .args .num) (c .before .before .before .before .before .before .before .before .before .before .before .before .before .before .before .before .before .before .args .level) ((c .before .before .before .before .before .before .before .before .before .before .before .before .before .before .before .before .before .before .pre .1 .0) .reads) in (node-leaf (c .before .before .before .before .before .before .before .before .before .before .before .before .before .before .before .before .before .before .args .store .now) (c .before .before .before .before .before .before .before .before .before .before .before .before .before .before .before .before .before .before .args .level) (c .before .before .before .before .before .before .before .before .before .before .before .before .before .before .before .before .before .before .args .num) (c .before .before .before .before .before .before .before .before .before .before .before .before .before .before .before .before .before .before .args .prefix) (c .before .before .before .before .before .before .before .before .before .before .before .before .before .before .before .before .before .before .args .trail) (c .before .before .before .before .before .before .before .before .before .before .before .before .before .before .before .before .before .before .pre .1 .0) (c .before .before .before .before .before .before .before .before .before .before .before .before .before .before .before .before .before .before .args .lo .now) (c .before .before .before .before .before .before .before .before .before .before .before .before .before .before .before .before .before .before .args .hi .now) (c .before .before .before .before .before .before .before .before .before .before .before .before .before .before .common-length .result) (c .before .before .before .before .before .before .before .before .before .before .before .before .before .before .common-length .ensures .0) (c .before .before .before .before .before .before .before .before .before .before .extend .result) (c .before .before .before .before .before .before .before .before .before .before .extend .ensures .0) (c .before .before .before .u16-at .result) (c .count-leaf .result) (c .before .before .before .u16-at .ensures .0) (c .count-leaf .ensures .0) (omega arith) (omega arith), omega arith)
 
 count-node-count-entries-requires : (t : ℕ) → count-node-lts.Need-count-entries-requires (
   common-length-reads.Asked,
   common-length-reads.Learnt,
   extend-reads.Asked,
   extend-reads.Learnt,
+  note-above-reads.Asked,
+  note-above-reads.Learnt,
   u16-at-reads.Asked,
   u16-at-reads.Learnt,
   count-leaf-reads.Asked,
@@ -778,18 +1000,22 @@ count-node-count-entries-requires : (t : ℕ) → count-node-lts.Need-count-entr
   read-child-reads.Learnt,
   lengthen-trail-reads.Asked,
   lengthen-trail-reads.Learnt,
+  note-own-reads.Asked,
+  note-own-reads.Learnt,
   count-children-below t,
   count-children.Post,
   capped-sum-reads.Asked,
   capped-sum-reads.Learnt,
 ) (count-node-at t) count-node.Post
-count-node-count-entries-requires t c κs = let w = node-inside (c .before .before .before .before .before .before .before .before .before .before .args .store .now) (c .before .before .before .before .before .before .before .before .before .before .args .num) (c .before .before .before .before .before .before .before .before .before .before .args .level) ((c .before .before .before .before .before .before .before .before .before .before .pre .1 .0) .reads) in let l : length (take ((c .before .before .before .before .before .before .common-length .result) - 0) (c .before .before .before .before .before .before .before .before .before .before .args .lo .now)) ≡ (c .before .before .before .before .before .before .common-length .result) - 0 = length-take-le ((c .before .before .before .before .before .before .common-length .result) - 0) (c .before .before .before .before .before .before .before .before .before .before .args .lo .now) (omega arith) in let r = (c .before .before .before .before .before .before .before .before .before .before .pre .1 .0) .room in (omega arith, omega arith, omega arith, trail-wider (c .before .before .before .before .before .before .before .before .before .before .args .store .now) ((c .before .before .before .before .before .before .before .before .before .before .args .prefix) .len) ((c .before .before .extend .result) .len) (c .before .before .before .before .before .before .before .before .before .before .args .trail) (omega arith) ((c .before .before .before .before .before .before .before .before .before .before .pre .1 .0) .trail))
+count-node-count-entries-requires t c κs = let w = node-inside (c .before .before .before .before .before .before .before .before .before .before .before .before .before .before .before .before .args .store .now) (c .before .before .before .before .before .before .before .before .before .before .before .before .before .before .before .before .args .num) (c .before .before .before .before .before .before .before .before .before .before .before .before .before .before .before .before .args .level) ((c .before .before .before .before .before .before .before .before .before .before .before .before .before .before .before .before .pre .1 .0) .reads) in let l : length (take ((c .before .before .before .before .before .before .before .before .before .before .before .before .common-length .result) - 0) (c .before .before .before .before .before .before .before .before .before .before .before .before .before .before .before .before .args .lo .now)) ≡ (c .before .before .before .before .before .before .before .before .before .before .before .before .common-length .result) - 0 = length-take-le ((c .before .before .before .before .before .before .before .before .before .before .before .before .common-length .result) - 0) (c .before .before .before .before .before .before .before .before .before .before .before .before .before .before .before .before .args .lo .now) (omega arith) in let r = (c .before .before .before .before .before .before .before .before .before .before .before .before .before .before .before .before .pre .1 .0) .room in (omega arith, omega arith, omega arith, trail-wider (c .before .before .before .before .before .before .before .before .before .before .before .before .before .before .before .before .args .store .now) ((c .before .before .before .before .before .before .before .before .before .before .before .before .before .before .before .before .args .prefix) .len) ((c .before .before .before .before .before .before .before .before .extend .result) .len) (c .before .before .before .before .before .before .before .before .before .before .before .before .before .before .before .before .args .trail) (omega arith) ((c .before .before .before .before .before .before .before .before .before .before .before .before .before .before .before .before .pre .1 .0) .trail))
 
 count-node-read-child-requires : (t : ℕ) → count-node-lts.Need-read-child-requires (
   common-length-reads.Asked,
   common-length-reads.Learnt,
   extend-reads.Asked,
   extend-reads.Learnt,
+  note-above-reads.Asked,
+  note-above-reads.Learnt,
   u16-at-reads.Asked,
   u16-at-reads.Learnt,
   count-leaf-reads.Asked,
@@ -800,18 +1026,22 @@ count-node-read-child-requires : (t : ℕ) → count-node-lts.Need-read-child-re
   read-child-reads.Learnt,
   lengthen-trail-reads.Asked,
   lengthen-trail-reads.Learnt,
+  note-own-reads.Asked,
+  note-own-reads.Learnt,
   count-children-below t,
   count-children.Post,
   capped-sum-reads.Asked,
   capped-sum-reads.Learnt,
 ) (count-node-at t) count-node.Post
-count-node-read-child-requires t c κs = let w = node-inside (c .before .before .before .before .before .before .before .before .before .before .before .args .store .now) (c .before .before .before .before .before .before .before .before .before .before .before .args .num) (c .before .before .before .before .before .before .before .before .before .before .before .args .level) ((c .before .before .before .before .before .before .before .before .before .before .before .pre .1 .0) .reads) in omega arith
+count-node-read-child-requires t c κs = let w = node-inside (c .before .before .before .before .before .before .before .before .before .before .before .before .before .before .before .before .before .args .store .now) (c .before .before .before .before .before .before .before .before .before .before .before .before .before .before .before .before .before .args .num) (c .before .before .before .before .before .before .before .before .before .before .before .before .before .before .before .before .before .args .level) ((c .before .before .before .before .before .before .before .before .before .before .before .before .before .before .before .before .before .pre .1 .0) .reads) in omega arith
 
 count-node-enum-known-first : (t : ℕ) → count-node-lts.Need-enum-known-first (
   common-length-reads.Asked,
   common-length-reads.Learnt,
   extend-reads.Asked,
   extend-reads.Learnt,
+  note-above-reads.Asked,
+  note-above-reads.Learnt,
   u16-at-reads.Asked,
   u16-at-reads.Learnt,
   count-leaf-reads.Asked,
@@ -822,6 +1052,8 @@ count-node-enum-known-first : (t : ℕ) → count-node-lts.Need-enum-known-first
   read-child-reads.Learnt,
   lengthen-trail-reads.Asked,
   lengthen-trail-reads.Learnt,
+  note-own-reads.Asked,
+  note-own-reads.Learnt,
   count-children-below t,
   count-children.Post,
   capped-sum-reads.Asked,
@@ -834,6 +1066,8 @@ count-node-enum-told : (t : ℕ) → count-node-lts.Need-enum-told (
   common-length-reads.Learnt,
   extend-reads.Asked,
   extend-reads.Learnt,
+  note-above-reads.Asked,
+  note-above-reads.Learnt,
   u16-at-reads.Asked,
   u16-at-reads.Learnt,
   count-leaf-reads.Asked,
@@ -844,6 +1078,8 @@ count-node-enum-told : (t : ℕ) → count-node-lts.Need-enum-told (
   read-child-reads.Learnt,
   lengthen-trail-reads.Asked,
   lengthen-trail-reads.Learnt,
+  note-own-reads.Asked,
+  note-own-reads.Learnt,
   count-children-below t,
   count-children.Post,
   capped-sum-reads.Asked,
@@ -856,6 +1092,8 @@ count-node-returns-3 : (t : ℕ) → count-node-lts.Need-returns-3 (
   common-length-reads.Learnt,
   extend-reads.Asked,
   extend-reads.Learnt,
+  note-above-reads.Asked,
+  note-above-reads.Learnt,
   u16-at-reads.Asked,
   u16-at-reads.Learnt,
   count-leaf-reads.Asked,
@@ -866,18 +1104,22 @@ count-node-returns-3 : (t : ℕ) → count-node-lts.Need-returns-3 (
   read-child-reads.Learnt,
   lengthen-trail-reads.Asked,
   lengthen-trail-reads.Learnt,
+  note-own-reads.Asked,
+  note-own-reads.Learnt,
   count-children-below t,
   count-children.Post,
   capped-sum-reads.Asked,
   capped-sum-reads.Learnt,
 ) (count-node-at t) count-node.Post
-count-node-returns-3 t c = let w = node-inside (c .before .before .before .before .before .before .before .before .before .before .before .before .before .before .args .store .now) (c .before .before .before .before .before .before .before .before .before .before .before .before .before .before .args .num) (c .before .before .before .before .before .before .before .before .before .before .before .before .before .before .args .level) ((c .before .before .before .before .before .before .before .before .before .before .before .before .before .before .pre .1 .0) .reads) in (node-bare (c .before .before .before .before .before .before .before .before .before .before .before .before .before .before .args .store .now) (c .before .before .before .before .before .before .before .before .before .before .before .before .before .before .args .level) (c .before .before .before .before .before .before .before .before .before .before .before .before .before .before .args .num) (c .before .before .before .before .before .before .before .before .before .before .before .before .before .before .args .prefix) (c .before .before .before .before .before .before .before .before .before .before .before .before .before .before .args .trail) (c .before .before .before .before .before .before .before .before .before .before .before .before .before .before .pre .1 .0) (c .before .before .before .before .before .before .before .before .before .before .before .before .before .before .args .lo .now) (c .before .before .before .before .before .before .before .before .before .before .before .before .before .before .args .hi .now) (c .before .before .before .before .before .before .before .before .before .before .common-length .result) (c .before .before .before .before .before .before .before .before .before .before .common-length .ensures .0) (c .before .before .before .before .before .before .extend .result) (c .before .before .before .before .before .before .extend .ensures .0) (c .before .before .before .before .before .u16-at .result) (c .before .before .before .count-entries .result) (c .before .before .before .before .before .u16-at .ensures .0) (c .before .before .before .count-entries .ensures .0) (omega arith) (omega arith) (pends-end _ _ _ _ (c .before .before .read-child .ensures) (c .enum-told .given .1)), omega arith)
+count-node-returns-3 t c = let w = node-inside (c .before .before .before .before .before .before .before .before .before .before .before .before .before .before .before .before .before .before .before .before .args .store .now) (c .before .before .before .before .before .before .before .before .before .before .before .before .before .before .before .before .before .before .before .before .args .num) (c .before .before .before .before .before .before .before .before .before .before .before .before .before .before .before .before .before .before .before .before .args .level) ((c .before .before .before .before .before .before .before .before .before .before .before .before .before .before .before .before .before .before .before .before .pre .1 .0) .reads) in (node-bare (c .before .before .before .before .before .before .before .before .before .before .before .before .before .before .before .before .before .before .before .before .args .store .now) (c .before .before .before .before .before .before .before .before .before .before .before .before .before .before .before .before .before .before .before .before .args .level) (c .before .before .before .before .before .before .before .before .before .before .before .before .before .before .before .before .before .before .before .before .args .num) (c .before .before .before .before .before .before .before .before .before .before .before .before .before .before .before .before .before .before .before .before .args .prefix) (c .before .before .before .before .before .before .before .before .before .before .before .before .before .before .before .before .before .before .before .before .args .trail) (c .before .before .before .before .before .before .before .before .before .before .before .before .before .before .before .before .before .before .before .before .pre .1 .0) (c .before .before .before .before .before .before .before .before .before .before .before .before .before .before .before .before .before .before .before .before .args .lo .now) (c .before .before .before .before .before .before .before .before .before .before .before .before .before .before .before .before .before .before .before .before .args .hi .now) (c .before .before .before .before .before .before .before .before .before .before .before .before .before .before .before .before .common-length .result) (c .before .before .before .before .before .before .before .before .before .before .before .before .before .before .before .before .common-length .ensures .0) (c .before .before .before .before .before .before .before .before .before .before .before .before .extend .result) (c .before .before .before .before .before .before .before .before .before .before .before .before .extend .ensures .0) (c .before .before .before .before .before .u16-at .result) (c .before .before .before .count-entries .result) (c .before .before .before .before .before .u16-at .ensures .0) (c .before .before .before .count-entries .ensures .0) (omega arith) (omega arith) (pends-end _ _ _ _ (c .before .before .read-child .ensures) (c .enum-told .given .1)), omega arith)
 
 count-node-lengthen-trail-requires : (t : ℕ) → count-node-lts.Need-lengthen-trail-requires (
   common-length-reads.Asked,
   common-length-reads.Learnt,
   extend-reads.Asked,
   extend-reads.Learnt,
+  note-above-reads.Asked,
+  note-above-reads.Learnt,
   u16-at-reads.Asked,
   u16-at-reads.Learnt,
   count-leaf-reads.Asked,
@@ -888,18 +1130,230 @@ count-node-lengthen-trail-requires : (t : ℕ) → count-node-lts.Need-lengthen-
   read-child-reads.Learnt,
   lengthen-trail-reads.Asked,
   lengthen-trail-reads.Learnt,
+  note-own-reads.Asked,
+  note-own-reads.Learnt,
   count-children-below t,
   count-children.Post,
   capped-sum-reads.Asked,
   capped-sum-reads.Learnt,
 ) (count-node-at t) count-node.Post
-count-node-lengthen-trail-requires t c κs = let l : length (take ((c .before .before .before .before .before .before .before .before .before .before .before .common-length .result) - 0) (c .before .before .before .before .before .before .before .before .before .before .before .before .before .before .before .args .lo .now)) ≡ (c .before .before .before .before .before .before .before .before .before .before .before .common-length .result) - 0 = length-take-le ((c .before .before .before .before .before .before .before .before .before .before .before .common-length .result) - 0) (c .before .before .before .before .before .before .before .before .before .before .before .before .before .before .before .args .lo .now) (omega arith) in let d = (c .before .before .before .before .before .before .before .before .before .before .before .before .before .before .before .pre .1 .0) .deep in (omega arith, trail-wider (c .before .before .before .before .before .before .before .before .before .before .before .before .before .before .before .args .store .now) ((c .before .before .before .before .before .before .before .before .before .before .before .before .before .before .before .args .prefix) .len) ((c .before .before .before .before .before .before .before .extend .result) .len) (c .before .before .before .before .before .before .before .before .before .before .before .before .before .before .before .args .trail) (omega arith) ((c .before .before .before .before .before .before .before .before .before .before .before .before .before .before .before .pre .1 .0) .trail), node-above (c .before .before .before .before .before .before .before .before .before .before .before .before .before .before .before .args .store .now) (c .before .before .before .before .before .before .before .before .before .before .before .before .before .before .before .args .level) (c .before .before .before .before .before .before .before .before .before .before .before .before .before .before .before .args .num) ((c .before .before .before .before .before .before .before .extend .result) .len) ((c .before .before .before .before .before .before .before .before .before .before .before .before .before .before .before .pre .1 .0) .reads))
+count-node-lengthen-trail-requires t c κs = let q = c .before .before .before .before .before .before .before .before .before .before .before .before .before .before .before .before .before .before .before .before .before .pre .0 in let m = c .before .before .before .before .before .before .before .before .before .before .before .before .before .before .before .before .before .common-length .ensures .1 in let i = c .before .before .before .before .before .before .before .before .before .before .before .before .before .before .before .before .before .common-length .ensures .2 in let g = c .before .before .before .before .before .before .before .before .before .before .before .before .before .before .before .if1 .left in let x = c .before .before .before .before .before .before .before .before .before .before .before .before .before .extend .ensures .1 in let v = c .before .before .before .before .before .if2 .left in let l : length (take ((c .before .before .before .before .before .before .before .before .before .before .before .before .before .before .before .before .before .common-length .result) - 0) (c .before .before .before .before .before .before .before .before .before .before .before .before .before .before .before .before .before .before .before .before .before .args .lo .now)) ≡ (c .before .before .before .before .before .before .before .before .before .before .before .before .before .before .before .before .before .common-length .result) - 0 = length-take-le ((c .before .before .before .before .before .before .before .before .before .before .before .before .before .before .before .before .before .common-length .result) - 0) (c .before .before .before .before .before .before .before .before .before .before .before .before .before .before .before .before .before .before .before .before .before .args .lo .now) (omega arith) in let d = (c .before .before .before .before .before .before .before .before .before .before .before .before .before .before .before .before .before .before .before .before .before .pre .1 .0) .deep in (omega arith, trail-wider (c .before .before .before .before .before .before .before .before .before .before .before .before .before .before .before .before .before .before .before .before .before .args .store .now) ((c .before .before .before .before .before .before .before .before .before .before .before .before .before .before .before .before .before .before .before .before .before .args .prefix) .len) ((c .before .before .before .before .before .before .before .before .before .before .before .before .before .extend .result) .len) (c .before .before .before .before .before .before .before .before .before .before .before .before .before .before .before .before .before .before .before .before .before .args .trail) (omega arith) ((c .before .before .before .before .before .before .before .before .before .before .before .before .before .before .before .before .before .before .before .before .before .pre .1 .0) .trail), node-above (c .before .before .before .before .before .before .before .before .before .before .before .before .before .before .before .before .before .before .before .before .before .args .store .now) (c .before .before .before .before .before .before .before .before .before .before .before .before .before .before .before .before .before .before .before .before .before .args .level) (c .before .before .before .before .before .before .before .before .before .before .before .before .before .before .before .before .before .before .before .before .before .args .num) ((c .before .before .before .before .before .before .before .before .before .before .before .before .before .extend .result) .len) ((c .before .before .before .before .before .before .before .before .before .before .before .before .before .before .before .before .before .before .before .before .before .pre .1 .0) .reads))
+
+count-node-sub-note-own : (t : ℕ) → count-node-lts.Need-sub-note-own (
+  common-length-reads.Asked,
+  common-length-reads.Learnt,
+  extend-reads.Asked,
+  extend-reads.Learnt,
+  note-above-reads.Asked,
+  note-above-reads.Learnt,
+  u16-at-reads.Asked,
+  u16-at-reads.Learnt,
+  count-leaf-reads.Asked,
+  count-leaf-reads.Learnt,
+  count-entries-reads.Asked,
+  count-entries-reads.Learnt,
+  read-child-reads.Asked,
+  read-child-reads.Learnt,
+  lengthen-trail-reads.Asked,
+  lengthen-trail-reads.Learnt,
+  note-own-reads.Asked,
+  note-own-reads.Learnt,
+  count-children-below t,
+  count-children.Post,
+  capped-sum-reads.Asked,
+  capped-sum-reads.Learnt,
+) (count-node-at t) count-node.Post
+count-node-sub-note-own t c = let q = c .before .before .before .before .before .before .before .before .before .before .before .before .before .before .before .before .before .before .before .before .before .before .pre .0 in let m = c .before .before .before .before .before .before .before .before .before .before .before .before .before .before .before .before .before .before .common-length .ensures .1 in let i = c .before .before .before .before .before .before .before .before .before .before .before .before .before .before .before .before .before .before .common-length .ensures .2 in let g = c .before .before .before .before .before .before .before .before .before .before .before .before .before .before .before .before .if1 .left in let x = c .before .before .before .before .before .before .before .before .before .before .before .before .before .before .extend .ensures .1 in let v = c .before .before .before .before .before .before .if2 .left in omega arith
+
+count-node-part-note-own-start : (t : ℕ) → count-node-lts.Need-part-note-own-start (
+  common-length-reads.Asked,
+  common-length-reads.Learnt,
+  extend-reads.Asked,
+  extend-reads.Learnt,
+  note-above-reads.Asked,
+  note-above-reads.Learnt,
+  u16-at-reads.Asked,
+  u16-at-reads.Learnt,
+  count-leaf-reads.Asked,
+  count-leaf-reads.Learnt,
+  count-entries-reads.Asked,
+  count-entries-reads.Learnt,
+  read-child-reads.Asked,
+  read-child-reads.Learnt,
+  lengthen-trail-reads.Asked,
+  lengthen-trail-reads.Learnt,
+  note-own-reads.Asked,
+  note-own-reads.Learnt,
+  count-children-below t,
+  count-children.Post,
+  capped-sum-reads.Asked,
+  capped-sum-reads.Learnt,
+) (count-node-at t) count-node.Post
+count-node-part-note-own-start t c = let q = c .before .before .before .before .before .before .before .before .before .before .before .before .before .before .before .before .before .before .before .before .before .before .pre .0 in let m = c .before .before .before .before .before .before .before .before .before .before .before .before .before .before .before .before .before .before .common-length .ensures .1 in let i = c .before .before .before .before .before .before .before .before .before .before .before .before .before .before .before .before .before .before .common-length .ensures .2 in let g = c .before .before .before .before .before .before .before .before .before .before .before .before .before .before .before .before .if1 .left in let x = c .before .before .before .before .before .before .before .before .before .before .before .before .before .before .extend .ensures .1 in let v = c .before .before .before .before .before .before .if2 .left in omega arith
+
+count-node-part-note-own-end : (t : ℕ) → count-node-lts.Need-part-note-own-end (
+  common-length-reads.Asked,
+  common-length-reads.Learnt,
+  extend-reads.Asked,
+  extend-reads.Learnt,
+  note-above-reads.Asked,
+  note-above-reads.Learnt,
+  u16-at-reads.Asked,
+  u16-at-reads.Learnt,
+  count-leaf-reads.Asked,
+  count-leaf-reads.Learnt,
+  count-entries-reads.Asked,
+  count-entries-reads.Learnt,
+  read-child-reads.Asked,
+  read-child-reads.Learnt,
+  lengthen-trail-reads.Asked,
+  lengthen-trail-reads.Learnt,
+  note-own-reads.Asked,
+  note-own-reads.Learnt,
+  count-children-below t,
+  count-children.Post,
+  capped-sum-reads.Asked,
+  capped-sum-reads.Learnt,
+) (count-node-at t) count-node.Post
+count-node-part-note-own-end t c = search needs
+
+count-node-sub-note-own-2 : (t : ℕ) → count-node-lts.Need-sub-note-own-2 (
+  common-length-reads.Asked,
+  common-length-reads.Learnt,
+  extend-reads.Asked,
+  extend-reads.Learnt,
+  note-above-reads.Asked,
+  note-above-reads.Learnt,
+  u16-at-reads.Asked,
+  u16-at-reads.Learnt,
+  count-leaf-reads.Asked,
+  count-leaf-reads.Learnt,
+  count-entries-reads.Asked,
+  count-entries-reads.Learnt,
+  read-child-reads.Asked,
+  read-child-reads.Learnt,
+  lengthen-trail-reads.Asked,
+  lengthen-trail-reads.Learnt,
+  note-own-reads.Asked,
+  note-own-reads.Learnt,
+  count-children-below t,
+  count-children.Post,
+  capped-sum-reads.Asked,
+  capped-sum-reads.Learnt,
+) (count-node-at t) count-node.Post
+count-node-sub-note-own-2 t c = let q = c .before .before .before .before .before .before .before .before .before .before .before .before .before .before .before .before .before .before .before .before .before .before .before .pre .0 in let m = c .before .before .before .before .before .before .before .before .before .before .before .before .before .before .before .before .before .before .before .common-length .ensures .1 in let i = c .before .before .before .before .before .before .before .before .before .before .before .before .before .before .before .before .before .before .before .common-length .ensures .2 in let g = c .before .before .before .before .before .before .before .before .before .before .before .before .before .before .before .before .before .if1 .left in let x = c .before .before .before .before .before .before .before .before .before .before .before .before .before .before .before .extend .ensures .1 in let v = c .before .before .before .before .before .before .before .if2 .left in omega arith
+
+count-node-part-note-own-start-2 : (t : ℕ) → count-node-lts.Need-part-note-own-start-2 (
+  common-length-reads.Asked,
+  common-length-reads.Learnt,
+  extend-reads.Asked,
+  extend-reads.Learnt,
+  note-above-reads.Asked,
+  note-above-reads.Learnt,
+  u16-at-reads.Asked,
+  u16-at-reads.Learnt,
+  count-leaf-reads.Asked,
+  count-leaf-reads.Learnt,
+  count-entries-reads.Asked,
+  count-entries-reads.Learnt,
+  read-child-reads.Asked,
+  read-child-reads.Learnt,
+  lengthen-trail-reads.Asked,
+  lengthen-trail-reads.Learnt,
+  note-own-reads.Asked,
+  note-own-reads.Learnt,
+  count-children-below t,
+  count-children.Post,
+  capped-sum-reads.Asked,
+  capped-sum-reads.Learnt,
+) (count-node-at t) count-node.Post
+count-node-part-note-own-start-2 t c = let q = c .before .before .before .before .before .before .before .before .before .before .before .before .before .before .before .before .before .before .before .before .before .before .before .pre .0 in let m = c .before .before .before .before .before .before .before .before .before .before .before .before .before .before .before .before .before .before .before .common-length .ensures .1 in let i = c .before .before .before .before .before .before .before .before .before .before .before .before .before .before .before .before .before .before .before .common-length .ensures .2 in let g = c .before .before .before .before .before .before .before .before .before .before .before .before .before .before .before .before .before .if1 .left in let x = c .before .before .before .before .before .before .before .before .before .before .before .before .before .before .before .extend .ensures .1 in let v = c .before .before .before .before .before .before .before .if2 .left in omega arith
+
+count-node-part-note-own-end-2 : (t : ℕ) → count-node-lts.Need-part-note-own-end-2 (
+  common-length-reads.Asked,
+  common-length-reads.Learnt,
+  extend-reads.Asked,
+  extend-reads.Learnt,
+  note-above-reads.Asked,
+  note-above-reads.Learnt,
+  u16-at-reads.Asked,
+  u16-at-reads.Learnt,
+  count-leaf-reads.Asked,
+  count-leaf-reads.Learnt,
+  count-entries-reads.Asked,
+  count-entries-reads.Learnt,
+  read-child-reads.Asked,
+  read-child-reads.Learnt,
+  lengthen-trail-reads.Asked,
+  lengthen-trail-reads.Learnt,
+  note-own-reads.Asked,
+  note-own-reads.Learnt,
+  count-children-below t,
+  count-children.Post,
+  capped-sum-reads.Asked,
+  capped-sum-reads.Learnt,
+) (count-node-at t) count-node.Post
+count-node-part-note-own-end-2 t c = search needs
+
+count-node-slice-aggregate-note-own : (t : ℕ) → count-node-lts.Need-slice-aggregate-note-own (
+  common-length-reads.Asked,
+  common-length-reads.Learnt,
+  extend-reads.Asked,
+  extend-reads.Learnt,
+  note-above-reads.Asked,
+  note-above-reads.Learnt,
+  u16-at-reads.Asked,
+  u16-at-reads.Learnt,
+  count-leaf-reads.Asked,
+  count-leaf-reads.Learnt,
+  count-entries-reads.Asked,
+  count-entries-reads.Learnt,
+  read-child-reads.Asked,
+  read-child-reads.Learnt,
+  lengthen-trail-reads.Asked,
+  lengthen-trail-reads.Learnt,
+  note-own-reads.Asked,
+  note-own-reads.Learnt,
+  count-children-below t,
+  count-children.Post,
+  capped-sum-reads.Asked,
+  capped-sum-reads.Learnt,
+) (count-node-at t) count-node.Post
+count-node-slice-aggregate-note-own t c = search needs
+
+count-node-note-own-requires : (t : ℕ) → count-node-lts.Need-note-own-requires (
+  common-length-reads.Asked,
+  common-length-reads.Learnt,
+  extend-reads.Asked,
+  extend-reads.Learnt,
+  note-above-reads.Asked,
+  note-above-reads.Learnt,
+  u16-at-reads.Asked,
+  u16-at-reads.Learnt,
+  count-leaf-reads.Asked,
+  count-leaf-reads.Learnt,
+  count-entries-reads.Asked,
+  count-entries-reads.Learnt,
+  read-child-reads.Asked,
+  read-child-reads.Learnt,
+  lengthen-trail-reads.Asked,
+  lengthen-trail-reads.Learnt,
+  note-own-reads.Asked,
+  note-own-reads.Learnt,
+  count-children-below t,
+  count-children.Post,
+  capped-sum-reads.Asked,
+  capped-sum-reads.Learnt,
+) (count-node-at t) count-node.Post
+count-node-note-own-requires t c κs = let w = node-inside (c .before .before .before .before .before .before .before .before .before .before .before .before .before .before .before .before .before .before .before .before .before .before .before .before .before .args .store .now) (c .before .before .before .before .before .before .before .before .before .before .before .before .before .before .before .before .before .before .before .before .before .before .before .before .before .args .num) (c .before .before .before .before .before .before .before .before .before .before .before .before .before .before .before .before .before .before .before .before .before .before .before .before .before .args .level) ((c .before .before .before .before .before .before .before .before .before .before .before .before .before .before .before .before .before .before .before .before .before .before .before .before .before .pre .1 .0) .reads) in (w .0, w .1, c .before .before .before .before .before .before .before .before .before .before .before .before .note-above .ensures .fits)
 
 count-node-sub-count-children : (t : ℕ) → count-node-lts.Need-sub-count-children (
   common-length-reads.Asked,
   common-length-reads.Learnt,
   extend-reads.Asked,
   extend-reads.Learnt,
+  note-above-reads.Asked,
+  note-above-reads.Learnt,
   u16-at-reads.Asked,
   u16-at-reads.Learnt,
   count-leaf-reads.Asked,
@@ -910,6 +1364,8 @@ count-node-sub-count-children : (t : ℕ) → count-node-lts.Need-sub-count-chil
   read-child-reads.Learnt,
   lengthen-trail-reads.Asked,
   lengthen-trail-reads.Learnt,
+  note-own-reads.Asked,
+  note-own-reads.Learnt,
   count-children-below t,
   count-children.Post,
   capped-sum-reads.Asked,
@@ -922,6 +1378,8 @@ count-node-sub-count-children-2 : (t : ℕ) → count-node-lts.Need-sub-count-ch
   common-length-reads.Learnt,
   extend-reads.Asked,
   extend-reads.Learnt,
+  note-above-reads.Asked,
+  note-above-reads.Learnt,
   u16-at-reads.Asked,
   u16-at-reads.Learnt,
   count-leaf-reads.Asked,
@@ -932,18 +1390,22 @@ count-node-sub-count-children-2 : (t : ℕ) → count-node-lts.Need-sub-count-ch
   read-child-reads.Learnt,
   lengthen-trail-reads.Asked,
   lengthen-trail-reads.Learnt,
+  note-own-reads.Asked,
+  note-own-reads.Learnt,
   count-children-below t,
   count-children.Post,
   capped-sum-reads.Asked,
   capped-sum-reads.Learnt,
 ) (count-node-at t) count-node.Post
-count-node-sub-count-children-2 t c = search needs
+count-node-sub-count-children-2 t c = let q = c .before .before .before .before .before .before .before .before .before .before .before .before .before .before .before .before .before .before .before .before .before .before .before .before .before .before .before .pre .0 in let m = c .before .before .before .before .before .before .before .before .before .before .before .before .before .before .before .before .before .before .before .before .before .before .before .common-length .ensures .1 in let i = c .before .before .before .before .before .before .before .before .before .before .before .before .before .before .before .before .before .before .before .before .before .before .before .common-length .ensures .2 in let g = c .before .before .before .before .before .before .before .before .before .before .before .before .before .before .before .before .before .before .before .before .before .if1 .left in let x = c .before .before .before .before .before .before .before .before .before .before .before .before .before .before .before .before .before .before .before .extend .ensures .1 in let v = c .before .before .before .before .before .before .before .before .before .before .before .if2 .left in omega arith
 
 count-node-part-count-children-start : (t : ℕ) → count-node-lts.Need-part-count-children-start (
   common-length-reads.Asked,
   common-length-reads.Learnt,
   extend-reads.Asked,
   extend-reads.Learnt,
+  note-above-reads.Asked,
+  note-above-reads.Learnt,
   u16-at-reads.Asked,
   u16-at-reads.Learnt,
   count-leaf-reads.Asked,
@@ -954,18 +1416,22 @@ count-node-part-count-children-start : (t : ℕ) → count-node-lts.Need-part-co
   read-child-reads.Learnt,
   lengthen-trail-reads.Asked,
   lengthen-trail-reads.Learnt,
+  note-own-reads.Asked,
+  note-own-reads.Learnt,
   count-children-below t,
   count-children.Post,
   capped-sum-reads.Asked,
   capped-sum-reads.Learnt,
 ) (count-node-at t) count-node.Post
-count-node-part-count-children-start t c = search needs
+count-node-part-count-children-start t c = let q = c .before .before .before .before .before .before .before .before .before .before .before .before .before .before .before .before .before .before .before .before .before .before .before .before .before .before .before .pre .0 in let m = c .before .before .before .before .before .before .before .before .before .before .before .before .before .before .before .before .before .before .before .before .before .before .before .common-length .ensures .1 in let i = c .before .before .before .before .before .before .before .before .before .before .before .before .before .before .before .before .before .before .before .before .before .before .before .common-length .ensures .2 in let g = c .before .before .before .before .before .before .before .before .before .before .before .before .before .before .before .before .before .before .before .before .before .if1 .left in let x = c .before .before .before .before .before .before .before .before .before .before .before .before .before .before .before .before .before .before .before .extend .ensures .1 in let v = c .before .before .before .before .before .before .before .before .before .before .before .if2 .left in omega arith
 
 count-node-part-count-children-end : (t : ℕ) → count-node-lts.Need-part-count-children-end (
   common-length-reads.Asked,
   common-length-reads.Learnt,
   extend-reads.Asked,
   extend-reads.Learnt,
+  note-above-reads.Asked,
+  note-above-reads.Learnt,
   u16-at-reads.Asked,
   u16-at-reads.Learnt,
   count-leaf-reads.Asked,
@@ -976,6 +1442,8 @@ count-node-part-count-children-end : (t : ℕ) → count-node-lts.Need-part-coun
   read-child-reads.Learnt,
   lengthen-trail-reads.Asked,
   lengthen-trail-reads.Learnt,
+  note-own-reads.Asked,
+  note-own-reads.Learnt,
   count-children-below t,
   count-children.Post,
   capped-sum-reads.Asked,
@@ -988,6 +1456,8 @@ count-node-count-children-requires : (t : ℕ) → count-node-lts.Need-count-chi
   common-length-reads.Learnt,
   extend-reads.Asked,
   extend-reads.Learnt,
+  note-above-reads.Asked,
+  note-above-reads.Learnt,
   u16-at-reads.Asked,
   u16-at-reads.Learnt,
   count-leaf-reads.Asked,
@@ -998,19 +1468,23 @@ count-node-count-children-requires : (t : ℕ) → count-node-lts.Need-count-chi
   read-child-reads.Learnt,
   lengthen-trail-reads.Asked,
   lengthen-trail-reads.Learnt,
+  note-own-reads.Asked,
+  note-own-reads.Learnt,
   count-children-below t,
   count-children.Post,
   capped-sum-reads.Asked,
   capped-sum-reads.Learnt,
 ) (count-node-at t) count-node.Post
-count-node-count-children-requires t c κs = let q = c .before .before .before .before .before .before .before .before .before .before .before .before .before .before .before .before .before .pre .0 in let m = c .before .before .before .before .before .before .before .before .before .before .before .before .before .common-length .ensures .1 in let g = c .before .before .before .before .before .before .before .before .before .before .before .if1 .left in let x = c .before .before .before .before .before .before .before .before .before .extend .ensures .1 in let v = c .before .before .before .before .before .before .before .if2 .left in let w = node-inside (c .before .before .before .before .before .before .before .before .before .before .before .before .before .before .before .before .before .args .store .now) (c .before .before .before .before .before .before .before .before .before .before .before .before .before .before .before .before .before .args .num) (c .before .before .before .before .before .before .before .before .before .before .before .before .before .before .before .before .before .args .level) ((c .before .before .before .before .before .before .before .before .before .before .before .before .before .before .before .before .before .pre .1 .0) .reads) in let l : length (take ((c .before .before .before .before .before .before .before .before .before .before .before .before .before .common-length .result) - 0) (c .before .before .before .before .before .before .before .before .before .before .before .before .before .before .before .before .before .args .lo .now)) ≡ (c .before .before .before .before .before .before .before .before .before .before .before .before .before .common-length .result) - 0 = length-take-le ((c .before .before .before .before .before .before .before .before .before .before .before .before .before .common-length .result) - 0) (c .before .before .before .before .before .before .before .before .before .before .before .before .before .before .before .before .before .args .lo .now) (omega arith) in let r = (c .before .before .before .before .before .before .before .before .before .before .before .before .before .before .before .before .before .pre .1 .0) .room in let n = first-next t (c .before .before) in
-    (omega arith, (kids-ready (c .before .before .before .before .before .before .before .before .before .before .before .before .before .before .before .before .before .args .store .now) (c .before .before .before .before .before .before .before .before .before .before .before .before .before .before .before .before .before .args .level) (c .before .before .before .before .before .before .before .before .before .before .before .before .before .before .before .before .before .args .num) (c .before .before .before .before .before .before .before .before .before .before .before .before .before .before .before .before .before .args .prefix) (c .before .before .before .before .before .before .before .before .before .before .before .before .before .before .before .before .before .args .trail) (c .before .before .before .before .before .before .before .before .before .before .before .before .before .before .before .before .before .pre .1 .0) (c .before .before .before .before .before .before .before .before .before .before .before .before .before .before .before .before .before .args .lo .now) (c .before .before .before .before .before .before .before .before .before .before .before .before .before .before .before .before .before .args .hi .now) (c .before .before .before .before .before .before .before .before .before .before .before .before .before .common-length .result) (c .before .before .before .before .before .before .before .before .before .before .before .before .before .common-length .ensures .0) (c .before .before .before .before .before .before .before .before .before .extend .result) (c .before .before .before .before .before .before .before .before .before .extend .ensures .0) (c .before .before .before .before .before .before .before .before .u16-at .result) (c .before .before .before .before .before .before .count-entries .result) (c .before .before .before .before .before .before .before .before .u16-at .ensures .0) (c .before .before .before .before .before .before .count-entries .ensures .0) (omega arith) (c .before .before .before .first .given .0 .0) (c .before .before .before .first .given .0 .1 .0) (c .before .before .before .first .given .0 .1 .1 .0) (first-next t (c .before .before)) (c .before .lengthen-trail .result) (c .before .lengthen-trail .ensures) (omega arith) (omega arith), kids-sound (c .before .before .before .before .before .before .before .before .before .before .before .before .before .before .before .before .before .args .prefix) (c .before .before .before .before .before .before .before .before .before .before .before .before .before .before .before .before .before .args .lo .now) (c .before .before .before .before .before .before .before .before .before .before .before .before .before .before .before .before .before .args .hi .now) (c .before .before .before .before .before .before .before .before .before .before .before .before .before .common-length .result) (c .before .before .before .before .before .before .before .before .before .before .before .before .before .common-length .ensures .0) (c .before .before .before .before .before .before .before .before .before .extend .result) (c .before .before .before .before .before .before .before .before .before .extend .ensures .0) (c .before .before .before .before .before .before .before .before .before .before .before .before .before .before .before .before .before .args .store .now) (c .before .before .before .before .before .before .before .before .before .before .before .before .before .before .before .before .before .args .level) (c .before .before .before .before .before .before .before .before .before .before .before .before .before .before .before .before .before .args .num) (c .before .before .before .before .before .before .before .before .before .before .before .before .before .before .before .before .before .pre .1 .0 .reads) (c .before .before .before .before .before .before .before .before .before .before .before .before .before .before .before .before .before .pre .1 .1) (c .before .before .before .before .before .before .before .before .u16-at .result) (c .before .before .before .before .before .before .before .before .u16-at .ensures .0) (omega arith) _ _ _ (first-next t (c .before .before))))
+count-node-count-children-requires t c κs = let q = c .before .before .before .before .before .before .before .before .before .before .before .before .before .before .before .before .before .before .before .before .before .before .before .before .before .before .before .before .before .pre .0 in let m = c .before .before .before .before .before .before .before .before .before .before .before .before .before .before .before .before .before .before .before .before .before .before .before .before .before .common-length .ensures .1 in let g = c .before .before .before .before .before .before .before .before .before .before .before .before .before .before .before .before .before .before .before .before .before .before .before .if1 .left in let x = c .before .before .before .before .before .before .before .before .before .before .before .before .before .before .before .before .before .before .before .before .before .extend .ensures .1 in let v = c .before .before .before .before .before .before .before .before .before .before .before .before .before .if2 .left in let w = node-inside (c .before .before .before .before .before .before .before .before .before .before .before .before .before .before .before .before .before .before .before .before .before .before .before .before .before .before .before .before .before .args .store .now) (c .before .before .before .before .before .before .before .before .before .before .before .before .before .before .before .before .before .before .before .before .before .before .before .before .before .before .before .before .before .args .num) (c .before .before .before .before .before .before .before .before .before .before .before .before .before .before .before .before .before .before .before .before .before .before .before .before .before .before .before .before .before .args .level) ((c .before .before .before .before .before .before .before .before .before .before .before .before .before .before .before .before .before .before .before .before .before .before .before .before .before .before .before .before .before .pre .1 .0) .reads) in let l : length (take ((c .before .before .before .before .before .before .before .before .before .before .before .before .before .before .before .before .before .before .before .before .before .before .before .before .before .common-length .result) - 0) (c .before .before .before .before .before .before .before .before .before .before .before .before .before .before .before .before .before .before .before .before .before .before .before .before .before .before .before .before .before .args .lo .now)) ≡ (c .before .before .before .before .before .before .before .before .before .before .before .before .before .before .before .before .before .before .before .before .before .before .before .before .before .common-length .result) - 0 = length-take-le ((c .before .before .before .before .before .before .before .before .before .before .before .before .before .before .before .before .before .before .before .before .before .before .before .before .before .common-length .result) - 0) (c .before .before .before .before .before .before .before .before .before .before .before .before .before .before .before .before .before .before .before .before .before .before .before .before .before .before .before .before .before .args .lo .now) (omega arith) in let r = (c .before .before .before .before .before .before .before .before .before .before .before .before .before .before .before .before .before .before .before .before .before .before .before .before .before .before .before .before .before .pre .1 .0) .room in let n = first-next t (c .before .before .before .before .before .before .before .before) in
+    (omega arith, (kids-ready (c .before .before .before .before .before .before .before .before .before .before .before .before .before .before .before .before .before .before .before .before .before .before .before .before .before .before .before .before .before .args .store .now) (c .before .before .before .before .before .before .before .before .before .before .before .before .before .before .before .before .before .before .before .before .before .before .before .before .before .before .before .before .before .args .level) (c .before .before .before .before .before .before .before .before .before .before .before .before .before .before .before .before .before .before .before .before .before .before .before .before .before .before .before .before .before .args .num) (c .before .before .before .before .before .before .before .before .before .before .before .before .before .before .before .before .before .before .before .before .before .before .before .before .before .before .before .before .before .args .prefix) (c .before .before .before .before .before .before .before .before .before .before .before .before .before .before .before .before .before .before .before .before .before .before .before .before .before .before .before .before .before .args .trail) (c .before .before .before .before .before .before .before .before .before .before .before .before .before .before .before .before .before .before .before .before .before .before .before .before .before .before .before .before .before .pre .1 .0) (c .before .before .before .before .before .before .before .before .before .before .before .before .before .before .before .before .before .before .before .before .before .before .before .before .before .before .before .before .before .args .lo .now) (c .before .before .before .before .before .before .before .before .before .before .before .before .before .before .before .before .before .before .before .before .before .before .before .before .before .before .before .before .before .args .hi .now) (c .before .before .before .before .before .before .before .before .before .before .before .before .before .before .before .before .before .before .before .before .before .before .before .before .before .common-length .result) (c .before .before .before .before .before .before .before .before .before .before .before .before .before .before .before .before .before .before .before .before .before .before .before .before .before .common-length .ensures .0) (c .before .before .before .before .before .before .before .before .before .before .before .before .before .before .before .before .before .before .before .before .before .extend .result) (c .before .before .before .before .before .before .before .before .before .before .before .before .before .before .before .before .before .before .before .before .before .extend .ensures .0) (c .before .before .before .before .before .before .before .before .before .before .before .before .before .before .u16-at .result) (c .before .before .before .before .before .before .before .before .before .before .before .before .count-entries .result) (c .before .before .before .before .before .before .before .before .before .before .before .before .before .before .u16-at .ensures .0) (c .before .before .before .before .before .before .before .before .before .before .before .before .count-entries .ensures .0) (omega arith) (c .before .before .before .before .before .before .before .before .before .first .given .0 .0) (c .before .before .before .before .before .before .before .before .before .first .given .0 .1 .0) (c .before .before .before .before .before .before .before .before .before .first .given .0 .1 .1 .0) (first-next t (c .before .before .before .before .before .before .before .before)) (c .before .before .before .before .before .before .before .lengthen-trail .result) (c .before .before .before .before .before .before .before .lengthen-trail .ensures) (omega arith) (omega arith), kids-sound (c .before .before .before .before .before .before .before .before .before .before .before .before .before .before .before .before .before .before .before .before .before .before .before .before .before .before .before .before .before .args .prefix) (c .before .before .before .before .before .before .before .before .before .before .before .before .before .before .before .before .before .before .before .before .before .before .before .before .before .before .before .before .before .args .lo .now) (c .before .before .before .before .before .before .before .before .before .before .before .before .before .before .before .before .before .before .before .before .before .before .before .before .before .before .before .before .before .args .hi .now) (c .before .before .before .before .before .before .before .before .before .before .before .before .before .before .before .before .before .before .before .before .before .before .before .before .before .common-length .result) (c .before .before .before .before .before .before .before .before .before .before .before .before .before .before .before .before .before .before .before .before .before .before .before .before .before .common-length .ensures .0) (c .before .before .before .before .before .before .before .before .before .before .before .before .before .before .before .before .before .before .before .before .before .extend .result) (c .before .before .before .before .before .before .before .before .before .before .before .before .before .before .before .before .before .before .before .before .before .extend .ensures .0) (c .before .before .before .before .before .before .before .before .before .before .before .before .before .before .before .before .before .before .before .before .before .before .before .before .before .before .before .before .before .args .store .now) (c .before .before .before .before .before .before .before .before .before .before .before .before .before .before .before .before .before .before .before .before .before .before .before .before .before .before .before .before .before .args .level) (c .before .before .before .before .before .before .before .before .before .before .before .before .before .before .before .before .before .before .before .before .before .before .before .before .before .before .before .before .before .args .num) (c .before .before .before .before .before .before .before .before .before .before .before .before .before .before .before .before .before .before .before .before .before .before .before .before .before .before .before .before .before .pre .1 .0 .reads) (c .before .before .before .before .before .before .before .before .before .before .before .before .before .before .before .before .before .before .before .before .before .before .before .before .before .before .before .before .before .pre .1 .1) (c .before .before .before .before .before .before .before .before .before .before .before .before .before .before .u16-at .result) (c .before .before .before .before .before .before .before .before .before .before .before .before .before .before .u16-at .ensures .0) (omega arith) _ _ _ (first-next t (c .before .before .before .before .before .before .before .before)) _ _ _ (told-joined _ _ _ _ _ _ (c .before .before .before .before .before .before .before .before .before .before .before .before .before .before .before .before .before .before .before .before .before .extend .result) _ _ _ _ (let h = here-length t (c .before .before .before .before .before .before .before .before .before .before .before .before .before .before .before .before .before .before .before .before .before) in omega arith) (c .before .before .before .before .before .before .before .lengthen-trail .ensures) (c .before .before .before .before .before .before .before .before .before .before .before .before .before .before .before .before .note-above .ensures) (c .before .before .before .note-own .ensures))))
 
 count-node-capped-sum-requires : (t : ℕ) → count-node-lts.Need-capped-sum-requires (
   common-length-reads.Asked,
   common-length-reads.Learnt,
   extend-reads.Asked,
   extend-reads.Learnt,
+  note-above-reads.Asked,
+  note-above-reads.Learnt,
   u16-at-reads.Asked,
   u16-at-reads.Learnt,
   count-leaf-reads.Asked,
@@ -1021,6 +1495,8 @@ count-node-capped-sum-requires : (t : ℕ) → count-node-lts.Need-capped-sum-re
   read-child-reads.Learnt,
   lengthen-trail-reads.Asked,
   lengthen-trail-reads.Learnt,
+  note-own-reads.Asked,
+  note-own-reads.Learnt,
   count-children-below t,
   count-children.Post,
   capped-sum-reads.Asked,
@@ -1033,6 +1509,8 @@ count-node-returns-4 : (t : ℕ) → count-node-lts.Need-returns-4 (
   common-length-reads.Learnt,
   extend-reads.Asked,
   extend-reads.Learnt,
+  note-above-reads.Asked,
+  note-above-reads.Learnt,
   u16-at-reads.Asked,
   u16-at-reads.Learnt,
   count-leaf-reads.Asked,
@@ -1043,14 +1521,16 @@ count-node-returns-4 : (t : ℕ) → count-node-lts.Need-returns-4 (
   read-child-reads.Learnt,
   lengthen-trail-reads.Asked,
   lengthen-trail-reads.Learnt,
+  note-own-reads.Asked,
+  note-own-reads.Learnt,
   count-children-below t,
   count-children.Post,
   capped-sum-reads.Asked,
   capped-sum-reads.Learnt,
 ) (count-node-at t) count-node.Post
-count-node-returns-4 t c = let q = c .before .before .before .before .before .before .before .before .before .before .before .before .before .before .before .before .before .before .before .pre .0 in let m = c .before .before .before .before .before .before .before .before .before .before .before .before .before .before .before .common-length .ensures .1 in let g = c .before .before .before .before .before .before .before .before .before .before .before .before .before .if1 .left in let x = c .before .before .before .before .before .before .before .before .before .before .before .extend .ensures .1 in let v = c .before .before .before .before .before .before .before .before .before .if2 .left in let l : length (take ((c .before .before .before .before .before .before .before .before .before .before .before .before .before .before .before .common-length .result) - 0) (c .before .before .before .before .before .before .before .before .before .before .before .before .before .before .before .before .before .before .before .args .lo .now)) ≡ (c .before .before .before .before .before .before .before .before .before .before .before .before .before .before .before .common-length .result) - 0 = length-take-le ((c .before .before .before .before .before .before .before .before .before .before .before .before .before .before .before .common-length .result) - 0) (c .before .before .before .before .before .before .before .before .before .before .before .before .before .before .before .before .before .before .before .args .lo .now) (omega arith) in let r = (c .before .before .before .before .before .before .before .before .before .before .before .before .before .before .before .before .before .before .before .pre .1 .0) .room in
-    let h = here-length t (c .before .before .before .before .before .before .before .before .before .before .before) in
-    (node-inner (c .before .before .before .before .before .before .before .before .before .before .before .before .before .before .before .before .before .before .before .args .store .now) (c .before .before .before .before .before .before .before .before .before .before .before .before .before .before .before .before .before .before .before .args .level) (c .before .before .before .before .before .before .before .before .before .before .before .before .before .before .before .before .before .before .before .args .num) (c .before .before .before .before .before .before .before .before .before .before .before .before .before .before .before .before .before .before .before .args .prefix) (c .before .before .before .before .before .before .before .before .before .before .before .before .before .before .before .before .before .before .before .args .trail) (c .before .before .before .before .before .before .before .before .before .before .before .before .before .before .before .before .before .before .before .pre .1 .0) (c .before .before .before .before .before .before .before .before .before .before .before .before .before .before .before .before .before .before .before .args .lo .now) (c .before .before .before .before .before .before .before .before .before .before .before .before .before .before .before .before .before .before .before .args .hi .now) (c .before .before .before .before .before .before .before .before .before .before .before .before .before .before .before .common-length .result) (c .before .before .before .before .before .before .before .before .before .before .before .before .before .before .before .common-length .ensures .0) (c .before .before .before .before .before .before .before .before .before .before .before .extend .result) (c .before .before .before .before .before .before .before .before .before .before .before .extend .ensures .0) (c .before .before .before .before .before .before .before .before .before .before .u16-at .result) (c .before .before .before .before .before .before .before .before .count-entries .result) (c .before .before .before .before .before .before .before .before .before .before .u16-at .ensures .0) (c .before .before .before .before .before .before .before .before .count-entries .ensures .0) (omega arith) (c .before .before .before .before .before .first .given .0 .0) (c .before .before .before .before .before .first .given .0 .1 .0) (c .before .before .before .before .before .first .given .0 .1 .1 .0) (first-next t (c .before .before .before .before)) (c .before .before .before .lengthen-trail .result) (c .before .before .before .lengthen-trail .ensures) (c .before .count-children .result) _ (omega arith) (c .before .count-children .ensures .0) (c .capped-sum .ensures .0), c .capped-sum .ensures .1)
+count-node-returns-4 t c = let q = c .before .before .before .before .before .before .before .before .before .before .before .before .before .before .before .before .before .before .before .before .before .before .before .before .before .before .before .before .before .before .before .pre .0 in let m = c .before .before .before .before .before .before .before .before .before .before .before .before .before .before .before .before .before .before .before .before .before .before .before .before .before .before .before .common-length .ensures .1 in let g = c .before .before .before .before .before .before .before .before .before .before .before .before .before .before .before .before .before .before .before .before .before .before .before .before .before .if1 .left in let x = c .before .before .before .before .before .before .before .before .before .before .before .before .before .before .before .before .before .before .before .before .before .before .before .extend .ensures .1 in let v = c .before .before .before .before .before .before .before .before .before .before .before .before .before .before .before .if2 .left in let l : length (take ((c .before .before .before .before .before .before .before .before .before .before .before .before .before .before .before .before .before .before .before .before .before .before .before .before .before .before .before .common-length .result) - 0) (c .before .before .before .before .before .before .before .before .before .before .before .before .before .before .before .before .before .before .before .before .before .before .before .before .before .before .before .before .before .before .before .args .lo .now)) ≡ (c .before .before .before .before .before .before .before .before .before .before .before .before .before .before .before .before .before .before .before .before .before .before .before .before .before .before .before .common-length .result) - 0 = length-take-le ((c .before .before .before .before .before .before .before .before .before .before .before .before .before .before .before .before .before .before .before .before .before .before .before .before .before .before .before .common-length .result) - 0) (c .before .before .before .before .before .before .before .before .before .before .before .before .before .before .before .before .before .before .before .before .before .before .before .before .before .before .before .before .before .before .before .args .lo .now) (omega arith) in let r = (c .before .before .before .before .before .before .before .before .before .before .before .before .before .before .before .before .before .before .before .before .before .before .before .before .before .before .before .before .before .before .before .pre .1 .0) .room in
+    let h = here-length t (c .before .before .before .before .before .before .before .before .before .before .before .before .before .before .before .before .before .before .before .before .before .before .before) in
+    (node-inner (c .before .before .before .before .before .before .before .before .before .before .before .before .before .before .before .before .before .before .before .before .before .before .before .before .before .before .before .before .before .before .before .args .store .now) (c .before .before .before .before .before .before .before .before .before .before .before .before .before .before .before .before .before .before .before .before .before .before .before .before .before .before .before .before .before .before .before .args .level) (c .before .before .before .before .before .before .before .before .before .before .before .before .before .before .before .before .before .before .before .before .before .before .before .before .before .before .before .before .before .before .before .args .num) (c .before .before .before .before .before .before .before .before .before .before .before .before .before .before .before .before .before .before .before .before .before .before .before .before .before .before .before .before .before .before .before .args .prefix) (c .before .before .before .before .before .before .before .before .before .before .before .before .before .before .before .before .before .before .before .before .before .before .before .before .before .before .before .before .before .before .before .args .trail) (c .before .before .before .before .before .before .before .before .before .before .before .before .before .before .before .before .before .before .before .before .before .before .before .before .before .before .before .before .before .before .before .pre .1 .0) (c .before .before .before .before .before .before .before .before .before .before .before .before .before .before .before .before .before .before .before .before .before .before .before .before .before .before .before .before .before .before .before .args .lo .now) (c .before .before .before .before .before .before .before .before .before .before .before .before .before .before .before .before .before .before .before .before .before .before .before .before .before .before .before .before .before .before .before .args .hi .now) (c .before .before .before .before .before .before .before .before .before .before .before .before .before .before .before .before .before .before .before .before .before .before .before .before .before .before .before .common-length .result) (c .before .before .before .before .before .before .before .before .before .before .before .before .before .before .before .before .before .before .before .before .before .before .before .before .before .before .before .common-length .ensures .0) (c .before .before .before .before .before .before .before .before .before .before .before .before .before .before .before .before .before .before .before .before .before .before .before .extend .result) (c .before .before .before .before .before .before .before .before .before .before .before .before .before .before .before .before .before .before .before .before .before .before .before .extend .ensures .0) (c .before .before .before .before .before .before .before .before .before .before .before .before .before .before .before .before .u16-at .result) (c .before .before .before .before .before .before .before .before .before .before .before .before .before .before .count-entries .result) (c .before .before .before .before .before .before .before .before .before .before .before .before .before .before .before .before .u16-at .ensures .0) (c .before .before .before .before .before .before .before .before .before .before .before .before .before .before .count-entries .ensures .0) (omega arith) (c .before .before .before .before .before .before .before .before .before .before .before .first .given .0 .0) (c .before .before .before .before .before .before .before .before .before .before .before .first .given .0 .1 .0) (c .before .before .before .before .before .before .before .before .before .before .before .first .given .0 .1 .1 .0) (first-next t (c .before .before .before .before .before .before .before .before .before .before)) (c .before .before .before .before .before .before .before .before .before .lengthen-trail .result) (c .before .before .before .before .before .before .before .before .before .lengthen-trail .ensures) (c .before .count-children .result) _ (omega arith) (c .before .count-children .ensures .0) (c .capped-sum .ensures .0), c .capped-sum .ensures .1)
 
 pub +count-children+count-node-spec : {M : Type 1} → statement M
 +count-children+count-node-spec =
@@ -1091,6 +1571,8 @@ pub +count-children+count-node-spec : {M : Type 1} → statement M
       common-length-reads.Learnt,
       extend-reads.Asked,
       extend-reads.Learnt,
+      note-above-reads.Asked,
+      note-above-reads.Learnt,
       u16-at-reads.Asked,
       u16-at-reads.Learnt,
       count-leaf-reads.Asked,
@@ -1101,6 +1583,8 @@ pub +count-children+count-node-spec : {M : Type 1} → statement M
       read-child-reads.Learnt,
       lengthen-trail-reads.Asked,
       lengthen-trail-reads.Learnt,
+      note-own-reads.Asked,
+      note-own-reads.Learnt,
       count-children-below t,
       count-children.Post,
       capped-sum-reads.Asked,
@@ -1115,16 +1599,21 @@ pub +count-children+count-node-spec : {M : Type 1} → statement M
     (count-node-part-extend-start t)
     (count-node-part-extend-end t)
     (count-node-extend-requires t)
+    (count-node-sub-note-above t)
+    (count-node-part-note-above-start t)
+    (count-node-part-note-above-end t)
+    (count-node-sub-note-above-2 t)
+    (count-node-part-note-above-start-2 t)
+    (count-node-part-note-above-end-2 t)
+    (count-node-sub-note-above-3 t)
+    (count-node-part-note-above-start-3 t)
+    (count-node-part-note-above-end-3 t)
+    (count-node-slice-aggregate-note-above t)
+    (count-node-note-above-requires t)
     (count-node-mul-at t)
     (count-node-u16-at-requires t)
     (count-node-add-from t)
     (count-node-add-end t)
-    (count-node-sub-count-leaf t)
-    (count-node-part-count-leaf-start t)
-    (count-node-part-count-leaf-end t)
-    (count-node-sub-count-leaf-2 t)
-    (count-node-part-count-leaf-start-2 t)
-    (count-node-part-count-leaf-end-2 t)
     (count-node-count-leaf-requires t)
     (count-node-returns-2 t)
     (count-node-count-entries-requires t)
@@ -1133,6 +1622,14 @@ pub +count-children+count-node-spec : {M : Type 1} → statement M
     (count-node-enum-told t)
     (count-node-returns-3 t)
     (count-node-lengthen-trail-requires t)
+    (count-node-sub-note-own t)
+    (count-node-part-note-own-start t)
+    (count-node-part-note-own-end t)
+    (count-node-sub-note-own-2 t)
+    (count-node-part-note-own-start-2 t)
+    (count-node-part-note-own-end-2 t)
+    (count-node-slice-aggregate-note-own t)
+    (count-node-note-own-requires t)
     (count-node-sub-count-children t)
     (count-node-sub-count-children-2 t)
     (count-node-part-count-children-start t)

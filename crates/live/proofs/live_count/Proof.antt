@@ -1,10 +1,10 @@
--- `live_count` meets its contract: the count from the root, where nothing is lifted and no node stands above.
--- Relies on specs/RootSteps.
+-- `live_count` meets its contract: the count from the root, where nothing is lifted and no node stands above. Relies on specs/RootSteps.
+use Rattle.live.specs.NotedSteps.{root-sound, root-told}
 use Rattle.live.specs.RootSteps.{one-node, root-ready, root-counts, tree-is, empty-prefix}
-use Rattle.live.specs.NotedSteps.{root-sound}
-use native.Mathlib.Omega.{arith}
-use mathlib.Core.Path.{refl}
 use borrow.Author.Needs.{needs}
+use native.Mathlib.Omega.{arith}
+use Prim.Native.Nat.{_-_}
+use mathlib.Core.Path.{refl}
 use Rattle.live.proofs.live_count.Statement.{statement}
 use Rattle.live.proofs.live_count.Tie as tie
 
@@ -27,10 +27,10 @@ slice-aggregate-count-node : tie.Need-slice-aggregate-count-node
 slice-aggregate-count-node c = search needs
 
 count-node-requires : tie.Need-count-node-requires
-count-node-requires c κs = (root-ready (c .before .before .before .before .before .before .args .store .now) (c .before .before .before .before .before .before .pre) _ _ (c .before .before .before .before .u16-at .ensures .0) (c .before .before .before .u16-at2 .ensures .0) _ _ refl refl, root-sound (c .before .before .before .before .before .before .args .store .now) _ _ _ _ (c .before .before .before .before .before .before .pre .tree) (tree-is (c .before .before .before .before .before .before .args .store .now) (c .before .before .before .before .before .before .pre) _ _ (c .before .before .before .before .u16-at .ensures .0) (c .before .before .before .u16-at2 .ensures .0)) (empty-prefix (c .before .before .before .before .before .before .args .store .now) (c .before .before .before .before .before .before .pre) _ _ (c .before .before .before .before .u16-at .ensures .0) (c .before .before .before .u16-at2 .ensures .0) _ refl) refl)
+count-node-requires c κs = (root-ready (c .before .before .before .before .before .before .before .args .store .now) (c .before .before .before .before .before .before .before .pre) _ _ (c .before .before .before .before .before .u16-at .ensures .0) (c .before .before .before .before .u16-at2 .ensures .0) _ _ refl refl, root-sound (c .before .before .before .before .before .before .before .args .store .now) _ _ _ _ (c .before .before .before .before .before .before .before .pre .tree) (tree-is (c .before .before .before .before .before .before .before .args .store .now) (c .before .before .before .before .before .before .before .pre) _ _ (c .before .before .before .before .before .u16-at .ensures .0) (c .before .before .before .before .u16-at2 .ensures .0)) (empty-prefix (c .before .before .before .before .before .before .before .args .store .now) (c .before .before .before .before .before .before .before .pre) _ _ (c .before .before .before .before .before .u16-at .ensures .0) (c .before .before .before .before .u16-at2 .ensures .0) _ refl) refl, root-told _ _ _ _ _ _ refl)
 
 returns : tie.Need-returns
-returns c = root-counts (c .before .before .before .before .before .before .before .args .store .now) (c .before .before .before .before .before .before .before .pre) _ _ (c .before .before .before .before .before .u16-at .ensures .0) (c .before .before .before .before .u16-at2 .ensures .0) _ _ _ _ refl refl refl (c .count-node .ensures .0)
+returns c = root-counts (c .before .before .before .before .before .before .before .before .args .store .now) (c .before .before .before .before .before .before .before .before .pre) _ _ (c .before .before .before .before .before .before .u16-at .ensures .0) (c .before .before .before .before .before .u16-at2 .ensures .0) _ _ _ _ refl refl refl (c .count-node .ensures .0)
 
 pub live-count-spec : {M : Type 1} → statement M
 live-count-spec =

@@ -1,3 +1,5 @@
+-- `check_leaf` meets its contract: the walk that asks only of the first and the last key whether the leaf owns it, and the count as it goes.
+-- Relies on specs/Ends and specs/Counted.
 use mathlib.Core.Option.{none}
 use borrow.Author.Tests.{not-true, not-false}
 use Rattle.path.specs.Fed.{shapeIs}

@@ -1,3 +1,4 @@
+-- `check_messages` meets its contract: message by message, and the count as it goes. Relies on specs/Messages and specs/Counted.
 use borrow.Author.Tests.{not-true, not-false}
 use Rattle.path.specs.Fed.{shapeIs}
 use Rattle.node.specs.Entries.{entriesFrom, listed, entries-end, listed-end}

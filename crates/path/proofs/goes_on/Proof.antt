@@ -1,3 +1,4 @@
+-- `goes_on` meets its contract: a length, and then the loop over the bytes. Relies on specs/Reads.
 use Rattle.path.specs.Reads.{goes-dead, goes-past, goes-long, goes-many, goes-wide, goes-reads}
 use borrow.Author.Needs.{needs}
 use native.Mathlib.Omega.{arith}

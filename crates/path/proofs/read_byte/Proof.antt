@@ -1,3 +1,4 @@
+-- `read_byte` meets its contract, by the class of the byte. Relies on specs/Reads.
 use Rattle.path.specs.Reads.{byte-high, byte-letter, byte-empty, byte-wide, byte-end, byte-low, byte-slash, byte-sign}
 use borrow.Author.Needs.{needs}
 use native.Mathlib.Omega.{arith}

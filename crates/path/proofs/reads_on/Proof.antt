@@ -1,3 +1,4 @@
+-- `reads_on` meets its contract: what is left reads on as the whole does. Relies on specs/Reads.
 use Rattle.image.specs.Path.{readsOn}
 use Rattle.path.specs.Reads.{reads-bad, reads-on, reads-none, reads-many, reads-end}
 use borrow.Author.Needs.{needs}

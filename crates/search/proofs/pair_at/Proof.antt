@@ -1,3 +1,4 @@
+-- `pair_at` meets its contract: a pair where its numbers show one. Relies on specs/PairSteps.
 use Rattle.search.specs.PairSteps.{not-told, pair-stands}
 use borrow.Author.Needs.{needs}
 use native.Mathlib.Omega.{arith}

@@ -1,3 +1,4 @@
+-- `step_any` meets its contract: the entry at the cursor, if it is a pair. Relies on specs/PairSteps and on node's cursor.
 use Rattle.search.specs.PairSteps.{any-bad, any-other, any-pair}
 use borrow.Author.Needs.{needs}
 use Prim.Native.Nat.{_-_}

@@ -1,3 +1,4 @@
+-- `step_pair` meets its contract: by a quick look, or by way of any entry. Relies on specs/PairSteps.
 use Rattle.search.specs.PairSteps.{pair-stepped}
 use borrow.Author.Needs.{needs}
 use Prim.Native.Nat.{_-_}

@@ -1,3 +1,4 @@
+-- `check_leaf` tells whether a node is a sound leaf, and how many pairs it has. Relies on LeafSteps and on node_check.
 use Rattle.tree_check.specs.LeafSteps.{leaf-unlaid, leaf-few, leaf-unsound, leaf-all-sound}
 use Rattle.node_check.specs.Counted.{counts-no, counts-yes}
 use Rattle.path.specs.Fed.{shapeIs}

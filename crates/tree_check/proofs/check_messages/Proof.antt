@@ -1,3 +1,4 @@
+-- Messages of a node, checked and counted. Relies on node_check and on ChildSteps.
 use Rattle.tree_check.specs.ChildSteps.{messages-unsound, messages-sound}
 use Rattle.node_check.specs.Counted.{counts-no, counts-yes}
 use borrow.Author.Needs.{needs}

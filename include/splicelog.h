@@ -1,4 +1,4 @@
-/* The splice log: a store of paths and values in a byte array that the caller owns.
+/* The splice log: a store of paths and values in a byte array that the caller owns. The library is for x86-64 alone.
  *
  * A store is n nodes of 1,024 bytes, n from 32 to 1,024. A path is 1 to 8 components of 1 to 16 bytes (21 to 7E without 2F), each
  * followed by a byte 00, at most 64 bytes in all. A value is 0 to 32 bytes. Every function takes any bytes, decides for itself whether
@@ -9,8 +9,9 @@
  *   2 the image is not sound        6 no reachable interior node    10 the store is full
  *   3 a path is malformed           7 one path begins the other
  *
- * A slice is a pointer and a length; pass a pointer that is not null even where the length is 0. An array that is written must not
- * overlap another argument.
+ * An array goes as a pointer and a length. The pointer may be NULL only where the length is 0. An array that is written (`store` and
+ * `work` of the calls that change a store, `buffer` of get and next) must not overlap any other argument; arrays that are only read may
+ * overlap each other. In particular next's `after` and `buffer` must be two arrays: see splicelog_step.
  */
 #ifndef SPLICELOG_H
 #define SPLICELOG_H
@@ -50,20 +51,58 @@ uint32_t splicelog_drop(uint8_t *store, size_t store_len, uint8_t *work, size_t 
 /* Every path below the given one, itself included, is absent. Refuses by 1, 2, 3. */
 uint32_t splicelog_clear(uint8_t *store, size_t store_len, uint8_t *work, size_t work_len, const uint8_t *path, size_t path_len);
 
-/* No message waits in any node; the map stays. Refuses by 1, 2. */
+/* Every path below `from`, itself included, is below `to` with the same rest and value; what else was below `to` is absent, and so is
+ * everything below `from`. If the two are equal, no byte of the store changes. Refuses by 1, 2, 3, 7, 8, 9. */
+uint32_t splicelog_move(uint8_t *store, size_t store_len, uint8_t *work, size_t work_len, const uint8_t *from, size_t from_len,
+                        const uint8_t *to, size_t to_len);
+
+/* Upkeep: the paths and their values stay. */
+
+/* No message waits in any node. Refuses by 1, 2. */
 uint32_t splicelog_settle(uint8_t *store, size_t store_len, uint8_t *work, size_t work_len);
 
-/* Settled, and at most a quarter of the nodes are in use; the map stays. Refuses by 1, 2. */
+/* Settled, and at most a quarter of the nodes are in use. Refuses by 1, 2. */
 uint32_t splicelog_tidy(uint8_t *store, size_t store_len, uint8_t *work, size_t work_len);
 
-/* The messages of a reachable interior node go down; the map stays. Refuses by 1, 2, 6. */
-uint32_t splicelog_flush(uint8_t *store, size_t store_len, uint8_t *work, size_t work_len, uint32_t node);
+/* The messages of a reachable interior node go down. A number that is no node's, however large, is refused by 6. Refuses by 1, 2, 6. */
+uint32_t splicelog_flush(uint8_t *store, size_t store_len, uint8_t *work, size_t work_len, size_t node);
+
+/* Neighbouring children of a reachable interior node that hold no message and would fit in one node become one. Refuses by 1, 2, 6. */
+uint32_t splicelog_heal(uint8_t *store, size_t store_len, uint8_t *work, size_t work_len, size_t node);
 
 /* The number of an answer: 0 if the call was accepted. */
 static inline uint32_t splicelog_number(uint64_t answer) { return (uint32_t)answer; }
 
 /* What stands beside the number: a length, or same's 1 or 0. It is 0 in a refusal. */
 static inline uint32_t splicelog_beside(uint64_t answer) { return (uint32_t)(answer >> 32); }
+
+/* A place in a listing: the last path given. A listing begins at a place of length 0, whatever its bytes. */
+struct splicelog_place {
+    uint8_t bytes[64];
+    size_t length;
+};
+
+/* One step of a listing: the place becomes the least path below `path` that is greater than the place's. Gives 0, or the number of a
+ * refusal, which leaves the place unchanged: 8 after the last path, else 1, 2 or 3. A place of more than 64 bytes is no path: 3.
+ *
+ *   struct splicelog_place place = {{0}, 0};
+ *   while (splicelog_step(store, store_len, path, path_len, &place) == 0)
+ *       use(place.bytes, place.length);
+ */
+static inline uint32_t splicelog_step(const uint8_t *store, size_t store_len, const uint8_t *path, size_t path_len,
+                                      struct splicelog_place *place) {
+    static const uint8_t malformed[1] = {0};
+    uint8_t found[64];
+    const int sane = place->length <= sizeof place->bytes;
+    const uint64_t answer = splicelog_next(store, store_len, path, path_len, sane ? place->bytes : malformed, sane ? place->length : 1,
+                                           found, sizeof found);
+    if (splicelog_number(answer) == 0) {
+        place->length = splicelog_beside(answer);
+        for (size_t i = 0; i < place->length; i++)
+            place->bytes[i] = found[i];
+    }
+    return splicelog_number(answer);
+}
 
 #ifdef __cplusplus
 }

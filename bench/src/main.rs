@@ -1,12 +1,12 @@
-// Prints how long get, next and a whole listing take on full stores, beside the second program on the same images, how deep a stack get
-// and next use, and what writing costs. Times are in passes: one pass is a 64-bit FNV-1a, byte by byte, over the reachable nodes of the same image.
+// Prints how long get, next and a whole listing take on full stores, beside the second program on the same images, how deep a stack the
+// calls use, and what writing and moving cost. Times are in passes: one pass is a 64-bit FNV-1a, byte by byte, over the reachable nodes of
+// the same image.
 #![deny(warnings)]
 
-mod images;
-mod stack;
+mod moves;
 mod writes;
 
-use judge::Library;
+use judge::{images, stack, Library};
 use second::limits::*;
 use second::path::beginnings;
 use second::subject::Subject;
@@ -36,10 +36,15 @@ fn main() {
     for case in &mut cases {
         case.print_stack();
     }
+    match stack::run() {
+        Ok(worst) => println!("worst of each call: {worst:?}"),
+        Err(what) => println!("{what}"),
+    }
     println!("\nwriting, in passes     pass us     put    drop   clear   settle    tidy | nodes a put changes");
     for n in [64, 256, 1024] {
         writes::print(n, &images::settled(n));
     }
+    moves::print();
 }
 
 /// The least of many runs: other work on the machine only adds.

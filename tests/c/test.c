@@ -1,6 +1,7 @@
-/* Calls the store as firmware does, through include/splicelog.h: `test IMAGE TABLE`. It makes stores, causes each refusal that a caller of
- * make, get and next can cause, writes to a store and reads it back, and reads IMAGE, whose paths and values TABLE lists (both written by the second program).
- * Every call is made on arrays of exactly the lengths that it is told, from malloc, so that valgrind sees a read or a write outside.
+/* Calls the store as firmware does, through include/splicelog.h: `test IMAGE TABLE`. It makes stores, causes each refusal that a caller can
+ * cause, writes to a store, moves, heals and reads it back, and reads IMAGE, whose paths and values TABLE lists (both written by the second
+ * program), by get, by next and by the listing. Every call is made on arrays of exactly the lengths that it is told, from malloc, so that
+ * valgrind sees a read or a write outside.
  */
 #include "splicelog.h"
 
@@ -150,26 +151,61 @@ static bytes first(const char *text) {
     return made;
 }
 
-/* Gets every path of the table, and lists the paths below each first component by next: the table is in the order of next. */
+/* One step of a listing: the place becomes the path found, or a refusal leaves it as it was. The store stays. */
+static void step(bytes store, const char *below, struct splicelog_place *place, uint32_t number, const char *found) {
+    bytes before = copy(store.at, store.len), of = path(below), expected = path(found);
+    struct splicelog_place was = *place;
+    CHECK(splicelog_step(store.at, store.len, of.at, of.len, place) == number);
+    if (number != 0)
+        CHECK(place->length == was.length && memcmp(place->bytes, was.bytes, sizeof was.bytes) == 0);
+    else
+        CHECK(place->length == expected.len && memcmp(place->bytes, expected.at, expected.len) == 0);
+    CHECK(equal(store, before));
+    free(before.at), free(of.at), free(expected.at);
+}
+
+/* A place before the first step. From malloc, so that valgrind sees a write outside. */
+static struct splicelog_place *start(void) {
+    struct splicelog_place *place = malloc(sizeof *place);
+    if (!place)
+        abort();
+    memset(place, LATER, sizeof *place);
+    place->length = 0;
+    return place;
+}
+
+/* Gets every path of the table, and lists the paths below each first component by next and by the listing: the table is in the order of
+ * next. */
 static void test_image(const char *image, const char *table) {
     bytes store = file(image);
-    char text[PATH_MOST + 1], digits[2 * VALUE_MOST + 1], last[PATH_MOST + 1] = "";
+    char text[PATH_MOST + 1], digits[2 * VALUE_MOST + 1], last[PATH_MOST + 1] = "", top[PATH_MOST + 1] = "";
+    struct splicelog_place *place = start();
     FILE *rows = fopen(table, "r");
     CHECK(rows != NULL);
     while (fscanf(rows, "%64s %64s", text, digits) == 2) {
         bytes of = first(text), of_last = first(last);
         int goes_on = *last && equal(of, of_last);
-        if (*last && !goes_on)
+        if (*last && !goes_on) {
             refuse_next(store, first(last), path(last), PATH_MOST, 8);
+            step(store, top, place, 8, "");
+        }
+        if (!goes_on) {
+            strcpy(top, (const char *)of.at);
+            place->length = 0;
+        }
+        step(store, top, place, 0, text);
         bytes after = goes_on ? path(last) : filled(0, 0);
         ask(store, of, &after, PATH_MOST, 0, path(text));
         ask(store, path(text), NULL, VALUE_MOST, 0, value(digits));
         free(of_last.at);
         strcpy(last, text);
     }
-    if (*last)
+    if (*last) {
         refuse_next(store, first(last), path(last), PATH_MOST, 8);
+        step(store, top, place, 8, "");
+    }
     fclose(rows);
+    free(place);
     free(store.at);
 }
 
@@ -189,6 +225,24 @@ static int cleared(bytes work) {
     return 1;
 }
 
+/* The number of the root, in node 0. */
+static size_t root_of(bytes store) { return store.at[6] + 256u * store.at[7]; }
+
+/* No number of a node that is no interior node is taken, nor one of which only some of the bits are such a node's. */
+static void refuse_node(bytes store, bytes work, size_t interior) {
+    const size_t numbers[] = {0,        NODES,         UINT16_MAX,    interior + 0x10000, UINT32_MAX, interior + ((size_t)1 << 32),
+                              SIZE_MAX, SIZE_MAX - 31, SIZE_MAX / 2 + 1 + interior};
+    bytes before = copy(store.at, store.len), lent = copy(work.at, work.len);
+    for (size_t i = 0; i < sizeof numbers / sizeof *numbers; i++) {
+        CHECK(splicelog_flush(store.at, store.len, work.at, work.len, numbers[i]) == 6);
+        CHECK(splicelog_heal(store.at, store.len, work.at, work.len, numbers[i]) == 6);
+    }
+    CHECK(splicelog_flush(store.at, store.len, work.at, NODES * 128 - 1, SIZE_MAX) == 1);
+    CHECK(splicelog_heal(store.at, store.len, work.at, NODES * 128 - 1, interior) == 1);
+    CHECK(equal(store, before) && equal(work, lent));
+    free(before.at), free(lent.at);
+}
+
 /* Writes, reads back, and causes the refusals that only a writer can cause. */
 static void test_writes(void) {
     bytes store = filled(NODES * NODE, 1), work = filled(NODES * 128 + 3, LATER), of = path("r1/c7"), other = filled(NODES * NODE, 2);
@@ -201,9 +255,9 @@ static void test_writes(void) {
     CHECK(splicelog_number(same) == 0 && splicelog_beside(same) == 1);
     same = splicelog_same(store.at, store.len, other.at, other.len);
     CHECK(splicelog_number(same) == 0 && splicelog_beside(same) == 0);
-    uint32_t root = store.at[6];
-    CHECK(splicelog_flush(store.at, store.len, work.at, work.len, root) == 0);
-    CHECK(splicelog_flush(store.at, store.len, work.at, work.len, 0) == 6 && splicelog_flush(store.at, store.len, work.at, work.len, UINT32_MAX) == 6);
+    size_t root = root_of(store);
+    CHECK(splicelog_flush(store.at, store.len, work.at, work.len, root) == 0 && cleared(work));
+    refuse_node(store, work, root);
     CHECK(splicelog_settle(store.at, store.len, work.at, work.len) == 0 && cleared(work));
     CHECK(splicelog_tidy(store.at, store.len, work.at, work.len) == 0 && cleared(work));
     CHECK(splicelog_tidy(store.at, store.len, work.at, NODES * 128 - 1) == 1);
@@ -228,6 +282,130 @@ static void test_writes(void) {
     free(of.at);
 }
 
+/* One move; the store and the work area are checked, and the paths are freed. */
+static void move(bytes store, bytes work, bytes from, bytes to, uint32_t number) {
+    bytes before = copy(store.at, store.len), lent = copy(work.at, work.len);
+    CHECK(splicelog_move(store.at, store.len, work.at, work.len, from.at, from.len, to.at, to.len) == number);
+    if (number != 0)
+        CHECK(equal(store, before) && equal(work, lent));
+    else
+        CHECK(cleared(work));
+    if (number == 0 && equal(from, to))
+        CHECK(equal(store, before));
+    free(before.at), free(lent.at), free(from.at), free(to.at);
+}
+
+/* The paper's cases of a move, and each of its refusals. */
+static void test_move(void) {
+    static const char longest[] = "a/bbbbbbbbbbbbbbbb/bbbbbbbbbbbbbbbb/bbbbbbbbbbbbbbbb/bbbbbbbbbb", deepest[] = "q/2/3/4/5/6/7/8";
+    bytes store = filled(NODES * NODE, 1), work = filled(NODES * 128 + 3, LATER);
+    CHECK(splicelog_make(store.at, store.len) == 0);
+    CHECK(put(store, work, path("r1/a"), copy("1", 1)) == 0 && put(store, work, path("r1/b/c"), filled(0, 0)) == 0);
+    CHECK(put(store, work, path("r2/x"), copy("2", 1)) == 0 && put(store, work, path("r10"), copy("3", 1)) == 0);
+    memset(work.at, 7, NODES * 128);
+    move(store, work, path("r1"), path("r1"), 0);
+    move(store, work, path("r1"), path("r2"), 0);
+    ask(store, path("r2/a"), NULL, VALUE_MOST, 0, copy("1", 1));
+    ask(store, path("r2/b/c"), NULL, VALUE_MOST, 0, filled(0, 0));
+    ask(store, path("r10"), NULL, VALUE_MOST, 0, copy("3", 1));
+    refuse_get(store, path("r2/x"), VALUE_MOST, 8);
+    refuse_get(store, path("r1/a"), VALUE_MOST, 8);
+    memset(work.at, 7, NODES * 128);
+    move(store, work, path("r1"), path("r2"), 8);
+    move(store, work, path("r1"), path("r1"), 8);
+    move(store, work, path("r2"), path("r2/b"), 7);
+    move(store, work, path("r2/b"), path("r2"), 7);
+    move(store, work, path("r2/"), path("r3"), 3);
+    move(store, work, path("r2"), filled(0, 0), 3);
+    CHECK(put(store, work, path(longest), copy("4", 1)) == 0 && put(store, work, path(deepest), copy("5", 1)) == 0);
+    move(store, work, path("a"), path("bb"), 9);
+    move(store, work, path("q/2"), path("q/9/9"), 9);
+    move(store, work, path("a"), path("e"), 0);
+    move(store, work, path("q/2"), path("f/9"), 0);
+    ask(store, path("f/9/3/4/5/6/7/8"), NULL, VALUE_MOST, 0, copy("5", 1));
+    bytes from = path("r2"), to = path("r3");
+    CHECK(splicelog_move(store.at, store.len, work.at, NODES * 128 - 1, from.at, from.len, to.at, to.len) == 1);
+    CHECK(splicelog_move(store.at, store.len - 1, work.at, work.len, from.at, from.len, to.at, to.len) == 1);
+    store.at[2] ^= 1;
+    CHECK(splicelog_move(store.at, store.len, work.at, work.len, from.at, from.len, to.at, to.len) == 2);
+    free(store.at), free(work.at), free(from.at), free(to.at);
+}
+
+/* A heal of the root, where there is one that is no leaf, keeps the map; the refusals of its number stand with flush's. */
+static void test_heal(void) {
+    bytes store = filled(NODES * NODE, 1), other = filled(NODES * NODE, 1), work = filled(NODES * 128 + 3, LATER);
+    CHECK(splicelog_make(store.at, store.len) == 0);
+    for (int i = 0; i < NODES; i++) {
+        char text[32];
+        snprintf(text, sizeof text, "cable-%d/tray-%d/f%d", i % 4, i % 3, i);
+        CHECK(put(store, work, path(text), filled(VALUE_MOST, (uint8_t)i)) == 0);
+    }
+    memcpy(other.at, store.at, store.len);
+    memset(work.at, 7, NODES * 128);
+    size_t root = root_of(store);
+    CHECK(splicelog_heal(store.at, store.len, work.at, work.len, root) == 0 && cleared(work));
+    CHECK(splicelog_beside(splicelog_same(store.at, store.len, other.at, other.len)) == 1);
+    refuse_node(store, work, root);
+    ask(store, path("cable-1/tray-2/f5"), NULL, VALUE_MOST, 0, filled(VALUE_MOST, 5));
+    store.at[2] ^= 1;
+    CHECK(splicelog_heal(store.at, store.len, work.at, work.len, root) == 2);
+    free(store.at), free(other.at), free(work.at);
+}
+
+/* The listing: its paths, its end, and refusals that leave the place. */
+static void test_listing(void) {
+    bytes store = filled(NODES * NODE, 1), work = filled(NODES * 128, LATER);
+    struct splicelog_place *place = start();
+    CHECK(splicelog_make(store.at, store.len) == 0);
+    step(store, "r1", place, 8, "");
+    CHECK(put(store, work, path("r1/b"), copy("1", 1)) == 0 && put(store, work, path("r1"), copy("2", 1)) == 0);
+    CHECK(put(store, work, path("r1/a"), copy("3", 1)) == 0 && put(store, work, path("r10"), copy("4", 1)) == 0);
+    step(store, "r1", place, 0, "r1");
+    step(store, "r1//", place, 3, "");
+    step(store, "r1", place, 0, "r1/a");
+    bytes of = path("r1");
+    CHECK(splicelog_step(store.at, store.len - 1, of.at, of.len, place) == 1);
+    step(store, "r1", place, 0, "r1/b");
+    step(store, "r1", place, 8, "");
+    step(store, "r1", place, 8, "");
+    step(store, "r10", place, 0, "r10");
+    place->length = 65;
+    step(store, "r1", place, 3, "");
+    place->length = SIZE_MAX;
+    step(store, "r1", place, 3, "");
+    place->length = 1;
+    step(store, "r1", place, 3, "");
+    place->length = 0;
+    store.at[2] ^= 1;
+    step(store, "r1", place, 2, "");
+    place->length = SIZE_MAX;
+    step(store, "r1", place, 2, "");
+    free(place), free(of.at), free(store.at), free(work.at);
+}
+
+/* A pointer may be NULL where its length is 0: an empty value, nothing before the first path, and every length that is too short. */
+static void test_null(void) {
+    bytes store = filled(NODES * NODE, 1), work = filled(NODES * 128, LATER), of = path("r1"), buffer = filled(PATH_MOST, LATER);
+    CHECK(splicelog_make(NULL, 0) == 1 && splicelog_make(store.at, store.len) == 0);
+    CHECK(splicelog_put(store.at, store.len, work.at, work.len, of.at, of.len, NULL, 0) == 0);
+    CHECK(splicelog_get(store.at, store.len, of.at, of.len, buffer.at, buffer.len) == 0 && buffer.at[0] == LATER);
+    uint64_t found = splicelog_next(store.at, store.len, of.at, of.len, NULL, 0, buffer.at, buffer.len);
+    CHECK(splicelog_number(found) == 0 && splicelog_beside(found) == of.len && memcmp(buffer.at, of.at, of.len) == 0);
+    CHECK(splicelog_get(NULL, 0, of.at, of.len, buffer.at, buffer.len) == 1);
+    CHECK(splicelog_get(store.at, store.len, NULL, 0, buffer.at, buffer.len) == 3);
+    CHECK(splicelog_get(store.at, store.len, of.at, of.len, NULL, 0) == 5);
+    CHECK(splicelog_next(store.at, store.len, of.at, of.len, NULL, 0, NULL, 0) == 5);
+    CHECK(splicelog_same(NULL, 0, NULL, 0) == 1 && splicelog_same(store.at, store.len, NULL, 0) == 1);
+    CHECK(splicelog_put(store.at, store.len, NULL, 0, of.at, of.len, NULL, 0) == 1);
+    CHECK(splicelog_put(store.at, store.len, work.at, work.len, NULL, 0, NULL, 0) == 3);
+    CHECK(splicelog_drop(store.at, store.len, work.at, work.len, NULL, 0) == 3);
+    CHECK(splicelog_clear(store.at, store.len, work.at, work.len, NULL, 0) == 3);
+    CHECK(splicelog_move(store.at, store.len, work.at, work.len, NULL, 0, NULL, 0) == 3);
+    CHECK(splicelog_settle(NULL, 0, NULL, 0) == 1 && splicelog_tidy(store.at, store.len, NULL, 0) == 1);
+    CHECK(splicelog_flush(NULL, 0, NULL, 0, 1) == 1 && splicelog_heal(store.at, store.len, NULL, 0, 1) == 1);
+    free(store.at), free(work.at), free(of.at), free(buffer.at);
+}
+
 int main(int count, char **words) {
     if (count != 3) {
         fprintf(stderr, "usage: test IMAGE TABLE\n");
@@ -236,6 +414,10 @@ int main(int count, char **words) {
     test_make();
     test_refusals();
     test_writes();
+    test_move();
+    test_heal();
+    test_listing();
+    test_null();
     test_image(words[1], words[2]);
     printf("%s: %u checks passed\n", words[1], checks);
     return 0;

@@ -3,7 +3,7 @@ use Prim.Native.Nat.{ℕ, _*_}
 use mathlib.Core.List.{List, [], _∷_, _++_}
 use mathlib.Core.Bool.{true, false}
 use lib.ListN.{replicate}
-use Rattle.samples.specs.Verdict.{Verdict, node, row}
+use Rattle.samples.specs.Verdict.{Verdict, Change, Kept, node, row}
 
 -- made: just made: the root is an empty leaf
 abbrev pub made-0 : List ℕ
@@ -194,6 +194,241 @@ four-levels = node four-levels-0 ++ node four-levels-1 ++ replicate (5 * 1024) 0
 abbrev pub four-levels-says : Verdict
 four-levels-says = record { sound = true; settled = false; used = 14; free = 18; table = row (97 ∷ 0 ∷ []) (4 ∷ []) ∷ row (99 ∷ 0 ∷ []) (2 ∷ []) ∷ row (99 ∷ 0 ∷ 100 ∷ 0 ∷ []) (4 ∷ []) ∷ row (101 ∷ 0 ∷ []) (3 ∷ []) ∷ row (109 ∷ 0 ∷ 120 ∷ 0 ∷ []) (2 ∷ []) ∷ row (110 ∷ 0 ∷ 111 ∷ 0 ∷ []) (3 ∷ []) ∷ row (113 ∷ 0 ∷ []) (1 ∷ []) ∷ row (113 ∷ 0 ∷ 114 ∷ 0 ∷ []) (3 ∷ []) ∷ [] }
 
+-- two-levels-flushed: two-levels after a flush of node 1
+abbrev pub two-levels-flushed-0 : List ℕ
+two-levels-flushed-0 = 8 ∷ 0 ∷ 0 ∷ 1 ∷ 32 ∷ 0 ∷ 1 ∷ 0 ∷ 2 ∷ 0 ∷ 4 ∷ []
+
+abbrev pub two-levels-flushed-1 : List ℕ
+two-levels-flushed-1 = 25 ∷ 0 ∷ 2 ∷ 0 ∷ 2 ∷ 0 ∷ 0 ∷ 0 ∷ 2 ∷ 0 ∷ 16 ∷ 0 ∷ 2 ∷ 0 ∷ 5 ∷ 0 ∷ 16 ∷ 0 ∷ 3 ∷ 0 ∷ 114 ∷ 49 ∷ 0 ∷ 6 ∷ 0 ∷ 16 ∷ 0 ∷ 4 ∷ 0 ∷ 114 ∷ 49 ∷ 0 ∷ 255 ∷ []
+
+abbrev pub two-levels-flushed-2 : List ℕ
+two-levels-flushed-2 = 9 ∷ 0 ∷ 1 ∷ 0 ∷ 1 ∷ 0 ∷ 0 ∷ 0 ∷ 5 ∷ 0 ∷ 1 ∷ 0 ∷ 2 ∷ 0 ∷ 97 ∷ 0 ∷ 11 ∷ []
+
+abbrev pub two-levels-flushed-3 : List ℕ
+two-levels-flushed-3 = 17 ∷ 0 ∷ 1 ∷ 0 ∷ 1 ∷ 0 ∷ 0 ∷ 0 ∷ 3 ∷ 0 ∷ 1 ∷ 0 ∷ 0 ∷ 0 ∷ 9 ∷ 6 ∷ 0 ∷ 1 ∷ 0 ∷ 2 ∷ 0 ∷ 98 ∷ 0 ∷ 7 ∷ 7 ∷ []
+
+abbrev pub two-levels-flushed-4 : List ℕ
+two-levels-flushed-4 = 11 ∷ 0 ∷ 1 ∷ 0 ∷ 1 ∷ 0 ∷ 0 ∷ 0 ∷ 7 ∷ 0 ∷ 1 ∷ 0 ∷ 5 ∷ 0 ∷ 114 ∷ 50 ∷ 0 ∷ 120 ∷ []
+
+abbrev pub two-levels-flushed : List ℕ
+two-levels-flushed = node two-levels-flushed-0 ++ node two-levels-flushed-1 ++ node two-levels-flushed-2 ++ node two-levels-flushed-3 ++ node two-levels-flushed-4 ++ replicate (27 * 1024) 0
+
+abbrev pub two-levels-flushed-says : Verdict
+two-levels-flushed-says = record { sound = true; settled = true; used = 5; free = 27; table = row (97 ∷ 0 ∷ []) (11 ∷ []) ∷ row (114 ∷ 49 ∷ 0 ∷ []) (9 ∷ []) ∷ row (114 ∷ 49 ∷ 0 ∷ 98 ∷ 0 ∷ []) (7 ∷ 7 ∷ []) ∷ row (114 ∷ 50 ∷ 0 ∷ 120 ∷ 0 ∷ []) [] ∷ [] }
+
+-- three-levels-flushed: three-levels after a flush of node 3
+abbrev pub three-levels-flushed-0 : List ℕ
+three-levels-flushed-0 = 8 ∷ 0 ∷ 0 ∷ 1 ∷ 32 ∷ 0 ∷ 3 ∷ 0 ∷ 3 ∷ 0 ∷ 10 ∷ []
+
+abbrev pub three-levels-flushed-3 : List ℕ
+three-levels-flushed-3 = 96 ∷ 0 ∷ 2 ∷ 0 ∷ 3 ∷ 0 ∷ 0 ∷ 0 ∷ 2 ∷ 0 ∷ 16 ∷ 0 ∷ 4 ∷ 0 ∷ 5 ∷ 0 ∷ 16 ∷ 0 ∷ 6 ∷ 0 ∷ 114 ∷ 49 ∷ 0 ∷ 6 ∷ 0 ∷ 16 ∷ 0 ∷ 10 ∷ 0 ∷ 114 ∷ 49 ∷ 0 ∷ 255 ∷ 67 ∷ 0 ∷ 16 ∷ 0 ∷ 15 ∷ 0 ∷ 118 ∷ 50 ∷ 51 ∷ 52 ∷ 53 ∷ 54 ∷ 55 ∷ 56 ∷ 57 ∷ 48 ∷ 49 ∷ 50 ∷ 51 ∷ 52 ∷ 53 ∷ 54 ∷ 0 ∷ 118 ∷ 50 ∷ 51 ∷ 52 ∷ 53 ∷ 54 ∷ 55 ∷ 56 ∷ 57 ∷ 48 ∷ 49 ∷ 50 ∷ 51 ∷ 52 ∷ 53 ∷ 54 ∷ 0 ∷ 118 ∷ 50 ∷ 51 ∷ 52 ∷ 53 ∷ 54 ∷ 55 ∷ 56 ∷ 57 ∷ 48 ∷ 49 ∷ 50 ∷ 51 ∷ 52 ∷ 53 ∷ 54 ∷ 0 ∷ 118 ∷ 50 ∷ 51 ∷ 52 ∷ 53 ∷ 54 ∷ 55 ∷ 56 ∷ 57 ∷ 48 ∷ 49 ∷ 50 ∷ 0 ∷ 255 ∷ []
+
+abbrev pub three-levels-flushed-4 : List ℕ
+three-levels-flushed-4 = 23 ∷ 0 ∷ 2 ∷ 0 ∷ 2 ∷ 0 ∷ 0 ∷ 0 ∷ 2 ∷ 0 ∷ 16 ∷ 0 ∷ 5 ∷ 0 ∷ 7 ∷ 0 ∷ 32 ∷ 0 ∷ 4 ∷ 0 ∷ 97 ∷ 0 ∷ 120 ∷ 0 ∷ 9 ∷ 2 ∷ 0 ∷ 33 ∷ 0 ∷ 98 ∷ []
+
+abbrev pub three-levels-flushed-5 : List ℕ
+three-levels-flushed-5 = 18 ∷ 0 ∷ 1 ∷ 0 ∷ 1 ∷ 0 ∷ 0 ∷ 0 ∷ 5 ∷ 0 ∷ 1 ∷ 0 ∷ 2 ∷ 0 ∷ 97 ∷ 0 ∷ 1 ∷ 5 ∷ 0 ∷ 1 ∷ 0 ∷ 2 ∷ 0 ∷ 98 ∷ 0 ∷ 2 ∷ []
+
+abbrev pub three-levels-flushed-6 : List ℕ
+three-levels-flushed-6 = 59 ∷ 0 ∷ 2 ∷ 0 ∷ 2 ∷ 0 ∷ 0 ∷ 0 ∷ 2 ∷ 0 ∷ 16 ∷ 0 ∷ 7 ∷ 0 ∷ 4 ∷ 0 ∷ 16 ∷ 0 ∷ 8 ∷ 0 ∷ 99 ∷ 0 ∷ 5 ∷ 0 ∷ 16 ∷ 0 ∷ 9 ∷ 0 ∷ 99 ∷ 0 ∷ 255 ∷ 3 ∷ 0 ∷ 32 ∷ 0 ∷ 0 ∷ 0 ∷ 7 ∷ 2 ∷ 0 ∷ 34 ∷ 0 ∷ 99 ∷ 0 ∷ 7 ∷ 0 ∷ 32 ∷ 0 ∷ 4 ∷ 0 ∷ 99 ∷ 0 ∷ 109 ∷ 0 ∷ 8 ∷ 2 ∷ 0 ∷ 33 ∷ 0 ∷ 97 ∷ 0 ∷ 2 ∷ 0 ∷ 34 ∷ 0 ∷ 100 ∷ []
+
+abbrev pub three-levels-flushed-7 : List ℕ
+three-levels-flushed-7 = 16 ∷ 0 ∷ 1 ∷ 0 ∷ 1 ∷ 0 ∷ 0 ∷ 0 ∷ 3 ∷ 0 ∷ 1 ∷ 0 ∷ 0 ∷ 0 ∷ 1 ∷ 5 ∷ 0 ∷ 1 ∷ 0 ∷ 2 ∷ 0 ∷ 97 ∷ 0 ∷ 2 ∷ []
+
+abbrev pub three-levels-flushed-8 : List ℕ
+three-levels-flushed-8 = 16 ∷ 0 ∷ 1 ∷ 0 ∷ 1 ∷ 0 ∷ 0 ∷ 0 ∷ 3 ∷ 0 ∷ 1 ∷ 0 ∷ 0 ∷ 0 ∷ 3 ∷ 5 ∷ 0 ∷ 1 ∷ 0 ∷ 2 ∷ 0 ∷ 107 ∷ 0 ∷ 4 ∷ []
+
+abbrev pub three-levels-flushed-9 : List ℕ
+three-levels-flushed-9 = 20 ∷ 0 ∷ 1 ∷ 0 ∷ 1 ∷ 0 ∷ 0 ∷ 0 ∷ 5 ∷ 0 ∷ 1 ∷ 0 ∷ 2 ∷ 0 ∷ 100 ∷ 0 ∷ 5 ∷ 7 ∷ 0 ∷ 1 ∷ 0 ∷ 4 ∷ 0 ∷ 100 ∷ 0 ∷ 101 ∷ 0 ∷ 6 ∷ []
+
+abbrev pub three-levels-flushed-10 : List ℕ
+three-levels-flushed-10 = 134 ∷ 0 ∷ 2 ∷ 0 ∷ 2 ∷ 0 ∷ 0 ∷ 0 ∷ 6 ∷ 0 ∷ 16 ∷ 0 ∷ 12 ∷ 0 ∷ 114 ∷ 49 ∷ 0 ∷ 255 ∷ 6 ∷ 0 ∷ 16 ∷ 0 ∷ 13 ∷ 0 ∷ 116 ∷ 0 ∷ 117 ∷ 0 ∷ 7 ∷ 0 ∷ 16 ∷ 0 ∷ 14 ∷ 0 ∷ 116 ∷ 0 ∷ 117 ∷ 0 ∷ 255 ∷ 9 ∷ 0 ∷ 32 ∷ 0 ∷ 6 ∷ 0 ∷ 116 ∷ 0 ∷ 117 ∷ 0 ∷ 97 ∷ 0 ∷ 3 ∷ 2 ∷ 0 ∷ 34 ∷ 0 ∷ 116 ∷ 0 ∷ 9 ∷ 0 ∷ 32 ∷ 0 ∷ 6 ∷ 0 ∷ 116 ∷ 0 ∷ 117 ∷ 0 ∷ 98 ∷ 0 ∷ 4 ∷ 67 ∷ 0 ∷ 32 ∷ 0 ∷ 64 ∷ 0 ∷ 118 ∷ 50 ∷ 51 ∷ 52 ∷ 53 ∷ 54 ∷ 55 ∷ 56 ∷ 57 ∷ 48 ∷ 49 ∷ 50 ∷ 51 ∷ 52 ∷ 53 ∷ 54 ∷ 0 ∷ 118 ∷ 50 ∷ 51 ∷ 52 ∷ 53 ∷ 54 ∷ 55 ∷ 56 ∷ 57 ∷ 48 ∷ 49 ∷ 50 ∷ 51 ∷ 52 ∷ 53 ∷ 54 ∷ 0 ∷ 118 ∷ 50 ∷ 51 ∷ 52 ∷ 53 ∷ 54 ∷ 55 ∷ 56 ∷ 57 ∷ 48 ∷ 49 ∷ 50 ∷ 51 ∷ 52 ∷ 53 ∷ 54 ∷ 0 ∷ 118 ∷ 50 ∷ 51 ∷ 52 ∷ 53 ∷ 54 ∷ 55 ∷ 56 ∷ 57 ∷ 48 ∷ 49 ∷ 50 ∷ 0 ∷ 10 ∷ []
+
+abbrev pub three-levels-flushed-12 : List ℕ
+three-levels-flushed-12 = 19 ∷ 0 ∷ 1 ∷ 0 ∷ 1 ∷ 0 ∷ 0 ∷ 0 ∷ 7 ∷ 0 ∷ 1 ∷ 0 ∷ 4 ∷ 0 ∷ 114 ∷ 49 ∷ 48 ∷ 0 ∷ 1 ∷ 4 ∷ 0 ∷ 1 ∷ 0 ∷ 2 ∷ 0 ∷ 115 ∷ []
+
+abbrev pub three-levels-flushed-13 : List ℕ
+three-levels-flushed-13 = 16 ∷ 0 ∷ 1 ∷ 0 ∷ 1 ∷ 0 ∷ 0 ∷ 0 ∷ 3 ∷ 0 ∷ 1 ∷ 0 ∷ 0 ∷ 0 ∷ 2 ∷ 5 ∷ 0 ∷ 1 ∷ 0 ∷ 2 ∷ 0 ∷ 97 ∷ 0 ∷ 2 ∷ []
+
+abbrev pub three-levels-flushed-14 : List ℕ
+three-levels-flushed-14 = 20 ∷ 0 ∷ 1 ∷ 0 ∷ 1 ∷ 0 ∷ 0 ∷ 0 ∷ 7 ∷ 0 ∷ 1 ∷ 0 ∷ 4 ∷ 0 ∷ 116 ∷ 0 ∷ 118 ∷ 0 ∷ 3 ∷ 5 ∷ 0 ∷ 1 ∷ 0 ∷ 2 ∷ 0 ∷ 117 ∷ 0 ∷ 3 ∷ []
+
+abbrev pub three-levels-flushed-15 : List ℕ
+three-levels-flushed-15 = 84 ∷ 0 ∷ 2 ∷ 0 ∷ 2 ∷ 0 ∷ 0 ∷ 0 ∷ 67 ∷ 0 ∷ 16 ∷ 0 ∷ 16 ∷ 0 ∷ 118 ∷ 50 ∷ 51 ∷ 52 ∷ 53 ∷ 54 ∷ 55 ∷ 56 ∷ 57 ∷ 48 ∷ 49 ∷ 50 ∷ 51 ∷ 52 ∷ 53 ∷ 54 ∷ 0 ∷ 118 ∷ 50 ∷ 51 ∷ 52 ∷ 53 ∷ 54 ∷ 55 ∷ 56 ∷ 57 ∷ 48 ∷ 49 ∷ 50 ∷ 51 ∷ 52 ∷ 53 ∷ 54 ∷ 0 ∷ 118 ∷ 50 ∷ 51 ∷ 52 ∷ 53 ∷ 54 ∷ 55 ∷ 56 ∷ 57 ∷ 48 ∷ 49 ∷ 50 ∷ 51 ∷ 52 ∷ 53 ∷ 54 ∷ 0 ∷ 118 ∷ 50 ∷ 51 ∷ 52 ∷ 53 ∷ 54 ∷ 55 ∷ 56 ∷ 57 ∷ 48 ∷ 49 ∷ 50 ∷ 0 ∷ 255 ∷ 0 ∷ 0 ∷ 34 ∷ 0 ∷ 5 ∷ 0 ∷ 32 ∷ 0 ∷ 2 ∷ 0 ∷ 122 ∷ 0 ∷ 5 ∷ []
+
+abbrev pub three-levels-flushed-16 : List ℕ
+three-levels-flushed-16 = 0 ∷ 0 ∷ 1 ∷ 0 ∷ 1 ∷ []
+
+abbrev pub three-levels-flushed : List ℕ
+three-levels-flushed = node three-levels-flushed-0 ++ replicate (2 * 1024) 0 ++ node three-levels-flushed-3 ++ node three-levels-flushed-4 ++ node three-levels-flushed-5 ++ node three-levels-flushed-6 ++ node three-levels-flushed-7 ++ node three-levels-flushed-8 ++ node three-levels-flushed-9 ++ node three-levels-flushed-10 ++ replicate (1 * 1024) 0 ++ node three-levels-flushed-12 ++ node three-levels-flushed-13 ++ node three-levels-flushed-14 ++ node three-levels-flushed-15 ++ node three-levels-flushed-16 ++ replicate (15 * 1024) 0
+
+abbrev pub three-levels-flushed-says : Verdict
+three-levels-flushed-says = record { sound = true; settled = false; used = 14; free = 18; table = row (97 ∷ 0 ∷ []) (1 ∷ []) ∷ row (97 ∷ 0 ∷ 120 ∷ 0 ∷ []) (9 ∷ []) ∷ row (114 ∷ 49 ∷ 0 ∷ []) (7 ∷ []) ∷ row (114 ∷ 49 ∷ 0 ∷ 99 ∷ 0 ∷ 109 ∷ 0 ∷ []) (8 ∷ []) ∷ row (114 ∷ 49 ∷ 48 ∷ 0 ∷ []) (1 ∷ []) ∷ row (115 ∷ 0 ∷ []) [] ∷ row (116 ∷ 0 ∷ 117 ∷ 0 ∷ 98 ∷ 0 ∷ []) (4 ∷ []) ∷ row (117 ∷ 0 ∷ []) (3 ∷ []) ∷ row (118 ∷ 50 ∷ 51 ∷ 52 ∷ 53 ∷ 54 ∷ 55 ∷ 56 ∷ 57 ∷ 48 ∷ 49 ∷ 50 ∷ 51 ∷ 52 ∷ 53 ∷ 54 ∷ 0 ∷ 118 ∷ 50 ∷ 51 ∷ 52 ∷ 53 ∷ 54 ∷ 55 ∷ 56 ∷ 57 ∷ 48 ∷ 49 ∷ 50 ∷ 51 ∷ 52 ∷ 53 ∷ 54 ∷ 0 ∷ 118 ∷ 50 ∷ 51 ∷ 52 ∷ 53 ∷ 54 ∷ 55 ∷ 56 ∷ 57 ∷ 48 ∷ 49 ∷ 50 ∷ 51 ∷ 52 ∷ 53 ∷ 54 ∷ 0 ∷ 118 ∷ 50 ∷ 51 ∷ 52 ∷ 53 ∷ 54 ∷ 55 ∷ 56 ∷ 57 ∷ 48 ∷ 49 ∷ 50 ∷ 0 ∷ []) (10 ∷ []) ∷ row (122 ∷ 0 ∷ []) (5 ∷ []) ∷ [] }
+
+-- four-levels-flushed: four-levels after a flush of node 9
+abbrev pub four-levels-flushed-0 : List ℕ
+four-levels-flushed-0 = 8 ∷ 0 ∷ 0 ∷ 1 ∷ 32 ∷ 0 ∷ 31 ∷ 0 ∷ 4 ∷ 0 ∷ 8 ∷ []
+
+abbrev pub four-levels-flushed-1 : List ℕ
+four-levels-flushed-1 = 9 ∷ 0 ∷ 2 ∷ 0 ∷ 7 ∷ 0 ∷ 0 ∷ 0 ∷ 255 ∷ 1 ∷ 0 ∷ 77 ∷ []
+
+abbrev pub four-levels-flushed-7 : List ℕ
+four-levels-flushed-7 = 21 ∷ 0 ∷ 2 ∷ 0 ∷ 3 ∷ 0 ∷ 0 ∷ 0 ∷ 2 ∷ 0 ∷ 16 ∷ 0 ∷ 30 ∷ 0 ∷ 2 ∷ 0 ∷ 33 ∷ 0 ∷ 97 ∷ 0 ∷ 5 ∷ 0 ∷ 32 ∷ 0 ∷ 2 ∷ 0 ∷ 101 ∷ 0 ∷ 3 ∷ []
+
+abbrev pub four-levels-flushed-8 : List ℕ
+four-levels-flushed-8 = 18 ∷ 0 ∷ 1 ∷ 0 ∷ 1 ∷ 0 ∷ 0 ∷ 0 ∷ 5 ∷ 0 ∷ 1 ∷ 0 ∷ 2 ∷ 0 ∷ 97 ∷ 0 ∷ 1 ∷ 5 ∷ 0 ∷ 1 ∷ 0 ∷ 2 ∷ 0 ∷ 99 ∷ 0 ∷ 1 ∷ []
+
+abbrev pub four-levels-flushed-9 : List ℕ
+four-levels-flushed-9 = 17 ∷ 0 ∷ 2 ∷ 0 ∷ 3 ∷ 0 ∷ 0 ∷ 0 ∷ 4 ∷ 0 ∷ 16 ∷ 0 ∷ 28 ∷ 0 ∷ 109 ∷ 0 ∷ 5 ∷ 0 ∷ 16 ∷ 0 ∷ 27 ∷ 0 ∷ 109 ∷ 0 ∷ 255 ∷ []
+
+abbrev pub four-levels-flushed-10 : List ℕ
+four-levels-flushed-10 = 16 ∷ 0 ∷ 1 ∷ 0 ∷ 1 ∷ 0 ∷ 0 ∷ 0 ∷ 3 ∷ 0 ∷ 1 ∷ 0 ∷ 0 ∷ 0 ∷ 1 ∷ 5 ∷ 0 ∷ 1 ∷ 0 ∷ 2 ∷ 0 ∷ 120 ∷ 0 ∷ 1 ∷ []
+
+abbrev pub four-levels-flushed-11 : List ℕ
+four-levels-flushed-11 = 9 ∷ 0 ∷ 1 ∷ 0 ∷ 1 ∷ 0 ∷ 0 ∷ 0 ∷ 5 ∷ 0 ∷ 1 ∷ 0 ∷ 2 ∷ 0 ∷ 110 ∷ 0 ∷ 1 ∷ []
+
+abbrev pub four-levels-flushed-12 : List ℕ
+four-levels-flushed-12 = 9 ∷ 0 ∷ 2 ∷ 0 ∷ 7 ∷ 0 ∷ 0 ∷ 0 ∷ 255 ∷ 1 ∷ 0 ∷ 77 ∷ []
+
+abbrev pub four-levels-flushed-13 : List ℕ
+four-levels-flushed-13 = 8 ∷ 0 ∷ 2 ∷ 0 ∷ 2 ∷ 0 ∷ 0 ∷ 0 ∷ 4 ∷ 0 ∷ 16 ∷ 0 ∷ 25 ∷ 0 ∷ 113 ∷ []
+
+abbrev pub four-levels-flushed-25 : List ℕ
+four-levels-flushed-25 = 9 ∷ 0 ∷ 1 ∷ 0 ∷ 1 ∷ 0 ∷ 0 ∷ 0 ∷ 5 ∷ 0 ∷ 1 ∷ 0 ∷ 2 ∷ 0 ∷ 113 ∷ 0 ∷ 1 ∷ []
+
+abbrev pub four-levels-flushed-26 : List ℕ
+four-levels-flushed-26 = 19 ∷ 0 ∷ 2 ∷ 0 ∷ 3 ∷ 0 ∷ 0 ∷ 0 ∷ 4 ∷ 0 ∷ 16 ∷ 0 ∷ 13 ∷ 0 ∷ 113 ∷ 0 ∷ 7 ∷ 0 ∷ 32 ∷ 0 ∷ 4 ∷ 0 ∷ 113 ∷ 0 ∷ 114 ∷ 0 ∷ 3 ∷ []
+
+abbrev pub four-levels-flushed-27 : List ℕ
+four-levels-flushed-27 = 26 ∷ 0 ∷ 2 ∷ 0 ∷ 2 ∷ 0 ∷ 0 ∷ 0 ∷ 5 ∷ 0 ∷ 16 ∷ 0 ∷ 11 ∷ 0 ∷ 109 ∷ 0 ∷ 255 ∷ 2 ∷ 0 ∷ 34 ∷ 0 ∷ 110 ∷ 0 ∷ 7 ∷ 0 ∷ 32 ∷ 0 ∷ 4 ∷ 0 ∷ 110 ∷ 0 ∷ 111 ∷ 0 ∷ 3 ∷ []
+
+abbrev pub four-levels-flushed-28 : List ℕ
+four-levels-flushed-28 = 28 ∷ 0 ∷ 2 ∷ 0 ∷ 2 ∷ 0 ∷ 0 ∷ 0 ∷ 2 ∷ 0 ∷ 16 ∷ 0 ∷ 10 ∷ 0 ∷ 0 ∷ 0 ∷ 34 ∷ 0 ∷ 5 ∷ 0 ∷ 32 ∷ 0 ∷ 2 ∷ 0 ∷ 120 ∷ 0 ∷ 2 ∷ 5 ∷ 0 ∷ 32 ∷ 0 ∷ 2 ∷ 0 ∷ 121 ∷ 0 ∷ 3 ∷ []
+
+abbrev pub four-levels-flushed-29 : List ℕ
+four-levels-flushed-29 = 18 ∷ 0 ∷ 1 ∷ 0 ∷ 1 ∷ 0 ∷ 0 ∷ 0 ∷ 5 ∷ 0 ∷ 1 ∷ 0 ∷ 2 ∷ 0 ∷ 101 ∷ 0 ∷ 1 ∷ 5 ∷ 0 ∷ 1 ∷ 0 ∷ 2 ∷ 0 ∷ 103 ∷ 0 ∷ 1 ∷ []
+
+abbrev pub four-levels-flushed-30 : List ℕ
+four-levels-flushed-30 = 38 ∷ 0 ∷ 2 ∷ 0 ∷ 2 ∷ 0 ∷ 0 ∷ 0 ∷ 2 ∷ 0 ∷ 16 ∷ 0 ∷ 8 ∷ 0 ∷ 4 ∷ 0 ∷ 16 ∷ 0 ∷ 29 ∷ 0 ∷ 101 ∷ 0 ∷ 5 ∷ 0 ∷ 32 ∷ 0 ∷ 2 ∷ 0 ∷ 97 ∷ 0 ∷ 2 ∷ 5 ∷ 0 ∷ 32 ∷ 0 ∷ 2 ∷ 0 ∷ 99 ∷ 0 ∷ 2 ∷ 2 ∷ 0 ∷ 33 ∷ 0 ∷ 103 ∷ []
+
+abbrev pub four-levels-flushed-31 : List ℕ
+four-levels-flushed-31 = 50 ∷ 0 ∷ 2 ∷ 0 ∷ 4 ∷ 0 ∷ 0 ∷ 0 ∷ 2 ∷ 0 ∷ 16 ∷ 0 ∷ 7 ∷ 0 ∷ 4 ∷ 0 ∷ 16 ∷ 0 ∷ 9 ∷ 0 ∷ 109 ∷ 0 ∷ 4 ∷ 0 ∷ 16 ∷ 0 ∷ 26 ∷ 0 ∷ 113 ∷ 0 ∷ 5 ∷ 0 ∷ 32 ∷ 0 ∷ 2 ∷ 0 ∷ 97 ∷ 0 ∷ 4 ∷ 4 ∷ 0 ∷ 33 ∷ 0 ∷ 109 ∷ 0 ∷ 121 ∷ 0 ∷ 7 ∷ 0 ∷ 32 ∷ 0 ∷ 4 ∷ 0 ∷ 99 ∷ 0 ∷ 100 ∷ 0 ∷ 4 ∷ []
+
+abbrev pub four-levels-flushed : List ℕ
+four-levels-flushed = node four-levels-flushed-0 ++ node four-levels-flushed-1 ++ replicate (5 * 1024) 0 ++ node four-levels-flushed-7 ++ node four-levels-flushed-8 ++ node four-levels-flushed-9 ++ node four-levels-flushed-10 ++ node four-levels-flushed-11 ++ node four-levels-flushed-12 ++ node four-levels-flushed-13 ++ replicate (11 * 1024) 0 ++ node four-levels-flushed-25 ++ node four-levels-flushed-26 ++ node four-levels-flushed-27 ++ node four-levels-flushed-28 ++ node four-levels-flushed-29 ++ node four-levels-flushed-30 ++ node four-levels-flushed-31
+
+abbrev pub four-levels-flushed-says : Verdict
+four-levels-flushed-says = record { sound = true; settled = false; used = 14; free = 18; table = row (97 ∷ 0 ∷ []) (4 ∷ []) ∷ row (99 ∷ 0 ∷ []) (2 ∷ []) ∷ row (99 ∷ 0 ∷ 100 ∷ 0 ∷ []) (4 ∷ []) ∷ row (101 ∷ 0 ∷ []) (3 ∷ []) ∷ row (109 ∷ 0 ∷ 120 ∷ 0 ∷ []) (2 ∷ []) ∷ row (110 ∷ 0 ∷ 111 ∷ 0 ∷ []) (3 ∷ []) ∷ row (113 ∷ 0 ∷ []) (1 ∷ []) ∷ row (113 ∷ 0 ∷ 114 ∷ 0 ∷ []) (3 ∷ []) ∷ [] }
+
+-- two-levels-healed: two-levels after a heal of node 1
+abbrev pub two-levels-healed-0 : List ℕ
+two-levels-healed-0 = 8 ∷ 0 ∷ 0 ∷ 1 ∷ 32 ∷ 0 ∷ 1 ∷ 0 ∷ 2 ∷ 0 ∷ 4 ∷ []
+
+abbrev pub two-levels-healed-1 : List ℕ
+two-levels-healed-1 = 109 ∷ 0 ∷ 2 ∷ 0 ∷ 2 ∷ 0 ∷ 0 ∷ 0 ∷ 2 ∷ 0 ∷ 16 ∷ 0 ∷ 2 ∷ 0 ∷ 7 ∷ 0 ∷ 32 ∷ 0 ∷ 4 ∷ 0 ∷ 97 ∷ 0 ∷ 122 ∷ 0 ∷ 7 ∷ 5 ∷ 0 ∷ 33 ∷ 0 ∷ 114 ∷ 49 ∷ 0 ∷ 97 ∷ 0 ∷ 3 ∷ 0 ∷ 34 ∷ 0 ∷ 114 ∷ 50 ∷ 0 ∷ 0 ∷ 0 ∷ 34 ∷ 0 ∷ 6 ∷ 0 ∷ 32 ∷ 0 ∷ 3 ∷ 0 ∷ 114 ∷ 49 ∷ 0 ∷ 9 ∷ 9 ∷ 0 ∷ 32 ∷ 0 ∷ 5 ∷ 0 ∷ 114 ∷ 49 ∷ 0 ∷ 98 ∷ 0 ∷ 7 ∷ 7 ∷ 7 ∷ 0 ∷ 32 ∷ 0 ∷ 5 ∷ 0 ∷ 114 ∷ 50 ∷ 0 ∷ 120 ∷ 0 ∷ 9 ∷ 0 ∷ 32 ∷ 0 ∷ 6 ∷ 0 ∷ 114 ∷ 49 ∷ 48 ∷ 0 ∷ 113 ∷ 0 ∷ 8 ∷ 6 ∷ 0 ∷ 33 ∷ 0 ∷ 114 ∷ 49 ∷ 48 ∷ 0 ∷ 113 ∷ 0 ∷ 2 ∷ 0 ∷ 34 ∷ 0 ∷ 98 ∷ 0 ∷ 5 ∷ 0 ∷ 32 ∷ 0 ∷ 2 ∷ 0 ∷ 97 ∷ 0 ∷ 11 ∷ []
+
+abbrev pub two-levels-healed-2 : List ℕ
+two-levels-healed-2 = 76 ∷ 0 ∷ 1 ∷ 0 ∷ 1 ∷ 0 ∷ 0 ∷ 0 ∷ 5 ∷ 0 ∷ 1 ∷ 0 ∷ 2 ∷ 0 ∷ 97 ∷ 0 ∷ 1 ∷ 7 ∷ 0 ∷ 1 ∷ 0 ∷ 4 ∷ 0 ∷ 98 ∷ 0 ∷ 120 ∷ 0 ∷ 2 ∷ 5 ∷ 0 ∷ 1 ∷ 0 ∷ 3 ∷ 0 ∷ 114 ∷ 49 ∷ 0 ∷ 8 ∷ 0 ∷ 1 ∷ 0 ∷ 5 ∷ 0 ∷ 114 ∷ 49 ∷ 0 ∷ 97 ∷ 0 ∷ 3 ∷ 8 ∷ 0 ∷ 1 ∷ 0 ∷ 5 ∷ 0 ∷ 114 ∷ 49 ∷ 0 ∷ 99 ∷ 0 ∷ 4 ∷ 7 ∷ 0 ∷ 1 ∷ 0 ∷ 4 ∷ 0 ∷ 114 ∷ 49 ∷ 48 ∷ 0 ∷ 5 ∷ 8 ∷ 0 ∷ 1 ∷ 0 ∷ 5 ∷ 0 ∷ 114 ∷ 50 ∷ 0 ∷ 120 ∷ 0 ∷ 6 ∷ []
+
+abbrev pub two-levels-healed-3 : List ℕ
+two-levels-healed-3 = 24 ∷ 0 ∷ 1 ∷ 0 ∷ 1 ∷ 0 ∷ 0 ∷ 0 ∷ 2 ∷ 0 ∷ 1 ∷ 0 ∷ 0 ∷ 0 ∷ 5 ∷ 0 ∷ 1 ∷ 0 ∷ 2 ∷ 0 ∷ 97 ∷ 0 ∷ 3 ∷ 5 ∷ 0 ∷ 1 ∷ 0 ∷ 2 ∷ 0 ∷ 99 ∷ 0 ∷ 4 ∷ []
+
+abbrev pub two-levels-healed-4 : List ℕ
+two-levels-healed-4 = 23 ∷ 0 ∷ 1 ∷ 0 ∷ 1 ∷ 0 ∷ 0 ∷ 0 ∷ 7 ∷ 0 ∷ 1 ∷ 0 ∷ 4 ∷ 0 ∷ 114 ∷ 49 ∷ 48 ∷ 0 ∷ 5 ∷ 8 ∷ 0 ∷ 1 ∷ 0 ∷ 5 ∷ 0 ∷ 114 ∷ 50 ∷ 0 ∷ 120 ∷ 0 ∷ 6 ∷ []
+
+abbrev pub two-levels-healed : List ℕ
+two-levels-healed = node two-levels-healed-0 ++ node two-levels-healed-1 ++ node two-levels-healed-2 ++ node two-levels-healed-3 ++ node two-levels-healed-4 ++ replicate (27 * 1024) 0
+
+abbrev pub two-levels-healed-says : Verdict
+two-levels-healed-says = record { sound = true; settled = false; used = 3; free = 29; table = row (97 ∷ 0 ∷ []) (11 ∷ []) ∷ row (114 ∷ 49 ∷ 0 ∷ []) (9 ∷ []) ∷ row (114 ∷ 49 ∷ 0 ∷ 98 ∷ 0 ∷ []) (7 ∷ 7 ∷ []) ∷ row (114 ∷ 50 ∷ 0 ∷ 120 ∷ 0 ∷ []) [] ∷ [] }
+
+-- long-pivot-healed: long-pivot after a heal of node 4
+abbrev pub long-pivot-healed-0 : List ℕ
+long-pivot-healed-0 = 8 ∷ 0 ∷ 0 ∷ 1 ∷ 32 ∷ 0 ∷ 9 ∷ 0 ∷ 3 ∷ 0 ∷ 6 ∷ []
+
+abbrev pub long-pivot-healed-1 : List ℕ
+long-pivot-healed-1 = 40 ∷ 0 ∷ 2 ∷ 0 ∷ 2 ∷ 0 ∷ 0 ∷ 0 ∷ 36 ∷ 0 ∷ 16 ∷ 0 ∷ 8 ∷ 0 ∷ 116 ∷ 50 ∷ 51 ∷ 52 ∷ 53 ∷ 54 ∷ 55 ∷ 56 ∷ 57 ∷ 48 ∷ 49 ∷ 50 ∷ 51 ∷ 52 ∷ 53 ∷ 54 ∷ 0 ∷ 116 ∷ 50 ∷ 51 ∷ 52 ∷ 53 ∷ 54 ∷ 55 ∷ 56 ∷ 57 ∷ 48 ∷ 49 ∷ 50 ∷ 51 ∷ 52 ∷ 53 ∷ 0 ∷ 255 ∷ []
+
+abbrev pub long-pivot-healed-2 : List ℕ
+long-pivot-healed-2 = 6 ∷ 0 ∷ 2 ∷ 0 ∷ 2 ∷ 0 ∷ 0 ∷ 0 ∷ 2 ∷ 0 ∷ 16 ∷ 0 ∷ 3 ∷ []
+
+abbrev pub long-pivot-healed-3 : List ℕ
+long-pivot-healed-3 = 9 ∷ 0 ∷ 1 ∷ 0 ∷ 1 ∷ 0 ∷ 0 ∷ 0 ∷ 5 ∷ 0 ∷ 1 ∷ 0 ∷ 2 ∷ 0 ∷ 97 ∷ 0 ∷ 5 ∷ []
+
+abbrev pub long-pivot-healed-4 : List ℕ
+long-pivot-healed-4 = 6 ∷ 0 ∷ 2 ∷ 0 ∷ 2 ∷ 0 ∷ 0 ∷ 0 ∷ 2 ∷ 0 ∷ 16 ∷ 0 ∷ 5 ∷ []
+
+abbrev pub long-pivot-healed-5 : List ℕ
+long-pivot-healed-5 = 38 ∷ 0 ∷ 1 ∷ 0 ∷ 1 ∷ 0 ∷ 0 ∷ 0 ∷ 5 ∷ 0 ∷ 1 ∷ 0 ∷ 2 ∷ 0 ∷ 97 ∷ 0 ∷ 1 ∷ 5 ∷ 0 ∷ 1 ∷ 0 ∷ 2 ∷ 0 ∷ 98 ∷ 0 ∷ 2 ∷ 5 ∷ 0 ∷ 1 ∷ 0 ∷ 2 ∷ 0 ∷ 120 ∷ 0 ∷ 3 ∷ 7 ∷ 0 ∷ 1 ∷ 0 ∷ 4 ∷ 0 ∷ 121 ∷ 0 ∷ 122 ∷ 0 ∷ 4 ∷ []
+
+abbrev pub long-pivot-healed-6 : List ℕ
+long-pivot-healed-6 = 0 ∷ 0 ∷ 1 ∷ 0 ∷ 1 ∷ []
+
+abbrev pub long-pivot-healed-7 : List ℕ
+long-pivot-healed-7 = 20 ∷ 0 ∷ 1 ∷ 0 ∷ 1 ∷ 0 ∷ 0 ∷ 0 ∷ 5 ∷ 0 ∷ 1 ∷ 0 ∷ 2 ∷ 0 ∷ 120 ∷ 0 ∷ 3 ∷ 7 ∷ 0 ∷ 1 ∷ 0 ∷ 4 ∷ 0 ∷ 121 ∷ 0 ∷ 122 ∷ 0 ∷ 4 ∷ []
+
+abbrev pub long-pivot-healed-8 : List ℕ
+long-pivot-healed-8 = 9 ∷ 0 ∷ 1 ∷ 0 ∷ 1 ∷ 0 ∷ 0 ∷ 0 ∷ 5 ∷ 0 ∷ 1 ∷ 0 ∷ 2 ∷ 0 ∷ 117 ∷ 0 ∷ 6 ∷ []
+
+abbrev pub long-pivot-healed-9 : List ℕ
+long-pivot-healed-9 = 85 ∷ 0 ∷ 2 ∷ 0 ∷ 3 ∷ 0 ∷ 0 ∷ 0 ∷ 2 ∷ 0 ∷ 16 ∷ 0 ∷ 2 ∷ 0 ∷ 35 ∷ 0 ∷ 16 ∷ 0 ∷ 4 ∷ 0 ∷ 116 ∷ 50 ∷ 51 ∷ 52 ∷ 53 ∷ 54 ∷ 55 ∷ 56 ∷ 57 ∷ 48 ∷ 49 ∷ 50 ∷ 51 ∷ 52 ∷ 53 ∷ 54 ∷ 0 ∷ 116 ∷ 50 ∷ 51 ∷ 52 ∷ 53 ∷ 54 ∷ 55 ∷ 56 ∷ 57 ∷ 48 ∷ 49 ∷ 50 ∷ 51 ∷ 52 ∷ 53 ∷ 0 ∷ 36 ∷ 0 ∷ 16 ∷ 0 ∷ 1 ∷ 0 ∷ 116 ∷ 50 ∷ 51 ∷ 52 ∷ 53 ∷ 54 ∷ 55 ∷ 56 ∷ 57 ∷ 48 ∷ 49 ∷ 50 ∷ 51 ∷ 52 ∷ 53 ∷ 54 ∷ 0 ∷ 116 ∷ 50 ∷ 51 ∷ 52 ∷ 53 ∷ 54 ∷ 55 ∷ 56 ∷ 57 ∷ 48 ∷ 49 ∷ 50 ∷ 51 ∷ 52 ∷ 53 ∷ 0 ∷ 255 ∷ []
+
+abbrev pub long-pivot-healed : List ℕ
+long-pivot-healed = node long-pivot-healed-0 ++ node long-pivot-healed-1 ++ node long-pivot-healed-2 ++ node long-pivot-healed-3 ++ node long-pivot-healed-4 ++ node long-pivot-healed-5 ++ node long-pivot-healed-6 ++ node long-pivot-healed-7 ++ node long-pivot-healed-8 ++ node long-pivot-healed-9 ++ replicate (22 * 1024) 0
+
+abbrev pub long-pivot-healed-says : Verdict
+long-pivot-healed-says = record { sound = true; settled = true; used = 8; free = 24; table = row (97 ∷ 0 ∷ []) (5 ∷ []) ∷ row (116 ∷ 50 ∷ 51 ∷ 52 ∷ 53 ∷ 54 ∷ 55 ∷ 56 ∷ 57 ∷ 48 ∷ 49 ∷ 50 ∷ 51 ∷ 52 ∷ 53 ∷ 54 ∷ 0 ∷ 116 ∷ 50 ∷ 51 ∷ 52 ∷ 53 ∷ 54 ∷ 55 ∷ 56 ∷ 57 ∷ 48 ∷ 49 ∷ 50 ∷ 51 ∷ 52 ∷ 53 ∷ 0 ∷ 97 ∷ 0 ∷ []) (1 ∷ []) ∷ row (116 ∷ 50 ∷ 51 ∷ 52 ∷ 53 ∷ 54 ∷ 55 ∷ 56 ∷ 57 ∷ 48 ∷ 49 ∷ 50 ∷ 51 ∷ 52 ∷ 53 ∷ 54 ∷ 0 ∷ 116 ∷ 50 ∷ 51 ∷ 52 ∷ 53 ∷ 54 ∷ 55 ∷ 56 ∷ 57 ∷ 48 ∷ 49 ∷ 50 ∷ 51 ∷ 52 ∷ 53 ∷ 0 ∷ 98 ∷ 0 ∷ []) (2 ∷ []) ∷ row (116 ∷ 50 ∷ 51 ∷ 52 ∷ 53 ∷ 54 ∷ 55 ∷ 56 ∷ 57 ∷ 48 ∷ 49 ∷ 50 ∷ 51 ∷ 52 ∷ 53 ∷ 54 ∷ 0 ∷ 116 ∷ 50 ∷ 51 ∷ 52 ∷ 53 ∷ 54 ∷ 55 ∷ 56 ∷ 57 ∷ 48 ∷ 49 ∷ 50 ∷ 51 ∷ 52 ∷ 53 ∷ 0 ∷ 120 ∷ 0 ∷ []) (3 ∷ []) ∷ row (116 ∷ 50 ∷ 51 ∷ 52 ∷ 53 ∷ 54 ∷ 55 ∷ 56 ∷ 57 ∷ 48 ∷ 49 ∷ 50 ∷ 51 ∷ 52 ∷ 53 ∷ 54 ∷ 0 ∷ 116 ∷ 50 ∷ 51 ∷ 52 ∷ 53 ∷ 54 ∷ 55 ∷ 56 ∷ 57 ∷ 48 ∷ 49 ∷ 50 ∷ 51 ∷ 52 ∷ 53 ∷ 0 ∷ 121 ∷ 0 ∷ 122 ∷ 0 ∷ []) (4 ∷ []) ∷ row (117 ∷ 0 ∷ []) (6 ∷ []) ∷ [] }
+
+-- two-levels-raised: two-levels with a new node under the root, which keeps its messages: wrong as a flush and as a heal
+abbrev pub two-levels-raised-0 : List ℕ
+two-levels-raised-0 = 8 ∷ 0 ∷ 0 ∷ 1 ∷ 32 ∷ 0 ∷ 1 ∷ 0 ∷ 3 ∷ 0 ∷ 4 ∷ []
+
+abbrev pub two-levels-raised-1 : List ℕ
+two-levels-raised-1 = 109 ∷ 0 ∷ 2 ∷ 0 ∷ 3 ∷ 0 ∷ 0 ∷ 0 ∷ 2 ∷ 0 ∷ 16 ∷ 0 ∷ 5 ∷ 0 ∷ 7 ∷ 0 ∷ 32 ∷ 0 ∷ 4 ∷ 0 ∷ 97 ∷ 0 ∷ 122 ∷ 0 ∷ 7 ∷ 5 ∷ 0 ∷ 33 ∷ 0 ∷ 114 ∷ 49 ∷ 0 ∷ 97 ∷ 0 ∷ 3 ∷ 0 ∷ 34 ∷ 0 ∷ 114 ∷ 50 ∷ 0 ∷ 0 ∷ 0 ∷ 34 ∷ 0 ∷ 6 ∷ 0 ∷ 32 ∷ 0 ∷ 3 ∷ 0 ∷ 114 ∷ 49 ∷ 0 ∷ 9 ∷ 9 ∷ 0 ∷ 32 ∷ 0 ∷ 5 ∷ 0 ∷ 114 ∷ 49 ∷ 0 ∷ 98 ∷ 0 ∷ 7 ∷ 7 ∷ 7 ∷ 0 ∷ 32 ∷ 0 ∷ 5 ∷ 0 ∷ 114 ∷ 50 ∷ 0 ∷ 120 ∷ 0 ∷ 9 ∷ 0 ∷ 32 ∷ 0 ∷ 6 ∷ 0 ∷ 114 ∷ 49 ∷ 48 ∷ 0 ∷ 113 ∷ 0 ∷ 8 ∷ 6 ∷ 0 ∷ 33 ∷ 0 ∷ 114 ∷ 49 ∷ 48 ∷ 0 ∷ 113 ∷ 0 ∷ 2 ∷ 0 ∷ 34 ∷ 0 ∷ 98 ∷ 0 ∷ 5 ∷ 0 ∷ 32 ∷ 0 ∷ 2 ∷ 0 ∷ 97 ∷ 0 ∷ 11 ∷ []
+
+abbrev pub two-levels-raised-2 : List ℕ
+two-levels-raised-2 = 20 ∷ 0 ∷ 1 ∷ 0 ∷ 1 ∷ 0 ∷ 0 ∷ 0 ∷ 5 ∷ 0 ∷ 1 ∷ 0 ∷ 2 ∷ 0 ∷ 97 ∷ 0 ∷ 1 ∷ 7 ∷ 0 ∷ 1 ∷ 0 ∷ 4 ∷ 0 ∷ 98 ∷ 0 ∷ 120 ∷ 0 ∷ 2 ∷ []
+
+abbrev pub two-levels-raised-3 : List ℕ
+two-levels-raised-3 = 24 ∷ 0 ∷ 1 ∷ 0 ∷ 1 ∷ 0 ∷ 0 ∷ 0 ∷ 2 ∷ 0 ∷ 1 ∷ 0 ∷ 0 ∷ 0 ∷ 5 ∷ 0 ∷ 1 ∷ 0 ∷ 2 ∷ 0 ∷ 97 ∷ 0 ∷ 3 ∷ 5 ∷ 0 ∷ 1 ∷ 0 ∷ 2 ∷ 0 ∷ 99 ∷ 0 ∷ 4 ∷ []
+
+abbrev pub two-levels-raised-4 : List ℕ
+two-levels-raised-4 = 23 ∷ 0 ∷ 1 ∷ 0 ∷ 1 ∷ 0 ∷ 0 ∷ 0 ∷ 7 ∷ 0 ∷ 1 ∷ 0 ∷ 4 ∷ 0 ∷ 114 ∷ 49 ∷ 48 ∷ 0 ∷ 5 ∷ 8 ∷ 0 ∷ 1 ∷ 0 ∷ 5 ∷ 0 ∷ 114 ∷ 50 ∷ 0 ∷ 120 ∷ 0 ∷ 6 ∷ []
+
+abbrev pub two-levels-raised-5 : List ℕ
+two-levels-raised-5 = 25 ∷ 0 ∷ 2 ∷ 0 ∷ 2 ∷ 0 ∷ 0 ∷ 0 ∷ 2 ∷ 0 ∷ 16 ∷ 0 ∷ 2 ∷ 0 ∷ 5 ∷ 0 ∷ 16 ∷ 0 ∷ 3 ∷ 0 ∷ 114 ∷ 49 ∷ 0 ∷ 6 ∷ 0 ∷ 16 ∷ 0 ∷ 4 ∷ 0 ∷ 114 ∷ 49 ∷ 0 ∷ 255 ∷ []
+
+abbrev pub two-levels-raised : List ℕ
+two-levels-raised = node two-levels-raised-0 ++ node two-levels-raised-1 ++ node two-levels-raised-2 ++ node two-levels-raised-3 ++ node two-levels-raised-4 ++ node two-levels-raised-5 ++ replicate (26 * 1024) 0
+
+abbrev pub two-levels-raised-says : Verdict
+two-levels-raised-says = record { sound = true; settled = false; used = 6; free = 26; table = row (97 ∷ 0 ∷ []) (11 ∷ []) ∷ row (114 ∷ 49 ∷ 0 ∷ []) (9 ∷ []) ∷ row (114 ∷ 49 ∷ 0 ∷ 98 ∷ 0 ∷ []) (7 ∷ 7 ∷ []) ∷ row (114 ∷ 50 ∷ 0 ∷ 120 ∷ 0 ∷ []) [] ∷ [] }
+
+-- two-levels-lifted: two-levels with a new root, which takes the messages: wrong as a flush
+abbrev pub two-levels-lifted-0 : List ℕ
+two-levels-lifted-0 = 8 ∷ 0 ∷ 0 ∷ 1 ∷ 32 ∷ 0 ∷ 5 ∷ 0 ∷ 3 ∷ 0 ∷ 4 ∷ []
+
+abbrev pub two-levels-lifted-1 : List ℕ
+two-levels-lifted-1 = 25 ∷ 0 ∷ 2 ∷ 0 ∷ 2 ∷ 0 ∷ 0 ∷ 0 ∷ 2 ∷ 0 ∷ 16 ∷ 0 ∷ 2 ∷ 0 ∷ 5 ∷ 0 ∷ 16 ∷ 0 ∷ 3 ∷ 0 ∷ 114 ∷ 49 ∷ 0 ∷ 6 ∷ 0 ∷ 16 ∷ 0 ∷ 4 ∷ 0 ∷ 114 ∷ 49 ∷ 0 ∷ 255 ∷ []
+
+abbrev pub two-levels-lifted-2 : List ℕ
+two-levels-lifted-2 = 20 ∷ 0 ∷ 1 ∷ 0 ∷ 1 ∷ 0 ∷ 0 ∷ 0 ∷ 5 ∷ 0 ∷ 1 ∷ 0 ∷ 2 ∷ 0 ∷ 97 ∷ 0 ∷ 1 ∷ 7 ∷ 0 ∷ 1 ∷ 0 ∷ 4 ∷ 0 ∷ 98 ∷ 0 ∷ 120 ∷ 0 ∷ 2 ∷ []
+
+abbrev pub two-levels-lifted-3 : List ℕ
+two-levels-lifted-3 = 24 ∷ 0 ∷ 1 ∷ 0 ∷ 1 ∷ 0 ∷ 0 ∷ 0 ∷ 2 ∷ 0 ∷ 1 ∷ 0 ∷ 0 ∷ 0 ∷ 5 ∷ 0 ∷ 1 ∷ 0 ∷ 2 ∷ 0 ∷ 97 ∷ 0 ∷ 3 ∷ 5 ∷ 0 ∷ 1 ∷ 0 ∷ 2 ∷ 0 ∷ 99 ∷ 0 ∷ 4 ∷ []
+
+abbrev pub two-levels-lifted-4 : List ℕ
+two-levels-lifted-4 = 23 ∷ 0 ∷ 1 ∷ 0 ∷ 1 ∷ 0 ∷ 0 ∷ 0 ∷ 7 ∷ 0 ∷ 1 ∷ 0 ∷ 4 ∷ 0 ∷ 114 ∷ 49 ∷ 48 ∷ 0 ∷ 5 ∷ 8 ∷ 0 ∷ 1 ∷ 0 ∷ 5 ∷ 0 ∷ 114 ∷ 50 ∷ 0 ∷ 120 ∷ 0 ∷ 6 ∷ []
+
+abbrev pub two-levels-lifted-5 : List ℕ
+two-levels-lifted-5 = 109 ∷ 0 ∷ 2 ∷ 0 ∷ 3 ∷ 0 ∷ 0 ∷ 0 ∷ 2 ∷ 0 ∷ 16 ∷ 0 ∷ 1 ∷ 0 ∷ 7 ∷ 0 ∷ 32 ∷ 0 ∷ 4 ∷ 0 ∷ 97 ∷ 0 ∷ 122 ∷ 0 ∷ 7 ∷ 5 ∷ 0 ∷ 33 ∷ 0 ∷ 114 ∷ 49 ∷ 0 ∷ 97 ∷ 0 ∷ 3 ∷ 0 ∷ 34 ∷ 0 ∷ 114 ∷ 50 ∷ 0 ∷ 0 ∷ 0 ∷ 34 ∷ 0 ∷ 6 ∷ 0 ∷ 32 ∷ 0 ∷ 3 ∷ 0 ∷ 114 ∷ 49 ∷ 0 ∷ 9 ∷ 9 ∷ 0 ∷ 32 ∷ 0 ∷ 5 ∷ 0 ∷ 114 ∷ 49 ∷ 0 ∷ 98 ∷ 0 ∷ 7 ∷ 7 ∷ 7 ∷ 0 ∷ 32 ∷ 0 ∷ 5 ∷ 0 ∷ 114 ∷ 50 ∷ 0 ∷ 120 ∷ 0 ∷ 9 ∷ 0 ∷ 32 ∷ 0 ∷ 6 ∷ 0 ∷ 114 ∷ 49 ∷ 48 ∷ 0 ∷ 113 ∷ 0 ∷ 8 ∷ 6 ∷ 0 ∷ 33 ∷ 0 ∷ 114 ∷ 49 ∷ 48 ∷ 0 ∷ 113 ∷ 0 ∷ 2 ∷ 0 ∷ 34 ∷ 0 ∷ 98 ∷ 0 ∷ 5 ∷ 0 ∷ 32 ∷ 0 ∷ 2 ∷ 0 ∷ 97 ∷ 0 ∷ 11 ∷ []
+
+abbrev pub two-levels-lifted : List ℕ
+two-levels-lifted = node two-levels-lifted-0 ++ node two-levels-lifted-1 ++ node two-levels-lifted-2 ++ node two-levels-lifted-3 ++ node two-levels-lifted-4 ++ node two-levels-lifted-5 ++ replicate (26 * 1024) 0
+
+abbrev pub two-levels-lifted-says : Verdict
+two-levels-lifted-says = record { sound = true; settled = false; used = 6; free = 26; table = row (97 ∷ 0 ∷ []) (11 ∷ []) ∷ row (114 ∷ 49 ∷ 0 ∷ []) (9 ∷ []) ∷ row (114 ∷ 49 ∷ 0 ∷ 98 ∷ 0 ∷ []) (7 ∷ 7 ∷ []) ∷ row (114 ∷ 50 ∷ 0 ∷ 120 ∷ 0 ∷ []) [] ∷ [] }
+
 -- bad-live-count: two-levels with live-count broken
 abbrev pub bad-live-count-0 : List ℕ
 bad-live-count-0 = 8 ∷ 0 ∷ 0 ∷ 1 ∷ 32 ∷ 0 ∷ 1 ∷ 0 ∷ 2 ∷ 0 ∷ 5 ∷ []
@@ -277,7 +512,7 @@ abbrev pub bad-put-owned-9 : List ℕ
 bad-put-owned-9 = 20 ∷ 0 ∷ 1 ∷ 0 ∷ 1 ∷ 0 ∷ 0 ∷ 0 ∷ 5 ∷ 0 ∷ 1 ∷ 0 ∷ 2 ∷ 0 ∷ 100 ∷ 0 ∷ 5 ∷ 7 ∷ 0 ∷ 1 ∷ 0 ∷ 4 ∷ 0 ∷ 100 ∷ 0 ∷ 101 ∷ 0 ∷ 6 ∷ []
 
 abbrev pub bad-put-owned-10 : List ℕ
-bad-put-owned-10 = 63 ∷ 0 ∷ 2 ∷ 0 ∷ 2 ∷ 0 ∷ 0 ∷ 0 ∷ 6 ∷ 0 ∷ 16 ∷ 0 ∷ 12 ∷ 0 ∷ 114 ∷ 49 ∷ 0 ∷ 255 ∷ 6 ∷ 0 ∷ 16 ∷ 0 ∷ 13 ∷ 0 ∷ 116 ∷ 0 ∷ 117 ∷ 0 ∷ 7 ∷ 0 ∷ 16 ∷ 0 ∷ 14 ∷ 0 ∷ 116 ∷ 0 ∷ 117 ∷ 0 ∷ 255 ∷ 9 ∷ 0 ∷ 32 ∷ 0 ∷ 6 ∷ 0 ∷ 116 ∷ 0 ∷ 117 ∷ 0 ∷ 97 ∷ 0 ∷ 3 ∷ 2 ∷ 0 ∷ 34 ∷ 0 ∷ 116 ∷ 0 ∷ 9 ∷ 0 ∷ 32 ∷ 0 ∷ 6 ∷ 0 ∷ 116 ∷ 0 ∷ 117 ∷ 0 ∷ 98 ∷ 0 ∷ 4 ∷ []
+bad-put-owned-10 = 71 ∷ 0 ∷ 2 ∷ 0 ∷ 2 ∷ 0 ∷ 0 ∷ 0 ∷ 6 ∷ 0 ∷ 16 ∷ 0 ∷ 12 ∷ 0 ∷ 114 ∷ 49 ∷ 0 ∷ 255 ∷ 6 ∷ 0 ∷ 16 ∷ 0 ∷ 13 ∷ 0 ∷ 116 ∷ 0 ∷ 117 ∷ 0 ∷ 7 ∷ 0 ∷ 16 ∷ 0 ∷ 14 ∷ 0 ∷ 116 ∷ 0 ∷ 117 ∷ 0 ∷ 255 ∷ 9 ∷ 0 ∷ 32 ∷ 0 ∷ 6 ∷ 0 ∷ 116 ∷ 0 ∷ 117 ∷ 0 ∷ 97 ∷ 0 ∷ 3 ∷ 2 ∷ 0 ∷ 34 ∷ 0 ∷ 116 ∷ 0 ∷ 9 ∷ 0 ∷ 32 ∷ 0 ∷ 6 ∷ 0 ∷ 116 ∷ 0 ∷ 117 ∷ 0 ∷ 98 ∷ 0 ∷ 4 ∷ 4 ∷ 0 ∷ 32 ∷ 0 ∷ 2 ∷ 0 ∷ 97 ∷ []
 
 abbrev pub bad-put-owned-12 : List ℕ
 bad-put-owned-12 = 19 ∷ 0 ∷ 1 ∷ 0 ∷ 1 ∷ 0 ∷ 0 ∷ 0 ∷ 7 ∷ 0 ∷ 1 ∷ 0 ∷ 4 ∷ 0 ∷ 114 ∷ 49 ∷ 48 ∷ 0 ∷ 1 ∷ 4 ∷ 0 ∷ 1 ∷ 0 ∷ 2 ∷ 0 ∷ 115 ∷ []
@@ -289,7 +524,7 @@ abbrev pub bad-put-owned-14 : List ℕ
 bad-put-owned-14 = 20 ∷ 0 ∷ 1 ∷ 0 ∷ 1 ∷ 0 ∷ 0 ∷ 0 ∷ 7 ∷ 0 ∷ 1 ∷ 0 ∷ 4 ∷ 0 ∷ 116 ∷ 0 ∷ 118 ∷ 0 ∷ 3 ∷ 5 ∷ 0 ∷ 1 ∷ 0 ∷ 2 ∷ 0 ∷ 117 ∷ 0 ∷ 3 ∷ []
 
 abbrev pub bad-put-owned-15 : List ℕ
-bad-put-owned-15 = 93 ∷ 0 ∷ 2 ∷ 0 ∷ 2 ∷ 0 ∷ 0 ∷ 0 ∷ 67 ∷ 0 ∷ 16 ∷ 0 ∷ 16 ∷ 0 ∷ 118 ∷ 50 ∷ 51 ∷ 52 ∷ 53 ∷ 54 ∷ 55 ∷ 56 ∷ 57 ∷ 48 ∷ 49 ∷ 50 ∷ 51 ∷ 52 ∷ 53 ∷ 54 ∷ 0 ∷ 118 ∷ 50 ∷ 51 ∷ 52 ∷ 53 ∷ 54 ∷ 55 ∷ 56 ∷ 57 ∷ 48 ∷ 49 ∷ 50 ∷ 51 ∷ 52 ∷ 53 ∷ 54 ∷ 0 ∷ 118 ∷ 50 ∷ 51 ∷ 52 ∷ 53 ∷ 54 ∷ 55 ∷ 56 ∷ 57 ∷ 48 ∷ 49 ∷ 50 ∷ 51 ∷ 52 ∷ 53 ∷ 54 ∷ 0 ∷ 118 ∷ 50 ∷ 51 ∷ 52 ∷ 53 ∷ 54 ∷ 55 ∷ 56 ∷ 57 ∷ 48 ∷ 49 ∷ 50 ∷ 0 ∷ 255 ∷ 5 ∷ 0 ∷ 32 ∷ 0 ∷ 2 ∷ 0 ∷ 115 ∷ 0 ∷ 42 ∷ 0 ∷ 0 ∷ 34 ∷ 0 ∷ 5 ∷ 0 ∷ 32 ∷ 0 ∷ 2 ∷ 0 ∷ 122 ∷ 0 ∷ 5 ∷ []
+bad-put-owned-15 = 84 ∷ 0 ∷ 2 ∷ 0 ∷ 2 ∷ 0 ∷ 0 ∷ 0 ∷ 67 ∷ 0 ∷ 16 ∷ 0 ∷ 16 ∷ 0 ∷ 118 ∷ 50 ∷ 51 ∷ 52 ∷ 53 ∷ 54 ∷ 55 ∷ 56 ∷ 57 ∷ 48 ∷ 49 ∷ 50 ∷ 51 ∷ 52 ∷ 53 ∷ 54 ∷ 0 ∷ 118 ∷ 50 ∷ 51 ∷ 52 ∷ 53 ∷ 54 ∷ 55 ∷ 56 ∷ 57 ∷ 48 ∷ 49 ∷ 50 ∷ 51 ∷ 52 ∷ 53 ∷ 54 ∷ 0 ∷ 118 ∷ 50 ∷ 51 ∷ 52 ∷ 53 ∷ 54 ∷ 55 ∷ 56 ∷ 57 ∷ 48 ∷ 49 ∷ 50 ∷ 51 ∷ 52 ∷ 53 ∷ 54 ∷ 0 ∷ 118 ∷ 50 ∷ 51 ∷ 52 ∷ 53 ∷ 54 ∷ 55 ∷ 56 ∷ 57 ∷ 48 ∷ 49 ∷ 50 ∷ 0 ∷ 255 ∷ 0 ∷ 0 ∷ 34 ∷ 0 ∷ 5 ∷ 0 ∷ 32 ∷ 0 ∷ 2 ∷ 0 ∷ 122 ∷ 0 ∷ 5 ∷ []
 
 abbrev pub bad-put-owned-16 : List ℕ
 bad-put-owned-16 = 0 ∷ 0 ∷ 1 ∷ 0 ∷ 1 ∷ []
@@ -305,7 +540,7 @@ abbrev pub bad-clear-shape-0 : List ℕ
 bad-clear-shape-0 = 8 ∷ 0 ∷ 0 ∷ 1 ∷ 32 ∷ 0 ∷ 1 ∷ 0 ∷ 2 ∷ 0 ∷ 4 ∷ []
 
 abbrev pub bad-clear-shape-1 : List ℕ
-bad-clear-shape-1 = 137 ∷ 0 ∷ 2 ∷ 0 ∷ 2 ∷ 0 ∷ 0 ∷ 0 ∷ 2 ∷ 0 ∷ 16 ∷ 0 ∷ 2 ∷ 0 ∷ 5 ∷ 0 ∷ 16 ∷ 0 ∷ 3 ∷ 0 ∷ 114 ∷ 49 ∷ 0 ∷ 6 ∷ 0 ∷ 16 ∷ 0 ∷ 4 ∷ 0 ∷ 114 ∷ 49 ∷ 0 ∷ 255 ∷ 7 ∷ 0 ∷ 32 ∷ 0 ∷ 4 ∷ 0 ∷ 97 ∷ 0 ∷ 122 ∷ 0 ∷ 7 ∷ 5 ∷ 0 ∷ 33 ∷ 0 ∷ 114 ∷ 49 ∷ 0 ∷ 97 ∷ 0 ∷ 5 ∷ 0 ∷ 34 ∷ 0 ∷ 33 ∷ 0 ∷ 99 ∷ 55 ∷ 127 ∷ 3 ∷ 0 ∷ 34 ∷ 0 ∷ 114 ∷ 50 ∷ 0 ∷ 0 ∷ 0 ∷ 34 ∷ 0 ∷ 6 ∷ 0 ∷ 32 ∷ 0 ∷ 3 ∷ 0 ∷ 114 ∷ 49 ∷ 0 ∷ 9 ∷ 9 ∷ 0 ∷ 32 ∷ 0 ∷ 5 ∷ 0 ∷ 114 ∷ 49 ∷ 0 ∷ 98 ∷ 0 ∷ 7 ∷ 7 ∷ 7 ∷ 0 ∷ 32 ∷ 0 ∷ 5 ∷ 0 ∷ 114 ∷ 50 ∷ 0 ∷ 120 ∷ 0 ∷ 9 ∷ 0 ∷ 32 ∷ 0 ∷ 6 ∷ 0 ∷ 114 ∷ 49 ∷ 48 ∷ 0 ∷ 113 ∷ 0 ∷ 8 ∷ 6 ∷ 0 ∷ 33 ∷ 0 ∷ 114 ∷ 49 ∷ 48 ∷ 0 ∷ 113 ∷ 0 ∷ 2 ∷ 0 ∷ 34 ∷ 0 ∷ 98 ∷ 0 ∷ 5 ∷ 0 ∷ 32 ∷ 0 ∷ 2 ∷ 0 ∷ 97 ∷ 0 ∷ 11 ∷ []
+bad-clear-shape-1 = 134 ∷ 0 ∷ 2 ∷ 0 ∷ 2 ∷ 0 ∷ 0 ∷ 0 ∷ 2 ∷ 0 ∷ 16 ∷ 0 ∷ 2 ∷ 0 ∷ 5 ∷ 0 ∷ 16 ∷ 0 ∷ 3 ∷ 0 ∷ 114 ∷ 49 ∷ 0 ∷ 6 ∷ 0 ∷ 16 ∷ 0 ∷ 4 ∷ 0 ∷ 114 ∷ 49 ∷ 0 ∷ 255 ∷ 7 ∷ 0 ∷ 32 ∷ 0 ∷ 4 ∷ 0 ∷ 97 ∷ 0 ∷ 122 ∷ 0 ∷ 7 ∷ 5 ∷ 0 ∷ 33 ∷ 0 ∷ 114 ∷ 49 ∷ 0 ∷ 97 ∷ 0 ∷ 3 ∷ 0 ∷ 34 ∷ 0 ∷ 114 ∷ 50 ∷ 0 ∷ 0 ∷ 0 ∷ 34 ∷ 0 ∷ 2 ∷ 0 ∷ 34 ∷ 0 ∷ 47 ∷ 0 ∷ 6 ∷ 0 ∷ 32 ∷ 0 ∷ 3 ∷ 0 ∷ 114 ∷ 49 ∷ 0 ∷ 9 ∷ 9 ∷ 0 ∷ 32 ∷ 0 ∷ 5 ∷ 0 ∷ 114 ∷ 49 ∷ 0 ∷ 98 ∷ 0 ∷ 7 ∷ 7 ∷ 7 ∷ 0 ∷ 32 ∷ 0 ∷ 5 ∷ 0 ∷ 114 ∷ 50 ∷ 0 ∷ 120 ∷ 0 ∷ 9 ∷ 0 ∷ 32 ∷ 0 ∷ 6 ∷ 0 ∷ 114 ∷ 49 ∷ 48 ∷ 0 ∷ 113 ∷ 0 ∷ 8 ∷ 6 ∷ 0 ∷ 33 ∷ 0 ∷ 114 ∷ 49 ∷ 48 ∷ 0 ∷ 113 ∷ 0 ∷ 2 ∷ 0 ∷ 34 ∷ 0 ∷ 98 ∷ 0 ∷ 5 ∷ 0 ∷ 32 ∷ 0 ∷ 2 ∷ 0 ∷ 97 ∷ 0 ∷ 11 ∷ []
 
 abbrev pub bad-clear-shape-2 : List ℕ
 bad-clear-shape-2 = 20 ∷ 0 ∷ 1 ∷ 0 ∷ 1 ∷ 0 ∷ 0 ∷ 0 ∷ 5 ∷ 0 ∷ 1 ∷ 0 ∷ 2 ∷ 0 ∷ 97 ∷ 0 ∷ 1 ∷ 7 ∷ 0 ∷ 1 ∷ 0 ∷ 4 ∷ 0 ∷ 98 ∷ 0 ∷ 120 ∷ 0 ∷ 2 ∷ []
@@ -358,3 +593,102 @@ bad-node-zeros = node bad-node-zeros-0 ++ node bad-node-zeros-1 ++ node bad-node
 
 abbrev pub bad-node-zeros-says : Verdict
 bad-node-zeros-says = record { sound = false; settled = false; used = 0; free = 0; table = [] }
+
+abbrev pub flush-two-levels : Change
+flush-two-levels = record { node = 1; before = two-levels; after = two-levels-flushed }
+
+abbrev pub flush-two-levels-keeps : Kept
+flush-two-levels-keeps = record { noneWaits = true; flushed = true; healed = false; noneGains = true }
+
+abbrev pub flush-two-levels-changes : ℕ
+flush-two-levels-changes = 4
+
+abbrev pub flush-three-levels : Change
+flush-three-levels = record { node = 3; before = three-levels; after = three-levels-flushed }
+
+abbrev pub flush-three-levels-keeps : Kept
+flush-three-levels-keeps = record { noneWaits = true; flushed = true; healed = false; noneGains = false }
+
+abbrev pub flush-three-levels-changes : ℕ
+flush-three-levels-changes = 4
+
+abbrev pub flush-four-levels : Change
+flush-four-levels = record { node = 9; before = four-levels; after = four-levels-flushed }
+
+abbrev pub flush-four-levels-keeps : Kept
+flush-four-levels-keeps = record { noneWaits = true; flushed = true; healed = false; noneGains = false }
+
+abbrev pub flush-four-levels-changes : ℕ
+flush-four-levels-changes = 3
+
+abbrev pub flush-nothing : Change
+flush-nothing = record { node = 1; before = two-levels; after = two-levels }
+
+abbrev pub flush-nothing-keeps : Kept
+flush-nothing-keeps = record { noneWaits = false; flushed = false; healed = false; noneGains = true }
+
+abbrev pub flush-nothing-changes : ℕ
+flush-nothing-changes = 0
+
+abbrev pub flush-raised : Change
+flush-raised = record { node = 1; before = two-levels; after = two-levels-raised }
+
+abbrev pub flush-raised-keeps : Kept
+flush-raised-keeps = record { noneWaits = true; flushed = false; healed = false; noneGains = true }
+
+abbrev pub flush-raised-changes : ℕ
+flush-raised-changes = 3
+
+abbrev pub flush-lifted : Change
+flush-lifted = record { node = 1; before = two-levels; after = two-levels-lifted }
+
+abbrev pub flush-lifted-keeps : Kept
+flush-lifted-keeps = record { noneWaits = true; flushed = false; healed = false; noneGains = false }
+
+abbrev pub flush-lifted-changes : ℕ
+flush-lifted-changes = 3
+
+abbrev pub heal-two-levels : Change
+heal-two-levels = record { node = 1; before = two-levels; after = two-levels-healed }
+
+abbrev pub heal-two-levels-keeps : Kept
+heal-two-levels-keeps = record { noneWaits = false; flushed = false; healed = true; noneGains = true }
+
+abbrev pub heal-two-levels-changes : ℕ
+heal-two-levels-changes = 2
+
+abbrev pub heal-long-pivot : Change
+heal-long-pivot = record { node = 4; before = long-pivot; after = long-pivot-healed }
+
+abbrev pub heal-long-pivot-keeps : Kept
+heal-long-pivot-keeps = record { noneWaits = true; flushed = true; healed = true; noneGains = true }
+
+abbrev pub heal-long-pivot-changes : ℕ
+heal-long-pivot-changes = 2
+
+abbrev pub heal-nothing-fits : Change
+heal-nothing-fits = record { node = 9; before = long-pivot; after = long-pivot }
+
+abbrev pub heal-nothing-fits-keeps : Kept
+heal-nothing-fits-keeps = record { noneWaits = true; flushed = true; healed = true; noneGains = true }
+
+abbrev pub heal-nothing-fits-changes : ℕ
+heal-nothing-fits-changes = 0
+
+abbrev pub heal-nothing : Change
+heal-nothing = record { node = 1; before = two-levels; after = two-levels }
+
+abbrev pub heal-nothing-keeps : Kept
+heal-nothing-keeps = record { noneWaits = false; flushed = false; healed = false; noneGains = true }
+
+abbrev pub heal-nothing-changes : ℕ
+heal-nothing-changes = 0
+
+abbrev pub heal-level-between : Change
+heal-level-between = record { node = 1; before = two-levels; after = two-levels-raised }
+
+abbrev pub heal-level-between-keeps : Kept
+heal-level-between-keeps = record { noneWaits = true; flushed = false; healed = false; noneGains = true }
+
+abbrev pub heal-level-between-changes : ℕ
+heal-level-between-changes = 3

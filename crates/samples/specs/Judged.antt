@@ -18,6 +18,13 @@ pub record Judged : Type 0 where
   three-levels : verdictOf outside.three-levels ≡ outside.three-levels-says
   long-pivot : verdictOf outside.long-pivot ≡ outside.long-pivot-says
   four-levels : verdictOf outside.four-levels ≡ outside.four-levels-says
+  two-levels-flushed : verdictOf outside.two-levels-flushed ≡ outside.two-levels-flushed-says
+  three-levels-flushed : verdictOf outside.three-levels-flushed ≡ outside.three-levels-flushed-says
+  four-levels-flushed : verdictOf outside.four-levels-flushed ≡ outside.four-levels-flushed-says
+  two-levels-healed : verdictOf outside.two-levels-healed ≡ outside.two-levels-healed-says
+  long-pivot-healed : verdictOf outside.long-pivot-healed ≡ outside.long-pivot-healed-says
+  two-levels-raised : verdictOf outside.two-levels-raised ≡ outside.two-levels-raised-says
+  two-levels-lifted : verdictOf outside.two-levels-lifted ≡ outside.two-levels-lifted-says
   bad-live-count : verdictOf outside.bad-live-count ≡ outside.bad-live-count-says
   bad-reached-once : verdictOf outside.bad-reached-once ≡ outside.bad-reached-once-says
   bad-pair-order : verdictOf outside.bad-pair-order ≡ outside.bad-pair-order-says
@@ -35,6 +42,13 @@ judged =
       three-levels = refl;
       long-pivot = refl;
       four-levels = refl;
+      two-levels-flushed = refl;
+      three-levels-flushed = refl;
+      four-levels-flushed = refl;
+      two-levels-healed = refl;
+      long-pivot-healed = refl;
+      two-levels-raised = refl;
+      two-levels-lifted = refl;
       bad-live-count = refl;
       bad-reached-once = refl;
       bad-pair-order = refl;

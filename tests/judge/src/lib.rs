@@ -2,7 +2,10 @@
 // program can judge it. The library takes any bytes, so a wrapper has nothing to test; it only takes the answer apart.
 
 pub mod filling;
+pub mod images;
+pub mod moving;
 pub mod reading;
+pub mod stack;
 
 use second::subject::{Capabilities, Numbers, Subject};
 
@@ -48,6 +51,16 @@ extern "C" {
         path: *const u8,
         path_len: usize,
     ) -> u32;
+    fn splicelog_move(
+        store: *mut u8,
+        store_len: usize,
+        work: *mut u8,
+        work_len: usize,
+        from: *const u8,
+        from_len: usize,
+        to: *const u8,
+        to_len: usize,
+    ) -> u32;
     fn splicelog_settle(store: *mut u8, store_len: usize, work: *mut u8, work_len: usize) -> u32;
     fn splicelog_tidy(store: *mut u8, store_len: usize, work: *mut u8, work_len: usize) -> u32;
     fn splicelog_flush(
@@ -55,7 +68,14 @@ extern "C" {
         store_len: usize,
         work: *mut u8,
         work_len: usize,
-        node: u32,
+        node: usize,
+    ) -> u32;
+    fn splicelog_heal(
+        store: *mut u8,
+        store_len: usize,
+        work: *mut u8,
+        work_len: usize,
+        node: usize,
     ) -> u32;
     fn splicelog_next(
         store: *const u8,
@@ -79,25 +99,23 @@ fn alone(number: u32) -> Numbers {
     (number, 0)
 }
 
+/// A node number as C passes it: no bit of it is lost on x86-64, for which alone the library is.
+fn whole(node: u64) -> usize {
+    const { assert!(usize::BITS == u64::BITS) };
+    node as usize
+}
+
 /// The library.
 pub struct Library;
 
 impl Subject for Library {
     fn capabilities(&self) -> Capabilities {
-        Capabilities {
-            move_: false,
-            heal: false,
-            move_bound: false,
-            ..Capabilities::ALL
-        }
+        Capabilities::ALL
     }
 
     fn make(&mut self, store: &mut [u8]) -> Numbers {
         // SAFETY: each pointer comes with the length of its own slice, and a slice that is written is lent to this call alone.
-        (
-            unsafe { splicelog_make(store.as_mut_ptr(), store.len()) },
-            0,
-        )
+        alone(unsafe { splicelog_make(store.as_mut_ptr(), store.len()) })
     }
 
     fn get(&mut self, store: &mut [u8], path: &[u8], buffer: &mut [u8]) -> Numbers {
@@ -179,6 +197,22 @@ impl Subject for Library {
         })
     }
 
+    fn move_(&mut self, store: &mut [u8], from: &[u8], to: &[u8], work: &mut [u8]) -> Numbers {
+        // SAFETY: as above.
+        alone(unsafe {
+            splicelog_move(
+                store.as_mut_ptr(),
+                store.len(),
+                work.as_mut_ptr(),
+                work.len(),
+                from.as_ptr(),
+                from.len(),
+                to.as_ptr(),
+                to.len(),
+            )
+        })
+    }
+
     fn settle(&mut self, store: &mut [u8], work: &mut [u8]) -> Numbers {
         // SAFETY: as above.
         alone(unsafe {
@@ -203,7 +237,7 @@ impl Subject for Library {
         })
     }
 
-    fn flush(&mut self, store: &mut [u8], node: u32, work: &mut [u8]) -> Numbers {
+    fn flush(&mut self, store: &mut [u8], node: u64, work: &mut [u8]) -> Numbers {
         // SAFETY: as above.
         alone(unsafe {
             splicelog_flush(
@@ -211,7 +245,20 @@ impl Subject for Library {
                 store.len(),
                 work.as_mut_ptr(),
                 work.len(),
-                node,
+                whole(node),
+            )
+        })
+    }
+
+    fn heal(&mut self, store: &mut [u8], node: u64, work: &mut [u8]) -> Numbers {
+        // SAFETY: as above.
+        alone(unsafe {
+            splicelog_heal(
+                store.as_mut_ptr(),
+                store.len(),
+                work.as_mut_ptr(),
+                work.len(),
+                whole(node),
             )
         })
     }

@@ -4,6 +4,7 @@
 use crate::examples::{self, Example};
 use crate::limits::NODE;
 use crate::sound::judge;
+use crate::upkept::{Change, CHANGES};
 
 /// Put before all blocks.
 const HEADER: &str = "\
@@ -12,7 +13,7 @@ use Prim.Native.Nat.{ℕ, _*_}
 use mathlib.Core.List.{List, [], _∷_, _++_}
 use mathlib.Core.Bool.{true, false}
 use lib.ListN.{replicate}
-use Rattle.samples.specs.Verdict.{Verdict, node, row}
+use Rattle.samples.specs.Verdict.{Verdict, Change, Kept, node, row}
 ";
 /// One node of an image, up to its last byte that is not zero.
 const NODE_BLOCK: &str = "\
@@ -31,6 +32,18 @@ const VERDICT_BLOCK: &str = "\
 abbrev pub {name}-says : Verdict
 {name}-says = record { sound = {sound}; settled = {settled}; used = {used}; free = {free}; table = {table} }
 ";
+/// A change of one image to another by upkeep of a node, what the rules of upkeep say of it, and
+/// how many nodes it changes.
+const CHANGE_BLOCK: &str = "\
+abbrev pub {name} : Change
+{name} = record { node = {node}; before = {before}; after = {after} }
+
+abbrev pub {name}-keeps : Kept
+{name}-keeps = record { noneWaits = {noneWaits}; flushed = {flushed}; healed = {healed}; noneGains = {noneGains} }
+
+abbrev pub {name}-changes : ℕ
+{name}-changes = {changed}
+";
 const COMMENT: &str = "-- {name}: {shows}\n";
 const NODE_PART: &str = "node {name}-{number}";
 const ZEROS_PART: &str = "replicate ({count} * 1024) 0";
@@ -41,8 +54,27 @@ const NIL: &str = "[]";
 
 /// The whole file.
 pub fn file() -> String {
-    let blocks: Vec<String> = examples::all().iter().map(block).collect();
+    let examples = examples::all();
+    let mut blocks: Vec<String> = examples.iter().map(block).collect();
+    blocks.extend(CHANGES.iter().filter_map(|c| change(c, &examples)));
     format!("{HEADER}\n{}", blocks.join("\n"))
+}
+
+fn change(change: &Change, examples: &[Example]) -> Option<String> {
+    let kept = change.kept(examples)?;
+    let fields = [
+        ("name", change.name.to_string()),
+        ("node", change.node.to_string()),
+        ("before", change.before.to_string()),
+        ("after", change.after.to_string()),
+        ("noneWaits", kept.none_waits.to_string()),
+        ("flushed", kept.flushed.to_string()),
+        ("healed", kept.healed.to_string()),
+        ("noneGains", kept.none_gains.to_string()),
+        ("changed", kept.changed.to_string()),
+    ];
+    let fields: Vec<(&str, &str)> = fields.iter().map(|(k, v)| (*k, &v[..])).collect();
+    Some(fill(CHANGE_BLOCK, &fields))
 }
 
 fn block(example: &Example) -> String {

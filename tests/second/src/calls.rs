@@ -3,6 +3,7 @@
 
 use crate::image;
 use crate::limits::*;
+use crate::moves::Kind;
 use crate::plain::Call;
 use crate::rng::Rng;
 use crate::sound::{judge, Sound};
@@ -84,7 +85,7 @@ pub fn random(rng: &mut Rng, known: &Known) -> Call {
 /// A call that moves messages or nodes about: a flush where messages wait, a heal, a settle.
 pub fn upkeep(rng: &mut Rng, known: &Known) -> Call {
     let work = work(rng, known.n);
-    let number = |chosen: Option<&u16>| chosen.map_or(1, |number| u32::from(*number));
+    let number = |chosen: Option<&u16>| chosen.map_or(1, |number| u64::from(*number));
     match rng.below(8) {
         0 => Call::Settle { work },
         1..=4 => Call::Flush {
@@ -98,7 +99,12 @@ pub fn upkeep(rng: &mut Rng, known: &Known) -> Call {
     }
 }
 
+/// Aimed half the time: a random pair of paths is mostly one of an absent path.
 fn random_move(rng: &mut Rng, known: &Known, work: usize) -> Call {
+    let kind = rng.pick(Kind::ALL).filter(|_| rng.chance(1, 2));
+    if let Some(call) = kind.and_then(|kind| kind.aim(rng, known)) {
+        return call;
+    }
     let from = path(rng, known);
     let to = match rng.below(8) {
         0 => from.clone(),
@@ -123,7 +129,7 @@ fn random_next(rng: &mut Rng, known: &Known) -> Call {
     }
 }
 
-fn path(rng: &mut Rng, known: &Known) -> Vec<u8> {
+pub fn path(rng: &mut Rng, known: &Known) -> Vec<u8> {
     match rng.below(16) {
         0 => words::malformed(rng),
         1..=8 => words::near(rng, &known.paths),
@@ -163,15 +169,32 @@ fn work(rng: &mut Rng, n: usize) -> usize {
     }
 }
 
-fn node(rng: &mut Rng, known: &Known) -> u32 {
-    let interior = rng.pick(&known.interior).copied().unwrap_or(1);
+fn node(rng: &mut Rng, known: &Known) -> u64 {
     match rng.below(12) {
         0 => 0,
-        1 => known.n as u32,
-        2 => rng.word() as u32,
-        3 => u32::from(interior) + 0x1_0000,
-        4 => rng.pick(&known.nodes).copied().unwrap_or(1).into(),
-        5 => rng.below(known.n) as u32,
-        _ => interior.into(),
+        1 => known.n as u64,
+        2 => rng.word(),
+        3 | 4 => large(rng, known),
+        5 => rng.pick(&known.nodes).copied().unwrap_or(1).into(),
+        6 => rng.below(known.n) as u64,
+        _ => interior(rng, known),
     }
+}
+
+/// The number of an interior node, if there is one.
+pub fn interior(rng: &mut Rng, known: &Known) -> u64 {
+    rng.pick(&known.interior).copied().unwrap_or(1).into()
+}
+
+/// A number that no node has, and whose low 16 or 32 bits are an interior node's: a subject that
+/// cuts it takes it for that node's.
+pub fn large(rng: &mut Rng, known: &Known) -> u64 {
+    let above = match rng.below(5) {
+        0 => 1 << 16,
+        1 => 1 << 32,
+        2 => 1 << 63,
+        3 => !0xFFFF_FFFF,
+        _ => (rng.word() | 1) << 32,
+    };
+    above + interior(rng, known)
 }

@@ -1,8 +1,9 @@
 // The contract of one call, judged from outside: the image before, the call, its answer, and
 // what it left in buffer, work area and store. Whatever is wrong is told in words.
 
+use crate::corner::Corner;
 use crate::image;
-use crate::limits::{NODE, WORK_PER_NODE};
+use crate::limits::{LEVELS_MOST, NODE, WORK_PER_NODE};
 use crate::plain::{self, Answer, Call, Outcome, Plain};
 use crate::sound::{self, Sound};
 use crate::upkeep;
@@ -28,8 +29,28 @@ pub struct Held {
 
 pub type Verdict = Result<(), String>;
 
+/// What an accepted call was seen to do to the nodes of its store, for counts of what was tried.
+#[derive(Clone, Copy, Debug)]
+pub struct Facts {
+    /// The corner of the image before it.
+    pub corner: Corner,
+    /// The most nodes that a move on that image may change, and those that this call changed.
+    pub bound: Option<usize>,
+    pub changed: usize,
+    /// The nodes in use.
+    pub used_before: usize,
+    pub used_after: usize,
+    /// Did messages wait in the node that was flushed or healed?
+    pub waited: bool,
+}
+
 /// Judges one call on one store.
 pub fn check(seen: &Seen<'_>, held: Held) -> Verdict {
+    examine(seen, held).map(|_| ())
+}
+
+/// The same, with facts of an accepted call that may write nodes.
+pub fn examine(seen: &Seen<'_>, held: Held) -> Result<Option<Facts>, String> {
     let asked = ask_of_bytes(seen);
     let expected = match &asked {
         Err(number) => Outcome {
@@ -49,7 +70,8 @@ pub fn check(seen: &Seen<'_>, held: Held) -> Verdict {
             "store of a refused call",
             seen.store_after,
             seen.store_before,
-        ),
+        )
+        .map(|_| None),
     }
 }
 
@@ -86,18 +108,40 @@ fn node_answer(before: &Sound, call: &Call) -> Answer {
     }
 }
 
-fn accepted(seen: &Seen<'_>, before: &Sound, held: Held) -> Verdict {
+fn accepted(seen: &Seen<'_>, before: &Sound, held: Held) -> Result<Option<Facts>, String> {
     let stays = match seen.call {
         Call::Move { from, to, .. } => from == to,
         call => call.only_reads(),
     };
     if stays {
-        return same_bytes("store", seen.store_after, seen.store_before);
+        return same_bytes("store", seen.store_after, seen.store_before).map(|_| None);
     }
     let after = sound::judge(seen.store_after)
         .map_err(|rule| format!("the store is unsound after the call: {}", rule.name()))?;
     map_follows(seen.call, before, &after)?;
-    layout_follows(seen, before, &after, held)
+    let facts = Facts {
+        corner: Corner::of(before),
+        bound: move_bound_of(before),
+        changed: changed_nodes(seen.store_before, seen.store_after),
+        used_before: before.used.len(),
+        used_after: after.used.len(),
+        waited: messages_wait(before, seen.call),
+    };
+    layout_follows(seen.call, before, &after)?;
+    match seen.call {
+        Call::Move { .. } if held.move_bound => move_bound(&facts)?,
+        _ => {}
+    }
+    Ok(Some(facts))
+}
+
+/// Do messages wait in the node that the call names?
+fn messages_wait(before: &Sound, call: &Call) -> bool {
+    let (Call::Flush { node, .. } | Call::Heal { node, .. }) = call else {
+        return false;
+    };
+    let named = before.tree.find(*node);
+    named.is_some_and(|visit| !visit.node.messages().is_empty())
 }
 
 /// The table after the call is the one that the plain map's step leaves.
@@ -117,30 +161,37 @@ fn map_follows(call: &Call, before: &Sound, after: &Sound) -> Verdict {
 }
 
 /// What a call promises of the nodes themselves.
-fn layout_follows(seen: &Seen<'_>, before: &Sound, after: &Sound, held: Held) -> Verdict {
-    match seen.call {
+fn layout_follows(call: &Call, before: &Sound, after: &Sound) -> Verdict {
+    match call {
         Call::Settle { .. } => upkeep::settled(after),
         Call::Tidy { .. } => upkeep::tidied(after),
         Call::Flush { node, .. } => upkeep::flushed(*node, before, after),
         Call::Heal { node, .. } => upkeep::healed(*node, before, after),
-        Call::Move { .. } if held.move_bound => {
-            move_bound(before, seen.store_before, seen.store_after)
-        }
         _ => Ok(()),
     }
+}
+
+/// How many nodes must be free in a store of these levels for a move to be held to the bound.
+pub fn bound_free(levels: u16) -> usize {
+    12 * usize::from(levels) + 8
+}
+
+/// How many nodes a move may change that is held to the bound.
+pub fn bound_changed(levels: u16) -> usize {
+    16 * usize::from(levels) + 8
 }
 
 /// How many nodes a move on this store may change, if it is held to any number: the store is
 /// settled, with enough levels and free nodes left.
 pub fn move_bound_of(before: &Sound) -> Option<usize> {
-    let levels = usize::from(before.levels());
-    let held = before.settled() && levels <= 7 && before.free() >= 12 * levels + 8;
-    held.then_some(16 * levels + 8)
+    let levels = before.levels();
+    let held = before.settled() && levels < LEVELS_MOST && before.free() >= bound_free(levels);
+    held.then_some(bound_changed(levels))
 }
 
-fn move_bound(before: &Sound, store_before: &[u8], store_after: &[u8]) -> Verdict {
-    let changed = changed_nodes(store_before, store_after);
-    match move_bound_of(before) {
+fn move_bound(facts: &Facts) -> Verdict {
+    let changed = facts.changed;
+    match facts.bound {
         Some(most) if changed > most => {
             Err(format!("the move changed {changed} nodes, over {most}"))
         }

@@ -1,5 +1,5 @@
-// A dozen small images of 32 nodes, built by hand, for a proof checker to compute on: six sound
-// ones that show the corners of the layout, and six damaged ones, each by another rule.
+// Small images of 32 nodes for a proof checker to compute on: sound ones, built by hand, that show
+// the corners of the layout; those after upkeep of them; and damaged ones, each by another rule.
 
 use crate::limits::*;
 use crate::meaning;
@@ -7,6 +7,7 @@ use crate::mutate;
 use crate::path::from_text;
 use crate::sound::Rule;
 use crate::tree::{Message, Node, Pair, Tree};
+use crate::upkept;
 
 pub struct Example {
     pub name: &'static str,
@@ -16,11 +17,12 @@ pub struct Example {
 
 const N: usize = NODES_LEAST;
 
-/// All examples; those built first are what the damaged ones are made from.
+/// All examples; those built first are what the others are made from.
 pub fn all() -> Vec<Example> {
     let sound = sound_examples();
+    let upkept = upkept::examples(&sound);
     let damaged: Vec<Example> = DAMAGES.iter().filter_map(|d| d.apply(&sound)).collect();
-    sound.into_iter().chain(damaged).collect()
+    sound.into_iter().chain(upkept).chain(damaged).collect()
 }
 
 fn sound_examples() -> Vec<Example> {

@@ -35,6 +35,7 @@ features! {
     EmptySuffixPut "empty-suffix-put",
     FfPivot "ff-pivot",
     LongPivot "long-pivot",
+    WidePivot "wide-pivot",
     EmptyLeaf "empty-leaf",
     OneChildChain "one-child-chain",
     FullInterior "full-interior",
@@ -50,6 +51,8 @@ features! {
     DeepPath "deep-path",
     FullTable "full-table",
     MoveBound "move-bound",
+    JustBound "just-bound",
+    NoFreeNode "no-free-node",
 }
 
 impl Feature {
@@ -73,6 +76,7 @@ impl Feature {
             Feature::EmptySuffixPut => node(puts_at_prefix),
             Feature::FfPivot => node(ff_pivot),
             Feature::LongPivot => node(|v| v.low.len() > PIVOT_LIMIT),
+            Feature::WidePivot => node(wide_pivot),
             Feature::EmptyLeaf => {
                 sound.levels() > 1 && node(|v| v.level == 1 && v.node.pairs().is_empty())
             }
@@ -92,6 +96,10 @@ impl Feature {
             Feature::DeepPath => sound.table.keys().any(|p| depth(p) == COMPONENTS),
             Feature::FullTable => sound.table.len() == sound.n,
             Feature::MoveBound => sound.levels() > 1 && bounded(sound) && sound.table.len() >= 8,
+            Feature::JustBound => {
+                bounded(sound) && sound.free() == contract::bound_free(sound.levels())
+            }
+            Feature::NoFreeNode => sound.free() == 0,
         }
     }
 }
@@ -148,6 +156,13 @@ fn ff_pivot(visit: &Visit<'_>) -> bool {
         return false;
     };
     path.len() == PATH_LIMIT && well_formed(path)
+}
+
+/// A child whose pivot suffix has the greatest length.
+pub fn wide_pivot(visit: &Visit<'_>) -> bool {
+    let lifted = visit.lifted().len();
+    let mut children = visit.node.children().iter();
+    children.any(|child| child.low.len() == lifted + PIVOT_LIMIT)
 }
 
 fn one_child_chain(visit: &Visit<'_>) -> bool {

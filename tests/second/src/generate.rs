@@ -5,133 +5,11 @@ use crate::feature::Feature;
 use crate::limits::*;
 use crate::meaning;
 use crate::path::{beginnings, lifted, owns};
+use crate::plan::Plan;
 use crate::rng::Rng;
-use crate::sound;
+use crate::sound::{self, Sound};
 use crate::tree::{Message, Node, Pair, Tree, Visit};
 use crate::words;
-
-/// What an image is to look like.
-#[derive(Clone, Debug)]
-pub struct Plan {
-    pub n: usize,
-    pub levels: u16,
-    /// How many distinct paths may occur; at most n, so that the live count stays in bounds.
-    pub paths: usize,
-    /// How many nodes the tree may take; at least the levels.
-    pub nodes: usize,
-    /// The most children of a node; at most 14, so that any pivots fit.
-    pub fanout: usize,
-    /// The most messages of a node.
-    pub messages: usize,
-    /// How many leaves in eight are left empty.
-    pub empty_leaves: usize,
-    /// Values of this length only.
-    pub value: Option<usize>,
-    pub garbage: bool,
-    pub shuffled: bool,
-}
-
-impl Plan {
-    pub fn random(rng: &mut Rng) -> Plan {
-        let n = match rng.below(8) {
-            0..=3 => NODES_LEAST,
-            4 | 5 => rng.between(NODES_LEAST, 80),
-            6 => rng.between(NODES_LEAST, 300),
-            _ => rng.between(NODES_LEAST, NODES_MOST),
-        };
-        let levels = rng.between(1, usize::from(LEVELS_MOST)) as u16;
-        Plan {
-            n,
-            levels,
-            paths: rng.between(1, n),
-            nodes: rng.between(usize::from(levels), n - 1),
-            fanout: rng.between(1, 8),
-            messages: *rng.pick(&[0, 3, 8, 60]).unwrap_or(&3),
-            empty_leaves: 1,
-            value: None,
-            garbage: rng.chance(3, 4),
-            shuffled: rng.chance(3, 4),
-        }
-    }
-
-    /// A plan under which images that show the feature are common.
-    fn showing(feature: Feature, rng: &mut Rng) -> Plan {
-        let mut plan = Plan::random(rng);
-        plan.paths = plan.paths.max(8);
-        let deep = |plan: &mut Plan, levels: u16| {
-            plan.levels = plan.levels.max(levels);
-            plan.nodes = plan.n - 1;
-            plan.fanout = plan.fanout.max(4);
-        };
-        match feature {
-            Feature::OneLeaf => plan.levels = 1,
-            Feature::Settled => {
-                plan.levels = plan.levels.max(2);
-                plan.messages = 0;
-            }
-            Feature::EightLevels => plan.levels = LEVELS_MOST,
-            Feature::OneChildChain => {
-                deep(&mut plan, 3);
-                plan.fanout = 2;
-            }
-            Feature::FullInterior => {
-                deep(&mut plan, 2);
-                plan.messages = 400;
-            }
-            Feature::FullLeaf => {
-                plan.levels = 1;
-                plan.paths = plan.n;
-                plan.value = Some(VALUE_LIMIT);
-                plan.empty_leaves = 0;
-            }
-            Feature::SmallStore => plan.n = NODES_LEAST,
-            Feature::LargeStore => {
-                plan.n = NODES_MOST;
-                plan.levels = 4;
-                plan.nodes = NODES_MOST - 1;
-                plan.fanout = 10;
-                plan.paths = plan.paths.max(200);
-            }
-            Feature::MoveBound => {
-                plan.n = plan.n.max(120);
-                plan.levels = plan.levels.clamp(2, 7);
-                plan.nodes = plan
-                    .nodes
-                    .min(plan.n - 1 - 12 * usize::from(plan.levels) - 8);
-                plan.messages = 0;
-            }
-            Feature::GarbageInFree => plan.garbage = true,
-            Feature::ShuffledNumbers => {
-                deep(&mut plan, 2);
-                plan.shuffled = true;
-            }
-            Feature::EmptyValue => plan.value = Some(0),
-            Feature::LongValue => plan.value = Some(VALUE_LIMIT),
-            Feature::FullTable => {
-                plan.n = NODES_LEAST;
-                plan.paths = NODES_LEAST;
-                plan.levels = plan.levels.clamp(2, 3);
-                plan.messages = 0;
-                plan.empty_leaves = 0;
-            }
-            Feature::EmptyLeaf => {
-                deep(&mut plan, 2);
-                plan.empty_leaves = 4;
-            }
-            Feature::LongPath | Feature::WideComponent | Feature::DeepPath => {
-                plan.messages = plan.messages.min(3);
-                plan.paths = plan.n;
-            }
-            _ => {
-                deep(&mut plan, 3);
-                plan.messages = plan.messages.max(8);
-            }
-        }
-        plan.nodes = plan.nodes.clamp(usize::from(plan.levels), plan.n - 1);
-        plan.paths = plan.paths.min(plan.n);
-        plan
-    }
-}
 
 /// Any sound image.
 pub fn random(seed: u64) -> Vec<u8> {
@@ -145,11 +23,21 @@ const ATTEMPTS: usize = 500;
 /// A sound image that shows the feature.
 pub fn preset(feature: Feature, seed: u64) -> Vec<u8> {
     let mut rng = Rng::new(seed);
+    let shown = |image: &[u8], sound: &Sound| feature.shown_by(image, sound);
+    attempts(&mut rng, |rng| Plan::showing(feature, rng), shown)
+}
+
+/// The first image by such a plan that is as wanted; after so many attempts, any.
+pub fn attempts(
+    rng: &mut Rng,
+    plan: impl Fn(&mut Rng) -> Plan,
+    wanted: impl Fn(&[u8], &Sound) -> bool,
+) -> Vec<u8> {
     let mut image = Vec::new();
     for _ in 0..ATTEMPTS {
-        let plan = Plan::showing(feature, &mut rng);
-        image = by_plan(&plan, &mut rng);
-        if sound::judge(&image).is_ok_and(|sound| feature.shown_by(&image, &sound)) {
+        let plan = plan(rng);
+        image = by_plan(&plan, rng);
+        if sound::judge(&image).is_ok_and(|sound| wanted(&image, &sound)) {
             break;
         }
     }
@@ -179,17 +67,18 @@ fn universe(plan: &Plan, rng: &mut Rng) -> Vec<Vec<u8>> {
 
 /// Numbers the nodes and writes the image.
 fn finish(plan: &Plan, mut tree: Tree, rng: &mut Rng) -> Vec<u8> {
-    let mut numbers: Vec<u16> = (1..plan.n as u16).collect();
+    let live = meaning::table(&tree.root).len();
+    let n = plan.size(tree.walk().len(), live);
+    let mut numbers: Vec<u16> = (1..n as u16).collect();
     if plan.shuffled {
         rng.shuffle(&mut numbers);
     }
     tree.number(&numbers);
     let mut image = match plan.garbage {
-        true => rng.bytes(plan.n * NODE),
-        false => vec![0; plan.n * NODE],
+        true => rng.bytes(n * NODE),
+        false => vec![0; n * NODE],
     };
-    let live = meaning::table(&tree.root).len() as u16;
-    let written = tree.write(live, &mut image);
+    let written = tree.write(live as u16, &mut image);
     debug_assert!(written.is_some(), "a generated tree fits its image");
     image
 }
@@ -207,8 +96,9 @@ impl Grower<'_> {
             return self.leaf(low, high);
         }
         let least = usize::from(level) - 1;
-        let most = ((nodes - 1) / least).clamp(1, self.plan.fanout);
-        let wanted = self.rng.between(1, most);
+        let (fewest, most) = self.plan.fanout;
+        let most = ((nodes - 1) / least).clamp(1, most);
+        let wanted = self.rng.between(fewest.min(most), most);
         let pivots = self.pivots(low, high, wanted);
         let share = (nodes - 1) / pivots.len();
         let mut children = Vec::new();
@@ -260,12 +150,15 @@ impl Grower<'_> {
     fn pivots(&mut self, low: &[u8], high: &[u8], wanted: usize) -> Vec<Vec<u8>> {
         let lifted = lifted(low, high);
         let owned = self.owned(low, high);
+        let taken = |pivot: &[u8]| ENTRY_HEAD + 2 + pivot.len() - lifted.len();
         let mut pivots = vec![low.to_vec()];
+        let mut room = ENTRY_BYTES_LIMIT - taken(low);
         for _ in 0..4 * wanted {
             for pivot in self.pivot_choice(lifted, &owned) {
-                let fits = pivot.len() <= lifted.len() + PIVOT_LIMIT;
                 let new = owns(low, high, &pivot) && !pivots.contains(&pivot);
-                if fits && new && pivots.len() < wanted {
+                let fits = new && pivot.len() <= lifted.len() + PIVOT_LIMIT;
+                if fits && taken(&pivot) <= room && pivots.len() < wanted {
+                    room -= taken(&pivot);
                     pivots.push(pivot);
                 }
             }
@@ -277,6 +170,9 @@ impl Grower<'_> {
     /// Some strings that might be pivots here; the two ends of a moved range come together.
     fn pivot_choice(&mut self, lifted: &[u8], owned: &[Vec<u8>]) -> Vec<Vec<u8>> {
         let rng = &mut *self.rng;
+        if self.plan.wide_pivots && rng.chance(1, 4) {
+            return vec![[lifted, &words::longest(rng), &[0xFF]].concat()];
+        }
         let path = rng.pick(owned).cloned().unwrap_or_else(|| words::path(rng));
         let all: Vec<&[u8]> = beginnings(&path).collect();
         let top = rng.pick(&all).map_or(&path[..], |top| top);

@@ -2,38 +2,24 @@
 // damaged ones, and judges every single call by the contract.
 
 use crate::calls::{self, Known};
-use crate::contract::{self, Held, Seen};
+use crate::contract;
 use crate::feature::Feature;
 use crate::generate;
 use crate::limits::*;
 use crate::mutate;
 use crate::pack;
-use crate::path;
 use crate::plain::{Answer, Call, Plain};
 use crate::rng::Rng;
+use crate::script::witnessed;
 use crate::sound::{judge, Rule};
-use crate::subject::{perform, Subject};
+use crate::stats::Stats;
+use crate::subject::Subject;
 use crate::words;
-use std::collections::BTreeMap;
 
 /// The most calls of a list on a made store, on a generated image and on a damaged one.
 const MADE_CALLS: usize = 120;
 const IMAGE_CALLS: usize = 16;
 const DAMAGED_CALLS: usize = 6;
-
-/// What was done: how many calls of each name got each answer.
-#[derive(Clone, Debug, Default)]
-pub struct Stats {
-    pub calls: usize,
-    pub answers: BTreeMap<(&'static str, u32), usize>,
-}
-
-impl Stats {
-    fn count(&mut self, name: &'static str, answer: Answer) {
-        self.calls += 1;
-        *self.answers.entry((name, answer.number)).or_default() += 1;
-    }
-}
 
 /// Judges the subject on this many lists of calls. The words of an error name the case, which
 /// `run_case` repeats alone.
@@ -197,35 +183,15 @@ impl Session<'_> {
 
     /// Makes one call and judges it; a call that the subject lacks is left out.
     fn call(&mut self, store: &mut [u8], call: &Call) -> Judged {
-        let capabilities = self.subject.capabilities();
-        if !capabilities.has(call) {
+        if !self.subject.capabilities().has(call) {
             return Ok(());
         }
-        let store_before = store.to_vec();
-        let work_before = self.rng.bytes(call.work().unwrap_or(0));
-        let mut work_after = work_before.clone();
-        let mut buffer_after = call.buffer().to_vec();
-        let answer = perform(
-            self.subject,
-            call,
-            store,
-            &mut work_after,
-            &mut buffer_after,
-        );
-        self.stats.count(name(call), answer);
-        let seen = Seen {
-            store_before: &store_before,
-            call,
-            work_before: &work_before,
-            answer,
-            buffer_after: &buffer_after,
-            work_after: &work_after,
-            store_after: store,
-        };
-        let move_bound = capabilities.move_bound;
-        contract::check(&seen, Held { move_bound })
-            .and_then(|_| self.as_plain(call, answer, &buffer_after))
-            .map_err(|what| format!("{}: {what}", told(call)))
+        let work = self.rng.bytes(call.work().unwrap_or(0));
+        let made = witnessed(self.subject, store, call, &work)?;
+        self.stats
+            .count_call(call, made.answer, made.facts.as_ref());
+        self.as_plain(call, made.answer, &made.buffer)
+            .map_err(|what| format!("{}: {what}", call.told()))
     }
 
     /// The whole list so far answers as the plain map does.
@@ -270,33 +236,4 @@ impl Session<'_> {
         let n = self.rng.between(table.len(), table.len() + 9);
         pack::image(&table, n.clamp(NODES_LEAST, NODES_MOST)).unwrap_or_default()
     }
-}
-
-pub fn name(call: &Call) -> &'static str {
-    match call {
-        Call::Put { .. } => "put",
-        Call::Drop { .. } => "drop",
-        Call::Clear { .. } => "clear",
-        Call::Move { .. } => "move",
-        Call::Settle { .. } => "settle",
-        Call::Tidy { .. } => "tidy",
-        Call::Flush { .. } => "flush",
-        Call::Heal { .. } => "heal",
-        Call::Get { .. } => "get",
-        Call::Next { .. } => "next",
-    }
-}
-
-/// A call in words, for messages.
-fn told(call: &Call) -> String {
-    let text = |p: &[u8]| String::from_utf8_lossy(&path::to_text(p)).into_owned();
-    let arguments = match call {
-        Call::Put { path, value, .. } => format!("{} ({} bytes)", text(path), value.len()),
-        Call::Drop { path, .. } | Call::Clear { path, .. } | Call::Get { path, .. } => text(path),
-        Call::Move { from, to, .. } => format!("{} to {}", text(from), text(to)),
-        Call::Next { path, after, .. } => format!("{} after {}", text(path), text(after)),
-        Call::Flush { node, .. } | Call::Heal { node, .. } => node.to_string(),
-        Call::Settle { .. } | Call::Tidy { .. } => String::new(),
-    };
-    format!("{} {arguments}", name(call))
 }

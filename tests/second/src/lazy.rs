@@ -1,13 +1,16 @@
 // A second simple store, which lets messages wait as a real one does: what is put, dropped or
-// cleared goes to the root's buffer, and a flush hands it down. Where that has no room it
-// leaves what the reference store packs. It can make the mistakes that look natural.
+// cleared goes to the root's buffer, and a flush hands it down; a move of a settled store swings.
+// Where that has no room it leaves what the reference store packs, so that it is not held to the
+// bound on moves. It can make the mistakes that look natural.
 
+use crate::contract::move_bound_of;
 use crate::image::Header;
 use crate::path::{lifted, overlap, owns};
 use crate::plain::Call;
 use crate::reference::Reference;
 use crate::sound::{judge, Sound};
 use crate::subject::{perform, Capabilities, Numbers, Subject};
+use crate::swing::swung;
 use crate::tree::{Body, Message, Node, Pair, Tree};
 
 /// A natural mistake.
@@ -23,15 +26,18 @@ pub enum Slip {
     HandsDownReversed,
     /// A heal joins two children with the messages that wait in them.
     MergesBuffers,
+    /// A move swings while messages wait in the root.
+    SwingsUnderMessages,
 }
 
 impl Slip {
-    pub const ALL: [Slip; 5] = [
+    pub const ALL: [Slip; 6] = [
         Slip::ForgetsShortClears,
         Slip::ClearsOneChild,
         Slip::HandsDownAsOldest,
         Slip::HandsDownReversed,
         Slip::MergesBuffers,
+        Slip::SwingsUnderMessages,
     ];
 }
 
@@ -70,22 +76,41 @@ impl Lazy {
             Call::Heal { node, .. } if self.slips(Slip::MergesBuffers) => {
                 merged(&sound.tree, *node).and_then(written)
             }
+            Call::Move { from, to, .. } if from != to => self.moved(&sound, from, to, written),
             _ => {
                 let message = message_of(call)?;
                 let grown = with_root_buffer(&sound)?;
-                let flushed = self.flushed(&grown, u32::from(grown.root.number));
+                let flushed = self.flushed(&grown, u64::from(grown.root.number));
                 written(holding(grown, &message)).or_else(|| written(holding(flushed, &message)))
             }
         }
     }
 
-    fn flushed(&self, tree: &Tree, number: u32) -> Tree {
+    /// The swung form of a store that nothing waits in, where its move is held to the bound.
+    fn moved(
+        &self,
+        sound: &Sound,
+        from: &[u8],
+        to: &[u8],
+        written: impl Fn(Tree) -> Option<Vec<u8>>,
+    ) -> Option<Vec<u8>> {
+        let swings = match self.slips(Slip::SwingsUnderMessages) {
+            true => sound.waiting == sound.tree.root.messages().len(),
+            false => move_bound_of(sound).is_some(),
+        };
+        if !swings {
+            return None;
+        }
+        swung(sound, from, to).and_then(written)
+    }
+
+    fn flushed(&self, tree: &Tree, number: u64) -> Tree {
         let mut flushed = tree.clone();
         let Some(high) = tree.find(number).map(|v| v.high.to_vec()) else {
             return flushed;
         };
         flushed.root.for_each_mut(&mut |node| {
-            if u32::from(node.number) == number {
+            if u64::from(node.number) == number {
                 self.hand_down(node, &high);
             }
         });
@@ -190,7 +215,7 @@ fn holding(mut tree: Tree, message: &Message) -> Tree {
 }
 
 /// The first two children made one, their messages too; none where no message waits in them.
-fn merged(tree: &Tree, number: u32) -> Option<Tree> {
+fn merged(tree: &Tree, number: u64) -> Option<Tree> {
     let visit = tree.find(number)?;
     let [left, right, ..] = visit.node.children() else {
         return None;
@@ -204,7 +229,7 @@ fn merged(tree: &Tree, number: u32) -> Option<Tree> {
     joined.number = left.number;
     let mut merged = tree.clone();
     merged.root.for_each_mut(&mut |node| match &mut node.body {
-        Body::Interior { children, .. } if u32::from(node.number) == number => {
+        Body::Interior { children, .. } if u64::from(node.number) == number => {
             children.splice(0..2, [joined.clone()]);
         }
         _ => {}
@@ -251,7 +276,9 @@ impl Subject for Lazy {
     }
 
     fn move_(&mut self, store: &mut [u8], from: &[u8], to: &[u8], work: &mut [u8]) -> Numbers {
-        Reference::default().move_(store, from, to, work)
+        let (from, to) = (from.to_vec(), to.to_vec());
+        let call = Call::Move { from, to, work: work.len() };
+        self.act(store, work, call)
     }
 
     fn settle(&mut self, store: &mut [u8], work: &mut [u8]) -> Numbers {
@@ -262,11 +289,11 @@ impl Subject for Lazy {
         Reference::default().tidy(store, work)
     }
 
-    fn flush(&mut self, store: &mut [u8], node: u32, work: &mut [u8]) -> Numbers {
+    fn flush(&mut self, store: &mut [u8], node: u64, work: &mut [u8]) -> Numbers {
         self.act(store, work, Call::Flush { node, work: work.len() })
     }
 
-    fn heal(&mut self, store: &mut [u8], node: u32, work: &mut [u8]) -> Numbers {
+    fn heal(&mut self, store: &mut [u8], node: u64, work: &mut [u8]) -> Numbers {
         self.act(store, work, Call::Heal { node, work: work.len() })
     }
 }

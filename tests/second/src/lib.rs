@@ -6,26 +6,33 @@
 //   sound, meaning                is an image sound, and what does it mean
 //   plain, program                the plain path map, and the line language over it
 //   contract, upkeep              is one call right, from what is seen of it
-//   subject, script, calls, judge a store under test, and lists of calls for it
+//   subject, script, calls, moves a store under test, and calls for it
+//   judge, grid, stats            lists of calls, corners with aimed calls, and what they tried
 //   paper                         the paper's thirteen cases
-//   rng, words, feature, generate sound images from a seed
+//   rng, words, feature, corner   what images and calls are made of, and what they are to show
+//   plan, generate, cuts          sound images from a seed, and some that are hard to cut
 //   mutate                        damaged images, one for each rule
-//   pack, reference, lazy         simple stores to test the judge with, right or wrong
-//   examples, antt                small images, printed for the proof checker
+//   pack, reference, lazy, swing  simple stores to test the judge with, right or wrong
+//   wrong                         upkeep that only seems to be done
+//   examples, upkept, antt        small images and changes, printed for the proof checker
 #![forbid(unsafe_code)]
 #![deny(warnings)]
 
 pub mod antt;
 pub mod calls;
 pub mod contract;
+pub mod corner;
+pub mod cuts;
 pub mod examples;
 pub mod feature;
 pub mod generate;
+pub mod grid;
 pub mod image;
 pub mod judge;
 pub mod lazy;
 pub mod limits;
 pub mod meaning;
+pub mod moves;
 pub mod mutate;
 mod mutate_bytes;
 mod mutate_tree;
@@ -33,12 +40,17 @@ pub mod pack;
 pub mod paper;
 pub mod path;
 pub mod plain;
+pub mod plan;
 pub mod program;
 pub mod reference;
 pub mod rng;
 pub mod script;
 pub mod sound;
+pub mod stats;
 pub mod subject;
+pub mod swing;
 pub mod tree;
 pub mod upkeep;
+pub mod upkept;
 pub mod words;
+pub mod wrong;

@@ -23,8 +23,9 @@ pub const ENTRY_HEAD: usize = 4;
 /// The least and the most nodes of a store, node 0 counted.
 pub const NODES_LEAST: usize = 32;
 pub const NODES_MOST: usize = 1024;
-/// The most levels of a tree; a leaf is at level 1.
+/// The most levels of a tree, and the level of its leaves.
 pub const LEVELS_MOST: u16 = 8;
+pub const LEAF_LEVEL: u16 = 1;
 /// The work area's bytes for each node of the store.
 pub const WORK_PER_NODE: usize = 128;
 

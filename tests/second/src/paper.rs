@@ -1,10 +1,11 @@
 // The paper's table of thirteen cases, run on any subject that has the calls: each case gives
 // what went wrong, in words.
 
-use crate::generate::{self, Plan};
+use crate::generate;
 use crate::limits::*;
 use crate::path::common_beginning;
 use crate::plain::Call;
+use crate::plan::Plan;
 use crate::rng::Rng;
 use crate::script::Script;
 use crate::subject::Subject;

@@ -4,7 +4,7 @@
 use crate::image;
 use crate::limits::*;
 use crate::meaning::take_below;
-use crate::path::{apart_or_equal, below, well_formed};
+use crate::path::{apart_or_equal, below, to_text, well_formed};
 use crate::tree::Table;
 
 /// The numbers of the questions.
@@ -19,7 +19,8 @@ pub const NO_PRESENT: u32 = 8;
 pub const NO_ROOM_IN_PATH: u32 = 9;
 pub const NO_ROOM: u32 = 10;
 
-/// A call with its arguments, any buffer as it is before it, and any work area's length.
+/// A call with its arguments, any buffer as it is before it, and any work area's length. A node
+/// number has 64 bits: one cut to fewer might name a node that was not meant.
 #[derive(Clone, Debug, PartialEq, Eq)]
 #[rustfmt::skip]
 pub enum Call {
@@ -29,8 +30,8 @@ pub enum Call {
     Move { from: Vec<u8>, to: Vec<u8>, work: usize },
     Settle { work: usize },
     Tidy { work: usize },
-    Flush { node: u32, work: usize },
-    Heal { node: u32, work: usize },
+    Flush { node: u64, work: usize },
+    Heal { node: u64, work: usize },
     Get { path: Vec<u8>, buffer: Vec<u8> },
     Next { path: Vec<u8>, after: Vec<u8>, buffer: Vec<u8> },
 }
@@ -57,6 +58,37 @@ impl Call {
             Call::Get { buffer, .. } | Call::Next { buffer, .. } => buffer,
             _ => &[],
         }
+    }
+
+    pub fn name(&self) -> &'static str {
+        match self {
+            Call::Put { .. } => "put",
+            Call::Drop { .. } => "drop",
+            Call::Clear { .. } => "clear",
+            Call::Move { .. } => "move",
+            Call::Settle { .. } => "settle",
+            Call::Tidy { .. } => "tidy",
+            Call::Flush { .. } => "flush",
+            Call::Heal { .. } => "heal",
+            Call::Get { .. } => "get",
+            Call::Next { .. } => "next",
+        }
+    }
+
+    /// The call in words, for messages.
+    pub fn told(&self) -> String {
+        let text = |p: &[u8]| String::from_utf8_lossy(&to_text(p)).into_owned();
+        let arguments = match self {
+            Call::Put { path, value, .. } => format!("{} ({} bytes)", text(path), value.len()),
+            Call::Drop { path, .. } | Call::Clear { path, .. } | Call::Get { path, .. } => {
+                text(path)
+            }
+            Call::Move { from, to, .. } => format!("{} to {}", text(from), text(to)),
+            Call::Next { path, after, .. } => format!("{} after {}", text(path), text(after)),
+            Call::Flush { node, .. } | Call::Heal { node, .. } => node.to_string(),
+            Call::Settle { .. } | Call::Tidy { .. } => String::new(),
+        };
+        format!("{} {arguments}", self.name())
     }
 
     /// Does the call only read the store?

@@ -11,17 +11,22 @@ use crate::sound::{judge, Sound};
 use crate::subject::{Capabilities, Numbers, Subject};
 use crate::tree::{Body, Message, Node, Pair, Table, Tree, Visit};
 use crate::upkeep;
+use crate::wrong;
 
 /// A way to be wrong.
 #[derive(Clone, Copy, Debug, PartialEq, Eq)]
 pub enum Fault {
     FlushLeavesMessages,
+    FlushRaisesNode,
+    FlushLiftsMessages,
     SettleLeavesMessages,
     TidyDoesNothing,
     TidySpreads,
     HealDoesNothing,
     HealAddsMessage,
     HealPacks,
+    HealPutsLevelBetween,
+    NarrowsNumbers,
     LiveOffByOne,
     GetIgnoresClears,
     GetWipesBuffer,
@@ -29,7 +34,9 @@ pub enum Fault {
     SameComparesValues,
     ClearTakesNamesakes,
     MoveKeepsDestination,
+    MoveKeepsSource,
     MoveOntoItselfPacks,
+    MoveForgetsComponents,
     WorkLeftDirty,
     WorkWipedWhole,
     RefusalWipesWork,
@@ -42,11 +49,14 @@ pub enum Fault {
 impl Fault {
     #[rustfmt::skip]
     pub const ALL: &'static [Fault] = &[
-        Fault::FlushLeavesMessages, Fault::SettleLeavesMessages, Fault::TidyDoesNothing,
-        Fault::TidySpreads, Fault::HealDoesNothing, Fault::HealAddsMessage, Fault::HealPacks,
+        Fault::FlushLeavesMessages, Fault::FlushRaisesNode, Fault::FlushLiftsMessages,
+        Fault::SettleLeavesMessages, Fault::TidyDoesNothing, Fault::TidySpreads,
+        Fault::HealDoesNothing, Fault::HealAddsMessage, Fault::HealPacks,
+        Fault::HealPutsLevelBetween, Fault::NarrowsNumbers,
         Fault::LiveOffByOne, Fault::GetIgnoresClears, Fault::GetWipesBuffer,
         Fault::NextMayRepeat, Fault::SameComparesValues, Fault::ClearTakesNamesakes,
-        Fault::MoveKeepsDestination, Fault::MoveOntoItselfPacks, Fault::WorkLeftDirty,
+        Fault::MoveKeepsDestination, Fault::MoveKeepsSource, Fault::MoveOntoItselfPacks,
+        Fault::MoveForgetsComponents, Fault::WorkLeftDirty,
         Fault::WorkWipedWhole, Fault::RefusalWipesWork, Fault::RefusalTouchesStore,
         Fault::ReadTouchesStore, Fault::PutRefusesWhenFull, Fault::RefusesAll,
     ];
@@ -114,7 +124,7 @@ impl Reference {
     fn table_after(&self, before: &Sound, call: &Call) -> Result<Table, u32> {
         let mut plain = plain_of(before);
         if let Call::Flush { node, .. } | Call::Heal { node, .. } = call {
-            let found = before.tree.find(*node);
+            let found = before.tree.find(self.number(*node));
             let interior = found.is_some_and(|v| v.node.is_interior());
             return interior.then_some(plain.table).ok_or(plain::NO_NODE);
         }
@@ -125,6 +135,9 @@ impl Reference {
             return Err(plain::NO_ROOM);
         }
         let number = plain.step(call).map_or(0, |outcome| outcome.answer.number);
+        if number == plain::NO_ROOM_IN_PATH && self.is(Fault::MoveForgetsComponents) {
+            return deepened(before, call).ok_or(number);
+        }
         if number != 0 {
             return Err(number);
         }
@@ -134,13 +147,21 @@ impl Reference {
                 plain.table.retain(|p, _| !p.starts_with(name));
             }
             Call::Move { to, .. } if self.is(Fault::MoveKeepsDestination) => {
-                let old = before.table.iter().filter(|(p, _)| p.starts_with(to));
-                let kept: Table = old.map(|(p, v)| (p.clone(), v.clone())).collect();
-                plain.table = kept.into_iter().chain(plain.table).collect();
+                keep_below(to, before, &mut plain.table);
+            }
+            Call::Move { from, .. } if self.is(Fault::MoveKeepsSource) => {
+                keep_below(from, before, &mut plain.table);
             }
             _ => {}
         }
         Ok(plain.table)
+    }
+
+    fn number(&self, node: u64) -> u64 {
+        match self.is(Fault::NarrowsNumbers) {
+            true => u64::from(node as u32),
+            false => node,
+        }
     }
 
     /// The store after the call; none where not a byte of it changes.
@@ -151,6 +172,9 @@ impl Reference {
         table: &Table,
         call: &Call,
     ) -> Option<Vec<u8>> {
+        if let Some(seeming) = self.seeming(store, before, call) {
+            return Some(seeming);
+        }
         match call {
             Call::Move { from, to, .. } if from == to && !self.is(Fault::MoveOntoItselfPacks) => {
                 None
@@ -161,13 +185,31 @@ impl Reference {
             Call::Tidy { .. } if self.is(Fault::TidySpreads) => spread(table, before.n),
             Call::Heal { .. } if self.is(Fault::HealDoesNothing) => None,
             Call::Heal { node, .. } if !self.is(Fault::HealPacks) => {
-                let tree = healed(&before.tree, *node, self.is(Fault::HealAddsMessage));
+                let node = self.number(*node);
+                let tree = healed(&before.tree, node, self.is(Fault::HealAddsMessage));
                 let mut after = store.to_vec();
                 tree.write(table.len() as u16, &mut after)?;
                 Some(after)
             }
             _ => pack::image(table, before.n),
         }
+    }
+
+    /// Upkeep of the root that only seems to be done, where the store has room for it.
+    fn seeming(&self, store: &[u8], before: &Sound, call: &Call) -> Option<Vec<u8>> {
+        let (node, tree) = match (self.fault?, call) {
+            (Fault::FlushRaisesNode, Call::Flush { node, .. })
+            | (Fault::HealPutsLevelBetween, Call::Heal { node, .. }) => {
+                (*node, wrong::level_between(before)?)
+            }
+            (Fault::FlushLiftsMessages, Call::Flush { node, .. }) => {
+                (*node, wrong::messages_lifted(before)?)
+            }
+            _ => return None,
+        };
+        let mut after = store.to_vec();
+        tree.write(before.table.len() as u16, &mut after)?;
+        (u64::from(before.tree.root.number) == node).then_some(after)
     }
 
     /// get and next: no work area, and no byte of the store changes.
@@ -212,6 +254,23 @@ fn plain_of(before: &Sound) -> Plain {
     }
 }
 
+/// The rows below a path come back where the table has none.
+fn keep_below(path: &[u8], before: &Sound, table: &mut Table) {
+    let old = before.table.iter().filter(|(p, _)| p.starts_with(path));
+    for (path, value) in old {
+        table.entry(path.clone()).or_insert_with(|| value.clone());
+    }
+}
+
+/// The table that a refused move would leave, where no path in it is too long.
+fn deepened(before: &Sound, call: &Call) -> Option<Table> {
+    let Call::Move { from, to, .. } = call else {
+        return None;
+    };
+    let left = plain::moved(&before.table, from, to);
+    left.keys().all(|p| p.len() <= PATH_LIMIT).then_some(left)
+}
+
 /// Changes the last byte, which in most stores belongs to a free node.
 fn touch(store: &mut [u8]) {
     if let Some(last) = store.last_mut() {
@@ -241,7 +300,7 @@ fn spread(table: &Table, n: usize) -> Option<Vec<u8>> {
 }
 
 /// The tree with neighbouring children of one node joined while they fit.
-fn healed(tree: &Tree, number: u32, adds_message: bool) -> Tree {
+fn healed(tree: &Tree, number: u64, adds_message: bool) -> Tree {
     let mut healed = tree.clone();
     let Some(visit) = tree.find(number) else {
         return healed;
@@ -251,7 +310,7 @@ fn healed(tree: &Tree, number: u32, adds_message: bool) -> Tree {
         path: visit.lifted().to_vec(),
     });
     healed.root.for_each_mut(&mut |node| {
-        if u32::from(node.number) == number {
+        if u64::from(node.number) == number {
             if let Body::Interior { children, messages } = &mut node.body {
                 children.clone_from(&joined);
                 // Where the children are empty, a clear before all others alters no map, and
@@ -361,12 +420,12 @@ impl Subject for Reference {
         self.act(store, work, &call)
     }
 
-    fn flush(&mut self, store: &mut [u8], node: u32, work: &mut [u8]) -> Numbers {
+    fn flush(&mut self, store: &mut [u8], node: u64, work: &mut [u8]) -> Numbers {
         let call = Call::Flush { node, work: work.len() };
         self.act(store, work, &call)
     }
 
-    fn heal(&mut self, store: &mut [u8], node: u32, work: &mut [u8]) -> Numbers {
+    fn heal(&mut self, store: &mut [u8], node: u64, work: &mut [u8]) -> Numbers {
         let call = Call::Heal { node, work: work.len() };
         self.act(store, work, &call)
     }

@@ -36,12 +36,11 @@ impl Rng {
         self.below(whole) < part
     }
 
-    pub fn byte(&mut self) -> u8 {
-        self.word() as u8
-    }
-
     pub fn bytes(&mut self, length: usize) -> Vec<u8> {
-        (0..length).map(|_| self.byte()).collect()
+        let words = (0..length.div_ceil(8)).map(|_| self.word());
+        let mut bytes: Vec<u8> = words.flat_map(u64::to_le_bytes).collect();
+        bytes.truncate(length);
+        bytes
     }
 
     pub fn pick<'a, T>(&mut self, items: &'a [T]) -> Option<&'a T> {

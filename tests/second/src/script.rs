@@ -1,11 +1,47 @@
 // A store in the hands of one subject, for lists of calls written by hand: each call is made,
 // judged by the contract, and gives its answer.
 
-use crate::contract::{self, Held, Seen};
+use crate::contract::{self, Facts, Held, Seen};
 use crate::limits::*;
 use crate::path::from_text;
 use crate::plain::{Answer, Call};
 use crate::subject::{perform, Subject};
+
+/// One call as it went: its answer, the buffer after it, and what it did to the nodes.
+pub struct Made {
+    pub answer: Answer,
+    pub buffer: Vec<u8>,
+    pub facts: Option<Facts>,
+}
+
+/// Makes one call of the subject on a store, with a work area of these bytes, and judges it.
+pub fn witnessed(
+    subject: &mut dyn Subject,
+    store: &mut [u8],
+    call: &Call,
+    work: &[u8],
+) -> Result<Made, String> {
+    let store_before = store.to_vec();
+    let mut work_after = work.to_vec();
+    let mut buffer = call.buffer().to_vec();
+    let answer = perform(subject, call, store, &mut work_after, &mut buffer);
+    let seen = Seen {
+        store_before: &store_before,
+        call,
+        work_before: work,
+        answer,
+        buffer_after: &buffer,
+        work_after: &work_after,
+        store_after: store,
+    };
+    let move_bound = subject.capabilities().move_bound;
+    let facts = contract::examine(&seen, Held { move_bound });
+    Ok(Made {
+        answer,
+        facts: facts.map_err(|what| format!("{}: {what}", call.told()))?,
+        buffer,
+    })
+}
 
 pub struct Script<'a> {
     pub subject: &'a mut dyn Subject,
@@ -33,29 +69,9 @@ impl<'a> Script<'a> {
 
     /// The call's answer and its buffer, judged.
     pub fn call(&mut self, call: &Call) -> Result<(Answer, Vec<u8>), String> {
-        let store_before = self.store.clone();
-        let work_before = vec![0x5A; call.work().unwrap_or(0)];
-        let mut work_after = work_before.clone();
-        let mut buffer_after = call.buffer().to_vec();
-        let answer = perform(
-            self.subject,
-            call,
-            &mut self.store,
-            &mut work_after,
-            &mut buffer_after,
-        );
-        let seen = Seen {
-            store_before: &store_before,
-            call,
-            work_before: &work_before,
-            answer,
-            buffer_after: &buffer_after,
-            work_after: &work_after,
-            store_after: &self.store,
-        };
-        let move_bound = self.subject.capabilities().move_bound;
-        contract::check(&seen, Held { move_bound })?;
-        Ok((answer, buffer_after))
+        let work = vec![0x5A; call.work().unwrap_or(0)];
+        let made = witnessed(self.subject, &mut self.store, call, &work)?;
+        Ok((made.answer, made.buffer))
     }
 
     fn number(&mut self, call: &Call) -> Result<u32, String> {

@@ -33,10 +33,10 @@ pub trait Subject {
     fn tidy(&mut self, _store: &mut [u8], _work: &mut [u8]) -> Numbers {
         MISSING
     }
-    fn flush(&mut self, _store: &mut [u8], _node: u32, _work: &mut [u8]) -> Numbers {
+    fn flush(&mut self, _store: &mut [u8], _node: u64, _work: &mut [u8]) -> Numbers {
         MISSING
     }
-    fn heal(&mut self, _store: &mut [u8], _node: u32, _work: &mut [u8]) -> Numbers {
+    fn heal(&mut self, _store: &mut [u8], _node: u64, _work: &mut [u8]) -> Numbers {
         MISSING
     }
 }
@@ -85,16 +85,21 @@ impl Capabilities {
     };
 
     pub fn has(&self, call: &Call) -> bool {
-        match call {
-            Call::Get { .. } | Call::Next { .. } => true,
-            Call::Put { .. } => self.put,
-            Call::Drop { .. } => self.drop,
-            Call::Clear { .. } => self.clear,
-            Call::Move { .. } => self.move_,
-            Call::Settle { .. } => self.settle,
-            Call::Tidy { .. } => self.tidy,
-            Call::Flush { .. } => self.flush,
-            Call::Heal { .. } => self.heal,
+        self.named(call.name())
+    }
+
+    /// The same by a call's name; make, get, next and same are never lacking.
+    pub fn named(&self, name: &str) -> bool {
+        match name {
+            "put" => self.put,
+            "drop" => self.drop,
+            "clear" => self.clear,
+            "move" => self.move_,
+            "settle" => self.settle,
+            "tidy" => self.tidy,
+            "flush" => self.flush,
+            "heal" => self.heal,
+            _ => true,
         }
     }
 }

@@ -79,6 +79,14 @@ impl Node {
         }
     }
 
+    /// Leaves the node without messages and gives those that it held.
+    pub fn take_messages(&mut self) -> Vec<Message> {
+        match &mut self.body {
+            Body::Leaf(_) => Vec::new(),
+            Body::Interior { messages, .. } => std::mem::take(messages),
+        }
+    }
+
     pub fn children(&self) -> &[Node] {
         match &self.body {
             Body::Leaf(_) => &[],
@@ -202,10 +210,10 @@ impl Tree {
         met
     }
 
-    pub fn find(&self, number: u32) -> Option<Visit<'_>> {
+    pub fn find(&self, number: u64) -> Option<Visit<'_>> {
         self.walk()
             .into_iter()
-            .find(|v| u32::from(v.node.number) == number)
+            .find(|v| u64::from(v.node.number) == number)
     }
 
     /// Gives the nodes these numbers, in the order of the walk.

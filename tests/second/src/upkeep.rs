@@ -2,7 +2,7 @@
 // before and after the call.
 
 use crate::contract::Verdict;
-use crate::limits::{ENTRY_BYTES_LIMIT, PIVOT_LIMIT};
+use crate::limits::{ENTRY_BYTES_LIMIT, LEAF_LEVEL, PIVOT_LIMIT};
 use crate::path::{lifted, overlap};
 use crate::sound::Sound;
 use crate::tree::{Body, Message, Node, Visit};
@@ -26,38 +26,61 @@ pub fn tidied(after: &Sound) -> Verdict {
     Err(format!("{used} nodes are in use after a tidy, over {most}"))
 }
 
-/// No node of the flushed node's level that owns any of what it owned holds a message.
-pub fn flushed(number: u32, before: &Sound, after: &Sound) -> Verdict {
+/// A flush, whole: no node of the flushed node's level that owns any of what it owned holds a
+/// message; and its messages went down: its own number is no hiding place, in whatever level it
+/// stands, and neither is a node beside or above it.
+pub fn flushed(number: u64, before: &Sound, after: &Sound) -> Verdict {
     let Some(flushed) = before.tree.find(number) else {
         return Err(format!("node {number} was not there to be flushed"));
     };
-    let range = (flushed.low, flushed.high);
-    for visit in after.tree.walk() {
-        let concerned = visit.level == flushed.level && overlap(range, (visit.low, visit.high));
-        if concerned && !visit.node.messages().is_empty() {
-            let number = visit.node.number;
-            return Err(format!("node {number} holds a message after the flush"));
-        }
-    }
-    Ok(())
+    none_waits(&flushed, after)?;
+    emptied(number, after)?;
+    none_gains(before, after, flushed.level)
 }
 
-pub fn healed(number: u32, before: &Sound, after: &Sound) -> Verdict {
+/// No node of this one's level that owns any of what it owned holds a message.
+pub fn none_waits(flushed: &Visit<'_>, after: &Sound) -> Verdict {
+    let range = (flushed.low, flushed.high);
+    let concerned =
+        |visit: &Visit<'_>| visit.level == flushed.level && overlap(range, (visit.low, visit.high));
+    none_of(after.tree.walk().into_iter().filter(concerned))
+}
+
+/// The node of this number, where it is still reachable, holds no message.
+fn emptied(number: u64, after: &Sound) -> Verdict {
+    none_of(after.tree.find(number).into_iter())
+}
+
+fn none_of<'a>(mut visits: impl Iterator<Item = Visit<'a>>) -> Verdict {
+    match visits.find(|visit| !visit.node.messages().is_empty()) {
+        None => Ok(()),
+        Some(visit) => Err(format!(
+            "node {} holds a message after the flush",
+            visit.node.number
+        )),
+    }
+}
+
+pub fn healed(number: u64, before: &Sound, after: &Sound) -> Verdict {
     let (Some(was), Some(is)) = (before.tree.find(number), after.tree.find(number)) else {
         return Err(format!("healed node {number} is not reachable"));
     };
     if (was.low, was.high) != (is.low, is.high) {
         return Err(format!("healed node {number} has another range"));
     }
-    no_node_gains(before, after)?;
+    if was.level != is.level {
+        return Err(format!("healed node {number} has another level"));
+    }
+    none_gains(before, after, LEAF_LEVEL)?;
     no_neighbours_fit(&is)
 }
 
-/// What a node holds is, in order, a part of what the node of that number held before.
-fn no_node_gains(before: &Sound, after: &Sound) -> Verdict {
+/// In the nodes of this level and above: what a node holds is, in order, a part of what the node
+/// of that number held before, by full path. A node that was free held nothing.
+pub fn none_gains(before: &Sound, after: &Sound, level: u16) -> Verdict {
     let walk = before.tree.walk();
     let was: BTreeMap<u16, &Node> = walk.iter().map(|v| (v.node.number, v.node)).collect();
-    for visit in after.tree.walk() {
+    for visit in after.tree.walk().iter().filter(|v| v.level >= level) {
         let number = visit.node.number;
         let held = was.get(&number).map_or(&[][..], |node| node.messages());
         if !is_sublist(visit.node.messages(), held) {
@@ -73,13 +96,18 @@ fn is_sublist(part: &[Message], whole: &[Message]) -> bool {
 }
 
 fn no_neighbours_fit(healed: &Visit<'_>) -> Verdict {
-    for pair in healed.children().windows(2) {
-        if join(&pair[0], &pair[1]).is_some() {
-            let (left, right) = (pair[0].node.number, pair[1].node.number);
-            return Err(format!("children {left} and {right} would fit in one node"));
-        }
+    match fitting_neighbours(healed) {
+        None => Ok(()),
+        Some((left, right)) => Err(format!("children {left} and {right} would fit in one node")),
     }
-    Ok(())
+}
+
+/// Two neighbouring children that hold no message and would fit in one node.
+pub fn fitting_neighbours(visit: &Visit<'_>) -> Option<(u16, u16)> {
+    let children = visit.children();
+    let mut pairs = children.windows(2);
+    let fitting = pairs.find(|pair| join(&pair[0], &pair[1]).is_some())?;
+    Some((fitting[0].node.number, fitting[1].node.number))
 }
 
 /// Two neighbours as one node with the left one's number; none unless both hold no message

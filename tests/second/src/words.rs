@@ -51,6 +51,28 @@ pub fn wide(rng: &mut Rng) -> Vec<u8> {
     joined(&[first, WIDE[rng.below(WIDE.len())]])
 }
 
+/// A path of exactly this length, 2 to 64, with as few components as that allows.
+pub fn sized(rng: &mut Rng, length: usize) -> Vec<u8> {
+    let count = length.div_ceil(COMPONENT_LIMIT + 1);
+    let mut path = Vec::new();
+    for i in 0..count {
+        // Shared out evenly: no component is left without a byte.
+        let width = (length - path.len()) / (count - i) - 1;
+        let letter = *rng.pick(b"aqrz").unwrap_or(&b'q');
+        path.extend(vec![letter; width]);
+        path.push(0);
+    }
+    path
+}
+
+/// A path of so many components of one byte each.
+pub fn of_depth(rng: &mut Rng, count: usize) -> Vec<u8> {
+    let components: Vec<&[u8]> = (0..count)
+        .map(|_| [&b"a"[..], b"b", b"q", b"!"][rng.below(4)])
+        .collect();
+    joined(&components)
+}
+
 /// Any well-formed path, most often a short one.
 pub fn path(rng: &mut Rng) -> Vec<u8> {
     match rng.below(12) {
@@ -118,6 +140,14 @@ mod tests {
             let longest = longest(&mut rng);
             assert!(well_formed(&longest) && longest.len() == PATH_LIMIT);
             assert_eq!(beginnings(&deepest(&mut rng)).count(), COMPONENTS);
+        }
+        for length in 2..=PATH_LIMIT {
+            let path = sized(&mut rng, length);
+            assert!(well_formed(&path) && path.len() == length, "{length}");
+        }
+        for depth in 1..=COMPONENTS {
+            let path = of_depth(&mut rng, depth);
+            assert!(well_formed(&path) && beginnings(&path).count() == depth);
         }
     }
 }

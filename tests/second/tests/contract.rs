@@ -4,11 +4,12 @@
 use second::contract::{changed_nodes, check, check_make, check_same, Held, Seen};
 use second::feature::Feature;
 use second::generate;
-use second::judge::{run, run_case, Stats};
+use second::judge::{run, run_case};
 use second::pack;
 use second::plain::{Answer, Call};
 use second::reference::Reference;
 use second::sound::judge;
+use second::stats::Stats;
 use second::subject::{Capabilities, Numbers, Subject};
 use second::tree::Table;
 

@@ -1,9 +1,14 @@
 // The judge on the reference store, which meets the contract, and on each of its wrong
 // variants, which the judge must find.
 
-use second::judge::{run, run_case, Stats};
+use second::corner::Corner;
+use second::grid;
+use second::judge::{run, run_case};
 use second::lazy::{Lazy, Slip};
+use second::limits::LEVELS_MOST;
 use second::reference::{Fault, Reference};
+use second::stats::{Stats, ANSWERS};
+use second::subject::Capabilities;
 
 const SEED: u64 = 2026;
 
@@ -12,23 +17,9 @@ fn the_reference_store_meets_the_contract() {
     let mut subject = Reference::default();
     let stats = run(&mut subject, SEED, 250).unwrap_or_else(|what| panic!("{what}"));
     println!("{stats:?}");
-    let calls: [(&str, &[u32]); 12] = [
-        ("make", &[0, 1]),
-        ("get", &[0, 1, 2, 3, 5, 8]),
-        ("next", &[0, 1, 2, 3, 5, 8]),
-        ("same", &[0, 1, 2]),
-        ("put", &[0, 1, 2, 3, 4, 10]),
-        ("drop", &[0, 1, 2, 3]),
-        ("clear", &[0, 1, 2, 3]),
-        ("move", &[0, 1, 2, 3, 7, 8, 9]),
-        ("settle", &[0, 1, 2]),
-        ("tidy", &[0, 1, 2]),
-        ("flush", &[0, 1, 2, 6]),
-        ("heal", &[0, 1, 2, 6]),
-    ];
-    for (name, numbers) in calls {
-        for number in numbers {
-            let met = stats.answers.contains_key(&(name, *number));
+    for (name, numbers) in ANSWERS {
+        for number in *numbers {
+            let met = stats.answers.contains_key(&(*name, *number));
             assert!(met, "{name} never answered {number}");
         }
     }
@@ -51,8 +42,30 @@ fn every_fault_is_found() {
 #[test]
 fn a_store_that_lets_messages_wait_meets_the_contract() {
     let stats = run(&mut Lazy::default(), SEED, 150).unwrap_or_else(|what| panic!("{what}"));
-    println!("{stats:?}");
+    println!("{}", stats.table());
     assert!(stats.answers[&("flush", 0)] > 20);
+}
+
+/// The whole grid, four times over, with a store that mostly keeps the bound.
+#[test]
+fn every_corner_is_tried() {
+    let mut stats = run(&mut Lazy::default(), SEED, 250).unwrap_or_else(|what| panic!("{what}"));
+    let corners = grid::run(&mut Lazy::default(), SEED, 4);
+    stats += &corners.unwrap_or_else(|what| panic!("{what}"));
+    println!("{}", stats.table());
+    assert_eq!(stats.missing(Capabilities::ALL), Vec::<String>::new());
+    for levels in 1..LEVELS_MOST {
+        let moves = stats.moves_at(levels, |_| true);
+        assert!(moves.bounded > 10 * moves.over, "{levels}: {moves:?}");
+    }
+}
+
+/// A run that tries nothing misses everything.
+#[test]
+fn what_is_not_tried_is_missed() {
+    let all = Stats::default().missing(Capabilities::ALL);
+    let reads = Stats::default().missing(Capabilities::READS);
+    assert!(all.len() > 2 * Corner::all().len() && reads.len() == 17);
 }
 
 #[test]

@@ -1,4 +1,5 @@
-// The images that are measured, all sound: full stores, settled and with messages waiting in the root, and trees of eight levels.
+// The images that are measured, all sound: full stores, settled and with messages waiting in the root, and trees of seven and eight
+// levels.
 
 use second::limits::*;
 use second::path::well_formed;
@@ -17,10 +18,21 @@ pub fn settled(n: usize) -> Vec<u8> {
     pack::image(&table, n).expect("n paths fit n nodes")
 }
 
-/// The same tree below a root that has it as its one child and is full of messages: puts and drops of paths that are present.
+/// The same tree below a root that is full of puts and drops.
 pub fn buffered(n: usize) -> Vec<u8> {
-    let image = settled(n);
-    let sound = sound::judge(&image).expect("a packed image is sound");
+    full_root(&settled(n), |i, path| match i % 2 {
+        0 => Message::Drop { path },
+        _ => Message::Put {
+            path,
+            value: Vec::new(),
+        },
+    })
+}
+
+/// A packed image below a root that has it as its one child and is full of messages about paths that are present.
+pub fn full_root(image: &[u8], message: impl Fn(usize, Vec<u8>) -> Message) -> Vec<u8> {
+    let n = image.len() / NODE;
+    let sound = sound::judge(image).expect("a packed image is sound");
     let mut tree = Tree {
         levels: sound.tree.levels + 1,
         root: Node::interior(ROOT_LOW, vec![sound.tree.root], Vec::new()),
@@ -30,14 +42,7 @@ pub fn buffered(n: usize) -> Vec<u8> {
     let paths: Vec<Vec<u8>> = sound.table.into_keys().collect();
     let mut rng = Rng::new(n as u64 + 1);
     fill(&mut tree.root, tree.levels, ROOT_HIGH, |i| {
-        let path = rng.pick(&paths).cloned().unwrap_or_default();
-        match i % 2 {
-            0 => Message::Drop { path },
-            _ => Message::Put {
-                path,
-                value: Vec::new(),
-            },
-        }
+        message(i, rng.pick(&paths).cloned().unwrap_or_default())
     });
     written(tree, n)
 }
@@ -45,6 +50,7 @@ pub fn buffered(n: usize) -> Vec<u8> {
 /// Eight levels; on one way down every node has several children and is full of messages.
 pub fn waiting() -> Vec<u8> {
     Spine {
+        levels: 8,
         children: [0, 0, 70, 60, 60, 40, 25, 15, 10],
         full: true,
     }
@@ -55,7 +61,18 @@ pub fn waiting() -> Vec<u8> {
 /// walk that keeps something for each child it has passed keeps the most here.
 pub fn deepest() -> Vec<u8> {
     Spine {
+        levels: 8,
         children: [0, 0, 144, 144, 144, 39, 1, 1, 1],
+        full: false,
+    }
+    .image()
+}
+
+/// Seven levels, as wide as they can be while a move is held to the bound: it has a level and free nodes left to go its own way.
+pub fn roomy() -> Vec<u8> {
+    Spine {
+        levels: 7,
+        children: [0, 0, 144, 144, 130, 14, 1, 1, 0],
         full: false,
     }
     .image()
@@ -63,6 +80,7 @@ pub fn deepest() -> Vec<u8> {
 
 /// A tree with one way down: how many children the node on it has at each level, and whether these nodes are full of messages.
 struct Spine {
+    levels: u16,
     children: [u8; 9],
     full: bool,
 }
@@ -70,8 +88,8 @@ struct Spine {
 impl Spine {
     fn image(&self) -> Vec<u8> {
         let mut tree = Tree {
-            levels: LEVELS_MOST,
-            root: self.node(LEVELS_MOST, ROOT_LOW, ROOT_HIGH),
+            levels: self.levels,
+            root: self.node(self.levels, ROOT_LOW, ROOT_HIGH),
         };
         let numbers: Vec<u16> = (1..=tree.walk().len() as u16).collect();
         tree.number(&numbers);

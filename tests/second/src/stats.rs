@@ -1,0 +1,309 @@
+// What a run has tried: how many calls got each answer, and in which corners moves and heals were
+// accepted and what they did there. A run that leaves something untried can tell what.
+
+use crate::contract::{bound_changed, Facts};
+use crate::corner::{Corner, Room};
+use crate::limits::{LEAF_LEVEL, LEVELS_MOST};
+use crate::moves::Kind;
+use crate::plain::{Answer, Call};
+use crate::subject::Capabilities;
+use std::collections::BTreeMap;
+use std::ops::AddAssign;
+
+/// Accepted moves; those onto themselves, which change nothing, are not counted.
+#[derive(Clone, Copy, Debug, Default)]
+pub struct Moves {
+    pub accepted: usize,
+    /// How many were in a store that holds them to the bound; how many of these broke it; the
+    /// most nodes that one of them changed, and how many they changed in all.
+    pub bounded: usize,
+    pub over: usize,
+    pub worst: usize,
+    pub changed: usize,
+}
+
+impl Moves {
+    fn one(facts: &Facts) -> Moves {
+        let changed = facts.bound.map_or(0, |_| facts.changed);
+        Moves {
+            accepted: 1,
+            bounded: facts.bound.is_some().into(),
+            over: facts.bound.is_some_and(|most| changed > most).into(),
+            worst: changed,
+            changed,
+        }
+    }
+
+    pub fn mean(&self) -> usize {
+        self.changed.checked_div(self.bounded).unwrap_or(0)
+    }
+}
+
+impl AddAssign for Moves {
+    fn add_assign(&mut self, more: Moves) {
+        self.accepted += more.accepted;
+        self.bounded += more.bounded;
+        self.over += more.over;
+        self.worst = self.worst.max(more.worst);
+        self.changed += more.changed;
+    }
+}
+
+/// Accepted heals, and those that merged something: fewer nodes were in use after them.
+#[derive(Clone, Copy, Debug, Default)]
+pub struct Heals {
+    pub accepted: usize,
+    pub merged: usize,
+}
+
+impl Heals {
+    fn one(facts: &Facts) -> Heals {
+        Heals {
+            accepted: 1,
+            merged: (facts.used_after < facts.used_before).into(),
+        }
+    }
+}
+
+impl AddAssign for Heals {
+    fn add_assign(&mut self, more: Heals) {
+        self.accepted += more.accepted;
+        self.merged += more.merged;
+    }
+}
+
+/// Accepted flushes, and those of a node that messages waited in.
+#[derive(Clone, Copy, Debug, Default)]
+pub struct Flushes {
+    pub accepted: usize,
+    pub waited: usize,
+}
+
+impl Flushes {
+    fn one(facts: &Facts) -> Flushes {
+        Flushes {
+            accepted: 1,
+            waited: facts.waited.into(),
+        }
+    }
+}
+
+impl AddAssign for Flushes {
+    fn add_assign(&mut self, more: Flushes) {
+        self.accepted += more.accepted;
+        self.waited += more.waited;
+    }
+}
+
+#[derive(Clone, Debug, Default)]
+pub struct Stats {
+    pub calls: usize,
+    pub answers: BTreeMap<(&'static str, u32), usize>,
+    /// The aimed moves of each kind.
+    pub kinds: BTreeMap<(Kind, u32), usize>,
+    pub moves: BTreeMap<Corner, Moves>,
+    pub heals: BTreeMap<Corner, Heals>,
+    pub flushes: BTreeMap<Corner, Flushes>,
+    /// Flushes and heals of a number of more than 32 bits.
+    pub large: usize,
+}
+
+impl Stats {
+    pub fn count(&mut self, name: &'static str, answer: Answer) {
+        self.calls += 1;
+        *self.answers.entry((name, answer.number)).or_default() += 1;
+    }
+
+    pub fn count_call(&mut self, call: &Call, answer: Answer, facts: Option<&Facts>) {
+        self.count(call.name(), answer);
+        if let Call::Flush { node, .. } | Call::Heal { node, .. } = call {
+            self.large += usize::from(*node > u64::from(u32::MAX));
+        }
+        match (call, facts) {
+            (Call::Move { .. }, Some(facts)) => {
+                *self.moves.entry(facts.corner).or_default() += Moves::one(facts);
+            }
+            (Call::Heal { .. }, Some(facts)) => {
+                *self.heals.entry(facts.corner).or_default() += Heals::one(facts);
+            }
+            (Call::Flush { .. }, Some(facts)) => {
+                *self.flushes.entry(facts.corner).or_default() += Flushes::one(facts);
+            }
+            _ => {}
+        }
+    }
+
+    pub fn count_kind(&mut self, kind: Kind, answer: Answer) {
+        *self.kinds.entry((kind, answer.number)).or_default() += 1;
+    }
+
+    /// The moves at these levels in the corners that are wanted, as one.
+    pub fn moves_at(&self, levels: u16, wanted: impl Fn(&Corner) -> bool) -> Moves {
+        gathered(&self.moves, levels, wanted)
+    }
+
+    pub fn heals_at(&self, levels: u16, wanted: impl Fn(&Corner) -> bool) -> Heals {
+        gathered(&self.heals, levels, wanted)
+    }
+
+    /// All that a whole run of a subject with these calls has to try and did not, in words.
+    pub fn missing(&self, capabilities: Capabilities) -> Vec<String> {
+        let mut missing = Vec::new();
+        for (name, numbers) in ANSWERS.iter().filter(|(name, _)| capabilities.named(name)) {
+            let unmet = |number: &&u32| !self.answers.contains_key(&(*name, **number));
+            let unmet = numbers.iter().filter(unmet);
+            missing.extend(unmet.map(|number| format!("{name} never answered {number}")));
+        }
+        if capabilities.move_ {
+            missing.extend(self.missing_moves());
+        }
+        if capabilities.heal {
+            missing.extend(self.missing_heals());
+        }
+        if capabilities.flush {
+            missing.extend(self.missing_flushes());
+        }
+        missing
+    }
+
+    fn missing_moves(&self) -> Vec<String> {
+        let unmet = |kind: &&Kind| !self.kinds.contains_key(&(**kind, kind.answer()));
+        let kinds = Kind::ALL.iter().filter(unmet);
+        let kinds = kinds.map(|kind| format!("no move {} was made", kind.name()));
+        let corners = Corner::all().into_iter();
+        let corners = corners.filter(|corner| !self.moves.contains_key(corner));
+        kinds
+            .chain(corners.map(|corner| format!("no move was accepted in {corner:?}")))
+            .collect()
+    }
+
+    fn missing_heals(&self) -> Vec<String> {
+        let merged = |corner: &Corner| self.heals.get(corner).is_some_and(|h| h.merged > 0);
+        let corners = Corner::all().into_iter();
+        let corners = corners.filter(|corner| corner.levels > LEAF_LEVEL && !merged(corner));
+        let large = (self.large == 0).then(|| "no number of over 32 bits was healed".to_string());
+        corners
+            .map(|corner| format!("no heal merged anything in {corner:?}"))
+            .chain(large)
+            .collect()
+    }
+
+    fn missing_flushes(&self) -> Vec<String> {
+        let waited = |corner: &Corner| self.flushes.get(corner).is_some_and(|f| f.waited > 0);
+        let corners = Corner::all().into_iter();
+        let corners = corners.filter(|corner| !corner.settled && !waited(corner));
+        corners
+            .map(|corner| format!("no message was flushed in {corner:?}"))
+            .collect()
+    }
+
+    /// The counts by answer, and those of moves, heals and flushes by levels.
+    pub fn table(&self) -> String {
+        let mut lines = vec![format!("{} calls, by answer:", self.calls)];
+        for (name, numbers) in ANSWERS {
+            let count = |number| self.answers.get(&(*name, number)).unwrap_or(&0);
+            let counts = numbers.iter().map(|n| format!("{n}: {}", count(*n)));
+            let counts: Vec<String> = counts.collect();
+            lines.push(format!("  {name:<7}{}", counts.join("  ")));
+        }
+        lines.push("moves, by what they aimed at, by answer:".into());
+        for ((kind, number), count) in &self.kinds {
+            lines.push(format!("  {:<22}{number}: {count}", kind.name()));
+        }
+        let large = self.large;
+        lines.push(format!("flushes and heals of over 32 bits: {large}"));
+        lines.extend(self.rows());
+        lines.join("\n")
+    }
+
+    fn rows(&self) -> Vec<String> {
+        let accepted = |name: &str, wanted: fn(&Corner) -> bool| {
+            row(name, |levels| self.moves_at(levels, wanted).accepted)
+        };
+        let moves = |name: &str, count: fn(Moves) -> usize| {
+            row(name, |levels| count(self.moves_at(levels, |_| true)))
+        };
+        let heals = |name: &str, count: fn(Heals) -> usize| {
+            row(name, |levels| count(self.heals_at(levels, |_| true)))
+        };
+        let flushes = |name: &str, count: fn(Flushes) -> usize| {
+            let all = |levels| gathered(&self.flushes, levels, |_| true);
+            row(name, |levels| count(all(levels)))
+        };
+        vec![
+            row("levels L", usize::from),
+            accepted("moves accepted", |_| true),
+            accepted("  settled", |corner| corner.settled),
+            accepted("  messages wait", |corner| !corner.settled),
+            accepted("  at most 3 free", |corner| corner.room == Room::Few),
+            accepted("  12 L + 8 free", |corner| corner.room == Room::Just),
+            accepted("  a pivot of 65 bytes", |corner| corner.wide),
+            moves("  held to 16 L + 8", |moves| moves.bounded),
+            moves("  over it", |moves| moves.over),
+            moves("nodes changed, worst", |moves| moves.worst),
+            moves("nodes changed, mean", |moves| moves.mean()),
+            row("  10 L + 2", |levels| 10 * usize::from(levels) + 2),
+            row("  16 L + 8", bound_changed),
+            heals("heals accepted", |heals| heals.accepted),
+            heals("  that merged", |heals| heals.merged),
+            flushes("flushes accepted", |flushes| flushes.accepted),
+            flushes("  of messages", |flushes| flushes.waited),
+        ]
+    }
+}
+
+impl AddAssign<&Stats> for Stats {
+    fn add_assign(&mut self, more: &Stats) {
+        self.calls += more.calls;
+        self.large += more.large;
+        add_all(&mut self.answers, &more.answers);
+        add_all(&mut self.kinds, &more.kinds);
+        add_all(&mut self.moves, &more.moves);
+        add_all(&mut self.heals, &more.heals);
+        add_all(&mut self.flushes, &more.flushes);
+    }
+}
+
+fn add_all<K: Ord + Copy, V: AddAssign + Default + Copy>(
+    counts: &mut BTreeMap<K, V>,
+    more: &BTreeMap<K, V>,
+) {
+    for (key, count) in more {
+        *counts.entry(*key).or_default() += *count;
+    }
+}
+
+fn gathered<V: AddAssign + Default + Copy>(
+    counts: &BTreeMap<Corner, V>,
+    levels: u16,
+    wanted: impl Fn(&Corner) -> bool,
+) -> V {
+    let mut sum = V::default();
+    let wanted = |(corner, _): &(&Corner, &V)| corner.levels == levels && wanted(corner);
+    counts
+        .iter()
+        .filter(wanted)
+        .for_each(|(_, count)| sum += *count);
+    sum
+}
+
+fn row(name: &str, count: impl Fn(u16) -> usize) -> String {
+    let counts = (1..=LEVELS_MOST).map(|levels| format!("{:>7}", count(levels)));
+    format!("{name:<24}{}", counts.collect::<String>())
+}
+
+/// The answers that each call can give.
+pub const ANSWERS: &[(&str, &[u32])] = &[
+    ("make", &[0, 1]),
+    ("get", &[0, 1, 2, 3, 5, 8]),
+    ("next", &[0, 1, 2, 3, 5, 8]),
+    ("same", &[0, 1, 2]),
+    ("put", &[0, 1, 2, 3, 4, 10]),
+    ("drop", &[0, 1, 2, 3]),
+    ("clear", &[0, 1, 2, 3]),
+    ("move", &[0, 1, 2, 3, 7, 8, 9]),
+    ("settle", &[0, 1, 2]),
+    ("tidy", &[0, 1, 2]),
+    ("flush", &[0, 1, 2, 6]),
+    ("heal", &[0, 1, 2, 6]),
+];

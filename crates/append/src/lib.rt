@@ -26,8 +26,8 @@ pub fn root_at(store: &[u8]) -> usize
     requires { ⌜ soundButLive (now store) ≡ true ⌝ }
     ensures { λ r. ⌜ (r ≡ rootAt (now (store .entry))) × (r + 1024 ≤ length (now (store .entry))) ⌝ }
 {
-    let root = octets::u16_at(store, 6);
-    root * 1024
+    let root = octets::u16_at(store, image::ROOT_AT);
+    root * image::NODE_SIZE
 }
 
 // Whether the root is an interior node with room for this many bytes of entries.
@@ -35,13 +35,13 @@ pub fn fits_at_root(store: &[u8], size: usize) -> bool
     requires { ⌜ (soundButLive (now store) ≡ true) × (size ≤ 1016) ⌝ }
     ensures { λ r. ⌜ r ≡ roomAtRoot (now (store .entry)) size ⌝ }
 {
-    let levels = octets::u16_at(store, 8);
+    let levels = octets::u16_at(store, image::LEVELS_AT);
     if levels < 2 {
         return false;
     }
     let at = root_at(store);
     let len = octets::u16_at(store, at);
-    len + size <= 1016
+    len + size <= image::ENTRIES_LIMIT
 }
 
 // The bytes of a put at a place.
@@ -52,7 +52,7 @@ fn write_put(page: &mut [u8], at: usize, path: &[u8], value: &[u8])
     let keys = path.len();
     let rest = 2 + keys + value.len();
     octets::put_u16(page, at, rest);
-    octets::put_u16(page, at + 2, 32);
+    octets::put_u16(page, at + 2, image::PUT);
     octets::put_u16(page, at + 4, keys);
     octets::copy_at(page, at + 6, path);
     octets::copy_at(page, at + 6 + keys, value);
@@ -75,7 +75,7 @@ pub fn append_put(store: &mut [u8], path: &[u8], value: &[u8])
 {
     let at = root_at(store);
     let len = octets::u16_at(store, at);
-    write_put(store, at + 8 + len, path, value);
+    write_put(store, at + image::ENTRIES_AT + len, path, value);
     octets::put_u16(store, at, len + 6 + path.len() + value.len());
 }
 
@@ -86,7 +86,7 @@ pub fn append_drop(store: &mut [u8], path: &[u8])
 {
     let at = root_at(store);
     let len = octets::u16_at(store, at);
-    write_short(store, at + 8 + len, 33, path);
+    write_short(store, at + image::ENTRIES_AT + len, image::DROP, path);
     octets::put_u16(store, at, len + 4 + path.len());
 }
 
@@ -97,7 +97,7 @@ pub fn append_clear(store: &mut [u8], path: &[u8])
 {
     let at = root_at(store);
     let len = octets::u16_at(store, at);
-    write_short(store, at + 8 + len, 34, path);
+    write_short(store, at + image::ENTRIES_AT + len, image::CLEAR, path);
     octets::put_u16(store, at, len + 4 + path.len());
 }
 
@@ -107,11 +107,11 @@ fn write_root_head(page: &mut [u8], size: usize, level: usize, old: usize)
     ensures { λ _. ⌜ now (page .exit) ≡ put (now (page .entry)) 0 (rootHead size level old) ⌝ }
 {
     octets::put_u16(page, 0, size);
-    octets::put_u16(page, 2, 2);
+    octets::put_u16(page, image::KIND_AT, image::INTERIOR);
     octets::put_u16(page, 4, level);
     octets::put_u16(page, 6, 0);
     octets::put_u16(page, 8, 2);
-    octets::put_u16(page, 10, 16);
+    octets::put_u16(page, 10, image::CHILD);
     octets::put_u16(page, 12, old);
 }
 
@@ -120,9 +120,9 @@ fn install_root(store: &mut [u8], free: usize, levels: usize, page: &[u8])
     requires { ⌜ (length (now page) ≡ 1024) × (free * 1024 + 1024 ≤ length (now store)) × (length (now store) ≤ 2000000) × (levels < 65536) ⌝ }
     ensures { λ _. ⌜ now (store .exit) ≡ put (put (put (now (store .entry)) (free * 1024) (now (page .entry))) 6 (u16Bytes free)) 8 (u16Bytes levels) ⌝ }
 {
-    octets::copy_at(store, free * 1024, page);
-    octets::put_u16(store, 6, free);
-    octets::put_u16(store, 8, levels);
+    octets::copy_at(store, free * image::NODE_SIZE, page);
+    octets::put_u16(store, image::ROOT_AT, free);
+    octets::put_u16(store, image::LEVELS_AT, levels);
 }
 
 // A new root above the old one, with a put.
@@ -130,8 +130,8 @@ pub fn raise_put(store: &mut [u8], free: usize, path: &[u8], value: &[u8])
     requires { ⌜ (wholeNodes (length (now store)) ≡ true) × (soundButLive (now store) ≡ true) × (free < nodesOf (length (now store))) × (length (now path) + length (now value) ≤ 1004) ⌝ }
     ensures { λ _. ⌜ now (store .exit) ≡ rootRaised (now (store .entry)) free (puts (now (path .entry)) (now (value .entry))) ⌝ }
 {
-    let old = octets::u16_at(store, 6);
-    let levels = octets::u16_at(store, 8);
+    let old = octets::u16_at(store, image::ROOT_AT);
+    let levels = octets::u16_at(store, image::LEVELS_AT);
     let mut page = [0u8; 1024];
     write_root_head(&mut page, 12 + path.len() + value.len(), levels + 1, old);
     write_put(&mut page, 14, path, value);
@@ -143,11 +143,11 @@ pub fn raise_drop(store: &mut [u8], free: usize, path: &[u8])
     requires { ⌜ (wholeNodes (length (now store)) ≡ true) × (soundButLive (now store) ≡ true) × (free < nodesOf (length (now store))) × (length (now path) ≤ 1004) ⌝ }
     ensures { λ _. ⌜ now (store .exit) ≡ rootRaised (now (store .entry)) free (drops (now (path .entry))) ⌝ }
 {
-    let old = octets::u16_at(store, 6);
-    let levels = octets::u16_at(store, 8);
+    let old = octets::u16_at(store, image::ROOT_AT);
+    let levels = octets::u16_at(store, image::LEVELS_AT);
     let mut page = [0u8; 1024];
     write_root_head(&mut page, 10 + path.len(), levels + 1, old);
-    write_short(&mut page, 14, 33, path);
+    write_short(&mut page, 14, image::DROP, path);
     install_root(store, free, levels + 1, &page);
 }
 
@@ -156,11 +156,11 @@ pub fn raise_clear(store: &mut [u8], free: usize, path: &[u8])
     requires { ⌜ (wholeNodes (length (now store)) ≡ true) × (soundButLive (now store) ≡ true) × (free < nodesOf (length (now store))) × (length (now path) ≤ 1004) ⌝ }
     ensures { λ _. ⌜ now (store .exit) ≡ rootRaised (now (store .entry)) free (clears (now (path .entry))) ⌝ }
 {
-    let old = octets::u16_at(store, 6);
-    let levels = octets::u16_at(store, 8);
+    let old = octets::u16_at(store, image::ROOT_AT);
+    let levels = octets::u16_at(store, image::LEVELS_AT);
     let mut page = [0u8; 1024];
     write_root_head(&mut page, 10 + path.len(), levels + 1, old);
-    write_short(&mut page, 14, 34, path);
+    write_short(&mut page, 14, image::CLEAR, path);
     install_root(store, free, levels + 1, &page);
 }
 
@@ -169,7 +169,7 @@ pub fn set_live(store: &mut [u8], live: usize)
     requires { ⌜ (12 ≤ length (now store)) × (length (now store) ≤ 2000000) × (live < 65536) ⌝ }
     ensures { λ _. ⌜ now (store .exit) ≡ withLive (now (store .entry)) live ⌝ }
 {
-    octets::put_u16(store, 10, live);
+    octets::put_u16(store, image::LIVE_AT, live);
 }
 
 fn is_message(e: Entry) -> bool
@@ -205,12 +205,12 @@ pub fn has_messages_at_root(store: &[u8]) -> bool
     requires { ⌜ soundButLive (now store) ≡ true ⌝ }
     ensures { λ r. ⌜ r ≡ not (noMessage (treeOf (now (store .entry)))) ⌝ }
 {
-    let levels = octets::u16_at(store, 8);
+    let levels = octets::u16_at(store, image::LEVELS_AT);
     if levels < 2 {
         return false;
     }
     let at = root_at(store);
     let len = octets::u16_at(store, at);
-    let from = at + 8;
+    let from = at + image::ENTRIES_AT;
     holds_message(store, from, from + len)
 }

@@ -27,12 +27,13 @@ ghost use Rattle.build.specs.Built.{Asks, builtImage};
 // One pair. Gives the place behind it.
 pub fn emit_pair(page: &mut [u8], at: usize, path: &[u8], value: &[u8]) -> usize
     requires { ⌜ (at + (6 + length (now path) + length (now value)) ≤ length (now page)) × (length (now page) ≤ 1024) ⌝ }
-    ensures { λ r. ⌜ (now (page .exit) ≡ put (now (page .entry)) at (bytesOf (pair (now (path .entry)) (now (value .entry))))) × (r ≡ at + (6 + length (now (path .entry)) + length (now (value .entry)))) ⌝ }
+    ensures { λ r. ⌜ (now (page .exit) ≡ put (now (page .entry)) at (bytesOf (pair (now (path .entry)) (now (value .entry)))))
+        × (r ≡ at + (6 + length (now (path .entry)) + length (now (value .entry)))) ⌝ }
 {
     let n = path.len();
     let k = value.len();
     octets::put_u16(page, at, n + k + 2);
-    octets::put_u16(page, at + 2, 1);
+    octets::put_u16(page, at + 2, image::PAIR);
     octets::put_u16(page, at + 4, n);
     octets::copy_at(page, at + 6, path);
     octets::copy_at(page, at + 6 + n, value);
@@ -112,9 +113,9 @@ pub fn write_leaf(store: &mut [u8], area: &[u8], m: usize, i: usize, j: usize, n
     let k = leaf_lifts(area, m, i, j);
     let end = emit_rows(&mut page, area, m, i, j, k, 8);
     octets::put_u16(&mut page, 0, end - 8);
-    octets::put_u16(&mut page, 2, 1);
-    octets::put_u16(&mut page, 4, 1);
-    let at = num * 1024;
+    octets::put_u16(&mut page, image::KIND_AT, image::LEAF);
+    octets::put_u16(&mut page, image::LEVEL_AT, 1);
+    let at = num * image::NODE_SIZE;
     octets::copy_at(store, at, &page);
 }
 
@@ -129,7 +130,12 @@ fn row_weight(area: &[u8], i: usize) -> usize
 
 // The leaves, written with the first numbers of the list, and the mark of each row set or cleared. Gives how many.
 fn write_leaves(store: &mut [u8], area: &mut [u8], m: usize, numbers: &[u8]) -> usize
-    requires { ⌜ RowsFit m (now area) × (1 ≤ m) × (m ≤ 1024) × (leavesFrom m (now area) 0 ≤ length (now numbers) / 2) × (inRange (length (now store) / 1024) (handed (now numbers)) ≡ true) × (length (now store) ≤ 2000000) ⌝ }
+    requires { ⌜ RowsFit m (now area)
+        × (1 ≤ m)
+        × (m ≤ 1024)
+        × (leavesFrom m (now area) 0 ≤ length (now numbers) / 2)
+        × (inRange (length (now store) / 1024) (handed (now numbers)) ≡ true)
+        × (length (now store) ≤ 2000000) ⌝ }
     ensures { λ r. ⌜ LeavesMade m (now (numbers .entry)) (now (area .entry)) (now (area .exit)) (now (store .entry)) (now (store .exit)) r ⌝ }
 {
     let mut i = 0;
@@ -156,7 +162,14 @@ fn write_level(
     from: usize,
     level: usize,
 ) -> usize
-    requires { ⌜ RowsFit m (now area) × (1 ≤ m) × (m ≤ 1024) × (1 ≤ markAt (now area) 0) × (from + nodesFrom m (now area) 0 ≤ length (now numbers) / 2) × (inRange (length (now store) / 1024) (handed (now numbers)) ≡ true) × (length (now store) ≤ 2000000) × (level ≤ 8) ⌝ }
+    requires { ⌜ RowsFit m (now area)
+        × (1 ≤ m)
+        × (m ≤ 1024)
+        × (1 ≤ markAt (now area) 0)
+        × (from + nodesFrom m (now area) 0 ≤ length (now numbers) / 2)
+        × (inRange (length (now store) / 1024) (handed (now numbers)) ≡ true)
+        × (length (now store) ≤ 2000000)
+        × (level ≤ 8) ⌝ }
     ensures { λ r. ⌜ LevelMade level m (now (numbers .entry)) from (now (area .entry)) (now (area .exit)) (now (store .entry)) (now (store .exit)) r ⌝ }
 {
     let mut i = 0;
@@ -176,8 +189,14 @@ fn write_level(
 
 // The levels above the leaves, until one node is left: its number is the mark of row 0. Gives the number of levels.
 fn write_above(store: &mut [u8], area: &mut [u8], m: usize, numbers: &[u8], made: usize) -> usize
-    requires { ⌜ (1 ≤ m) × (m ≤ 1024) × (inRange (length (now store) / 1024) (handed (now numbers)) ≡ true) × (length (now store) ≤ 2000000) × Ascends m (now numbers) (now area) (now area) (now store) (now store) 1 made made (treeAbove m (now numbers) (now area) made) (writeAll (pagesAbove m (now numbers) (now area) made) (now store)) ⌝ }
-    ensures { λ r. ⌜ Ascended (now (area .exit)) (now (store .exit)) r (treeAbove m (now (numbers .entry)) (now (area .entry)) made) (writeAll (pagesAbove m (now (numbers .entry)) (now (area .entry)) made) (now (store .entry))) ⌝ }
+    requires { ⌜ (1 ≤ m)
+        × (m ≤ 1024)
+        × (inRange (length (now store) / 1024) (handed (now numbers)) ≡ true)
+        × (length (now store) ≤ 2000000)
+        × Ascends m (now numbers) (now area) (now area) (now store) (now store) 1 made made (treeAbove m (now numbers) (now area) made)
+        (writeAll (pagesAbove m (now numbers) (now area) made) (now store)) ⌝ }
+    ensures { λ r. ⌜ Ascended (now (area .exit)) (now (store .exit)) r (treeAbove m (now (numbers .entry)) (now (area .entry)) made)
+        (writeAll (pagesAbove m (now (numbers .entry)) (now (area .entry)) made) (now (store .entry))) ⌝ }
 {
     let mut level = 1;
     let mut used = made;
@@ -198,11 +217,11 @@ pub fn write_head(store: &mut [u8], root: usize, levels: usize, live: usize)
 {
     let mut page = [0u8; 1024];
     octets::put_u16(&mut page, 0, 8);
-    octets::put_u16(&mut page, 2, 256);
-    octets::put_u16(&mut page, 4, store.len() / 1024);
-    octets::put_u16(&mut page, 6, root);
-    octets::put_u16(&mut page, 8, levels);
-    octets::put_u16(&mut page, 10, live);
+    octets::put_u16(&mut page, image::KIND_AT, image::HEADER);
+    octets::put_u16(&mut page, image::COUNT_AT, store.len() / image::NODE_SIZE);
+    octets::put_u16(&mut page, image::ROOT_AT, root);
+    octets::put_u16(&mut page, image::LEVELS_AT, levels);
+    octets::put_u16(&mut page, image::LIVE_AT, live);
     octets::copy_at(store, 0, &page);
 }
 
@@ -212,9 +231,9 @@ fn write_empty(store: &mut [u8], num: usize)
     ensures { λ _. ⌜ now (store .exit) ≡ writeNode (now (store .entry)) num (page 1 1 []) ⌝ }
 {
     let mut page = [0u8; 1024];
-    octets::put_u16(&mut page, 2, 1);
-    octets::put_u16(&mut page, 4, 1);
-    let at = num * 1024;
+    octets::put_u16(&mut page, image::KIND_AT, image::LEAF);
+    octets::put_u16(&mut page, image::LEVEL_AT, 1);
+    let at = num * image::NODE_SIZE;
     octets::copy_at(store, at, &page);
 }
 

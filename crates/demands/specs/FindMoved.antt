@@ -6,17 +6,12 @@ use mathlib.Core.List.{List, [], _∷_, _++_}
 use mathlib.Core.Bool.{Bool, true, false}
 use mathlib.Core.Option.{none, Option·none-ne-some}
 use lib.ListN.{length, drop}
-use borrow.Author.Tests.{eq-eqb}
 use Rattle.image.specs.Bytes.{same, begins}
 use Rattle.image.specs.Path.{below}
 use Rattle.image.specs.Table.{Row, find, rowsBelow, withoutBelow, withRow, renamed, putAll, moved}
 use Rattle.octets.specs.Order.{not-so, same-eq, same-false, same-append, begins-split}
 use Rattle.laws.specs.Tables.{find-nil, find-yes, find-no, find-with, find-with-other, find-cleared, find-spared}
-
-begins-front : (p rest : List ℕ) → begins p (p ++ rest) ≡ true
-unfolding begins
-begins-front [] rest = refl
-begins-front (a ∷ p) rest = rw (eq-eqb a a refl) (begins-front p rest)
+use Rattle.octets.specs.Beginnings.{begins-append as begins-front}
 
 -- rows put into a table that lacks the path decide, and rows that lack it do not
 put-all-decides : (q : List ℕ) (rs t : List Row) → find q t ≡ none → find q (putAll rs t) ≡ find q rs

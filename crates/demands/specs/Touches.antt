@@ -12,10 +12,12 @@ use Rattle.image.specs.Table.{Row, find, moved}
 use Rattle.image.specs.Sound.{tableOf}
 use Rattle.image.specs.Calls.{Call, acts, keeps, asks, Act, put, drops, clear, move, settle, tidy, Answer, numberOf, actTable, tableAfter, tableAt}
 use Rattle.image.specs.Contract.{firstNoOn, Meets, Run, stop, call}
-use Rattle.octets.specs.Order.{and-left, and-right, not-so, not-true, same-eq, begins-split}
+use Rattle.octets.specs.Order.{and-left, and-right, not-true, same-eq, begins-split}
 use Rattle.laws.specs.Tables.{find-with-other, find-without-other, find-spared}
 use Rattle.demands.specs.Contracts.{number-is}
 use Rattle.demands.specs.FindMoved.{find-moved-to, find-moved-other}
+use Rattle.octets.specs.Order.{or-none-right as or-right}
+use Rattle.octets.specs.Order.{or-none-left as or-left}
 
 -- An accepted put or drop touches the path that it names; a clear every path below its own; a move every path below from and every path
 -- below to, but nothing where from equals to; settle and tidy nothing.
@@ -42,14 +44,6 @@ unfoldable pub untouched : List ℕ → List Call → List Answer → Bool
 untouched p [] given = true
 untouched p (c ∷ cs) [] = true
 untouched p (c ∷ cs) (a ∷ given) = not (touches c a p) && untouched p cs given
-
-or-left : (a b : Bool) → a || b ≡ false → a ≡ false
-or-left true b e = e
-or-left false b e = refl
-
-or-right : (a b : Bool) → a || b ≡ false → b ≡ false
-or-right true b e = not-so refl e
-or-right false b e = e
 
 -- a move from a path to itself, and a move aside
 move-spares : (from to p : List ℕ) (t : List Row) → not (same from to) && (begins from p || begins to p) ≡ false → find p (moved from to t) ≡ find p t

@@ -40,7 +40,12 @@ fn append_pair(
     key: Place,
     value: Place,
 ) -> usize
-    requires { ⌜ (prefix .len ≤ 64) × TrailIn (now store) (prefix .len) trail × Within 0 (length (now store)) key × Within 0 (length (now store)) value × (valueFits (part (now store) value) ≡ true) × Room (now area) m (keep (passing (now store) trail) (rowIn (now store) prefix key value ∷ [])) ⌝ }
+    requires { ⌜ (prefix .len ≤ 64)
+        × TrailIn (now store) (prefix .len) trail
+        × Within 0 (length (now store)) key
+        × Within 0 (length (now store)) value
+        × (valueFits (part (now store) value) ≡ true)
+        × Room (now area) m (keep (passing (now store) trail) (rowIn (now store) prefix key value ∷ [])) ⌝ }
     ensures { λ r. ⌜ Added m (now (area .entry)) (now (area .exit)) r (keep (passing (now (store .entry)) trail) (rowIn (now (store .entry)) prefix key value ∷ [])) ⌝ }
 {
     let a = key.start;
@@ -65,7 +70,11 @@ fn append_entry(
     trail: Trail,
     e: Entry,
 ) -> usize
-    requires { ⌜ (prefix .len ≤ 64) × TrailIn (now store) (prefix .len) trail × EntryWithin 0 (length (now store)) e × (valueFitsE (entryIn (now store) e) ≡ true) × Room (now area) m (keep (passing (now store) trail) (underPrefix (pathIn prefix) (pairsE (entryIn (now store) e ∷ [])))) ⌝ }
+    requires { ⌜ (prefix .len ≤ 64)
+        × TrailIn (now store) (prefix .len) trail
+        × EntryWithin 0 (length (now store)) e
+        × (valueFitsE (entryIn (now store) e) ≡ true)
+        × Room (now area) m (keep (passing (now store) trail) (underPrefix (pathIn prefix) (pairsE (entryIn (now store) e ∷ [])))) ⌝ }
     ensures { λ r. ⌜ Added m (now (area .entry)) (now (area .exit)) r (keep (passing (now (store .entry)) trail) (underPrefix (pathIn prefix) (pairsE (entryIn (now (store .entry)) e ∷ [])))) ⌝ }
 {
     match e {
@@ -85,7 +94,11 @@ fn append_pairs(
     prefix: PathBuffer,
     trail: Trail,
 ) -> usize
-    requires { ⌜ (end ≤ length (now store)) × (prefix .len ≤ 64) × TrailIn (now store) (prefix .len) trail × (valuesFitE (listed (now store) from end) ≡ true) × Room (now area) first (keep (passing (now store) trail) (underPrefix (pathIn prefix) (pairsE (listed (now store) from end)))) ⌝ }
+    requires { ⌜ (end ≤ length (now store))
+        × (prefix .len ≤ 64)
+        × TrailIn (now store) (prefix .len) trail
+        × (valuesFitE (listed (now store) from end) ≡ true)
+        × Room (now area) first (keep (passing (now store) trail) (underPrefix (pathIn prefix) (pairsE (listed (now store) from end)))) ⌝ }
     ensures { λ r. ⌜ Added first (now (area .entry)) (now (area .exit)) r (keep (passing (now (store .entry)) trail) (underPrefix (pathIn prefix) (pairsE (listed (now (store .entry)) from end)))) ⌝ }
 {
     let mut c = Cursor { at: from, end };
@@ -113,8 +126,19 @@ fn insert_put(
     value: Place,
     next: Cursor,
 ) -> usize
-    requires { ⌜ (next .end ≤ length (now store)) × (prefix .len ≤ 64) × TrailIn (now store) (prefix .len) trail × Within 0 (length (now store)) key × Within 0 (length (now store)) value × Open (now area) first m (passing (now store) trail) (pathIn prefix) (message (puts (part (now store) key) (part (now store) value)) ∷ listed (now store) (next .at) (next .end)) ⌝ }
-    ensures { λ r. ⌜ Placed first (now (area .entry)) (now (area .exit)) r (withEntry (decides (passing (now (store .entry)) trail) (pathIn prefix) (message (puts (part (now (store .entry)) key) (part (now (store .entry)) value))) (listed (now (store .entry)) (next .at) (next .end))) (pathIn prefix) (message (puts (part (now (store .entry)) key) (part (now (store .entry)) value))) (rowsOf (m - first) (now (area .entry)) first)) ⌝ }
+    requires { ⌜ (next .end ≤ length (now store))
+        × (prefix .len ≤ 64)
+        × TrailIn (now store) (prefix .len) trail
+        × Within 0 (length (now store)) key
+        × Within 0 (length (now store)) value
+        × Open (now area) first m (passing (now store) trail) (pathIn prefix)
+        (message (puts (part (now store) key) (part (now store) value)) ∷ listed (now store) (next .at) (next .end)) ⌝ }
+    ensures { λ r. ⌜ Placed first (now (area .entry)) (now (area .exit)) r
+        (withEntry
+        (decides (passing (now (store .entry)) trail) (pathIn prefix)
+        (message (puts (part (now (store .entry)) key) (part (now (store .entry)) value)))
+        (listed (now (store .entry)) (next .at) (next .end))) (pathIn prefix)
+        (message (puts (part (now (store .entry)) key) (part (now (store .entry)) value))) (rowsOf (m - first) (now (area .entry)) first)) ⌝ }
 {
     let a = key.start;
     let b = key.stop;
@@ -145,8 +169,17 @@ fn insert_message(
     given: Message,
     next: Cursor,
 ) -> usize
-    requires { ⌜ (next .end ≤ length (now store)) × (prefix .len ≤ 64) × TrailIn (now store) (prefix .len) trail × MessageWithin 0 (length (now store)) given × Open (now area) first m (passing (now store) trail) (pathIn prefix) (message (messageIn (now store) given) ∷ listed (now store) (next .at) (next .end)) ⌝ }
-    ensures { λ r. ⌜ Placed first (now (area .entry)) (now (area .exit)) r (withEntry (decides (passing (now (store .entry)) trail) (pathIn prefix) (message (messageIn (now (store .entry)) given)) (listed (now (store .entry)) (next .at) (next .end))) (pathIn prefix) (message (messageIn (now (store .entry)) given)) (rowsOf (m - first) (now (area .entry)) first)) ⌝ }
+    requires { ⌜ (next .end ≤ length (now store))
+        × (prefix .len ≤ 64)
+        × TrailIn (now store) (prefix .len) trail
+        × MessageWithin 0 (length (now store)) given
+        × Open (now area) first m (passing (now store) trail) (pathIn prefix)
+        (message (messageIn (now store) given) ∷ listed (now store) (next .at) (next .end)) ⌝ }
+    ensures { λ r. ⌜ Placed first (now (area .entry)) (now (area .exit)) r
+        (withEntry
+        (decides (passing (now (store .entry)) trail) (pathIn prefix) (message (messageIn (now (store .entry)) given))
+        (listed (now (store .entry)) (next .at) (next .end))) (pathIn prefix) (message (messageIn (now (store .entry)) given))
+        (rowsOf (m - first) (now (area .entry)) first)) ⌝ }
 {
     match given {
         Message::Put(key, value) => {
@@ -167,8 +200,16 @@ fn insert_entry(
     e: Entry,
     next: Cursor,
 ) -> usize
-    requires { ⌜ (next .end ≤ length (now store)) × (prefix .len ≤ 64) × TrailIn (now store) (prefix .len) trail × EntryWithin 0 (length (now store)) e × Open (now area) first m (passing (now store) trail) (pathIn prefix) (entryIn (now store) e ∷ listed (now store) (next .at) (next .end)) ⌝ }
-    ensures { λ r. ⌜ Placed first (now (area .entry)) (now (area .exit)) r (withEntry (decides (passing (now (store .entry)) trail) (pathIn prefix) (entryIn (now (store .entry)) e) (listed (now (store .entry)) (next .at) (next .end))) (pathIn prefix) (entryIn (now (store .entry)) e) (rowsOf (m - first) (now (area .entry)) first)) ⌝ }
+    requires { ⌜ (next .end ≤ length (now store))
+        × (prefix .len ≤ 64)
+        × TrailIn (now store) (prefix .len) trail
+        × EntryWithin 0 (length (now store)) e
+        × Open (now area) first m (passing (now store) trail) (pathIn prefix) (entryIn (now store) e ∷ listed (now store) (next .at) (next .end)) ⌝ }
+    ensures { λ r. ⌜ Placed first (now (area .entry)) (now (area .exit)) r
+        (withEntry
+        (decides (passing (now (store .entry)) trail) (pathIn prefix) (entryIn (now (store .entry)) e)
+        (listed (now (store .entry)) (next .at) (next .end))) (pathIn prefix) (entryIn (now (store .entry)) e)
+        (rowsOf (m - first) (now (area .entry)) first)) ⌝ }
 {
     match e {
         Entry::Pair(_, _) => m,
@@ -190,8 +231,13 @@ fn insert_puts(
     prefix: PathBuffer,
     trail: Trail,
 ) -> usize
-    requires { ⌜ (end ≤ length (now store)) × (prefix .len ≤ 64) × TrailIn (now store) (prefix .len) trail × Open (now area) first count (passing (now store) trail) (pathIn prefix) (listed (now store) from end) ⌝ }
-    ensures { λ r. ⌜ Placed first (now (area .entry)) (now (area .exit)) r (insertE (passing (now (store .entry)) trail) (pathIn prefix) (listed (now (store .entry)) from end) (rowsOf (count - first) (now (area .entry)) first)) ⌝ }
+    requires { ⌜ (end ≤ length (now store))
+        × (prefix .len ≤ 64)
+        × TrailIn (now store) (prefix .len) trail
+        × Open (now area) first count (passing (now store) trail) (pathIn prefix) (listed (now store) from end) ⌝ }
+    ensures { λ r. ⌜ Placed first (now (area .entry)) (now (area .exit)) r
+        (insertE (passing (now (store .entry)) trail) (pathIn prefix) (listed (now (store .entry)) from end)
+        (rowsOf (count - first) (now (area .entry)) first)) ⌝ }
 {
     let mut c = Cursor { at: from, end };
     let mut m = count;
@@ -218,8 +264,12 @@ fn dump_node(
     hi: &[u8],
     trail: Trail,
 ) -> usize
-    requires { ⌜ Ready (now store) level num prefix trail × (soundTree (treeAt level (now store) num) (pathIn prefix ++ now lo) (pathIn prefix ++ now hi) ≡ true) × Room (now area) m (keep (passing (now store) trail) (rows (treeAt level (now store) num) (pathIn prefix ++ now lo) (pathIn prefix ++ now hi))) ⌝ }
-    ensures { λ r. ⌜ Added m (now (area .entry)) (now (area .exit)) r (keep (passing (now (store .entry)) trail) (rows (treeAt level (now (store .entry)) num) (pathIn prefix ++ now (lo .entry)) (pathIn prefix ++ now (hi .entry)))) ⌝ }
+    requires { ⌜ Ready (now store) level num prefix trail
+        × (soundTree (treeAt level (now store) num) (pathIn prefix ++ now lo) (pathIn prefix ++ now hi) ≡ true)
+        × Room (now area) m (keep (passing (now store) trail) (rows (treeAt level (now store) num) (pathIn prefix ++ now lo) (pathIn prefix ++ now hi))) ⌝ }
+    ensures { λ r. ⌜ Added m (now (area .entry)) (now (area .exit)) r
+        (keep (passing (now (store .entry)) trail)
+        (rows (treeAt level (now (store .entry)) num) (pathIn prefix ++ now (lo .entry)) (pathIn prefix ++ now (hi .entry)))) ⌝ }
 {
     let k = octets::common_length(lo, hi);
     let room = 64 - prefix.len;
@@ -227,9 +277,9 @@ fn dump_node(
         return m;
     }
     let here = path_buffer::extend(prefix, &lo[0..k]);
-    let at = num * 1024;
+    let at = num * image::NODE_SIZE;
     let len = octets::u16_at(store, at);
-    let from = at + 8;
+    let from = at + image::ENTRIES_AT;
     let end = from + len;
     if level <= 1 {
         return append_pairs(store, area, m, from, end, here, trail);
@@ -268,8 +318,21 @@ fn dump_children(
     hi: &[u8],
     trail: Trail,
 ) -> usize
-    requires { ⌜ ReadyKids (now store) level child pivot start prefix trail × SoundKids (now store) level (pathIn prefix) (now hi) (kid child (part (now store) pivot) ∷ kidsE (listed (now store) (start .at) (start .end))) × Room (now area) first (keep (passing (now store) trail) (rowsIn (forestOf (λ j. treeAt level (now store) j) (kid child (part (now store) pivot) ∷ kidsE (listed (now store) (start .at) (start .end)))) (pathIn prefix) (pathIn prefix ++ now hi))) ⌝ }
-    ensures { λ r. ⌜ Added first (now (area .entry)) (now (area .exit)) r (keep (passing (now (store .entry)) trail) (rowsIn (forestOf (λ j. treeAt level (now (store .entry)) j) (kid child (part (now (store .entry)) pivot) ∷ kidsE (listed (now (store .entry)) (start .at) (start .end)))) (pathIn prefix) (pathIn prefix ++ now (hi .entry)))) ⌝ }
+    requires { ⌜ ReadyKids (now store) level child pivot start prefix trail
+        × SoundKids (now store) level (pathIn prefix) (now hi)
+        (kid child (part (now store) pivot) ∷ kidsE (listed (now store) (start .at) (start .end)))
+        × Room (now area) first
+        (keep (passing (now store) trail)
+        (rowsIn
+        (forestOf (λ j. treeAt level (now store) j)
+        (kid child (part (now store) pivot) ∷ kidsE (listed (now store) (start .at) (start .end)))) (pathIn prefix)
+        (pathIn prefix ++ now hi))) ⌝ }
+    ensures { λ r. ⌜ Added first (now (area .entry)) (now (area .exit)) r
+        (keep (passing (now (store .entry)) trail)
+        (rowsIn
+        (forestOf (λ j. treeAt level (now (store .entry)) j)
+        (kid child (part (now (store .entry)) pivot) ∷ kidsE (listed (now (store .entry)) (start .at) (start .end)))) (pathIn prefix)
+        (pathIn prefix ++ now (hi .entry)))) ⌝ }
 {
     let mut c = start;
     let mut num = child;
@@ -305,8 +368,8 @@ pub fn dump(store: &[u8], area: &mut [u8]) -> usize
     requires { ⌜ (sound (now store) ≡ true) × (128 * nodesOf (length (now store)) ≤ length (now area)) ⌝ }
     ensures { λ r. ⌜ Dumped (now (store .entry)) (now (area .entry)) (now (area .exit)) r ⌝ }
 {
-    let root = octets::u16_at(store, 6);
-    let levels = octets::u16_at(store, 8);
+    let root = octets::u16_at(store, image::ROOT_AT);
+    let levels = octets::u16_at(store, image::LEVELS_AT);
     let lo = [0u8; 1];
     let hi = [255u8; 1];
     let prefix = PathBuffer {

@@ -64,11 +64,11 @@ fn free_above(store: &[u8], seen: &[u8; 1024]) -> usize
     if append::has_messages_at_root(store) {
         return 0;
     }
-    let levels = octets::u16_at(store, 8);
+    let levels = octets::u16_at(store, image::LEVELS_AT);
     if 7 < levels {
         return 0;
     }
-    first_free(seen, store.len() / 1024)
+    first_free(seen, store.len() / image::NODE_SIZE)
 }
 
 // The same in a store whose nodes are not marked.
@@ -86,7 +86,11 @@ fn free_unmarked(store: &[u8]) -> usize
 
 // Makes room for a message of this size, and tells where. The marks are those of the store as it is given.
 fn make_room(store: &mut [u8], work: &mut [u8], size: usize, seen: &[u8; 1024]) -> Spot
-    requires { ⌜ (wholeNodes (length (now store)) ≡ true) × (sound (now store) ≡ true) × (workPerNode * nodesOf (length (now store)) ≤ length (now work)) × (size ≤ 1010) × Marks (now store) (now seen) ⌝ }
+    requires { ⌜ (wholeNodes (length (now store)) ≡ true)
+        × (sound (now store) ≡ true)
+        × (workPerNode * nodesOf (length (now store)) ≤ length (now work))
+        × (size ≤ 1010)
+        × Marks (now store) (now seen) ⌝ }
     ensures { λ r. ⌜ Roomy (now (store .entry)) (now (store .exit)) (now (work .entry)) (now (work .exit)) size r ⌝ }
 {
     if append::fits_at_root(store, size) {
@@ -117,7 +121,11 @@ fn entry_size(change: Change, path: usize, value: usize) -> usize
 
 // The change as a message after the root's others.
 fn add_at_root(store: &mut [u8], change: Change, path: &[u8], value: &[u8])
-    requires { ⌜ (wholeNodes (length (now store)) ≡ true) × (sound (now store) ≡ true) × (wellFormed (now path) ≡ true) × (valueFits (now value) ≡ true) × (roomAtRoot (now store) (sizeOf change (length (now path)) (length (now value))) ≡ true) ⌝ }
+    requires { ⌜ (wholeNodes (length (now store)) ≡ true)
+        × (sound (now store) ≡ true)
+        × (wellFormed (now path) ≡ true)
+        × (valueFits (now value) ≡ true)
+        × (roomAtRoot (now store) (sizeOf change (length (now path)) (length (now value))) ≡ true) ⌝ }
     ensures { λ _. ⌜ Appended (now (store .entry)) (messageOf change (now (path .entry)) (now (value .entry))) (now (store .exit)) ⌝ }
 {
     match change {
@@ -141,7 +149,11 @@ fn add_above(store: &mut [u8], free: usize, change: Change, path: &[u8], value: 
 
 // The change as a message at a spot that has room for it.
 fn add(store: &mut [u8], spot: Spot, change: Change, path: &[u8], value: &[u8])
-    requires { ⌜ (wholeNodes (length (now store)) ≡ true) × (sound (now store) ≡ true) × (wellFormed (now path) ≡ true) × (valueFits (now value) ≡ true) × SpotFits (now store) (sizeOf change (length (now path)) (length (now value))) spot ⌝ }
+    requires { ⌜ (wholeNodes (length (now store)) ≡ true)
+        × (sound (now store) ≡ true)
+        × (wellFormed (now path) ≡ true)
+        × (valueFits (now value) ≡ true)
+        × SpotFits (now store) (sizeOf change (length (now path)) (length (now value))) spot ⌝ }
     ensures { λ _. ⌜ Appended (now (store .entry)) (messageOf change (now (path .entry)) (now (value .entry))) (now (store .exit)) ⌝ }
 {
     match spot {
@@ -155,7 +167,7 @@ fn count_after(store: &[u8], change: Change, path: &[u8]) -> usize
     requires { ⌜ (wholeNodes (length (now store)) ≡ true) × (sound (now store) ≡ true) ⌝ }
     ensures { λ r. ⌜ Known change (now (path .entry)) (tableOf (now (store .entry))) r ⌝ }
 {
-    let live = octets::u16_at(store, 10);
+    let live = octets::u16_at(store, image::LIVE_AT);
     let found = lookup::value_of(store, path);
     match change {
         Change::Put => {
@@ -183,7 +195,11 @@ fn apply_change(
     path: &[u8],
     value: &[u8],
 )
-    requires { ⌜ (wholeNodes (length (now store)) ≡ true) × (sound (now store) ≡ true) × (workPerNode * nodesOf (length (now store)) ≤ length (now work)) × Allowed change (now path) (now value) (tableOf (now store)) (nodesOf (length (now store))) × Marks (now store) (now seen) ⌝ }
+    requires { ⌜ (wholeNodes (length (now store)) ≡ true)
+        × (sound (now store) ≡ true)
+        × (workPerNode * nodesOf (length (now store)) ≤ length (now work))
+        × Allowed change (now path) (now value) (tableOf (now store)) (nodesOf (length (now store)))
+        × Marks (now store) (now seen) ⌝ }
     ensures { λ _. ⌜ Edited (now (store .entry)) (now (store .exit)) (now (work .entry)) (now (work .exit)) (messageOf change (now (path .entry)) (now (value .entry))) ⌝ }
 {
     let known = count_after(store, change, path);
@@ -202,8 +218,8 @@ fn has_place(store: &[u8], path: &[u8]) -> bool
     let Found::Nothing = found else {
         return true;
     };
-    let live = octets::u16_at(store, 10);
-    live < store.len() / 1024
+    let live = octets::u16_at(store, image::LIVE_AT);
+    live < store.len() / image::NODE_SIZE
 }
 
 // put, on a store and a work area that are fit.
@@ -220,7 +236,7 @@ fn put_fit(
     if !path::is_path(path) {
         return Outcome::Refused(Refusal::Malformed);
     }
-    if 32 < value.len() {
+    if image::VALUE_LIMIT < value.len() {
         return Outcome::Refused(Refusal::LongValue);
     }
     if !has_place(store, path) {

@@ -13,17 +13,24 @@ ghost use Rattle.finish.specs.Finished.{Finished};
 
 // This live count written, and the work area zeroed.
 fn conclude(store: &mut [u8], work: &mut [u8], live: usize)
-    requires { ⌜ (wholeNodes (length (now store)) ≡ true) × (soundButLive (now store) ≡ true) × (length (tableOf (now store)) ≤ nodesOf (length (now store))) × (workPerNode * nodesOf (length (now store)) ≤ length (now work)) × (live ≡ cap (length (tableOf (now store)))) ⌝ }
+    requires { ⌜ (wholeNodes (length (now store)) ≡ true)
+        × (soundButLive (now store) ≡ true)
+        × (length (tableOf (now store)) ≤ nodesOf (length (now store)))
+        × (workPerNode * nodesOf (length (now store)) ≤ length (now work))
+        × (live ≡ cap (length (tableOf (now store)))) ⌝ }
     ensures { λ _. ⌜ Finished (now (store .entry)) (now (store .exit)) (now (work .entry)) (now (work .exit)) ⌝ }
 {
     append::set_live(store, live);
-    let k = 128 * (store.len() / 1024);
+    let k = image::WORK_PER_NODE * (store.len() / image::NODE_SIZE);
     build::clear_area(work, k);
 }
 
 // The live count made right, and the work area zeroed.
 pub fn finish(store: &mut [u8], work: &mut [u8])
-    requires { ⌜ (wholeNodes (length (now store)) ≡ true) × (soundButLive (now store) ≡ true) × (length (tableOf (now store)) ≤ nodesOf (length (now store))) × (workPerNode * nodesOf (length (now store)) ≤ length (now work)) ⌝ }
+    requires { ⌜ (wholeNodes (length (now store)) ≡ true)
+        × (soundButLive (now store) ≡ true)
+        × (length (tableOf (now store)) ≤ nodesOf (length (now store)))
+        × (workPerNode * nodesOf (length (now store)) ≤ length (now work)) ⌝ }
     ensures { λ _. ⌜ Finished (now (store .entry)) (now (store .exit)) (now (work .entry)) (now (work .exit)) ⌝ }
 {
     let live = live::live_count(store);
@@ -32,7 +39,11 @@ pub fn finish(store: &mut [u8], work: &mut [u8])
 
 // The same with no count where the number of paths is known: 65,536 says that it is not.
 pub fn finish_known(store: &mut [u8], work: &mut [u8], known: usize)
-    requires { ⌜ (wholeNodes (length (now store)) ≡ true) × (soundButLive (now store) ≡ true) × (length (tableOf (now store)) ≤ nodesOf (length (now store))) × (workPerNode * nodesOf (length (now store)) ≤ length (now work)) × (known ≤ 65535 → known ≡ length (tableOf (now store))) ⌝ }
+    requires { ⌜ (wholeNodes (length (now store)) ≡ true)
+        × (soundButLive (now store) ≡ true)
+        × (length (tableOf (now store)) ≤ nodesOf (length (now store)))
+        × (workPerNode * nodesOf (length (now store)) ≤ length (now work))
+        × (known ≤ 65535 → known ≡ length (tableOf (now store))) ⌝ }
     ensures { λ _. ⌜ Finished (now (store .entry)) (now (store .exit)) (now (work .entry)) (now (work .exit)) ⌝ }
 {
     if 65535 < known {

@@ -1,6 +1,50 @@
 // The answers of the store's calls as types, and the place of a listing. specs/Answers.antt gives each case its number; the other files of
 // specs/ hold the paper's definitions, which every contract of the crates above cites.
 
+// The numbers of the image, each as document 01 gives it. Code cites them by name; the definitions of specs/ have their own, and a proof
+// that meets them holds only while the two agree.
+pub const VALUE_LIMIT: usize = 32;
+
+pub const PATH_LIMIT: usize = 64;
+
+pub const PIVOT_LIMIT: usize = 65;
+
+pub const NODE_SIZE: usize = 1024;
+
+pub const ENTRIES_LIMIT: usize = 1016;
+
+pub const WORK_PER_NODE: usize = 128;
+// Node 0: where its numbers stand.
+pub const COUNT_AT: usize = 4;
+
+pub const ROOT_AT: usize = 6;
+
+pub const LEVELS_AT: usize = 8;
+
+pub const LIVE_AT: usize = 10;
+// Other nodes: kind, level, and where the entries begin.
+pub const KIND_AT: usize = 2;
+
+pub const LEVEL_AT: usize = 4;
+
+pub const ENTRIES_AT: usize = 8;
+// Kinds, of node 0, of nodes and of entries.
+pub const HEADER: usize = 0x0100;
+
+pub const LEAF: usize = 0x0001;
+
+pub const INTERIOR: usize = 0x0002;
+
+pub const PAIR: usize = 0x0001;
+
+pub const CHILD: usize = 0x0010;
+
+pub const PUT: usize = 0x0020;
+
+pub const DROP: usize = 0x0021;
+
+pub const CLEAR: usize = 0x0022;
+
 // Which question got a no. The comment is the question; specs/Answers.antt has its number.
 pub enum Refusal {
     // Is each store a whole number of nodes, 32 to 1,024, and any work area long enough?

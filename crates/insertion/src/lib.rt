@@ -54,7 +54,13 @@ pub fn move_rows(area: &mut [u8], i: usize, m: usize)
 
 // The path and its value as a row at its place among the rows from `from` up to `m`, which rise and do not have the path.
 pub fn insert_row(area: &mut [u8], from: usize, m: usize, path: &[u8], value: &[u8])
-    requires { ⌜ RowsFit m (now area) × (from ≤ m) × (m * 128 + 128 ≤ length (now area)) × (length (now path) ≤ 64) × (length (now value) ≤ 60) × (rising (rowsOf (m - from) (now area) from) ≡ true) × (find (now path) (rowsOf (m - from) (now area) from) ≡ none) ⌝ }
+    requires { ⌜ RowsFit m (now area)
+        × (from ≤ m)
+        × (m * 128 + 128 ≤ length (now area))
+        × (length (now path) ≤ 64)
+        × (length (now value) ≤ 60)
+        × (rising (rowsOf (m - from) (now area) from) ≡ true)
+        × (find (now path) (rowsOf (m - from) (now area) from) ≡ none) ⌝ }
     ensures { λ _. ⌜ Inserted from m (now (area .entry)) (now (area .exit)) (now (path .entry)) (now (value .entry)) ⌝ }
 {
     let i = place_of(area, from, m, path);

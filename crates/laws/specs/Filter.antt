@@ -118,7 +118,7 @@ leads-since k r (q ∷ t) b e =
     later true c = not-so (before-trans (r .key) (q .key) k (and-left _ _ e) c) b
     later false c = c
 
-not-not : (b : Bool) → b ≡ true → not (not b) ≡ true
+pub not-not : (b : Bool) → b ≡ true → not (not b) ≡ true
 not-not true e = refl
 not-not false e = e
 

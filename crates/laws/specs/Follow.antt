@@ -43,7 +43,7 @@ after-no : (q : List ℕ) (r : Row) (t : List Row) → before q (r .key) ≡ fal
 unfolding rowsAfter
 after-no q r t e = rw e
 
-leads-on : (k : List ℕ) (r : Row) (t : List Row) → before k (r .key) ≡ true → leads (r .key) t ≡ true → leads k t ≡ true
+pub leads-on : (k : List ℕ) (r : Row) (t : List Row) → before k (r .key) ≡ true → leads (r .key) t ≡ true → leads k t ≡ true
 unfolding leads
 leads-on k r [] a b = refl
 leads-on k r (q ∷ t) a b = before-trans k (r .key) (q .key) a b

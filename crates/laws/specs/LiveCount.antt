@@ -2,7 +2,7 @@
 use Prim.Native.Nat.{ℕ, suc, _+_, _-_}
 use mathlib.Core.Path.{_≡_, refl, ap, ap₂, _∙_}
 use mathlib.Core.List.{List, [], _∷_, _++_}
-use mathlib.Core.Bool.{Bool, true, false, false≢true}
+use mathlib.Core.Bool.{Bool, true, false≢true}
 use lib.ListN.{length, length-append}
 use Rattle.image.specs.Bytes.{shared}
 use Rattle.image.specs.Table.{Row, underPrefix}
@@ -43,7 +43,7 @@ mutual
       length-append (rows t (l ++ s) (highOf l hi f)) (rowsIn f l hi)
       ∙ ap₂ (λ x y. x + y) (pairs-live t (l ++ s) (highOf l hi f) (and-left _ _ q)) (pairs-live-in f l hi (and-right (still t) _ q))
 
-every-both : (test : Reachable → Bool) (xs ys : List Reachable) → every test xs ≡ true → every test ys ≡ true → every test (xs ++ ys) ≡ true
+pub every-both : (test : Reachable → Bool) (xs ys : List Reachable) → every test xs ≡ true → every test ys ≡ true → every test (xs ++ ys) ≡ true
 unfolding every
 every-both test [] ys a b = b
 every-both test (x ∷ xs) ys a b = both (and-left (test x) _ a) (every-both test xs ys (and-right (test x) _ a) b)

@@ -11,11 +11,13 @@ use Rattle.image.specs.Table.{Row, withRow, without, withoutBelow, everyKey, un
 use Rattle.image.specs.Image.{Tree, unread, leaf, interior, Forest, end, tree}
 use Rattle.image.specs.Meaning.{highOf, apply, applyAll, rows, rowsIn}
 use Rattle.image.specs.Sound.{soundTree, soundForest, soundMessage, soundMessages, firstPivot}
-use Rattle.octets.specs.Order.{and-left, and-right, not-so, not-true, not-false, same-eq, same-false, same-turn, before-le, before-not-same, begins-split, between-begins, before-asym, before-trans, begins-trans, begins-either, drop-beyond}
+use Rattle.octets.specs.Order.{and-left, and-right, not-so, not-true, not-false, same-eq, same-false, same-turn, before-le, before-not-same, begins-split, before-asym, before-trans, begins-trans, begins-either, drop-beyond}
 use Rattle.laws.specs.LookupTable.{parts, inner, outside, later-none, not-low, under-high, does-own, too-low}
 use Rattle.laws.specs.RowsRising.{every-key, not-before}
 use Rattle.laws.specs.Rising.{one-key}
 use Rattle.laws.specs.Shift.{under-apply}
+use Rattle.laws.specs.Filter.{every-imp}
+use Rattle.laws.specs.Filter.{owned-begins}
 
 -- a message added as the newest
 pub all-append : (l : List ℕ) (ms : List Message) (m : Message) (t : List Row) → applyAll l (ms ++ m ∷ []) t ≡ apply l m (applyAll l ms t)
@@ -74,7 +76,7 @@ with-first p v (r ∷ t) u h = go (before (r .key) p) refl (same p (r .key)) ref
     go false e true f ih = rw (e, f)
     go false e false f ih = rw (e, f)
 
-with-second : (p v : List ℕ) (t u : List Row) → everyKey (λ k. before k p) t ≡ true → withRow p v (t ++ u) ≡ t ++ withRow p v u
+pub with-second : (p v : List ℕ) (t u : List Row) → everyKey (λ k. before k p) t ≡ true → withRow p v (t ++ u) ≡ t ++ withRow p v u
 unfolding withRow everyKey
 with-second p v [] u h = refl
 with-second p v (r ∷ t) u h = rw (and-left (before (r .key) p) _ h) (ap (λ l. r ∷ l) (with-second p v t u (and-right (before (r .key) p) _ h)))
@@ -118,14 +120,6 @@ pushed m (tree s t f) lifted hi = tree s (sent m t (lifted ++ s) (highOf lifted 
 -- the keys of a child's table are owned by it, and begin with what it lifts
 pub keys-owned : (t : Tree) (lo hi : List ℕ) → soundTree t lo hi ≡ true → everyKey (owns lo hi) (rows t lo hi) ≡ true
 keys-owned t lo hi e = every-key (owns lo hi) (rows t lo hi) (λ q n. outside t lo hi q e n)
-
-pub every-imp : (a b : List ℕ → Bool) (t : List Row) → ((k : List ℕ) → a k ≡ true → b k ≡ true) → everyKey a t ≡ true → everyKey b t ≡ true
-unfolding everyKey
-every-imp a b [] h e = refl
-every-imp a b (r ∷ t) h e = rw (h (r .key) (and-left _ _ e), every-imp a b t h (and-right (a (r .key)) _ e))
-
-pub owned-begins : (lo hi k : List ℕ) → owns lo hi k ≡ true → begins (shared lo hi) k ≡ true
-owned-begins lo hi k o = between-begins lo hi k (not-low lo hi k o) (under-high lo hi k o)
 
 -- put: the child that owns the path takes it
 pub sent-put : (p v : List ℕ) (t : Tree) (lo hi : List ℕ) → soundTree t lo hi ≡ true → owns lo hi p ≡ true

@@ -25,7 +25,7 @@ unfolding valuesFit
 fit-append [] u e f = f
 fit-append (r ∷ t) u e f = both (and-left (valueFits (r .value)) _ e) (fit-append t u (and-right (valueFits (r .value)) _ e) f)
 
-with-fit : (p v : List ℕ) (t : List Row) → valueFits v ≡ true → valuesFit t ≡ true → valuesFit (withRow p v t) ≡ true
+pub with-fit : (p v : List ℕ) (t : List Row) → valueFits v ≡ true → valuesFit t ≡ true → valuesFit (withRow p v t) ≡ true
 unfolding valuesFit withRow
 with-fit p v [] g e = both g refl
 with-fit p v (r ∷ t) g e = go (before (r .key) p) refl (same p (r .key)) refl (with-fit p v t g (and-right (valueFits (r .value)) _ e))
@@ -35,7 +35,7 @@ with-fit p v (r ∷ t) g e = go (before (r .key) p) refl (same p (r .key)) refl 
     go false h true k ih = rw (h, k) (both g (and-right (valueFits (r .value)) _ e))
     go false h false k ih = rw (h, k) (both g e)
 
-without-fit : (p : List ℕ) (t : List Row) → valuesFit t ≡ true → valuesFit (without p t) ≡ true
+pub without-fit : (p : List ℕ) (t : List Row) → valuesFit t ≡ true → valuesFit (without p t) ≡ true
 unfolding valuesFit without
 without-fit p [] e = refl
 without-fit p (r ∷ t) e = go (same p (r .key)) refl (without-fit p t (and-right (valueFits (r .value)) _ e))
@@ -44,7 +44,7 @@ without-fit p (r ∷ t) e = go (same p (r .key)) refl (without-fit p t (and-righ
     go true k ih = rw k ih
     go false k ih = rw k (both (and-left (valueFits (r .value)) _ e) ih)
 
-cleared-fit : (p : List ℕ) (t : List Row) → valuesFit t ≡ true → valuesFit (withoutBelow p t) ≡ true
+pub cleared-fit : (p : List ℕ) (t : List Row) → valuesFit t ≡ true → valuesFit (withoutBelow p t) ≡ true
 unfolding valuesFit withoutBelow
 cleared-fit p [] e = refl
 cleared-fit p (r ∷ t) e = go (below (r .key) p) refl (cleared-fit p t (and-right (valueFits (r .value)) _ e))

@@ -9,26 +9,15 @@ use native.Mathlib.Omega.{arith}
 use Rattle.image.specs.Bytes.{before, begins}
 use Rattle.image.specs.Path.{wellFormed, readsOn, pathLimit, below as isBelow}
 use Rattle.image.specs.Table.{Row, isSome, rowsBelow, rowsAfter, firstKey, leastAfter, leads, rising}
-use Rattle.image.specs.Image.{treeOf}
-use Rattle.image.specs.Sound.{sound, tableOf, lowest, highest}
+use Rattle.image.specs.Sound.{sound, tableOf}
 use Rattle.image.specs.Calls.{ask, firstNo}
-use Rattle.octets.specs.Order.{and-left, and-right, before-irrefl, before-trans, before-asym}
-use Rattle.laws.specs.RowsRising.{rows-rise}
-use Rattle.lookup.specs.Root.{starts}
+use Rattle.octets.specs.Order.{and-left, and-right, before-irrefl, before-asym}
 use Rattle.image.specs.declared.Listing.{Listing}
 use Rattle.image.specs.Listing.{lastPath, stepNo, pathAt, Steps}
 use Rattle.listing.specs.Callers.{step-asks}
 use Rattle.listing.specs.Listed.{Gives, stop, step, pathsOf}
-
-table-rises : (s : List ℕ) → sound s ≡ true → rising (tableOf s) ≡ true
-unfolding tableOf
-table-rises s e = rows-rise (treeOf s) lowest highest (starts s e .tree)
-
--- what comes before the first row of a rising table comes before the second
-leads-on : (m : List ℕ) (r : Row) (t : List Row) → before m (r .key) ≡ true → leads (r .key) t ≡ true → leads m t ≡ true
-unfolding leads
-leads-on m r [] h l = refl
-leads-on m r (x ∷ t) h l = before-trans m (r .key) (x .key) h l
+use Rattle.laws.specs.Follow.{leads-on}
+use Rattle.laws.specs.Follow.{table-rises}
 
 first-is : (k : List ℕ) (r : Row) (t : List Row) → firstKey (r ∷ t) ≡ some k → r .key ≡ k
 unfolding firstKey

@@ -31,7 +31,7 @@ fn next_after(store: &[u8], below: &[u8], place: Listing, path: &mut [u8]) -> Fo
     ensures { λ r. ⌜ Meets (now (store .entry)) (asks (next (now (below .entry)) (lastPath place)) (now (path .entry))) (foundAnswer r (now (path .exit))) (now (store .entry)) [] ⌝ }
 {
     let len = place.len;
-    if 64 < len {
+    if image::PATH_LIMIT < len {
         let malformed = [0u8; 1];
         return query::next(store, below, &malformed, path);
     }

@@ -67,9 +67,9 @@ pub fn is_node_silent(store: &[u8], num: usize, rest: &[u8]) -> bool
     requires { ⌜ (num * 1024 + 1024 ≤ length (now store)) × (u16 (now store) (num * 1024) ≤ 1016) ⌝ }
     ensures { λ r. ⌜ r ≡ holdsNoMessage (newestE (listing (now (store .entry)) num) (now (rest .entry))) ⌝ }
 {
-    let at = num * 1024;
+    let at = num * image::NODE_SIZE;
     let len = octets::u16_at(store, at);
-    let from = at + 8;
+    let from = at + image::ENTRIES_AT;
     is_silent(store, from, from + len, rest)
 }
 
@@ -207,9 +207,9 @@ fn note_trail(
         d -= 1;
         let num = nodes[d];
         let k = lifts[d];
-        let at = num * 1024;
+        let at = num * image::NODE_SIZE;
         let len = octets::u16_at(store, at);
-        let from = at + 8;
+        let from = at + image::ENTRIES_AT;
         n = notes::note_entries(store, from, from + len, &bytes[k..stop], lo, hi, notes, n);
         if 64 < n {
             return 65;
@@ -248,9 +248,9 @@ fn note_own(store: &[u8], num: usize, lo: &[u8], hi: &[u8], notes: &mut [usize],
     if 64 < n {
         return 65;
     }
-    let at = num * 1024;
+    let at = num * image::NODE_SIZE;
     let len = octets::u16_at(store, at);
-    let from = at + 8;
+    let from = at + image::ENTRIES_AT;
     notes::note_entries(store, from, from + len, &lo[0..0], lo, hi, notes, n)
 }
 
@@ -265,7 +265,11 @@ pub fn count_leaf(
     notes: &[usize; 64],
     n: usize,
 ) -> usize
-    requires { ⌜ (from ≤ end) × (end ≤ length (now store)) × (prefix .len ≤ 64) × TrailIn (now store) (prefix .len) trail × LeafTold (now store) trail (pathIn prefix) (listed (now store) from end) (now notes) n ⌝ }
+    requires { ⌜ (from ≤ end)
+        × (end ≤ length (now store))
+        × (prefix .len ≤ 64)
+        × TrailIn (now store) (prefix .len) trail
+        × LeafTold (now store) trail (pathIn prefix) (listed (now store) from end) (now notes) n ⌝ }
     ensures { λ r. ⌜ (r ≡ countE (passing (now (store .entry)) trail) (pathIn prefix) (listed (now (store .entry)) from end)) × (r + from ≤ end) ⌝ }
 {
     if 64 < n {
@@ -318,9 +322,9 @@ pub fn lengthen_trail(store: &[u8], trail: Trail, num: usize, lift: usize) -> Tr
     requires { ⌜ (trail .depth < 8) × TrailIn (now store) lift trail × Above (now store) lift num lift ⌝ }
     ensures { λ r. ⌜ Deeper (now (store .entry)) num lift trail r ⌝ }
 {
-    let at = num * 1024;
+    let at = num * image::NODE_SIZE;
     let len = octets::u16_at(store, at);
-    let from = at + 8;
+    let from = at + image::ENTRIES_AT;
     if !has_messages(store, from, from + len) {
         return trail;
     }
@@ -354,7 +358,11 @@ pub fn count_node(
     many: usize,
 ) -> usize
     requires { ⌜ Ready (now store) level num prefix trail × SoundNode (now store) level num prefix (now lo) (now hi) × Tells (now store) trail (pathIn prefix) (now lo) (now hi) (now above) many ⌝ }
-    ensures { λ r. ⌜ (r ≡ cap (liveHere (treeAt level (now (store .entry)) num) (passing (now (store .entry)) trail) (pathIn prefix ++ shared (now (lo .entry)) (now (hi .entry))) (drop (lifts (now (lo .entry)) (now (hi .entry))) (now (hi .entry))))) × (r ≤ 65535) ⌝ }
+    ensures { λ r. ⌜ (r
+        ≡ cap
+        (liveHere (treeAt level (now (store .entry)) num) (passing (now (store .entry)) trail)
+        (pathIn prefix ++ shared (now (lo .entry)) (now (hi .entry))) (drop (lifts (now (lo .entry)) (now (hi .entry))) (now (hi .entry)))))
+        × (r ≤ 65535) ⌝ }
 {
     let k = octets::common_length(lo, hi);
     let room = 64 - prefix.len;
@@ -374,9 +382,9 @@ pub fn count_node(
         many,
         &mut notes,
     );
-    let at = num * 1024;
+    let at = num * image::NODE_SIZE;
     let len = octets::u16_at(store, at);
-    let from = at + 8;
+    let from = at + image::ENTRIES_AT;
     let end = from + len;
     if level <= 1 {
         return count_leaf(store, from, end, here, trail, &notes, n);
@@ -417,7 +425,13 @@ pub fn count_children(
     n: usize,
 ) -> usize
     requires { ⌜ ReadyKids (now store) level first pivot start prefix trail × SoundKids (now store) level first pivot start prefix (now hi) trail (now notes) n ⌝ }
-    ensures { λ r. ⌜ (r ≡ cap (liveKids (forestOf (λ j. treeAt level (now (store .entry)) j) (kid first (part (now (store .entry)) pivot) ∷ kidsE (listed (now (store .entry)) (start .at) (start .end)))) (passing (now (store .entry)) trail) (pathIn prefix) (now (hi .entry)))) × (r ≤ 65535) ⌝ }
+    ensures { λ r. ⌜ (r
+        ≡ cap
+        (liveKids
+        (forestOf (λ j. treeAt level (now (store .entry)) j)
+        (kid first (part (now (store .entry)) pivot) ∷ kidsE (listed (now (store .entry)) (start .at) (start .end))))
+        (passing (now (store .entry)) trail) (pathIn prefix) (now (hi .entry))))
+        × (r ≤ 65535) ⌝ }
 {
     let mut c = start;
     let mut num = first;
@@ -455,8 +469,8 @@ pub fn live_count(store: &[u8]) -> usize
     requires { ⌜ Countable (now store) ⌝ }
     ensures { λ r. ⌜ r ≡ cap (length (tableOf (now (store .entry)))) ⌝ }
 {
-    let root = octets::u16_at(store, 6);
-    let levels = octets::u16_at(store, 8);
+    let root = octets::u16_at(store, image::ROOT_AT);
+    let levels = octets::u16_at(store, image::LEVELS_AT);
     let lo = [0u8; 1];
     let hi = [255u8; 1];
     let bytes = [0u8; 64];

@@ -19,7 +19,7 @@ fn rebuild_unless(done: bool, store: &mut [u8], work: &mut [u8])
     ensures { λ _. ⌜ Upkept done (now (store .entry)) (now (store .exit)) (now (work .entry)) (now (work .exit)) ⌝ }
 {
     if done {
-        let len = 128 * (store.len() / 1024);
+        let len = image::WORK_PER_NODE * (store.len() / image::NODE_SIZE);
         build::clear_area(work, len);
         return;
     }
@@ -62,13 +62,13 @@ pub fn is_interior(store: &[u8], seen: &[u8; 1024], node: usize) -> bool
     requires { ⌜ Reached (now store) (now seen) ⌝ }
     ensures { λ r. ⌜ r ≡ isInterior (reachableAt node (reachableNodes (now (store .entry)))) ⌝ }
 {
-    if store.len() / 1024 <= node {
+    if store.len() / image::NODE_SIZE <= node {
         return false;
     }
     if seen[node] != 1 {
         return false;
     }
-    octets::u16_at(store, node * 1024 + 2) == 2
+    octets::u16_at(store, node * image::NODE_SIZE + 2) == 2
 }
 
 // The act of a flush: the messages of a node go to its children, where there is room for all of them; else a rebuild sends down those of

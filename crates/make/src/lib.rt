@@ -16,10 +16,10 @@ fn write_empty(store: &mut [u8], n: usize)
     octets::fill_at(store, 0, 1024 * n, 0);
     // node 0: its length and kind, then n, the root, the levels; no path is live
     octets::put_u16(store, 0, 8);
-    octets::put_u16(store, 2, 256);
-    octets::put_u16(store, 4, n);
-    octets::put_u16(store, 6, 1);
-    octets::put_u16(store, 8, 1);
+    octets::put_u16(store, image::KIND_AT, image::HEADER);
+    octets::put_u16(store, image::COUNT_AT, n);
+    octets::put_u16(store, image::ROOT_AT, 1);
+    octets::put_u16(store, image::LEVELS_AT, 1);
     // node 1: a leaf, of level 1, with no entry
     octets::put_u16(store, 1026, 1);
     octets::put_u16(store, 1028, 1);
@@ -32,6 +32,6 @@ pub fn make(store: &mut [u8]) -> Outcome
     if !node::whole_nodes(len) {
         return Outcome::Refused(Refusal::Length);
     }
-    write_empty(store, len / 1024);
+    write_empty(store, len / image::NODE_SIZE);
     Outcome::Done
 }

@@ -2,7 +2,7 @@
 -- Relies on mend_laws' Mended.
 use Prim.Native.Nat.{ℕ, _+_, _*_, _-_, _≤_, _<_}
 use mathlib.Core.Path.{_≡_, refl, sym, ap, ap₂, subst, _∙_}
-use mathlib.Core.List.{List, [], _++_, append-nil}
+use mathlib.Core.List.{List, []}
 use mathlib.Core.Bool.{Bool, true, false, not}
 use mathlib.Core.Option.{some}
 use native.Mathlib.Omega.{arith}
@@ -16,7 +16,7 @@ use Rattle.octets.specs.Order.{not-true}
 use Rattle.octets.specs.Put.{put}
 use Rattle.laws.specs.RowsRising.{is-true}
 use Rattle.laws.specs.Encode.{bytesOfAll}
-use Rattle.packed.specs.Tidy.{zerosOf, drop-zeros}
+use Rattle.packed.specs.Tidy.{zerosOf}
 use Rattle.node.specs.Cut.{cut, cut-drop, cut-take, cut-length}
 use Rattle.node.specs.Entries.{listed, listOf}
 use Rattle.search.specs.Own.{kidsE}
@@ -29,15 +29,9 @@ use Rattle.node_high.specs.declared.Sought.{Sought}
 use Rattle.mend_laws.specs.Joined.{smallEntries, firstJoined, anyFits}
 use Rattle.mend_laws.specs.Mended.{Mendable, SoFar, HealedNode, Step, node-inside, node-short, node-small, node-fits, steps-on, ends, none-joined, high-there, high-fits}
 use Rattle.mend.specs.Room.{Room}
+use Rattle.push.specs.NodeSteps.{copied}
 
 -- THE COPY OF THE NODE
-copied : (b : List ℕ) → length b ≡ 1024 → put (zerosOf 1024) 0 b ≡ b
-unfolding put
-copied b h =
-    let z : 0 + length b ≡ 1024 = omega arith in
-    let none-left : drop (0 + length b) (zerosOf 1024) ≡ [] = ap (λ m. drop m (zerosOf 1024)) z ∙ drop-zeros 1024 1024 ∙ (unfold zerosOf in refl) in
-    ap (λ l. b ++ l) none-left ∙ append-nil b
-
 module _ (s : List ℕ) (n : ℕ) (hi : List ℕ) (m : Mendable s n hi) where
   pub node-in : n * 1024 + 1024 ≤ length s
   node-in = node-inside s n hi m

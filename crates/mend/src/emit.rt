@@ -31,7 +31,8 @@ fn emit_head(page: &mut [u8], at: usize, rest: usize, kind: usize, third: usize)
 // The entry of a pair with more bytes in front of its suffix. Gives the place behind it.
 fn emit_pair(page: &mut [u8], at: usize, more: &[u8], key: &[u8], value: &[u8]) -> usize
     requires { ⌜ (at + length (bytesOf (pair (now more ++ now key) (now value))) ≤ length (now page)) × (length (now page) ≤ 1024) ⌝ }
-    ensures { λ r. ⌜ (now (page .exit) ≡ put (now (page .entry)) at (bytesOf (pair (now (more .entry) ++ now (key .entry)) (now (value .entry))))) × (r ≡ at + length (bytesOf (pair (now (more .entry) ++ now (key .entry)) (now (value .entry))))) ⌝ }
+    ensures { λ r. ⌜ (now (page .exit) ≡ put (now (page .entry)) at (bytesOf (pair (now (more .entry) ++ now (key .entry)) (now (value .entry)))))
+        × (r ≡ at + length (bytesOf (pair (now (more .entry) ++ now (key .entry)) (now (value .entry))))) ⌝ }
 {
     let n = more.len() + key.len();
     let k = value.len();
@@ -45,10 +46,11 @@ fn emit_pair(page: &mut [u8], at: usize, more: &[u8], key: &[u8], value: &[u8]) 
 // The entry of a child with more bytes in front of its pivot. Gives the place behind it.
 fn emit_child(page: &mut [u8], at: usize, num: usize, more: &[u8], key: &[u8]) -> usize
     requires { ⌜ (at + length (bytesOf (child num (now more ++ now key))) ≤ length (now page)) × (length (now page) ≤ 1024) × (num < 65536) ⌝ }
-    ensures { λ r. ⌜ (now (page .exit) ≡ put (now (page .entry)) at (bytesOf (child num (now (more .entry) ++ now (key .entry))))) × (r ≡ at + length (bytesOf (child num (now (more .entry) ++ now (key .entry))))) ⌝ }
+    ensures { λ r. ⌜ (now (page .exit) ≡ put (now (page .entry)) at (bytesOf (child num (now (more .entry) ++ now (key .entry)))))
+        × (r ≡ at + length (bytesOf (child num (now (more .entry) ++ now (key .entry))))) ⌝ }
 {
     let n = more.len() + key.len();
-    emit_head(page, at, 2 + n, 16, num);
+    emit_head(page, at, 2 + n, image::CHILD, num);
     octets::copy_at(page, at + 6, more);
     octets::copy_at(page, at + 6 + more.len(), key);
     at + (6 + n)
@@ -56,8 +58,12 @@ fn emit_child(page: &mut [u8], at: usize, num: usize, more: &[u8], key: &[u8]) -
 
 // An entry with more bytes in front of its suffix; a message as it is. Gives the place behind it.
 fn emit_entry(page: &mut [u8], at: usize, s: &[u8], e: Entry, more: &[u8]) -> usize
-    requires { ⌜ EntryWithin 0 (length (now s)) e × (smallEntry (entryIn (now s) e) ≡ true) × (at + length (bytesOf (prefixed (now more) (entryIn (now s) e))) ≤ length (now page)) × (length (now page) ≤ 1024) ⌝ }
-    ensures { λ r. ⌜ (now (page .exit) ≡ put (now (page .entry)) at (bytesOf (prefixed (now (more .entry)) (entryIn (now (s .entry)) e)))) × (r ≡ at + length (bytesOf (prefixed (now (more .entry)) (entryIn (now (s .entry)) e)))) ⌝ }
+    requires { ⌜ EntryWithin 0 (length (now s)) e
+        × (smallEntry (entryIn (now s) e) ≡ true)
+        × (at + length (bytesOf (prefixed (now more) (entryIn (now s) e))) ≤ length (now page))
+        × (length (now page) ≤ 1024) ⌝ }
+    ensures { λ r. ⌜ (now (page .exit) ≡ put (now (page .entry)) at (bytesOf (prefixed (now (more .entry)) (entryIn (now (s .entry)) e))))
+        × (r ≡ at + length (bytesOf (prefixed (now (more .entry)) (entryIn (now (s .entry)) e)))) ⌝ }
 {
     match e {
         Entry::Pair(p, v) => {
@@ -85,8 +91,12 @@ fn emit_entries(
     stop: usize,
     more: &[u8],
 ) -> usize
-    requires { ⌜ (stop ≤ length (now s)) × (smallEntries (listed (now s) from stop) ≡ true) × (at + length (bytesOfAll (prefixedAll (now more) (listed (now s) from stop))) ≤ length (now page)) × (length (now page) ≤ 1024) ⌝ }
-    ensures { λ r. ⌜ (now (page .exit) ≡ put (now (page .entry)) at (bytesOfAll (prefixedAll (now (more .entry)) (listed (now (s .entry)) from stop)))) × (r ≡ at + length (bytesOfAll (prefixedAll (now (more .entry)) (listed (now (s .entry)) from stop)))) ⌝ }
+    requires { ⌜ (stop ≤ length (now s))
+        × (smallEntries (listed (now s) from stop) ≡ true)
+        × (at + length (bytesOfAll (prefixedAll (now more) (listed (now s) from stop))) ≤ length (now page))
+        × (length (now page) ≤ 1024) ⌝ }
+    ensures { λ r. ⌜ (now (page .exit) ≡ put (now (page .entry)) at (bytesOfAll (prefixedAll (now (more .entry)) (listed (now (s .entry)) from stop))))
+        × (r ≡ at + length (bytesOfAll (prefixedAll (now (more .entry)) (listed (now (s .entry)) from stop)))) ⌝ }
 {
     let mut c = Cursor {
         at: from,
@@ -105,10 +115,15 @@ fn emit_entries(
 
 // The entries of a node of the store, each with more bytes in front of its suffix. Gives the place behind them.
 pub fn emit_node(page: &mut [u8], at: usize, store: &[u8], num: usize, more: &[u8]) -> usize
-    requires { ⌜ (num * 1024 + 1024 ≤ length (now store)) × (u16 (now store) (num * 1024) ≤ 1016) × (smallEntries (listing (now store) num) ≡ true) × (at + length (bytesOfAll (prefixedAll (now more) (listing (now store) num))) ≤ length (now page)) × (length (now page) ≤ 1024) ⌝ }
-    ensures { λ r. ⌜ (now (page .exit) ≡ put (now (page .entry)) at (bytesOfAll (prefixedAll (now (more .entry)) (listing (now (store .entry)) num)))) × (r ≡ at + length (bytesOfAll (prefixedAll (now (more .entry)) (listing (now (store .entry)) num)))) ⌝ }
+    requires { ⌜ (num * 1024 + 1024 ≤ length (now store))
+        × (u16 (now store) (num * 1024) ≤ 1016)
+        × (smallEntries (listing (now store) num) ≡ true)
+        × (at + length (bytesOfAll (prefixedAll (now more) (listing (now store) num))) ≤ length (now page))
+        × (length (now page) ≤ 1024) ⌝ }
+    ensures { λ r. ⌜ (now (page .exit) ≡ put (now (page .entry)) at (bytesOfAll (prefixedAll (now (more .entry)) (listing (now (store .entry)) num))))
+        × (r ≡ at + length (bytesOfAll (prefixedAll (now (more .entry)) (listing (now (store .entry)) num)))) ⌝ }
 {
-    let begin = num * 1024;
+    let begin = num * image::NODE_SIZE;
     let len = octets::u16_at(store, begin);
     let from = begin + 8;
     emit_entries(page, at, store, from, from + len, more)
@@ -128,8 +143,12 @@ fn is_child(s: &[u8], e: Entry, num: usize) -> bool
 
 // An entry, if it is not the child of this number. Gives the place behind it.
 fn emit_unless(page: &mut [u8], at: usize, s: &[u8], e: Entry, gone: usize) -> usize
-    requires { ⌜ EntryWithin 0 (length (now s)) e × (smallEntry (entryIn (now s) e) ≡ true) × (at + length (bytesOfAll (withoutChild gone (entryIn (now s) e ∷ []))) ≤ length (now page)) × (length (now page) ≤ 1024) ⌝ }
-    ensures { λ r. ⌜ (now (page .exit) ≡ put (now (page .entry)) at (bytesOfAll (withoutChild gone (entryIn (now (s .entry)) e ∷ [])))) × (r ≡ at + length (bytesOfAll (withoutChild gone (entryIn (now (s .entry)) e ∷ [])))) ⌝ }
+    requires { ⌜ EntryWithin 0 (length (now s)) e
+        × (smallEntry (entryIn (now s) e) ≡ true)
+        × (at + length (bytesOfAll (withoutChild gone (entryIn (now s) e ∷ []))) ≤ length (now page))
+        × (length (now page) ≤ 1024) ⌝ }
+    ensures { λ r. ⌜ (now (page .exit) ≡ put (now (page .entry)) at (bytesOfAll (withoutChild gone (entryIn (now (s .entry)) e ∷ []))))
+        × (r ≡ at + length (bytesOfAll (withoutChild gone (entryIn (now (s .entry)) e ∷ [])))) ⌝ }
 {
     if is_child(s, e, gone) {
         return at;
@@ -140,8 +159,12 @@ fn emit_unless(page: &mut [u8], at: usize, s: &[u8], e: Entry, gone: usize) -> u
 
 // The entries of a node but the child of this number. Gives the place behind them.
 pub fn emit_others(page: &mut [u8], at: usize, s: &[u8], stop: usize, gone: usize) -> usize
-    requires { ⌜ (stop ≤ length (now s)) × (smallEntries (listed (now s) 8 stop) ≡ true) × (at + length (bytesOfAll (withoutChild gone (listed (now s) 8 stop))) ≤ length (now page)) × (length (now page) ≤ 1024) ⌝ }
-    ensures { λ r. ⌜ (now (page .exit) ≡ put (now (page .entry)) at (bytesOfAll (withoutChild gone (listed (now (s .entry)) 8 stop)))) × (r ≡ at + length (bytesOfAll (withoutChild gone (listed (now (s .entry)) 8 stop)))) ⌝ }
+    requires { ⌜ (stop ≤ length (now s))
+        × (smallEntries (listed (now s) 8 stop) ≡ true)
+        × (at + length (bytesOfAll (withoutChild gone (listed (now s) 8 stop))) ≤ length (now page))
+        × (length (now page) ≤ 1024) ⌝ }
+    ensures { λ r. ⌜ (now (page .exit) ≡ put (now (page .entry)) at (bytesOfAll (withoutChild gone (listed (now (s .entry)) 8 stop))))
+        × (r ≡ at + length (bytesOfAll (withoutChild gone (listed (now (s .entry)) 8 stop)))) ⌝ }
 {
     let mut c = Cursor { at: 8, end: stop };
     let mut to = at;

@@ -35,7 +35,9 @@ fn emit_both(
     hi: &[u8],
 ) -> usize
     requires { ⌜ (pairFits (now store) left right (now lo) (now mid) (now hi) ≡ true) × (length (now page) ≡ 1024) ⌝ }
-    ensures { λ r. ⌜ (now (page .exit) ≡ put (now (page .entry)) 8 (bothEntries (now (store .entry)) left right (now (lo .entry)) (now (mid .entry)) (now (hi .entry)))) × (r ≡ 8 + length (bothEntries (now (store .entry)) left right (now (lo .entry)) (now (mid .entry)) (now (hi .entry)))) ⌝ }
+    ensures { λ r. ⌜ (now (page .exit)
+        ≡ put (now (page .entry)) 8 (bothEntries (now (store .entry)) left right (now (lo .entry)) (now (mid .entry)) (now (hi .entry))))
+        × (r ≡ 8 + length (bothEntries (now (store .entry)) left right (now (lo .entry)) (now (mid .entry)) (now (hi .entry)))) ⌝ }
 {
     let shared = octets::common_length(lo, hi);
     let own = octets::common_length(lo, mid);
@@ -51,7 +53,7 @@ fn write_left(store: &mut [u8], left: usize, right: usize, lo: &[u8], mid: &[u8]
     requires { ⌜ pairFits (now store) left right (now lo) (now mid) (now hi) ≡ true ⌝ }
     ensures { λ _. ⌜ now (store .exit) ≡ leftWritten (now (store .entry)) left right (now (lo .entry)) (now (mid .entry)) (now (hi .entry)) ⌝ }
 {
-    let at = left * 1024;
+    let at = left * image::NODE_SIZE;
     let kind = octets::u16_at(store, at + 2);
     let level = octets::u16_at(store, at + 4);
     let mut page = [0u8; 1024];
@@ -83,7 +85,10 @@ fn join_fitting(
     hi: &[u8],
 ) -> bool
     requires { ⌜ Room (now store) num level (now node) stop × (length (now lo) ≤ 2000000) × (length (now mid) ≤ 2000000) ⌝ }
-    ensures { λ r. ⌜ (now (store .exit) ≡ joinedIf num level (listed (now (node .entry)) 8 stop) left right (now (lo .entry)) (now (mid .entry)) (now (hi .entry)) (now (store .entry))) × (r ≡ pairFits (now (store .entry)) left right (now (lo .entry)) (now (mid .entry)) (now (hi .entry))) ⌝ }
+    ensures { λ r. ⌜ (now (store .exit)
+        ≡ joinedIf num level (listed (now (node .entry)) 8 stop) left right (now (lo .entry)) (now (mid .entry)) (now (hi .entry))
+        (now (store .entry)))
+        × (r ≡ pairFits (now (store .entry)) left right (now (lo .entry)) (now (mid .entry)) (now (hi .entry))) ⌝ }
 {
     if !weigh::pair_fits(store, left, right, lo, mid, hi) {
         return false;
@@ -103,7 +108,10 @@ fn join_first(
     hi: &[u8],
 ) -> bool
     requires { ⌜ Room (now store) num level (now node) stop ⌝ }
-    ensures { λ r. ⌜ (now (store .exit) ≡ firstJoined num level (listed (now (node .entry)) 8 stop) (kidsE (listed (now (node .entry)) 8 stop)) (now (hi .entry)) (now (store .entry))) × (r ≡ anyFits (kidsE (listed (now (node .entry)) 8 stop)) (now (hi .entry)) (now (store .entry))) ⌝ }
+    ensures { λ r. ⌜ (now (store .exit)
+        ≡ firstJoined num level (listed (now (node .entry)) 8 stop) (kidsE (listed (now (node .entry)) 8 stop)) (now (hi .entry))
+        (now (store .entry)))
+        × (r ≡ anyFits (kidsE (listed (now (node .entry)) 8 stop)) (now (hi .entry)) (now (store .entry))) ⌝ }
 {
     let Pending::Child(first, pivot, start) = live::read_child(node, Cursor { at: 8, end: stop })
     else {
@@ -163,13 +171,16 @@ fn join_first(
 // One step: the first two neighbouring children of the node that one node holds are joined. Answers whether there were any.
 fn mend_once(store: &mut [u8], num: usize, hi: &[u8]) -> bool
     requires { ⌜ Mendable (now store) num (now hi) ⌝ }
-    ensures { λ r. ⌜ (now (store .exit) ≡ firstJoined num (u16 (now (store .entry)) (num * 1024 + 4)) (listing (now (store .entry)) num) (kidsE (listing (now (store .entry)) num)) (now (hi .entry)) (now (store .entry))) × (r ≡ anyFits (kidsE (listing (now (store .entry)) num)) (now (hi .entry)) (now (store .entry))) ⌝ }
+    ensures { λ r. ⌜ (now (store .exit)
+        ≡ firstJoined num (u16 (now (store .entry)) (num * 1024 + 4)) (listing (now (store .entry)) num)
+        (kidsE (listing (now (store .entry)) num)) (now (hi .entry)) (now (store .entry)))
+        × (r ≡ anyFits (kidsE (listing (now (store .entry)) num)) (now (hi .entry)) (now (store .entry))) ⌝ }
 {
-    let at = num * 1024;
+    let at = num * image::NODE_SIZE;
     let len = octets::u16_at(store, at);
     let level = octets::u16_at(store, at + 4);
     let stop = 8 + len;
-    let end = at + 1024;
+    let end = at + image::NODE_SIZE;
     let mut node = [0u8; 1024];
     octets::copy_at(&mut node, 0, &store[at..end]);
     join_first(store, num, level, &node, stop, hi)

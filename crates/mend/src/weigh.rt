@@ -30,7 +30,7 @@ fn weigh_entry(s: &[u8], e: Entry, k: usize) -> usize
         Entry::Pair(p, v) => 6 + (k + (p.stop - p.start)) + (v.stop - v.start),
         Entry::Child(i, p) => {
             let n = k + (p.stop - p.start);
-            if 65 < n {
+            if image::PIVOT_LIMIT < n {
                 return 1017;
             }
             if 65535 < i {
@@ -53,7 +53,7 @@ fn weigh_entries(s: &[u8], from: usize, stop: usize, k: usize, used: usize) -> u
     };
     let mut sum = used;
     while c.at < stop {
-        if 1016 < sum {
+        if image::ENTRIES_LIMIT < sum {
             return sum;
         }
         let Step::Read(e, next) = c.step(s) else {
@@ -70,15 +70,15 @@ fn weigh_node(store: &[u8], num: usize, k: usize, used: usize) -> usize
     requires { ⌜ (length (now store) ≤ 2000000) × (k ≤ 2000000) × (used ≤ 20000000) ⌝ }
     ensures { λ r. ⌜ (r ≡ nodeWeight k (now (store .entry)) num used) × (r ≤ 20000000) ⌝ }
 {
-    if store.len() / 1024 <= num {
+    if store.len() / image::NODE_SIZE <= num {
         return 1017;
     }
-    let at = num * 1024;
+    let at = num * image::NODE_SIZE;
     let len = octets::u16_at(store, at);
-    if 1016 < len {
+    if image::ENTRIES_LIMIT < len {
         return 1017;
     }
-    let from = at + 8;
+    let from = at + image::ENTRIES_AT;
     weigh_entries(store, from, from + len, k, used)
 }
 
@@ -94,5 +94,5 @@ pub fn pair_fits(store: &[u8], left: usize, right: usize, lo: &[u8], mid: &[u8],
     let y = other - lesser(shared, other);
     let one = weigh_node(store, left, x, 0);
     let both = weigh_node(store, right, y, one);
-    both <= 1016
+    both <= image::ENTRIES_LIMIT
 }

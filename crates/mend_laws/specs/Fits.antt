@@ -18,7 +18,7 @@ use Rattle.octets.specs.Order.{and-left, and-right, before-asym, shared-append}
 use Rattle.octets.specs.Beginnings.{shared-left, shared-right, shared-most, begins-length}
 use Rattle.laws.specs.Rising.{both}
 use Rattle.laws.specs.LookupTable.{does-own}
-use Rattle.laws.specs.PushDown.{owned-begins}
+use Rattle.laws.specs.Filter.{owned-begins}
 use Rattle.laws.specs.Encode.{bytesOfAll}
 use Rattle.laws.specs.Page.{numberOf, pairEntries, childEntries}
 use Rattle.reading.specs.Relative.{usable, usableIn}

@@ -3,21 +3,20 @@
 use Prim.Native.Nat.{ℕ, zero, suc, _+_, _*_, _-_, _≤_, _<_}
 use mathlib.Core.Path.{_≡_, refl, sym, ap, ap₂, _∙_}
 use mathlib.Core.List.{List, [], _∷_, _++_}
-use mathlib.Core.Bool.{Bool, true, false, _&&_, not, cond, true≢false}
+use mathlib.Core.Bool.{Bool, true, false, not, cond, true≢false}
 use mathlib.Core.Option.{none, some, Option·some-injective, Option·none-ne-some}
 use native.Mathlib.Omega.{arith}
 use lib.ListN.{length}
-use lib.Dec.{ltb, leb}
 use borrow.Author.Tests.{lt-ltb}
 use Rattle.image.specs.Bytes.{shared, u16}
 use Rattle.image.specs.Entry.{Entry}
 use Rattle.image.specs.Image.{Tree, interior, Forest, end, tree, Kid, nodeBytes, forestOf, treeAt, treeOf, nodesOf, wholeNodes, header, headerOf}
 use Rattle.image.specs.Meaning.{highOf}
-use Rattle.image.specs.Sound.{sound, soundForest, tableOf, numbersIn, inRange, once, lowest, highest}
+use Rattle.image.specs.Sound.{sound, soundForest, tableOf, numbersIn, once, lowest, highest}
 use Rattle.image.specs.Upkeep.{Reachable, reachable, reachableAt, reachableNodes, unmergeable, unmergeableAt, healed}
 use Rattle.image.specs.Calls.{heal}
 use Rattle.image.specs.Contract.{hasChildren, isInterior, upkeepRule}
-use Rattle.octets.specs.Order.{and-left, and-right, begins-split}
+use Rattle.octets.specs.Order.{and-left, begins-split}
 use Rattle.octets.specs.Beginnings.{shared-right}
 use Rattle.laws.specs.Rising.{both}
 use Rattle.laws.specs.Encode.{bytesOfAll}
@@ -46,6 +45,7 @@ use Rattle.mend_laws.specs.Joined.{withoutChild, pairFits, pairJoined, f
 use Rattle.mend_laws.specs.HighShort.{tree-short, here-short}
 use Rattle.mend_laws.specs.Fits.{lists-tree, tree-small}
 use Rattle.mend_laws.specs.Search.{rightAt, entries-join, any-mergeable, first-joined}
+use Rattle.reading.specs.Relative.{rest-left as range-later}
 
 -- WHAT A STEP RELIES ON: node n is an interior node of a sound image, and h is its high pivot without what it lifts
 pub record Mendable (s : List ℕ) (n : ℕ) (h : List ℕ) : Type 0 where
@@ -111,10 +111,6 @@ not-back : (a b : Bool) → a ≡ false → a ≡ not b → b ≡ true
 not-back false true e f = refl
 not-back false false e f = absurd (true≢false (sym f))
 not-back true b e f = absurd (true≢false e)
-
-range-later : (n i : ℕ) (js : List ℕ) → inRange n (i ∷ js) ≡ true → inRange n js ≡ true
-unfolding inRange
-range-later n i js e = and-right (leb 1 i && ltb i n) _ e
 
 -- THE NODE
 module _ (s : List ℕ) (n : ℕ) (h : List ℕ) (m : Mendable s n h) where

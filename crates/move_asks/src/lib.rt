@@ -37,7 +37,7 @@ pub fn any_below(store: &[u8], from: &[u8]) -> bool
     ensures { λ r. ⌜ r ≡ not (isEmpty (rowsBelow (now (from .entry)) (tableOf (now (store .entry))))) ⌝ }
 {
     let found = seek::next_path(store, from, &from[0..0]);
-    found.len <= 64
+    found.len <= image::PATH_LIMIT
 }
 
 // Whether the second shape has no more components and no more bytes than the first.
@@ -67,7 +67,7 @@ fn rests_fit(store: &[u8], from: &[u8], shape: Shape) -> bool
     loop {
         let p = seek::next_path(store, from, &last[0..size]);
         size = p.len;
-        if 64 < size {
+        if image::PATH_LIMIT < size {
             return true;
         }
         last = p.bytes;

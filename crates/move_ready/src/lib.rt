@@ -37,7 +37,7 @@ fn list_anew(store: &[u8], numbers: &mut [u8]) -> usize
     let Checked::Sound(_) = c else {
         return 0;
     };
-    spare::free_list(&seen, store.len() / 1024, numbers)
+    spare::free_list(&seen, store.len() / image::NODE_SIZE, numbers)
 }
 
 // Makes the store ready and lists its free nodes; answers how many there are.
@@ -51,8 +51,8 @@ pub fn make_ready(
     requires { ⌜ Fit (now store) (now work) tally (now seen) × (length (now numbers) ≡ 2048) ⌝ }
     ensures { λ r. ⌜ Prepared (now (store .entry)) (now (store .exit)) (now (work .entry)) (now (work .exit)) (now (numbers .exit)) r ⌝ }
 {
-    let free = spare::free_list(seen, store.len() / 1024, numbers);
-    let levels = octets::u16_at(store, 8);
+    let free = spare::free_list(seen, store.len() / image::NODE_SIZE, numbers);
+    let levels = octets::u16_at(store, image::LEVELS_AT);
     if may_swing(tally.messages, levels, free) {
         return free;
     }

@@ -1,11 +1,11 @@
 -- The move is right: a sound root of one level more, whose table is the moved table; every node fits; and no number stands in it oftener than in the old tree and among 10 × h + 1 new ones.
 use Prim.Native.Nat.{ℕ, zero, suc, _+_, _*_, _-_, _≤_}
 use mathlib.Core.Path.{_≡_, refl, sym, ap, ap₂, subst, _∙_}
-use mathlib.Core.List.{List, [], _∷_, _++_, append-nil}
+use mathlib.Core.List.{List, [], _++_, append-nil}
 use mathlib.Core.Bool.{Bool, true, false, false≢true}
 use native.Mathlib.Omega.{arith}
 use lib.ListN.{length, length-append}
-use borrow.Author.Tests.{le-leb, eq-eqb}
+use borrow.Author.Tests.{le-leb}
 use Rattle.image.specs.Bytes.{same, before, begins, shared}
 use Rattle.image.specs.Path.{owns, wellFormed}
 use Rattle.image.specs.Entry.{pivotLimit}
@@ -19,7 +19,8 @@ use Rattle.laws.specs.RowsRising.{rows-rise}
 use Rattle.laws.specs.Filter.{keep, upTo, since}
 use Rattle.laws.specs.Pieces.{levelled, Good, Run, more, run-high, run-join, rows-join, joined, node-good, node-rows}
 use Rattle.slicing.specs.Slice.{leftOf, rightOf, after}
-use Rattle.slicing.specs.SliceLaws.{Cut, cut-tree, keys-owned}
+use Rattle.slicing.specs.SliceLaws.{Cut, cut-tree}
+use Rattle.laws.specs.PushDown.{keys-owned}
 use Rattle.slicing.specs.SliceNumbers.{one, met, metIn, met-node, met-joined, spent, taken, cut-numbers, left-numbers}
 use Rattle.octets.specs.Beginnings.{begins-refl}
 use Rattle.slicing.specs.SliceFits.{fits, fitsIn, sizeAt, shortAt, count, short-size, node-fits, cut-fits, right-count, right-short, count-joined, short-joined, fits-joined}
@@ -28,6 +29,7 @@ use Rattle.slicing.specs.Tail.{tailOf, gapOf, tail-good, tail-rows, tail-met, t
 use Rattle.slicing.specs.Range.{past, before-past, before-aside, formed-inside, formed-length}
 use Rattle.moving.specs.MovedRows.{partA, partP, partB, partR, partC, set-aside-p, set-aside-r, moved-up, moved-down, renamed-formed}
 use Rattle.moving.specs.Move.{leftPastR, rightPastR, leftR, midR, leftPastP, rightPastP, leftP, midP, pieces, rootOver, movedTree}
+use Rattle.octets.specs.Beginnings.{begins-append as begins-past}
 
 -- the swing of a path's range
 pub range-rows : (P Q : List ℕ) (t : Tree) → rows t Q (past Q) ≡ renamed P Q (rows t P (past P))
@@ -84,11 +86,6 @@ cut-tail : (fresh : ℕ → ℕ) (j : ℕ) (t : Tree) (h : ℕ) (lo hi k : List 
     → met j (leftOf fresh t lo hi k at) + met j (tailOf fresh t lo hi k at′) ≤ met j t + (spent fresh j h at + spent fresh j h at′)
 cut-tail fresh j t h lo hi k at at′ g a b =
     omega (arith, cut-numbers j fresh fresh false t h lo hi k at at′ (g .level), tail-met fresh t h lo hi k at′ g a b j, ap (λ x. spent fresh j x at′) (taken-one h))
-
-pub begins-past : (p x : List ℕ) → begins p (p ++ x) ≡ true
-unfolding begins
-begins-past [] x = refl
-begins-past (a ∷ p) x = rw (eq-eqb a a refl) (begins-past p x)
 
 pub short-of : (p : List ℕ) → length (past p) ≤ pivotLimit → length p ≤ pivotLimit
 short-of p e = omega (arith, length-append p highest)

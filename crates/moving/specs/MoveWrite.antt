@@ -24,7 +24,8 @@ use Rattle.slicing.specs.Tail.{tailOf, gapOf, tail-good, tail-met}
 use Rattle.image.specs.Path.{wellFormed}
 use Rattle.slicing.specs.Range.{past, before-past, before-aside, formed-inside}
 use Rattle.moving.specs.Move.{leftPastR, rightPastR, leftR, midR, leftPastP, rightPastP, leftP, midP, pieces, rootOver, movedTree}
-use Rattle.moving.specs.MoveLaws.{taken-two, taken-one, begins-past, short-of, b-past-p, b-r, b-past-r, cut-1, cut-2, cut-3, fit-1, fit-2, fit-3, short-past, Well}
+use Rattle.moving.specs.MoveLaws.{taken-two, taken-one, short-of, b-past-p, b-r, b-past-r, cut-1, cut-2, cut-3, fit-1, fit-2, fit-3, short-past, Well}
+use Rattle.octets.specs.Beginnings.{begins-append as begins-past}
 use Rattle.moving.specs.GapWrite.{spent-block, only-then, gapWrite, first-read, Within, WithinIn, keep-read, keep-reads, apart, within-left, within-right, within-self, within-later, within-tail, gap-at, gap-number-at, node-at}
 
 -- the images between

@@ -12,6 +12,8 @@ use Rattle.laws.specs.LookupTable.{not-low, under-high, does-own}
 use Rattle.laws.specs.Filter.{keep, upTo, since, keep-append, keep-all, keep-none, keep-passes, keep-rises, cut-whole, every-imp}
 use Rattle.slicing.specs.Swing.{every-append}
 use Rattle.slicing.specs.Range.{past, before-past, begins-not-before, begins-under, formed-low, range-below}
+use Rattle.laws.specs.Filter.{not-not}
+use Rattle.laws.specs.PushDown.{with-second}
 
 -- clear and the rows below a path, as tests
 pub keep-below : (p : List ℕ) (t : List Row) → rowsBelow p t ≡ keep (λ q. begins p q) t
@@ -27,12 +29,6 @@ keep-other p (r ∷ t) = rw (keep-other p t) (go (begins p (r .key)))
     go : (x : Bool) → cond x (keep (λ q. not (begins p q)) t) (r ∷ keep (λ q. not (begins p q)) t) ≡ cond (not x) (r ∷ keep (λ q. not (begins p q)) t) (keep (λ q. not (begins p q)) t)
     go true = refl
     go false = refl
-
--- rows that come between those of a table
-with-second : (p v : List ℕ) (t u : List Row) → everyKey (λ k. before k p) t ≡ true → withRow p v (t ++ u) ≡ t ++ withRow p v u
-unfolding withRow everyKey
-with-second p v [] u h = refl
-with-second p v (r ∷ t) u h = rw (and-left (before (r .key) p) _ h) (ap (λ l. r ∷ l) (with-second p v t u (and-right (before (r .key) p) _ h)))
 
 with-front : (r : Row) (u : List Row) → everyKey (λ k. before (r .key) k) u ≡ true → withRow (r .key) (r .value) u ≡ r ∷ u
 unfolding withRow everyKey
@@ -183,10 +179,6 @@ partA p r t = keep (upTo p) (keep (upTo (past p)) (keep (upTo r) (keep (upTo (pa
 nil-kept : (test : List ℕ → Bool) → keep test [] ≡ []
 unfolding keep
 nil-kept test = refl
-
-not-not : (b : Bool) → b ≡ true → not (not b) ≡ true
-not-not true e = refl
-not-not false e = e
 
 -- what is below p goes, or stays alone
 gone : (p : List ℕ) (t : List Row) → Under p t → keep (λ q. not (begins p q)) t ≡ []

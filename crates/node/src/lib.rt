@@ -10,7 +10,7 @@ ghost use Rattle.image.specs.Image.{wholeNodes};
 pub fn whole_nodes(len: usize) -> bool
     ensures { λ r. ⌜ r ≡ wholeNodes len ⌝ }
 {
-    let n = len / 1024;
+    let n = len / image::NODE_SIZE;
     if 1024 * n != len {
         return false;
     }
@@ -98,13 +98,13 @@ pub fn entry_at(s: &[u8], kind: usize, start: usize, stop: usize) -> Got
     requires { ⌜ (start ≤ stop) × (stop ≤ length (now s)) ⌝ }
     ensures { λ r. ⌜ GotAs (now (s .entry)) kind start stop r ⌝ }
 {
-    if kind == 33 {
+    if kind == image::DROP {
         return Got::Good(Entry::Message(Message::Drop(Place { start, stop })));
     }
-    if kind == 34 {
+    if kind == image::CLEAR {
         return Got::Good(Entry::Message(Message::Clear(Place { start, stop })));
     }
-    if kind == 16 {
+    if kind == image::CHILD {
         return child_at(s, start, stop);
     }
     if kind == 1 {
@@ -119,7 +119,7 @@ pub fn entry_at(s: &[u8], kind: usize, start: usize, stop: usize) -> Got
             Place { start: m, stop },
         ));
     }
-    if kind == 32 {
+    if kind == image::PUT {
         let Split::At(m) = parted(s, start, stop) else {
             return Got::Bad;
         };

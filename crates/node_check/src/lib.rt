@@ -54,7 +54,7 @@ pub fn row_good(s: &[u8], prev: Prev, p: Place, v: Place, lo: &[u8], sh: Shape) 
     let b = p.stop;
     let x = v.start;
     let y = v.stop;
-    if 32 < y - x {
+    if image::VALUE_LIMIT < y - x {
         return false;
     }
     if !follows_on(s, prev, lo, &s[a..b]) {
@@ -128,7 +128,7 @@ pub fn message_good(s: &[u8], m: Message, lo: &[u8], hi: &[u8], sh: Shape) -> bo
             let b = p.stop;
             let x = v.start;
             let y = v.stop;
-            if 32 < y - x {
+            if image::VALUE_LIMIT < y - x {
                 return false;
             }
             if !octets::owned(lo, hi, &s[a..b]) {

@@ -53,9 +53,9 @@ pub fn search_node(
     if cur == num {
         return Sought::Found(keep_high(out, &hi[k..]));
     }
-    let at = cur * 1024;
+    let at = cur * image::NODE_SIZE;
     let len = octets::u16_at(store, at);
-    let from = at + 8;
+    let from = at + image::ENTRIES_AT;
     let end = from + len;
     let Pending::Child(first, pivot, next) = live::read_child(store, Cursor { at: from, end })
     else {
@@ -76,7 +76,11 @@ pub fn search_children(
     out: &mut [u8],
 ) -> Sought
     requires { ⌜ SeekKids (now store) level first pivot start ⌝ }
-    ensures { λ r. ⌜ Seen (highIn num (forestOf (λ j. treeAt level (now (store .entry)) j) (kid first (part (now (store .entry)) pivot) ∷ kidsE (listed (now (store .entry)) (start .at) (start .end)))) (now (hi .entry))) r (now (out .exit)) ⌝ }
+    ensures { λ r. ⌜ Seen
+        (highIn num
+        (forestOf (λ j. treeAt level (now (store .entry)) j)
+        (kid first (part (now (store .entry)) pivot) ∷ kidsE (listed (now (store .entry)) (start .at) (start .end)))) (now (hi .entry))) r
+        (now (out .exit)) ⌝ }
 {
     let mut c = start;
     let mut cur = first;
@@ -104,8 +108,8 @@ pub fn find_high(store: &[u8], num: usize, out: &mut [u8]) -> Sought
     requires { ⌜ sound (now store) ≡ true ⌝ }
     ensures { λ r. ⌜ Seen (highHere num (treeOf (now (store .entry))) [] highest) r (now (out .exit)) ⌝ }
 {
-    let root = octets::u16_at(store, 6);
-    let levels = octets::u16_at(store, 8);
+    let root = octets::u16_at(store, image::ROOT_AT);
+    let levels = octets::u16_at(store, image::LEVELS_AT);
     let lo = [0u8; 1];
     let hi = [255u8; 1];
     search_node(store, root, levels, &lo[0..0], &hi, num, out)

@@ -2,19 +2,20 @@
 use Prim.Native.Nat.{ℕ, zero, suc, _+_, _-_, _*_, _/_, _%_, _<_, _≤_}
 use mathlib.Core.Path.{_≡_, refl, sym, ap, ap₂, _∙_}
 use mathlib.Core.List.{List, [], _∷_, _++_}
-use mathlib.Core.Bool.{Bool, true, false, _&&_, not, cond, true≢false, false≢true, and-true}
+use mathlib.Core.Bool.{Bool, true, false, _&&_, not, cond, true≢false, and-true}
 use native.Mathlib.Omega.{arith}
 use lib.ListN.{length, drop, getD}
 use lib.Dec.{eqb}
 use borrow.Author.Tests.{eqb-true, ne-eqb}
 use Rattle.image.specs.Bytes.{same, before, begins, shared}
 use Rattle.image.specs.Path.{owns}
-use Rattle.octets.specs.Order.{and-left, and-right, and-false, not-so, not-true, same-false, before-le, before-eq, begins-append, same-append}
+use Rattle.octets.specs.Order.{and-false, not-so, not-true, same-false, before-le, begins-append, same-append}
 use Rattle.octets.specs.Beginnings.{begins-length, shared-right}
 use Rattle.laws.specs.LookupTable.{not-low, under-high}
 use Rattle.node.specs.Cut.{cut, cut-drop, cut-length, cut-nil}
 use Rattle.notes.specs.declared.Concern.{Concern}
 use Rattle.notes.specs.Notes.{on, noteSpeaks, quiet, Concerns}
+use Rattle.reading.specs.Far.{begins-low}
 
 -- two strings that differ in a byte of both
 pub differ-begins : (x w k : List ℕ) → length (shared x w) < length x → length (shared x w) < length w → begins x (w ++ k) ≡ false
@@ -101,16 +102,6 @@ on-append : (c : Bool) (w y k : List ℕ) → on c (w ++ y) (w ++ k) ≡ on c y 
 unfolding on
 on-append true w y k = begins-append w y k
 on-append false w y k = same-append w y k
-
--- a beginning does not come after
-begins-low : (x k : List ℕ) → begins x k ≡ true → before k x ≡ false
-unfolding begins before
-begins-low [] [] e = refl
-begins-low [] (b ∷ k) e = refl
-begins-low (a ∷ x) [] e = absurd (false≢true e)
-begins-low (a ∷ x) (b ∷ k) e =
-    let f : b ≡ a = sym (eqb-true a b (and-left _ _ e)) in
-    before-eq b a k x f ∙ begins-low x k (and-right (eqb a b) _ e)
 
 -- on a key from lo up to hi: so it comes before hi; and where it names the key, it does not come before lo
 too-high : (c : Bool) (y lo hi k : List ℕ) → before y hi ≡ false → owns lo hi k ≡ true → on c y k ≡ false

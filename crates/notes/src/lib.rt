@@ -166,7 +166,8 @@ pub fn note_message(
     count: usize,
 ) -> usize
     requires { ⌜ MessageWithin 0 (length (now s)) m × (count ≤ 64) × NotesFit (now s) (now notes) count ⌝ }
-    ensures { λ r. ⌜ Gathered (now (s .entry)) (now (lo .entry)) (now (hi .entry)) (λ k. isSilent (messageIn (now (s .entry)) m) (now (w .entry) ++ k)) (now (notes .entry)) count (now (notes .exit)) r ⌝ }
+    ensures { λ r. ⌜ Gathered (now (s .entry)) (now (lo .entry)) (now (hi .entry)) (λ k. isSilent (messageIn (now (s .entry)) m) (now (w .entry) ++ k))
+        (now (notes .entry)) count (now (notes .exit)) r ⌝ }
 {
     let c = concern_of_message(s, m, w, lo, hi);
     keep(s, c, notes, count)
@@ -202,7 +203,8 @@ pub fn narrow(
     notes: &mut [usize],
 ) -> usize
     requires { ⌜ (many ≤ 64) × NotesFit (now s) (now above) many ⌝ }
-    ensures { λ r. ⌜ Gathered (now (s .entry)) (now (lo .entry)) (now (hi .entry)) (λ k. quiet (now (s .entry)) (now (above .entry)) many (now (w .entry) ++ k)) (now (notes .entry)) 0 (now (notes .exit)) r ⌝ }
+    ensures { λ r. ⌜ Gathered (now (s .entry)) (now (lo .entry)) (now (hi .entry)) (λ k. quiet (now (s .entry)) (now (above .entry)) many (now (w .entry) ++ k))
+        (now (notes .entry)) 0 (now (notes .exit)) r ⌝ }
 {
     let mut i = 0;
     let mut n: usize = 0;
@@ -227,7 +229,8 @@ pub fn note_entry(
     count: usize,
 ) -> usize
     requires { ⌜ EntryWithin 0 (length (now s)) e × (count ≤ 64) × NotesFit (now s) (now notes) count ⌝ }
-    ensures { λ r. ⌜ Gathered (now (s .entry)) (now (lo .entry)) (now (hi .entry)) (λ k. isSilentE (entryIn (now (s .entry)) e) (now (w .entry) ++ k)) (now (notes .entry)) count (now (notes .exit)) r ⌝ }
+    ensures { λ r. ⌜ Gathered (now (s .entry)) (now (lo .entry)) (now (hi .entry)) (λ k. isSilentE (entryIn (now (s .entry)) e) (now (w .entry) ++ k))
+        (now (notes .entry)) count (now (notes .exit)) r ⌝ }
 {
     match e {
         Entry::Pair(_, _) => count,
@@ -248,7 +251,8 @@ pub fn note_entries(
     count: usize,
 ) -> usize
     requires { ⌜ (end ≤ length (now s)) × (count ≤ 64) × NotesFit (now s) (now notes) count ⌝ }
-    ensures { λ r. ⌜ Gathered (now (s .entry)) (now (lo .entry)) (now (hi .entry)) (λ k. areSilent (listed (now (s .entry)) from end) (now (w .entry) ++ k)) (now (notes .entry)) count (now (notes .exit)) r ⌝ }
+    ensures { λ r. ⌜ Gathered (now (s .entry)) (now (lo .entry)) (now (hi .entry)) (λ k. areSilent (listed (now (s .entry)) from end) (now (w .entry) ++ k))
+        (now (notes .entry)) count (now (notes .exit)) r ⌝ }
 {
     let mut c = Cursor { at: from, end };
     let mut n = count;

@@ -1,7 +1,7 @@
 -- Laws of beginnings, and of what two byte strings share at the front. Relies on Order.
 use Prim.Native.Nat.{ℕ, _≤_}
 use mathlib.Core.Path.{_≡_, refl, sym, _∙_}
-use mathlib.Core.List.{List, [], _∷_}
+use mathlib.Core.List.{List, [], _∷_, _++_}
 use mathlib.Core.Bool.{Bool, true, false, false≢true}
 use native.Mathlib.Omega.{arith}
 use lib.ListN.{length}
@@ -14,6 +14,11 @@ pub begins-refl : (s : List ℕ) → begins s s ≡ true
 unfolding begins
 begins-refl [] = refl
 begins-refl (a ∷ s) = rw (eq-eqb a a refl) (begins-refl s)
+
+pub begins-append : (p rest : List ℕ) → begins p (p ++ rest) ≡ true
+unfolding begins
+begins-append [] rest = refl
+begins-append (a ∷ p) rest = rw (eq-eqb a a refl) (begins-append p rest)
 
 pub begins-length : (p q : List ℕ) → begins p q ≡ true → length p ≤ length q
 unfolding begins

@@ -27,6 +27,14 @@ and-false false = refl
 pub not-so : {A : Type 0} {b : Bool} → b ≡ true → b ≡ false → A
 not-so p q = absurd (true≢false (sym p ∙ q))
 
+pub or-none-left : (a b : Bool) → a || b ≡ false → a ≡ false
+or-none-left true b e = e
+or-none-left false b e = refl
+
+pub or-none-right : (a b : Bool) → a || b ≡ false → b ≡ false
+or-none-right true b e = not-so {b = true} refl e
+or-none-right false b e = e
+
 pub not-true : (b : Bool) → not b ≡ true → b ≡ false
 not-true true e = sym e
 not-true false e = refl

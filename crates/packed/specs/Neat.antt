@@ -2,7 +2,7 @@
 use Prim.Native.Nat.{ℕ, zero, suc, _+_, _-_, _≤_}
 use mathlib.Core.Path.{_≡_, refl}
 use mathlib.Core.List.{List, [], _∷_, _++_}
-use mathlib.Core.Bool.{Bool, true}
+use mathlib.Core.Bool.{true}
 use native.Mathlib.Omega.{arith}
 use lib.ListN.{length, drop, getD, length-drop}
 use Rattle.image.specs.Bytes.{shared}
@@ -11,12 +11,12 @@ use Rattle.image.specs.Table.{Row}
 use Rattle.image.specs.Image.{Tree, unread, leaf, interior, Forest, end, tree}
 use Rattle.image.specs.Meaning.{highOf}
 use Rattle.image.specs.Sound.{highest}
-use Rattle.image.specs.Upkeep.{Reachable, reachable, reachableIn, holdsNoMessage, every}
-use Rattle.octets.specs.Order.{and-left, and-right}
+use Rattle.image.specs.Upkeep.{reachable, reachableIn, holdsNoMessage, every}
 use Rattle.laws.specs.Rising.{both}
 use Rattle.packed.specs.Chunk.{All, all-left, all-right, all-map, Group, members, flat, groups, groups-flat, total, Fits, groups-fit}
 use Rattle.packed.specs.Packed.{Item, keyOf, lowOf, pairWeight, childWeight, first, shortRows, kids, leafFrom, nodeFrom, leafLevel, nodeLevel, leaves, raised}
 use Rattle.packed.specs.Leaves.{Good, formed-length, value-length}
+use Rattle.laws.specs.LiveCount.{every-both as every-append}
 
 -- the bytes of a node's children
 unfoldable pub pivotBytes : Forest → ℕ
@@ -119,11 +119,6 @@ no-message : (i l : ℕ) (lo hi : List ℕ) (ms : List Message) (f : Forest) →
     → holdsNoMessage (record { number = i; level = l; low = lo; high = hi; messages = ms; children = f }) ≡ true
 unfolding holdsNoMessage
 no-message i l lo hi ms f e = rw e
-
-every-append : (test : Reachable → Bool) (xs ys : List Reachable) → every test xs ≡ true → every test ys ≡ true → every test (xs ++ ys) ≡ true
-unfolding every
-every-append test [] ys e f = f
-every-append test (x ∷ xs) ys e f = both (and-left (test x) _ e) (every-append test xs ys (and-right (test x) _ e) f)
 
 mutual
   unfolding reachable reachableIn every Neat NeatIn

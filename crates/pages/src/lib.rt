@@ -18,7 +18,7 @@ pub fn emit_child(page: &mut [u8], at: usize, num: usize, suffix: &[u8]) -> usiz
 {
     let n = suffix.len();
     octets::put_u16(page, at, n + 2);
-    octets::put_u16(page, at + 2, 16);
+    octets::put_u16(page, at + 2, image::CHILD);
     octets::put_u16(page, at + 4, num);
     octets::copy_at(page, at + 6, suffix);
     at + (6 + n)
@@ -112,15 +112,23 @@ pub fn write_node(
     num: usize,
     level: usize,
 )
-    requires { ⌜ RowsFit m (now area) × (m ≤ 1024) × (i < j) × (j ≤ m) × (j < m → 1 ≤ markAt (now area) j) × (nodeBytesOf m (now area) i j ≤ 1016) × (num * 1024 + 1024 ≤ length (now store)) × (length (now store) ≤ 2000000) × (level ≤ 8) ⌝ }
+    requires { ⌜ RowsFit m (now area)
+        × (m ≤ 1024)
+        × (i < j)
+        × (j ≤ m)
+        × (j < m → 1 ≤ markAt (now area) j)
+        × (nodeBytesOf m (now area) i j ≤ 1016)
+        × (num * 1024 + 1024 ≤ length (now store))
+        × (length (now store) ≤ 2000000)
+        × (level ≤ 8) ⌝ }
     ensures { λ _. ⌜ now (store .exit) ≡ writeNode (now (store .entry)) num (nodePage level m (now (area .entry)) i j) ⌝ }
 {
     let mut page = [0u8; 1024];
     let k = lifted(area, m, i, j);
     let end = emit_kids(&mut page, area, m, i, j, k, 8);
     octets::put_u16(&mut page, 0, end - 8);
-    octets::put_u16(&mut page, 2, 2);
-    octets::put_u16(&mut page, 4, level);
-    let at = num * 1024;
+    octets::put_u16(&mut page, image::KIND_AT, image::INTERIOR);
+    octets::put_u16(&mut page, image::LEVEL_AT, level);
+    let at = num * image::NODE_SIZE;
     octets::copy_at(store, at, &page);
 }

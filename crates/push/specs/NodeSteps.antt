@@ -62,7 +62,7 @@ none-waits (defined.child i k ∷ es) e = none-waits es e
 none-waits (defined.message m ∷ es) e = absurd (true≢false e)
 
 -- THE COPY OF THE NODE
-copied : (b : List ℕ) → length b ≡ 1024 → put (zerosOf 1024) 0 b ≡ b
+pub copied : (b : List ℕ) → length b ≡ 1024 → put (zerosOf 1024) 0 b ≡ b
 unfolding put
 copied b h =
     let z : 0 + length b ≡ 1024 = omega arith in

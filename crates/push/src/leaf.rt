@@ -45,7 +45,8 @@ fn stays(side: Side, key: &[u8], own: &[u8]) -> bool
 // An entry of a leaf, if it is a pair that stays. Gives the place behind it.
 fn emit_kept(page: &mut [u8], at: usize, leaf: &[u8], e: Entry, key: &[u8], side: Side) -> usize
     requires { ⌜ EntryWithin 0 (length (now leaf)) e × (at + length (keptBytes side (now key) (entryIn (now leaf) e ∷ [])) ≤ length (now page)) × (length (now page) ≤ 1024) ⌝ }
-    ensures { λ r. ⌜ (now (page .exit) ≡ put (now (page .entry)) at (keptBytes side (now (key .entry)) (entryIn (now (leaf .entry)) e ∷ []))) × (r ≡ at + length (keptBytes side (now (key .entry)) (entryIn (now (leaf .entry)) e ∷ []))) ⌝ }
+    ensures { λ r. ⌜ (now (page .exit) ≡ put (now (page .entry)) at (keptBytes side (now (key .entry)) (entryIn (now (leaf .entry)) e ∷ [])))
+        × (r ≡ at + length (keptBytes side (now (key .entry)) (entryIn (now (leaf .entry)) e ∷ []))) ⌝ }
 {
     match e {
         Entry::Pair(p, v) => {
@@ -74,7 +75,8 @@ fn emit_pairs(
     side: Side,
 ) -> usize
     requires { ⌜ (end ≤ length (now leaf)) × (at + length (keptBytes side (now key) (listed (now leaf) from end)) ≤ length (now page)) × (length (now page) ≤ 1024) ⌝ }
-    ensures { λ r. ⌜ (now (page .exit) ≡ put (now (page .entry)) at (keptBytes side (now (key .entry)) (listed (now (leaf .entry)) from end))) × (r ≡ at + length (keptBytes side (now (key .entry)) (listed (now (leaf .entry)) from end))) ⌝ }
+    ensures { λ r. ⌜ (now (page .exit) ≡ put (now (page .entry)) at (keptBytes side (now (key .entry)) (listed (now (leaf .entry)) from end)))
+        × (r ≡ at + length (keptBytes side (now (key .entry)) (listed (now (leaf .entry)) from end))) ⌝ }
 {
     let mut c = Cursor { at: from, end };
     let mut to = at;
@@ -98,7 +100,9 @@ fn emit_with(
     value: &[u8],
 ) -> usize
     requires { ⌜ (end ≤ length (now leaf)) × (8 + length (bytesOfAll (pairsAfter (puts (now key) (now value)) (listed (now leaf) from end))) ≤ length (now page)) × (length (now page) ≤ 1024) ⌝ }
-    ensures { λ r. ⌜ (now (page .exit) ≡ put (now (page .entry)) 8 (bytesOfAll (pairsAfter (puts (now (key .entry)) (now (value .entry))) (listed (now (leaf .entry)) from end)))) × (r ≡ 8 + length (bytesOfAll (pairsAfter (puts (now (key .entry)) (now (value .entry))) (listed (now (leaf .entry)) from end)))) ⌝ }
+    ensures { λ r. ⌜ (now (page .exit)
+        ≡ put (now (page .entry)) 8 (bytesOfAll (pairsAfter (puts (now (key .entry)) (now (value .entry))) (listed (now (leaf .entry)) from end))))
+        × (r ≡ 8 + length (bytesOfAll (pairsAfter (puts (now (key .entry)) (now (value .entry))) (listed (now (leaf .entry)) from end)))) ⌝ }
 {
     let to = emit_pairs(page, 8, leaf, from, end, key, Side::Before);
     let behind = message::emit_keyed(page, to, 1, key, value);
@@ -115,8 +119,14 @@ fn emit_leaf(
     m: Message,
     k: usize,
 ) -> usize
-    requires { ⌜ (end ≤ length (now leaf)) × MessageWithin 0 (length (now node)) m × (8 + length (bytesOfAll (pairsAfter (loweredBy k (messageIn (now node) m)) (listed (now leaf) from end))) ≤ length (now page)) × (length (now page) ≤ 1024) ⌝ }
-    ensures { λ r. ⌜ (now (page .exit) ≡ put (now (page .entry)) 8 (bytesOfAll (pairsAfter (loweredBy k (messageIn (now (node .entry)) m)) (listed (now (leaf .entry)) from end)))) × (r ≡ 8 + length (bytesOfAll (pairsAfter (loweredBy k (messageIn (now (node .entry)) m)) (listed (now (leaf .entry)) from end)))) ⌝ }
+    requires { ⌜ (end ≤ length (now leaf))
+        × MessageWithin 0 (length (now node)) m
+        × (8 + length (bytesOfAll (pairsAfter (loweredBy k (messageIn (now node) m)) (listed (now leaf) from end))) ≤ length (now page))
+        × (length (now page) ≤ 1024) ⌝ }
+    ensures { λ r. ⌜ (now (page .exit)
+        ≡ put (now (page .entry)) 8
+        (bytesOfAll (pairsAfter (loweredBy k (messageIn (now (node .entry)) m)) (listed (now (leaf .entry)) from end))))
+        × (r ≡ 8 + length (bytesOfAll (pairsAfter (loweredBy k (messageIn (now (node .entry)) m)) (listed (now (leaf .entry)) from end)))) ⌝ }
 {
     match m {
         Message::Put(p, v) => {
@@ -141,12 +151,14 @@ fn emit_leaf(
 
 // A leaf applies a message that loses its first k bytes there.
 fn apply_message(store: &mut [u8], num: usize, node: &[u8], m: Message, k: usize)
-    requires { ⌜ MessageWithin 0 (length (now node)) m × (num * 1024 + 1024 ≤ length (now store)) × (u16 (now store) (num * 1024) + length (bytesOf (message (loweredBy k (messageIn (now node) m)))) ≤ 1016) ⌝ }
+    requires { ⌜ MessageWithin 0 (length (now node)) m
+        × (num * 1024 + 1024 ≤ length (now store))
+        × (u16 (now store) (num * 1024) + length (bytesOf (message (loweredBy k (messageIn (now node) m)))) ≤ 1016) ⌝ }
     ensures { λ _. ⌜ now (store .exit) ≡ applied (loweredBy k (messageIn (now (node .entry)) m)) num (now (store .entry)) ⌝ }
 {
-    let at = num * 1024;
+    let at = num * image::NODE_SIZE;
     let len = octets::u16_at(store, at);
-    let from = at + 8;
+    let from = at + image::ENTRIES_AT;
     let mut page = [0u8; 1024];
     let end = emit_leaf(&mut page, store, from, from + len, node, m, k);
     message::write_page(store, num, &mut page, 1, 1, end - 8);

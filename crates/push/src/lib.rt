@@ -33,7 +33,7 @@ fn push_child(store: &mut [u8], num: usize, node: &[u8], stop: usize, lo: &[u8],
     requires { ⌜ (stop ≤ length (now node)) × (length (now node) ≤ 1024) × (hasRoom (listed (now node) 8 stop) num (now lo) (now hi) (now store) ≡ true) ⌝ }
     ensures { λ _. ⌜ now (store .exit) ≡ childTakes (listed (now (node .entry)) 8 stop) num (now (lo .entry)) (now (hi .entry)) (now (store .entry)) ⌝ }
 {
-    let kind = octets::u16_at(store, num * 1024 + 2);
+    let kind = octets::u16_at(store, num * image::NODE_SIZE + 2);
     if kind == 1 {
         leaf::push_leaf(store, num, node, stop, lo, hi);
         return;
@@ -43,7 +43,10 @@ fn push_child(store: &mut [u8], num: usize, node: &[u8], stop: usize, lo: &[u8],
 
 // Each child in turn does.
 fn push_children(store: &mut [u8], node: &[u8], stop: usize, hi: &[u8])
-    requires { ⌜ (stop ≤ length (now node)) × (length (now node) ≤ 1024) × (allHaveRoom (listed (now node) 8 stop) (kidsE (listed (now node) 8 stop)) (now hi) (now store) ≡ true) × (once (kidNumbers (kidsE (listed (now node) 8 stop))) ≡ true) ⌝ }
+    requires { ⌜ (stop ≤ length (now node))
+        × (length (now node) ≤ 1024)
+        × (allHaveRoom (listed (now node) 8 stop) (kidsE (listed (now node) 8 stop)) (now hi) (now store) ≡ true)
+        × (once (kidNumbers (kidsE (listed (now node) 8 stop))) ≡ true) ⌝ }
     ensures { λ _. ⌜ now (store .exit) ≡ eachTakes (childTakes (listed (now (node .entry)) 8 stop)) (kidsE (listed (now (node .entry)) 8 stop)) (now (hi .entry)) (now (store .entry)) ⌝ }
 {
     let Pending::Child(first, pivot, start) = live::read_child(node, Cursor { at: 8, end: stop })
@@ -71,8 +74,12 @@ fn push_children(store: &mut [u8], node: &[u8], stop: usize, hi: &[u8])
 
 // The child entries of the node. Gives the place behind them.
 fn emit_children(page: &mut [u8], at: usize, node: &[u8], stop: usize) -> usize
-    requires { ⌜ (stop ≤ length (now node)) × (at + length (childBytes (kidsE (listed (now node) 8 stop))) ≤ length (now page)) × (length (now page) ≤ 1024) × (smallNumbers (kidsE (listed (now node) 8 stop)) ≡ true) ⌝ }
-    ensures { λ r. ⌜ (now (page .exit) ≡ put (now (page .entry)) at (childBytes (kidsE (listed (now (node .entry)) 8 stop)))) × (r ≡ at + length (childBytes (kidsE (listed (now (node .entry)) 8 stop)))) ⌝ }
+    requires { ⌜ (stop ≤ length (now node))
+        × (at + length (childBytes (kidsE (listed (now node) 8 stop))) ≤ length (now page))
+        × (length (now page) ≤ 1024)
+        × (smallNumbers (kidsE (listed (now node) 8 stop)) ≡ true) ⌝ }
+    ensures { λ r. ⌜ (now (page .exit) ≡ put (now (page .entry)) at (childBytes (kidsE (listed (now (node .entry)) 8 stop))))
+        × (r ≡ at + length (childBytes (kidsE (listed (now (node .entry)) 8 stop)))) ⌝ }
 {
     let mut c = Cursor { at: 8, end: stop };
     let mut to = at;
@@ -89,7 +96,11 @@ fn emit_children(page: &mut [u8], at: usize, node: &[u8], stop: usize) -> usize
 
 // The node with its children alone.
 fn clear_messages(store: &mut [u8], num: usize, node: &[u8], stop: usize, level: usize)
-    requires { ⌜ (stop ≤ length (now node)) × (num * 1024 + 1024 ≤ length (now store)) × (level < 65536) × (length (childBytes (kidsE (listed (now node) 8 stop))) ≤ 1016) × (smallNumbers (kidsE (listed (now node) 8 stop)) ≡ true) ⌝ }
+    requires { ⌜ (stop ≤ length (now node))
+        × (num * 1024 + 1024 ≤ length (now store))
+        × (level < 65536)
+        × (length (childBytes (kidsE (listed (now node) 8 stop))) ≤ 1016)
+        × (smallNumbers (kidsE (listed (now node) 8 stop)) ≡ true) ⌝ }
     ensures { λ _. ⌜ now (store .exit) ≡ emptied (now (store .entry)) num level (kidsE (listed (now (node .entry)) 8 stop)) ⌝ }
 {
     let mut page = [0u8; 1024];
@@ -102,11 +113,11 @@ fn push_node(store: &mut [u8], num: usize, hi: &[u8]) -> Pushed
     requires { ⌜ Pushable (now store) num (now hi) ⌝ }
     ensures { λ r. ⌜ Outcome (now (store .entry)) num r (now (store .exit)) ⌝ }
 {
-    let at = num * 1024;
+    let at = num * image::NODE_SIZE;
     let len = octets::u16_at(store, at);
     let level = octets::u16_at(store, at + 4);
     let stop = 8 + len;
-    let end = at + 1024;
+    let end = at + image::NODE_SIZE;
     let mut node = [0u8; 1024];
     octets::copy_at(&mut node, 0, &store[at..end]);
     if !live::has_messages(&node, 8, stop) {

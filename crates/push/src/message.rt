@@ -22,7 +22,8 @@ ghost use Rattle.push.specs.Kinds.{keyedEntry, shortEntry};
 // An entry of a suffix and a value. Gives the place behind it.
 pub fn emit_keyed(page: &mut [u8], at: usize, kind: usize, key: &[u8], value: &[u8]) -> usize
     requires { ⌜ (at + (6 + length (now key) + length (now value)) ≤ length (now page)) × (length (now page) ≤ 1024) × (kind < 65536) ⌝ }
-    ensures { λ r. ⌜ (now (page .exit) ≡ put (now (page .entry)) at (keyedEntry kind (now (key .entry)) (now (value .entry)))) × (r ≡ at + (6 + length (now (key .entry)) + length (now (value .entry)))) ⌝ }
+    ensures { λ r. ⌜ (now (page .exit) ≡ put (now (page .entry)) at (keyedEntry kind (now (key .entry)) (now (value .entry))))
+        × (r ≡ at + (6 + length (now (key .entry)) + length (now (value .entry)))) ⌝ }
 {
     let n = key.len();
     let k = value.len();
@@ -49,7 +50,8 @@ fn emit_short(page: &mut [u8], at: usize, kind: usize, key: &[u8]) -> usize
 // A message's entry for a child that lifts k bytes more. Gives the place behind it.
 pub fn emit_message(page: &mut [u8], at: usize, node: &[u8], m: Message, k: usize) -> usize
     requires { ⌜ MessageWithin 0 (length (now node)) m × (at + length (bytesOf (message (loweredBy k (messageIn (now node) m)))) ≤ length (now page)) × (length (now page) ≤ 1024) ⌝ }
-    ensures { λ r. ⌜ (now (page .exit) ≡ put (now (page .entry)) at (bytesOf (message (loweredBy k (messageIn (now (node .entry)) m))))) × (r ≡ at + length (bytesOf (message (loweredBy k (messageIn (now (node .entry)) m))))) ⌝ }
+    ensures { λ r. ⌜ (now (page .exit) ≡ put (now (page .entry)) at (bytesOf (message (loweredBy k (messageIn (now (node .entry)) m)))))
+        × (r ≡ at + length (bytesOf (message (loweredBy k (messageIn (now (node .entry)) m))))) ⌝ }
 {
     match m {
         Message::Put(p, v) => {
@@ -57,17 +59,17 @@ pub fn emit_message(page: &mut [u8], at: usize, node: &[u8], m: Message, k: usiz
             let y = p.stop;
             let a = v.start;
             let b = v.stop;
-            emit_keyed(page, at, 32, &node[x..y], &node[a..b])
+            emit_keyed(page, at, image::PUT, &node[x..y], &node[a..b])
         }
         Message::Drop(p) => {
             let x = room::start_past(p, k);
             let y = p.stop;
-            emit_short(page, at, 33, &node[x..y])
+            emit_short(page, at, image::DROP, &node[x..y])
         }
         Message::Clear(p) => {
             let x = room::start_past(p, k);
             let y = p.stop;
-            emit_short(page, at, 34, &node[x..y])
+            emit_short(page, at, image::CLEAR, &node[x..y])
         }
     }
 }
@@ -75,7 +77,8 @@ pub fn emit_message(page: &mut [u8], at: usize, node: &[u8], m: Message, k: usiz
 // What an entry of the node brings to a child with these pivots. Gives the place behind it.
 fn emit_entry(page: &mut [u8], at: usize, node: &[u8], e: Entry, lo: &[u8], hi: &[u8]) -> usize
     requires { ⌜ EntryWithin 0 (length (now node)) e × (at + length (brought (entryIn (now node) e) (now lo) (now hi)) ≤ length (now page)) × (length (now page) ≤ 1024) ⌝ }
-    ensures { λ r. ⌜ (now (page .exit) ≡ put (now (page .entry)) at (brought (entryIn (now (node .entry)) e) (now (lo .entry)) (now (hi .entry)))) × (r ≡ at + length (brought (entryIn (now (node .entry)) e) (now (lo .entry)) (now (hi .entry)))) ⌝ }
+    ensures { λ r. ⌜ (now (page .exit) ≡ put (now (page .entry)) at (brought (entryIn (now (node .entry)) e) (now (lo .entry)) (now (hi .entry))))
+        × (r ≡ at + length (brought (entryIn (now (node .entry)) e) (now (lo .entry)) (now (hi .entry)))) ⌝ }
 {
     match e {
         Entry::Pair(_, _) => at,
@@ -100,7 +103,8 @@ fn emit_messages(
     hi: &[u8],
 ) -> usize
     requires { ⌜ (stop ≤ length (now node)) × (at + length (broughtAll (listed (now node) 8 stop) (now lo) (now hi)) ≤ length (now page)) × (length (now page) ≤ 1024) ⌝ }
-    ensures { λ r. ⌜ (now (page .exit) ≡ put (now (page .entry)) at (broughtAll (listed (now (node .entry)) 8 stop) (now (lo .entry)) (now (hi .entry)))) × (r ≡ at + length (broughtAll (listed (now (node .entry)) 8 stop) (now (lo .entry)) (now (hi .entry)))) ⌝ }
+    ensures { λ r. ⌜ (now (page .exit) ≡ put (now (page .entry)) at (broughtAll (listed (now (node .entry)) 8 stop) (now (lo .entry)) (now (hi .entry))))
+        × (r ≡ at + length (broughtAll (listed (now (node .entry)) 8 stop) (now (lo .entry)) (now (hi .entry)))) ⌝ }
 {
     let mut c = Cursor { at: 8, end: stop };
     let mut to = at;
@@ -127,9 +131,9 @@ pub fn write_page(
     ensures { λ _. ⌜ now (store .exit) ≡ put (now (store .entry)) (num * 1024) (put (put (put (now (page .entry)) 0 (u16Bytes size)) 2 (u16Bytes kind)) 4 (u16Bytes level)) ⌝ }
 {
     octets::put_u16(page, 0, size);
-    octets::put_u16(page, 2, kind);
-    octets::put_u16(page, 4, level);
-    octets::copy_at(store, num * 1024, page);
+    octets::put_u16(page, image::KIND_AT, kind);
+    octets::put_u16(page, image::LEVEL_AT, level);
+    octets::copy_at(store, num * image::NODE_SIZE, page);
 }
 
 // An interior child with these pivots takes what the entries of the node bring.
@@ -137,10 +141,10 @@ pub fn push_interior(store: &mut [u8], num: usize, node: &[u8], stop: usize, lo:
     requires { ⌜ (stop ≤ length (now node)) × (length (now node) ≤ 1024) × (hasRoom (listed (now node) 8 stop) num (now lo) (now hi) (now store) ≡ true) ⌝ }
     ensures { λ _. ⌜ now (store .exit) ≡ interiorTakes (listed (now (node .entry)) 8 stop) num (now (lo .entry)) (now (hi .entry)) (now (store .entry)) ⌝ }
 {
-    let at = num * 1024;
+    let at = num * image::NODE_SIZE;
     let len = octets::u16_at(store, at);
     let level = octets::u16_at(store, at + 4);
-    let from = at + 8;
+    let from = at + image::ENTRIES_AT;
     let to = from + len;
     let mut page = [0u8; 1024];
     octets::copy_at(&mut page, 8, &store[from..to]);

@@ -112,16 +112,16 @@ fn messages_fit(node: &[u8], from: usize, stop: usize, lo: &[u8], hi: &[u8], use
     };
     let mut sum = used;
     while c.at < stop {
-        if 1016 < sum {
+        if image::ENTRIES_LIMIT < sum {
             return false;
         }
         let Step::Read(e, next) = c.step(node) else {
-            return sum <= 1016;
+            return sum <= image::ENTRIES_LIMIT;
         };
         sum = sum + entry_size(node, e, lo, hi);
         c = next;
     }
-    sum <= 1016
+    sum <= image::ENTRIES_LIMIT
 }
 
 // Whether a child is a node of the store and has room for what the entries of the node bring.
@@ -129,10 +129,10 @@ fn child_fits(store: &[u8], num: usize, node: &[u8], stop: usize, lo: &[u8], hi:
     requires { ⌜ (stop ≤ length (now node)) × (length (now node) ≤ 1024) ⌝ }
     ensures { λ r. ⌜ r ≡ hasRoom (listed (now (node .entry)) 8 stop) num (now (lo .entry)) (now (hi .entry)) (now (store .entry)) ⌝ }
 {
-    if store.len() / 1024 <= num {
+    if store.len() / image::NODE_SIZE <= num {
         return false;
     }
-    let used = octets::u16_at(store, num * 1024);
+    let used = octets::u16_at(store, num * image::NODE_SIZE);
     messages_fit(node, 8, stop, lo, hi, used)
 }
 

@@ -30,7 +30,7 @@ pub fn get(store: &[u8], path: &[u8], buffer: &mut [u8]) -> Found
     if !path::is_path(path) {
         return Found::Refused(Refusal::Malformed);
     }
-    if buffer.len() < 32 {
+    if buffer.len() < image::VALUE_LIMIT {
         return Found::Refused(Refusal::ShortBuffer);
     }
     let found = lookup::value_of(store, path);
@@ -70,12 +70,12 @@ pub fn next(store: &[u8], path: &[u8], after: &[u8], buffer: &mut [u8]) -> Found
     if !paths_fit(path, after) {
         return Found::Refused(Refusal::Malformed);
     }
-    if buffer.len() < 64 {
+    if buffer.len() < image::PATH_LIMIT {
         return Found::Refused(Refusal::ShortBuffer);
     }
     let found = seek::next_path(store, path, after);
     let len = found.len;
-    if 64 < len {
+    if image::PATH_LIMIT < len {
         return Found::Refused(Refusal::Absent);
     }
     let bytes = found.bytes;
@@ -89,10 +89,10 @@ fn same_held(p: PathBuffer, q: PathBuffer) -> bool
 {
     let first = p.len;
     let second = q.len;
-    if 64 < first {
-        return 64 < second;
+    if image::PATH_LIMIT < first {
+        return image::PATH_LIMIT < second;
     }
-    if 64 < second {
+    if image::PATH_LIMIT < second {
         return false;
     }
     let a = p.bytes;
@@ -114,7 +114,7 @@ fn same_paths(store: &[u8], other: &[u8]) -> bool
             return false;
         }
         size = p.len;
-        if 64 < size {
+        if image::PATH_LIMIT < size {
             return true;
         }
         last = p.bytes;

@@ -25,7 +25,7 @@ farFrom P Q lo hi best =
     not (before P hi) || not (before Q hi) || (before P lo && not (begins P lo)) || not (better best lo)
 
 -- what begins with P is not before it
-begins-low : (P k : List ℕ) → begins P k ≡ true → before k P ≡ false
+pub begins-low : (P k : List ℕ) → begins P k ≡ true → before k P ≡ false
 unfolding begins before
 begins-low [] [] e = refl
 begins-low [] (b ∷ k) e = refl

@@ -147,7 +147,7 @@ first-left : (n i : ℕ) (l : List ℕ) → inRange n (i ∷ l) ≡ true → ltb
 unfolding inRange
 first-left n i l e = and-right (leb 1 i) _ (and-left _ _ e)
 
-rest-left : (n i : ℕ) (l : List ℕ) → inRange n (i ∷ l) ≡ true → inRange n l ≡ true
+pub rest-left : (n i : ℕ) (l : List ℕ) → inRange n (i ∷ l) ≡ true → inRange n l ≡ true
 unfolding inRange
 rest-left n i l e = and-right (leb 1 i && ltb i n) _ e
 

@@ -19,6 +19,7 @@ use Rattle.laws.specs.Rising.{both}
 use Rattle.laws.specs.LookupTable.{parts, inner, not-low, under-high, does-own, lookup-find}
 use Rattle.laws.specs.RowsRising.{rows-rise}
 use Rattle.laws.specs.Next.{Fits, least-is, least-none}
+use Rattle.laws.specs.LookupTable.{high-under as high-in}
 
 -- The paths of all pairs and puts of a tree, in the order of the entries.
 unfoldable pub keysOf : List Row → List (List ℕ)
@@ -109,12 +110,6 @@ puts-hold lo hi (puts s v ∷ ms) e =
     both (and-left (wellFormed (shared lo hi ++ s) && owns lo hi (shared lo hi ++ s)) (valueFits v) (and-left (soundMessage lo hi (puts s v)) (soundMessages lo hi ms) e)) (puts-hold lo hi ms (and-right (soundMessage lo hi (puts s v)) _ e))
 puts-hold lo hi (drops s ∷ ms) e = puts-hold lo hi ms (and-right (soundMessage lo hi (drops s)) _ e)
 puts-hold lo hi (clears s ∷ ms) e = puts-hold lo hi ms (and-right (soundMessage lo hi (clears s)) _ e)
-
--- a range inside another
-high-in : (f : Forest) (lifted lo hi q : List ℕ) → soundForest f lifted lo hi ≡ true → before q (highOf lifted hi f) ≡ true → before q hi ≡ true
-unfolding highOf
-high-in end lifted lo hi q e b = b
-high-in (tree s t f) lifted lo hi q e b = before-trans q (lifted ++ s) hi b (under-high lo hi (lifted ++ s) (parts s t f lifted lo hi e .owned))
 
 widen : (s : List ℕ) (t : Tree) (f : Forest) (lifted lo hi k : List ℕ) → soundForest (tree s t f) lifted lo hi ≡ true
     → holds (lifted ++ s) (highOf lifted hi f) k ≡ true → holds lo hi k ≡ true

@@ -16,8 +16,8 @@ use Rattle.image.specs.Sound.{valuesFit, soundMessage, soundMessages, firstPivo
 use Rattle.octets.specs.Beginnings.{shared-left}
 use Rattle.octets.specs.Order.{same-append, before-append, shared-append, begins-split}
 use Rattle.path.specs.Shape.{Shape, feed, goesOn, feed-append, fresh, shape-is}
-use Rattle.octets.specs.Beginnings.{shared-right}
 use Rattle.reading.specs.Relative.{lifts}
+use Rattle.reading.specs.SeekHere.{high-split as right-split}
 
 -- Soundness from inside a node: its pivots and suffixes are without what it lifts, and that is there only by its shape.
 unfoldable pub messageHere : Shape → List ℕ → List ℕ → Message → Bool
@@ -100,10 +100,6 @@ child-here X s h t =
 left-split : (lo hi : List ℕ) → shared lo hi ++ drop (lifts lo hi) lo ≡ lo
 unfolding lifts
 left-split lo hi = begins-split (shared lo hi) lo (shared-left lo hi)
-
-right-split : (lo hi : List ℕ) → shared lo hi ++ drop (lifts lo hi) hi ≡ hi
-unfolding lifts
-right-split lo hi = begins-split (shared lo hi) hi (shared-right lo hi)
 
 leaf-here : (i : ℕ) (rs : List Row) (lo hi X lo′ hi′ : List ℕ) → shared lo hi ≡ X → X ++ lo′ ≡ lo → X ++ hi′ ≡ hi → soundTree (leaf i rs) lo hi ≡ soundHere (leaf i rs) (feed fresh X) lo′ hi′
 unfolding soundTree soundHere

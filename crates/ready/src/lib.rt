@@ -18,7 +18,7 @@ pub fn ask(store: &[u8], work: &[u8], seen: &mut [u8; 1024]) -> Ready
     if !node::whole_nodes(store.len()) {
         return Ready::Refused(Refusal::Length);
     }
-    if work.len() < 128 * (store.len() / 1024) {
+    if work.len() < image::WORK_PER_NODE * (store.len() / image::NODE_SIZE) {
         return Ready::Refused(Refusal::Length);
     }
     let c = soundness::judge(store, seen);

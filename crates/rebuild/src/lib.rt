@@ -26,7 +26,7 @@ fn rebuild_in(store: &mut [u8], area: &mut [u8])
 {
     let m = dump::dump(store, area);
     let mut numbers = [0u8; 2048];
-    let e = 2 * (store.len() / 1024 - 1);
+    let e = 2 * (store.len() / image::NODE_SIZE - 1);
     pack(store, area, m, &mut numbers[0..e]);
     let len = area.len();
     build::clear_area(area, len);
@@ -37,6 +37,6 @@ pub fn rebuild(store: &mut [u8], work: &mut [u8])
     requires { ⌜ (wholeNodes (length (now store)) ≡ true) × (sound (now store) ≡ true) × (workPerNode * nodesOf (length (now store)) ≤ length (now work)) ⌝ }
     ensures { λ _. ⌜ Rebuilt (now (store .entry)) (now (store .exit)) (now (work .entry)) (now (work .exit)) ⌝ }
 {
-    let k = 128 * (store.len() / 1024);
+    let k = image::WORK_PER_NODE * (store.len() / image::NODE_SIZE);
     rebuild_in(store, &mut work[0..k]);
 }

@@ -39,7 +39,7 @@ pub fn move_paths(store: &mut [u8], work: &mut [u8], from: &[u8], to: &[u8]) -> 
     match asked {
         Going::Refused(refusal) => Outcome::Refused(refusal),
         Going::Stays => {
-            let len = 128 * (store.len() / 1024);
+            let len = image::WORK_PER_NODE * (store.len() / image::NODE_SIZE);
             build::clear_area(work, len);
             Outcome::Done
         }

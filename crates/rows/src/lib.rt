@@ -16,7 +16,7 @@ pub fn leaf_end(area: &[u8], m: usize, from: usize, used: usize) -> usize
     while i < m {
         let at = i * 128;
         let w = 6 + octets::wide(area[at]) + octets::wide(area[at + 1]);
-        if 1016 < sum + w {
+        if image::ENTRIES_LIMIT < sum + w {
             return i;
         }
         sum = sum + w;
@@ -55,7 +55,7 @@ pub fn node_end(area: &[u8], m: usize, from: usize, used: usize) -> usize
     let mut sum = used;
     while i < m {
         let w = weight_at(area, i);
-        if 1016 < sum + w {
+        if image::ENTRIES_LIMIT < sum + w {
             return i;
         }
         sum = sum + w;

@@ -216,7 +216,9 @@ pub fn owner_after(
     rest: &[u8],
 ) -> Owner
     requires { ⌜ (start .end ≤ length (now s)) × Within 0 (length (now s)) pivot ⌝ }
-    ensures { λ r. ⌜ Owned (now (s .entry)) (now (hi .entry)) (ownerOf (kid first (part (now (s .entry)) pivot) ∷ kidsE (listed (now (s .entry)) (start .at) (start .end))) (now (hi .entry)) (now (rest .entry))) r ⌝ }
+    ensures { λ r. ⌜ Owned (now (s .entry)) (now (hi .entry))
+        (ownerOf (kid first (part (now (s .entry)) pivot) ∷ kidsE (listed (now (s .entry)) (start .at) (start .end))) (now (hi .entry))
+        (now (rest .entry))) r ⌝ }
 {
     let end = start.end;
     let mut c = start;

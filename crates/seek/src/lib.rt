@@ -259,7 +259,9 @@ pub fn seek_child(
     best: PathBuffer,
 ) -> PathBuffer
     requires { ⌜ ChildReady (now store) (now pre) (now low) (now high) level num ⌝ }
-    ensures { λ r. ⌜ bufferIs r ≡ walkIn (now (store .entry)) (now (below .entry)) (now (after .entry)) (bufferIs best) (under (now (pre .entry)) (childPaths level (now (store .entry)) num (now (low .entry)) (now (high .entry)))) ⌝ }
+    ensures { λ r. ⌜ bufferIs r
+        ≡ walkIn (now (store .entry)) (now (below .entry)) (now (after .entry)) (bufferIs best)
+        (under (now (pre .entry)) (childPaths level (now (store .entry)) num (now (low .entry)) (now (high .entry)))) ⌝ }
 {
     if is_far(pre, low, high, below, after, best) {
         return best;
@@ -288,7 +290,11 @@ pub fn seek_last(
     best: PathBuffer,
 ) -> PathBuffer
     requires { ⌜ (c .end ≤ length (now store)) × Within 0 (length (now store)) low × ChildReady (now store) (now pre) (part (now store) low) (now hi) level num ⌝ }
-    ensures { λ r. ⌜ bufferIs r ≡ walkIn (now (store .entry)) (now (below .entry)) (now (after .entry)) (bufferIs best) (under (now (pre .entry)) (runPaths level (now (store .entry)) (now (hi .entry)) (kid num (part (now (store .entry)) low) ∷ []) (listed (now (store .entry)) (c .at) (c .end)))) ⌝ }
+    ensures { λ r. ⌜ bufferIs r
+        ≡ walkIn (now (store .entry)) (now (below .entry)) (now (after .entry)) (bufferIs best)
+        (under (now (pre .entry))
+        (runPaths level (now (store .entry)) (now (hi .entry)) (kid num (part (now (store .entry)) low) ∷ [])
+        (listed (now (store .entry)) (c .at) (c .end)))) ⌝ }
 {
     let a = low.start;
     let b = low.stop;
@@ -311,8 +317,15 @@ pub fn seek_children(
     after: &[u8],
     held: PathBuffer,
 ) -> PathBuffer
-    requires { ⌜ (start .end ≤ length (now store)) × Within 0 (length (now store)) pivot × KidsReady (now store) level (now pre) (now hi) (kid first (part (now store) pivot) ∷ kidsE (listed (now store) (start .at) (start .end))) ⌝ }
-    ensures { λ r. ⌜ bufferIs r ≡ walkIn (now (store .entry)) (now (below .entry)) (now (after .entry)) (bufferIs held) (under (now (pre .entry)) (runPaths level (now (store .entry)) (now (hi .entry)) (kid first (part (now (store .entry)) pivot) ∷ kidsE (listed (now (store .entry)) (start .at) (start .end))) (listed (now (store .entry)) (start .at) (start .end)))) ⌝ }
+    requires { ⌜ (start .end ≤ length (now store))
+        × Within 0 (length (now store)) pivot
+        × KidsReady (now store) level (now pre) (now hi) (kid first (part (now store) pivot) ∷ kidsE (listed (now store) (start .at) (start .end))) ⌝ }
+    ensures { λ r. ⌜ bufferIs r
+        ≡ walkIn (now (store .entry)) (now (below .entry)) (now (after .entry)) (bufferIs held)
+        (under (now (pre .entry))
+        (runPaths level (now (store .entry)) (now (hi .entry))
+        (kid first (part (now (store .entry)) pivot) ∷ kidsE (listed (now (store .entry)) (start .at) (start .end)))
+        (listed (now (store .entry)) (start .at) (start .end)))) ⌝ }
 {
     let end = start.end;
     let mut c = start;
@@ -360,11 +373,13 @@ pub fn seek_node(
     best: PathBuffer,
 ) -> PathBuffer
     requires { ⌜ NodeReady (now store) (now pre) (now hi) level num ⌝ }
-    ensures { λ r. ⌜ bufferIs r ≡ walkIn (now (store .entry)) (now (below .entry)) (now (after .entry)) (bufferIs best) (under (now (pre .entry)) (keysHere (treeAt level (now (store .entry)) num) (now (hi .entry)))) ⌝ }
+    ensures { λ r. ⌜ bufferIs r
+        ≡ walkIn (now (store .entry)) (now (below .entry)) (now (after .entry)) (bufferIs best)
+        (under (now (pre .entry)) (keysHere (treeAt level (now (store .entry)) num) (now (hi .entry)))) ⌝ }
 {
-    let at = num * 1024;
+    let at = num * image::NODE_SIZE;
     let len = octets::u16_at(store, at);
-    let from = at + 8;
+    let from = at + image::ENTRIES_AT;
     let end = from + len;
     if level <= 1 {
         return seek_entries(store, from, end, pre, below, after, best);
@@ -384,8 +399,8 @@ pub fn next_path(store: &[u8], below: &[u8], after: &[u8]) -> PathBuffer
     requires { ⌜ sound (now store) ≡ true ⌝ }
     ensures { λ r. ⌜ bufferIs r ≡ leastAfter (now (below .entry)) (now (after .entry)) (tableOf (now (store .entry))) ⌝ }
 {
-    let root = octets::u16_at(store, 6);
-    let levels = octets::u16_at(store, 8);
+    let root = octets::u16_at(store, image::ROOT_AT);
+    let levels = octets::u16_at(store, image::LEVELS_AT);
     let hi = [255u8; 1];
     let none = PathBuffer {
         bytes: [0u8; 64],

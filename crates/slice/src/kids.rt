@@ -27,8 +27,12 @@ pub fn emit_kids(
     n: usize,
     d: usize,
 ) -> usize
-    requires { ⌜ (start .end ≤ length (now node)) × (at + length (kidLine d n (kidsE (listed (now node) (start .at) (start .end)))) ≤ length (now page)) × (length (now page) ≤ 1024) × (smallNumbers (kidsE (listed (now node) (start .at) (start .end))) ≡ true) ⌝ }
-    ensures { λ r. ⌜ (now (page .exit) ≡ put (now (page .entry)) at (kidLine d n (kidsE (listed (now (node .entry)) (start .at) (start .end))))) × (r ≡ at + length (kidLine d n (kidsE (listed (now (node .entry)) (start .at) (start .end))))) ⌝ }
+    requires { ⌜ (start .end ≤ length (now node))
+        × (at + length (kidLine d n (kidsE (listed (now node) (start .at) (start .end)))) ≤ length (now page))
+        × (length (now page) ≤ 1024)
+        × (smallNumbers (kidsE (listed (now node) (start .at) (start .end))) ≡ true) ⌝ }
+    ensures { λ r. ⌜ (now (page .exit) ≡ put (now (page .entry)) at (kidLine d n (kidsE (listed (now (node .entry)) (start .at) (start .end)))))
+        × (r ≡ at + length (kidLine d n (kidsE (listed (now (node .entry)) (start .at) (start .end))))) ⌝ }
 {
     let mut c = start;
     let mut to = at;
@@ -56,8 +60,16 @@ fn emit_with(
     d: usize,
     num: usize,
 ) -> usize
-    requires { ⌜ (stop ≤ length (now node)) × Within 0 (length (now node)) low × (8 + length (kidLine d n (kidsE (listed (now node) 8 stop)) ++ bytesOf (child num (drop d (part (now node) low)))) ≤ length (now page)) × (length (now page) ≤ 1024) × (smallNumbers (kidsE (listed (now node) 8 stop)) ≡ true) × (num < 65536) ⌝ }
-    ensures { λ r. ⌜ (now (page .exit) ≡ put (now (page .entry)) 8 (kidLine d n (kidsE (listed (now (node .entry)) 8 stop)) ++ bytesOf (child num (drop d (part (now (node .entry)) low))))) × (r ≡ 8 + length (kidLine d n (kidsE (listed (now (node .entry)) 8 stop)) ++ bytesOf (child num (drop d (part (now (node .entry)) low))))) ⌝ }
+    requires { ⌜ (stop ≤ length (now node))
+        × Within 0 (length (now node)) low
+        × (8 + length (kidLine d n (kidsE (listed (now node) 8 stop)) ++ bytesOf (child num (drop d (part (now node) low)))) ≤ length (now page))
+        × (length (now page) ≤ 1024)
+        × (smallNumbers (kidsE (listed (now node) 8 stop)) ≡ true)
+        × (num < 65536) ⌝ }
+    ensures { λ r. ⌜ (now (page .exit)
+        ≡ put (now (page .entry)) 8
+        (kidLine d n (kidsE (listed (now (node .entry)) 8 stop)) ++ bytesOf (child num (drop d (part (now (node .entry)) low)))))
+        × (r ≡ 8 + length (kidLine d n (kidsE (listed (now (node .entry)) 8 stop)) ++ bytesOf (child num (drop d (part (now (node .entry)) low))))) ⌝ }
 {
     let to = emit_kids(page, 8, node, Cursor { at: 8, end: stop }, n, d);
     let a = push::room::start_past(low, d);
@@ -67,8 +79,14 @@ fn emit_with(
 
 // The entries of the part before the cut: the child that holds it is there under a new number. Gives the place behind them.
 pub fn emit_left(page: &mut [u8], node: &[u8], stop: usize, cut: Cut, d: usize, num: usize) -> usize
-    requires { ⌜ (stop ≤ length (now node)) × CutFits (length (now node)) cut × (8 + length (leftLine d num (kidsE (listed (now node) 8 stop)) (pointIn (now node) [] cut)) ≤ length (now page)) × (length (now page) ≤ 1024) × (smallNumbers (kidsE (listed (now node) 8 stop)) ≡ true) × (num < 65536) ⌝ }
-    ensures { λ r. ⌜ (now (page .exit) ≡ put (now (page .entry)) 8 (leftLine d num (kidsE (listed (now (node .entry)) 8 stop)) (pointIn (now (node .entry)) [] cut))) × (r ≡ 8 + length (leftLine d num (kidsE (listed (now (node .entry)) 8 stop)) (pointIn (now (node .entry)) [] cut))) ⌝ }
+    requires { ⌜ (stop ≤ length (now node))
+        × CutFits (length (now node)) cut
+        × (8 + length (leftLine d num (kidsE (listed (now node) 8 stop)) (pointIn (now node) [] cut)) ≤ length (now page))
+        × (length (now page) ≤ 1024)
+        × (smallNumbers (kidsE (listed (now node) 8 stop)) ≡ true)
+        × (num < 65536) ⌝ }
+    ensures { λ r. ⌜ (now (page .exit) ≡ put (now (page .entry)) 8 (leftLine d num (kidsE (listed (now (node .entry)) 8 stop)) (pointIn (now (node .entry)) [] cut)))
+        × (r ≡ 8 + length (leftLine d num (kidsE (listed (now (node .entry)) 8 stop)) (pointIn (now (node .entry)) [] cut))) ⌝ }
 {
     match cut {
         Cut::Inner(n, _, low, _) => emit_with(page, node, stop, n, low, d, num),

@@ -41,7 +41,7 @@ fn read_node(store: &[u8], num: usize, node: &mut [u8])
     requires { ⌜ (num * 1024 + 1024 ≤ length (now store)) × (length (now node) ≡ 1024) ⌝ }
     ensures { λ _. ⌜ now (node .exit) ≡ nodeBytes (now (store .entry)) num ⌝ }
 {
-    let a = num * 1024;
+    let a = num * image::NODE_SIZE;
     let b = a + 1024;
     octets::copy_at(node, 0, &store[a..b]);
 }
@@ -58,7 +58,9 @@ pub fn slice_left(
     free: &[u8],
 )
     requires { ⌜ LeftAsks (now store) num level (now lo) (now hi) (now k) at (now free) × (shared (now lo) (now hi) ≡ []) ⌝ }
-    ensures { λ _. ⌜ now (store .exit) ≡ leftWrite (freshIn (now (free .entry))) (treeAt level (now (store .entry)) num) level (now (lo .entry)) (now (hi .entry)) (now (k .entry)) at (now (store .entry)) ⌝ }
+    ensures { λ _. ⌜ now (store .exit)
+        ≡ leftWrite (freshIn (now (free .entry))) (treeAt level (now (store .entry)) num) level (now (lo .entry)) (now (hi .entry))
+        (now (k .entry)) at (now (store .entry)) ⌝ }
 {
     let mut node = [0u8; 1024];
     read_node(store, num, &mut node);
@@ -89,7 +91,9 @@ fn slice_cut(
     free: &[u8],
 )
     requires { ⌜ CutFits (length (now node)) cut × PointAsks (now store) level (now k) at (now free) (pointIn (now node) (now hi) cut) ⌝ }
-    ensures { λ _. ⌜ now (store .exit) ≡ leftAt (freshIn (now (free .entry))) (λ j. treeAt level (now (store .entry)) j) level (now (k .entry)) at (now (store .entry)) (pointIn (now (node .entry)) (now (hi .entry)) cut) ⌝ }
+    ensures { λ _. ⌜ now (store .exit)
+        ≡ leftAt (freshIn (now (free .entry))) (λ j. treeAt level (now (store .entry)) j) level (now (k .entry)) at (now (store .entry))
+        (pointIn (now (node .entry)) (now (hi .entry)) cut) ⌝ }
 {
     match cut {
         Cut::Inner(_, num, low, high) => {

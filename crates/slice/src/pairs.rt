@@ -35,7 +35,8 @@ fn emit_pair(
     d: usize,
 ) -> usize
     requires { ⌜ EntryWithin 0 (length (now node)) e × (at + length (sideLine left (now k) d (entryIn (now node) e ∷ [])) ≤ length (now page)) × (length (now page) ≤ 1024) ⌝ }
-    ensures { λ r. ⌜ (now (page .exit) ≡ put (now (page .entry)) at (sideLine left (now (k .entry)) d (entryIn (now (node .entry)) e ∷ []))) × (r ≡ at + length (sideLine left (now (k .entry)) d (entryIn (now (node .entry)) e ∷ []))) ⌝ }
+    ensures { λ r. ⌜ (now (page .exit) ≡ put (now (page .entry)) at (sideLine left (now (k .entry)) d (entryIn (now (node .entry)) e ∷ [])))
+        × (r ≡ at + length (sideLine left (now (k .entry)) d (entryIn (now (node .entry)) e ∷ []))) ⌝ }
 {
     match e {
         Entry::Pair(p, v) => {
@@ -65,7 +66,8 @@ fn emit_pairs(
     d: usize,
 ) -> usize
     requires { ⌜ (stop ≤ length (now node)) × (at + length (sideLine left (now k) d (listed (now node) 8 stop)) ≤ length (now page)) × (length (now page) ≤ 1024) ⌝ }
-    ensures { λ r. ⌜ (now (page .exit) ≡ put (now (page .entry)) at (sideLine left (now (k .entry)) d (listed (now (node .entry)) 8 stop))) × (r ≡ at + length (sideLine left (now (k .entry)) d (listed (now (node .entry)) 8 stop))) ⌝ }
+    ensures { λ r. ⌜ (now (page .exit) ≡ put (now (page .entry)) at (sideLine left (now (k .entry)) d (listed (now (node .entry)) 8 stop)))
+        × (r ≡ at + length (sideLine left (now (k .entry)) d (listed (now (node .entry)) 8 stop))) ⌝ }
 {
     let mut c = Cursor { at: 8, end: stop };
     let mut to = at;

@@ -44,7 +44,8 @@ pub fn emit_parts(
     b: usize,
 ) -> usize
     requires { ⌜ PartsFit (length (now out)) parts × (at + length (allLine d (piecesIn a b (now k) (now out) parts)) ≤ length (now page)) × (length (now page) ≤ 1024) × (a < 65536) × (b < 65536) ⌝ }
-    ensures { λ r. ⌜ (now (page .exit) ≡ put (now (page .entry)) at (allLine d (piecesIn a b (now (k .entry)) (now (out .entry)) parts))) × (r ≡ at + length (allLine d (piecesIn a b (now (k .entry)) (now (out .entry)) parts))) ⌝ }
+    ensures { λ r. ⌜ (now (page .exit) ≡ put (now (page .entry)) at (allLine d (piecesIn a b (now (k .entry)) (now (out .entry)) parts)))
+        × (r ≡ at + length (allLine d (piecesIn a b (now (k .entry)) (now (out .entry)) parts))) ⌝ }
 {
     match parts {
         Parts::Nothing => at,
@@ -72,8 +73,24 @@ pub fn write_over(
     count: usize,
     d: usize,
 ) -> bool
-    requires { ⌜ (num * 1024 + 1024 ≤ length (now store)) × (level < 65536) × PartsFit (length (now out)) parts × (a < 65536) × (b < 65536) × (start .end ≤ length (now node)) × (smallNumbers (kidsE (listed (now node) (start .at) (start .end))) ≡ true) × (length (allLine d (piecesIn a b (now k) (now out) parts) ++ kidLine d count (kidsE (listed (now node) (start .at) (start .end)))) ≤ 1016) ⌝ }
-    ensures { λ r. ⌜ (now (store .exit) ≡ overBody num level (allLine d (piecesIn a b (now (k .entry)) (now (out .entry)) parts) ++ kidLine d count (kidsE (listed (now (node .entry)) (start .at) (start .end)))) (now (store .entry))) × (r ≡ not (eqb (length (allLine d (piecesIn a b (now (k .entry)) (now (out .entry)) parts) ++ kidLine d count (kidsE (listed (now (node .entry)) (start .at) (start .end))))) 0)) ⌝ }
+    requires { ⌜ (num * 1024 + 1024 ≤ length (now store))
+        × (level < 65536)
+        × PartsFit (length (now out)) parts
+        × (a < 65536)
+        × (b < 65536)
+        × (start .end ≤ length (now node))
+        × (smallNumbers (kidsE (listed (now node) (start .at) (start .end))) ≡ true)
+        × (length (allLine d (piecesIn a b (now k) (now out) parts) ++ kidLine d count (kidsE (listed (now node) (start .at) (start .end)))) ≤ 1016) ⌝ }
+    ensures { λ r. ⌜ (now (store .exit)
+        ≡ overBody num level
+        (allLine d (piecesIn a b (now (k .entry)) (now (out .entry)) parts) ++ kidLine d count
+        (kidsE (listed (now (node .entry)) (start .at) (start .end)))) (now (store .entry)))
+        × (r
+        ≡ not
+        (eqb
+        (length
+        (allLine d (piecesIn a b (now (k .entry)) (now (out .entry)) parts) ++ kidLine d count
+        (kidsE (listed (now (node .entry)) (start .at) (start .end))))) 0)) ⌝ }
 {
     let mut page = [0u8; 1024];
     let to = emit_parts(&mut page, 8, parts, k, out, d, a, b);
@@ -105,7 +122,9 @@ fn skip_kids(node: &[u8], start: Cursor, n: usize) -> Cursor
 // The cursor at the children from the cut on, but for the one that holds it.
 pub fn rest_start(node: &[u8], stop: usize, cut: Cut) -> Cursor
     requires { ⌜ stop ≤ length (now node) ⌝ }
-    ensures { λ r. ⌜ (r .end ≤ length (now (node .entry))) × (kidsE (listed (now (node .entry)) (r .at) (r .end)) ≡ drop (skipOf (pointIn (now (node .entry)) [] cut)) (kidsE (listed (now (node .entry)) 8 stop))) ⌝ }
+    ensures { λ r. ⌜ (r .end ≤ length (now (node .entry)))
+        × (kidsE (listed (now (node .entry)) (r .at) (r .end))
+        ≡ drop (skipOf (pointIn (now (node .entry)) [] cut)) (kidsE (listed (now (node .entry)) 8 stop))) ⌝ }
 {
     match cut {
         Cut::Inner(n, _, _, _) => {

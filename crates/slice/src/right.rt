@@ -21,7 +21,8 @@ ghost use Rattle.slice.specs.Right.{RightAsks, RightAs, PointAsksRight, 
 // The answer with a rest, whose pivot is left in the buffer behind what is lifted.
 fn tell_rest(below: Parts, lift: &[u8], pivot: &[u8], out: &mut [u8]) -> Parts
     requires { ⌜ length (now lift) + length (now pivot) ≤ length (now out) ⌝ }
-    ensures { λ r. ⌜ (r ≡ withRest (length (now (lift .entry)) + length (now (pivot .entry))) below) × (take (length (now (lift .entry)) + length (now (pivot .entry))) (now (out .exit)) ≡ now (lift .entry) ++ now (pivot .entry)) ⌝ }
+    ensures { λ r. ⌜ (r ≡ withRest (length (now (lift .entry)) + length (now (pivot .entry))) below)
+        × (take (length (now (lift .entry)) + length (now (pivot .entry))) (now (out .exit)) ≡ now (lift .entry) ++ now (pivot .entry)) ⌝ }
 {
     let a = lift.len();
     let n = a + pivot.len();
@@ -61,7 +62,11 @@ fn write_wide(
     free: &[u8],
 )
     requires { ⌜ WideAsks (length (now store)) level (now node) start (now x) (now hi) (now k) below (now out) at (now free) ⌝ }
-    ensures { λ _. ⌜ now (store .exit) ≡ wideBody (freshIn (now (free .entry)) at) (freshIn (now (free .entry)) (at + 1)) level (now (k .entry)) (now (hi .entry)) (now (x .entry)) (piecesIn (freshIn (now (free .entry)) (at + 2)) (freshIn (now (free .entry)) (at + 3)) (now (k .entry)) (now (out .entry)) below) (kidsE (listed (now (node .entry)) (start .at) (start .end))) (now (store .entry)) ⌝ }
+    ensures { λ _. ⌜ now (store .exit)
+        ≡ wideBody (freshIn (now (free .entry)) at) (freshIn (now (free .entry)) (at + 1)) level (now (k .entry)) (now (hi .entry))
+        (now (x .entry))
+        (piecesIn (freshIn (now (free .entry)) (at + 2)) (freshIn (now (free .entry)) (at + 3)) (now (k .entry)) (now (out .entry)) below)
+        (kidsE (listed (now (node .entry)) (start .at) (start .end))) (now (store .entry)) ⌝ }
 {
     let n = octets::u16_at(free, at * 2);
     let m = octets::u16_at(free, (at + 1) * 2);
@@ -100,7 +105,15 @@ fn finish_narrow(
     free: &[u8],
 ) -> Parts
     requires { ⌜ NarrowAsks (length (now store)) level (now node) start (now hi) (now k) below (now out) at (now free) ⌝ }
-    ensures { λ r. ⌜ (now (store .exit) ≡ overBody (freshIn (now (free .entry)) at) level (allLine (length (shared (now (k .entry)) (now (hi .entry)))) (piecesIn (freshIn (now (free .entry)) (at + 1)) (freshIn (now (free .entry)) (at + 2)) (now (k .entry)) (now (out .entry)) below ++ kidsE (listed (now (node .entry)) (start .at) (start .end)))) (now (store .entry))) × (r ≡ oneNode (piecesIn (freshIn (now (free .entry)) (at + 1)) (freshIn (now (free .entry)) (at + 2)) (now (k .entry)) (now (out .entry)) below ++ kidsE (listed (now (node .entry)) (start .at) (start .end)))) ⌝ }
+    ensures { λ r. ⌜ (now (store .exit)
+        ≡ overBody (freshIn (now (free .entry)) at) level
+        (allLine (length (shared (now (k .entry)) (now (hi .entry))))
+        (piecesIn (freshIn (now (free .entry)) (at + 1)) (freshIn (now (free .entry)) (at + 2)) (now (k .entry)) (now (out .entry)) below
+        ++ kidsE (listed (now (node .entry)) (start .at) (start .end)))) (now (store .entry)))
+        × (r
+        ≡ oneNode
+        (piecesIn (freshIn (now (free .entry)) (at + 1)) (freshIn (now (free .entry)) (at + 2)) (now (k .entry)) (now (out .entry)) below ++
+        kidsE (listed (now (node .entry)) (start .at) (start .end)))) ⌝ }
 {
     let n = octets::u16_at(free, at * 2);
     let a = octets::u16_at(free, (at + 1) * 2);
@@ -127,7 +140,8 @@ fn finish_wide(
     out: &mut [u8],
 ) -> Parts
     requires { ⌜ WideReady (length (now store)) level (now node) start (now hi) (now k) below (now out) at (now free) × (length (now lift) + length (now node) ≤ length (now out)) ⌝ }
-    ensures { λ r. ⌜ WideAs level (now (node .entry)) start (now (hi .entry)) (now (k .entry)) below (now (out .entry)) at (now (free .entry)) (now (lift .entry)) (now (store .entry)) (now (store .exit)) (now (out .exit)) r ⌝ }
+    ensures { λ r. ⌜ WideAs level (now (node .entry)) start (now (hi .entry)) (now (k .entry)) below (now (out .entry)) at (now (free .entry)) (now (lift .entry))
+        (now (store .entry)) (now (store .exit)) (now (out .exit)) r ⌝ }
 {
     let Pending::Child(_, p, _) = live::read_child(node, start) else {
         write_wide(store, level, node, start, hi, hi, k, below, out, at, free);
@@ -165,8 +179,12 @@ pub fn slice_right(
     lift: &[u8],
     out: &mut [u8],
 ) -> Parts
-    requires { ⌜ RightAsks wide (now store) num level (now lo) (now hi) (now k) at (now free) × (shared (now lo) (now hi) ≡ []) × (length (now lift) + 1024 ≤ length (now out)) × (length (now k) + 1024 ≤ length (now out)) ⌝ }
-    ensures { λ r. ⌜ RightAs wide (treeAt level (now (store .entry)) num) level (now (lo .entry)) (now (hi .entry)) (now (k .entry)) at (now (free .entry)) (now (lift .entry)) (now (store .entry)) (now (store .exit)) (now (out .exit)) r ⌝ }
+    requires { ⌜ RightAsks wide (now store) num level (now lo) (now hi) (now k) at (now free)
+        × (shared (now lo) (now hi) ≡ [])
+        × (length (now lift) + 1024 ≤ length (now out))
+        × (length (now k) + 1024 ≤ length (now out)) ⌝ }
+    ensures { λ r. ⌜ RightAs wide (treeAt level (now (store .entry)) num) level (now (lo .entry)) (now (hi .entry)) (now (k .entry)) at (now (free .entry))
+        (now (lift .entry)) (now (store .entry)) (now (store .exit)) (now (out .exit)) r ⌝ }
 {
     let one = at + 1;
     let two = at + 2;

@@ -12,19 +12,13 @@ use Rattle.image.specs.Meaning.{highOf, applyAll, rows, rowsIn}
 use Rattle.image.specs.Sound.{soundTree, soundForest}
 use Rattle.octets.specs.Order.{not-so, before-le, before-asym}
 use Rattle.laws.specs.Rising.{one-key}
-use Rattle.laws.specs.LookupTable.{parts, outside, later-none, under-high}
+use Rattle.laws.specs.LookupTable.{parts, later-none, under-high}
 use Rattle.laws.specs.RowsRising.{every-key, is-true}
 use Rattle.laws.specs.Filter.{keep, upTo, since, keep-append, keep-all, keep-none, every-imp, Rowed, leaf-rowed, leaf-rows, leaf-sound, rowed-low, rowed-high}
 use Rattle.laws.specs.Pieces.{still, levelled, Good, Run, done, more, joined, raise, run-high, run-join, rows-join, high-raise, rows-raise, Kids, kid-first, kid-later, kids-run, node-good, node-rows, over-run, over-rows, inner-kids, inner-first}
 use Rattle.slicing.specs.Slice.{restIn, packed, after, leftOf, leftIn, rightOf, edgeIn}
-
--- keys of a tree, and of children, against a cut
-pub keys-owned : (t : Tree) (lo hi : List ℕ) → soundTree t lo hi ≡ true → everyKey (owns lo hi) (rows t lo hi) ≡ true
-keys-owned t lo hi e = every-key (owns lo hi) (rows t lo hi) (λ q n. outside t lo hi q e n)
-
-not-not : (b : Bool) → b ≡ true → not (not b) ≡ true
-not-not true e = refl
-not-not false e = e
+use Rattle.laws.specs.Filter.{not-not}
+use Rattle.laws.specs.PushDown.{keys-owned}
 
 -- k ≤ hi, the tree before it
 keys-before : (t : Tree) (lo hi k : List ℕ) → soundTree t lo hi ≡ true → before k hi ≡ false → everyKey (upTo k) (rows t lo hi) ≡ true

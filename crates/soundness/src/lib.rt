@@ -17,7 +17,7 @@ pub fn judge(store: &[u8], seen: &mut [u8; 1024]) -> Checked
     let Checked::Sound(tally) = c else {
         return Checked::Unsound;
     };
-    let told = octets::u16_at(store, 10);
+    let told = octets::u16_at(store, image::LIVE_AT);
     if tally.messages == 0 {
         if tally.pairs == told {
             return Checked::Sound(tally);

@@ -77,7 +77,8 @@ pub extern "C" fn splicelog_get(store: &[u8], path: &[u8], buffer: &mut [u8]) ->
 
 #[no_mangle]
 pub extern "C" fn splicelog_next(store: &[u8], path: &[u8], after: &[u8], buffer: &mut [u8]) -> u64
-    ensures { λ r. ⌜ Meets (now (store .entry)) (asks (next (now (path .entry)) (now (after .entry))) (now (buffer .entry))) (filled (r % 4294967296) (r / 4294967296) (now (buffer .exit))) (now (store .entry)) [] ⌝ }
+    ensures { λ r. ⌜ Meets (now (store .entry)) (asks (next (now (path .entry)) (now (after .entry))) (now (buffer .entry)))
+        (filled (r % 4294967296) (r / 4294967296) (now (buffer .exit))) (now (store .entry)) [] ⌝ }
 {
     found_word(query::next(store, path, after, buffer))
 }

@@ -26,7 +26,8 @@ use Rattle.moving.specs.GapWrite.{gapWrite, Within, within-self, within-later, 
 use Rattle.slicing.specs.SliceFits.{fits}
 use Rattle.slicing.specs.Tail.{tail-good}
 use Rattle.moving.specs.Move.{leftPastR, rightPastR, leftR, midR, leftPastP, rightPastP, leftP, midP}
-use Rattle.moving.specs.MoveLaws.{begins-past, short-of, b-past-p, b-r, b-past-r}
+use Rattle.moving.specs.MoveLaws.{short-of, b-past-p, b-r, b-past-r}
+use Rattle.octets.specs.Beginnings.{begins-append as begins-past}
 use Rattle.moving.specs.MoveImage.{range-of}
 use Rattle.moving.specs.MoveWrite.{im1, im2, im3, im4, im5, im6, im7, im8, g1, g3, g4, f1, f4, w1, w3, w4, d1, t1, n1, l1-2, size2, d3, n3, l3-3, d4, l3-4, n4, l4-5, size5, size6, l1-6, l4-6, n6, o7, o08}
 use Rattle.slice.specs.declared.Parts.{Parts}

@@ -37,7 +37,8 @@ pub fn half_at(free: &[u8], place: usize, block: usize, parts: Parts) -> Half
 // The entries of a half. Gives the place behind them.
 fn emit_half(page: &mut [u8], at: usize, bound: &[u8], half: Half, out: &[u8]) -> usize
     requires { ⌜ HalfFits (now bound) half (now out) × (at + length (halfLine (now bound) half (now out)) ≤ length (now page)) × (length (now page) ≤ 1024) ⌝ }
-    ensures { λ r. ⌜ (now (page .exit) ≡ put (now (page .entry)) at (halfLine (now (bound .entry)) half (now (out .entry)))) × (r ≡ at + length (halfLine (now (bound .entry)) half (now (out .entry)))) ⌝ }
+    ensures { λ r. ⌜ (now (page .exit) ≡ put (now (page .entry)) at (halfLine (now (bound .entry)) half (now (out .entry))))
+        × (r ≡ at + length (halfLine (now (bound .entry)) half (now (out .entry)))) ⌝ }
 {
     let n = bound.len() - 1;
     let parts = half.parts;
@@ -58,7 +59,11 @@ pub fn write_root(
     last: &[u8],
 )
     requires { ⌜ RootAsks (now store) h (now bound) (now limit) (now free) low (now behind) high (now last) ⌝ }
-    ensures { λ _. ⌜ now (store .exit) ≡ writeNode (now (store .entry)) (freshIn (now (free .entry)) (10 * h)) (page 2 (h + 1) (rootLine (freshIn (now (free .entry)) (7 * h)) (now (bound .entry)) low (now (behind .entry)) (now (limit .entry)) high (now (last .entry)))) ⌝ }
+    ensures { λ _. ⌜ now (store .exit)
+        ≡ writeNode (now (store .entry)) (freshIn (now (free .entry)) (10 * h))
+        (page 2 (h + 1)
+        (rootLine (freshIn (now (free .entry)) (7 * h)) (now (bound .entry)) low (now (behind .entry)) (now (limit .entry)) high
+        (now (last .entry)))) ⌝ }
 {
     let num = octets::u16_at(free, 10 * h * 2);
     let left = octets::u16_at(free, 7 * h * 2);

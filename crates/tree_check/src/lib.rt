@@ -117,7 +117,7 @@ pub fn with_rest(held: Tally, rest: Checked) -> Checked
 pub fn node_count(store: &[u8]) -> usize
     ensures { λ r. ⌜ r ≡ nodesOf (length (now (store .entry))) ⌝ }
 {
-    store.len() / 1024
+    store.len() / image::NODE_SIZE
 }
 
 fn larger(a: u8, b: u8) -> u8
@@ -148,7 +148,7 @@ pub fn laid_out(store: &[u8], num: usize, kind: usize, level: usize) -> bool
     requires { ⌜ num * 1024 + 1024 ≤ length (now store) ⌝ }
     ensures { λ r. ⌜ r ≡ laidOut kind level (nodeBytes (now (store .entry)) num) ⌝ }
 {
-    let at = num * 1024;
+    let at = num * image::NODE_SIZE;
     let len = octets::u16_at(store, at);
     if 1016 < len {
         return false;
@@ -162,20 +162,22 @@ pub fn laid_out(store: &[u8], num: usize, kind: usize, level: usize) -> bool
     if octets::u16_at(store, at + 6) != 0 {
         return false;
     }
-    all_zero(store, at + 8 + len, at + 1024)
+    all_zero(store, at + image::ENTRIES_AT + len, at + image::NODE_SIZE)
 }
 
 // Whether a node of the store is a sound leaf, and how many pairs it holds.
 pub fn check_leaf(store: &[u8], num: usize, lo: &[u8], hi: &[u8], sh: Shape) -> Checked
     requires { ⌜ num * 1024 + 1024 ≤ length (now store) ⌝ }
-    ensures { λ r. ⌜ ((seen : List ℕ) → Checks (cond (soundHere (treeAt 1 (now (store .entry)) num) (shapeIs sh) (now (lo .entry)) (now (hi .entry))) (some seen) none) (countOf (treeAt 1 (now (store .entry)) num)) r seen) ⌝ }
+    ensures { λ r. ⌜ ((seen : List ℕ) → Checks
+        (cond (soundHere (treeAt 1 (now (store .entry)) num) (shapeIs sh) (now (lo .entry)) (now (hi .entry))) (some seen) none)
+        (countOf (treeAt 1 (now (store .entry)) num)) r seen) ⌝ }
 {
     if !laid_out(store, num, 1, 1) {
         return Checked::Unsound;
     }
-    let at = num * 1024;
+    let at = num * image::NODE_SIZE;
     let len = octets::u16_at(store, at);
-    let from = at + 8;
+    let from = at + image::ENTRIES_AT;
     let end = from + len;
     let Counted::All(pairs) = node_check::check_leaf(store, from, end, lo, hi, sh) else {
         return Checked::Unsound;
@@ -195,9 +197,9 @@ pub fn first_child(store: &[u8], num: usize, level: usize, lo: &[u8]) -> First
     if !laid_out(store, num, 2, level) {
         return First::Nothing;
     }
-    let at = num * 1024;
+    let at = num * image::NODE_SIZE;
     let len = octets::u16_at(store, at);
-    let from = at + 8;
+    let from = at + image::ENTRIES_AT;
     let c = Cursor {
         at: from,
         end: from + len,
@@ -219,7 +221,9 @@ pub fn first_child(store: &[u8], num: usize, level: usize, lo: &[u8]) -> First
 // Whether the entries from a place up to another are sound messages, and how many.
 pub fn check_messages(s: &[u8], from: usize, end: usize, lo: &[u8], hi: &[u8], sh: Shape) -> Checked
     requires { ⌜ end ≤ length (now s) ⌝ }
-    ensures { λ r. ⌜ ((seen : List ℕ) → Checks (cond (messagesRun (shapeIs sh) (now (lo .entry)) (now (hi .entry)) (entriesFrom (now (s .entry)) from end)) (some seen) none) (onlyMessages (length (listed (now (s .entry)) from end))) r seen) ⌝ }
+    ensures { λ r. ⌜ ((seen : List ℕ) → Checks
+        (cond (messagesRun (shapeIs sh) (now (lo .entry)) (now (hi .entry)) (entriesFrom (now (s .entry)) from end)) (some seen) none)
+        (onlyMessages (length (listed (now (s .entry)) from end))) r seen) ⌝ }
 {
     let Counted::All(messages) = node_check::check_messages(s, from, end, lo, hi, sh) else {
         return Checked::Unsound;
@@ -242,7 +246,9 @@ pub fn check_node(
     seen: &mut [u8; 1024],
 ) -> Checked
     requires { ⌜ nodesOf (length (now store)) ≤ 1024 ⌝ }
-    ensures { λ r. ⌜ Checks (visit (treeAt level (now (store .entry)) num) (nodesOf (length (now (store .entry)))) (shapeIs sh) (now (lo .entry)) (now (hi .entry)) (now (seen .entry))) (countOf (treeAt level (now (store .entry)) num)) r (now (seen .exit)) ⌝ }
+    ensures { λ r. ⌜ Checks
+        (visit (treeAt level (now (store .entry)) num) (nodesOf (length (now (store .entry)))) (shapeIs sh) (now (lo .entry)) (now (hi .entry))
+        (now (seen .entry))) (countOf (treeAt level (now (store .entry)) num)) r (now (seen .exit)) ⌝ }
 {
     if num < 1 {
         return Checked::Unsound;
@@ -298,7 +304,11 @@ pub fn check_children(
     held: &mut [usize; 3],
 ) -> bool
     requires { ⌜ (nodesOf (length (now (now store))) ≤ 1024) × (start .end ≤ length (now (now store))) × Within 0 (length (now (now store))) low ⌝ }
-    ensures { λ r. ⌜ Adds (kidsRun (nodeRun level (now (now (store .entry)))) (flatIs (now (flat .entry))) (now (now (lo .entry))) (now (now (hi .entry))) num (part (now (now (store .entry))) low) (entriesFrom (now (now (store .entry))) (start .at) (start .end)) (now (seen .entry))) (kidsCount (treeAt level (now (now (store .entry)))) num (listed (now (now (store .entry))) (start .at) (start .end))) (now (held .entry)) r (now (held .exit)) (now (seen .exit)) ⌝ }
+    ensures { λ r. ⌜ Adds
+        (kidsRun (nodeRun level (now (now (store .entry)))) (flatIs (now (flat .entry))) (now (now (lo .entry))) (now (now (hi .entry))) num
+        (part (now (now (store .entry))) low) (entriesFrom (now (now (store .entry))) (start .at) (start .end)) (now (seen .entry)))
+        (kidsCount (treeAt level (now (now (store .entry)))) num (listed (now (now (store .entry))) (start .at) (start .end))) (now (held .entry))
+        r (now (held .exit)) (now (seen .exit)) ⌝ }
 {
     let image = *store;
     let sh = shape_of(flat);
@@ -347,7 +357,10 @@ pub fn check_last(
     seen: &mut [u8; 1024],
 ) -> Checked
     requires { ⌜ (nodesOf (length (now store)) ≤ 1024) × (rest .end ≤ length (now store)) × Within 0 (length (now store)) low ⌝ }
-    ensures { λ r. ⌜ Checks (lastRun (nodeRun level (now (store .entry))) (shapeIs sh) (now (lo .entry)) (now (hi .entry)) num (part (now (store .entry)) low) (entriesFrom (now (store .entry)) (rest .at) (rest .end)) (now (seen .entry))) (lastCount (treeAt level (now (store .entry))) num (listed (now (store .entry)) (rest .at) (rest .end))) r (now (seen .exit)) ⌝ }
+    ensures { λ r. ⌜ Checks
+        (lastRun (nodeRun level (now (store .entry))) (shapeIs sh) (now (lo .entry)) (now (hi .entry)) num (part (now (store .entry)) low)
+        (entriesFrom (now (store .entry)) (rest .at) (rest .end)) (now (seen .entry)))
+        (lastCount (treeAt level (now (store .entry))) num (listed (now (store .entry)) (rest .at) (rest .end))) r (now (seen .exit)) ⌝ }
 {
     let a = low.start;
     let b = low.stop;
@@ -371,7 +384,9 @@ pub fn check_child(
     seen: &mut [u8; 1024],
 ) -> Checked
     requires { ⌜ nodesOf (length (now store)) ≤ 1024 ⌝ }
-    ensures { λ r. ⌜ Checks (childRun (nodeRun level (now (store .entry))) (shapeIs sh) (now (lo .entry)) (now (hi .entry)) num (now (low .entry)) (now (high .entry)) (now (seen .entry))) (countOf (treeAt level (now (store .entry)) num)) r (now (seen .exit)) ⌝ }
+    ensures { λ r. ⌜ Checks
+        (childRun (nodeRun level (now (store .entry))) (shapeIs sh) (now (lo .entry)) (now (hi .entry)) num (now (low .entry)) (now (high .entry))
+        (now (seen .entry))) (countOf (treeAt level (now (store .entry)) num)) r (now (seen .exit)) ⌝ }
 {
     if !octets::owned(lo, hi, low) {
         return Checked::Unsound;
@@ -392,10 +407,10 @@ pub fn header_good(store: &[u8]) -> bool
     let n = node_count(store);
     let len = octets::u16_at(store, 0);
     let kind = octets::u16_at(store, 2);
-    let count = octets::u16_at(store, 4);
-    let root = octets::u16_at(store, 6);
-    let levels = octets::u16_at(store, 8);
-    let live = octets::u16_at(store, 10);
+    let count = octets::u16_at(store, image::COUNT_AT);
+    let root = octets::u16_at(store, image::ROOT_AT);
+    let levels = octets::u16_at(store, image::LEVELS_AT);
+    let live = octets::u16_at(store, image::LIVE_AT);
     if len != 8 {
         return false;
     }
@@ -443,8 +458,8 @@ pub fn check_tree(store: &[u8], seen: &mut [u8; 1024]) -> Checked
         return Checked::Unsound;
     }
     clear(seen);
-    let root = octets::u16_at(store, 6);
-    let levels = octets::u16_at(store, 8);
+    let root = octets::u16_at(store, image::ROOT_AT);
+    let levels = octets::u16_at(store, image::LEVELS_AT);
     let highest = [255u8; 1];
     check_node(
         store,

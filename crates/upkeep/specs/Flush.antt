@@ -2,14 +2,13 @@
 use Prim.Native.Nat.{ℕ, _-_}
 use mathlib.Core.Path.{_≡_, refl, sym, ap, ap₂, subst, _∙_}
 use mathlib.Core.List.{List, [], _∷_, _++_, append-nil}
-use mathlib.Core.Bool.{Bool, true, false, _&&_, _||_, cond, false≢true}
+use mathlib.Core.Bool.{Bool, true, false, _&&_, _||_, cond}
 use lib.ListN.{length, drop}
-use lib.Dec.{leb, eqb}
-use borrow.Author.Tests.{eqb-true, eq-eqb}
-use Rattle.image.specs.Bytes.{same, before, begins, shared}
+use lib.Dec.{leb}
+use Rattle.image.specs.Bytes.{same, begins, shared}
 use Rattle.image.specs.Path.{below, owns, wellFormed, valueFits}
 use Rattle.image.specs.Entry.{Message, puts, drops, clears}
-use Rattle.image.specs.Table.{Row, withRow, without, withoutBelow, everyKey, underPrefix, rising}
+use Rattle.image.specs.Table.{Row, without, withoutBelow, everyKey, underPrefix, rising}
 use Rattle.image.specs.Image.{Tree, unread, leaf, interior, Forest, end, tree}
 use Rattle.image.specs.Meaning.{highOf, apply, applyAll, rows, rowsIn}
 use Rattle.image.specs.Sound.{soundTree, soundForest, soundMessage, soundMessages, firstPivot, valuesFit, numbers, numbersIn}
@@ -19,12 +18,19 @@ use Rattle.laws.specs.Filter.{every-with}
 use Rattle.laws.specs.RowsRising.{leaf-rises, rising-apply}
 use Rattle.laws.specs.LookupTable.{Parts, parts, inner, leaf-owned}
 use Rattle.laws.specs.Frame.{or-right}
-use Rattle.laws.specs.PushDown.{apply-nil-under, taken, touches, lowered, sent, pushed, raised, owned-begins, high-pushed, push-apply}
+use Rattle.laws.specs.PushDown.{apply-nil-under, taken, touches, lowered, sent, pushed, raised, high-pushed, push-apply}
+use Rattle.laws.specs.Filter.{owned-begins}
 use Rattle.upkeep.specs.Sublists.{Sub, sub-refl}
 use Rattle.laws.specs.Page.{numberOf}
 use Rattle.upkeep.specs.Merge.{tall, tallIn, first-of, inner-sound, no-messages}
 use Rattle.upkeep.specs.Mends.{Mends}
 use Rattle.upkeep.specs.Alter.{Sane, altered, altered-mends}
+use Rattle.octets.specs.Beginnings.{begins-append as begins-longer}
+use Rattle.laws.specs.ValuesFit.{with-fit as values-with}
+use Rattle.laws.specs.ValuesFit.{without-fit as values-without}
+use Rattle.laws.specs.ValuesFit.{cleared-fit as values-cleared}
+use Rattle.octets.specs.Beginnings.{shared-right as shared-second}
+use Rattle.octets.specs.Beginnings.{shared-most as begins-shared}
 
 -- all messages of a node, oldest first, each to the children that it touches
 unfoldable pub pushedAll : List Message → Forest → List ℕ → List ℕ → Forest
@@ -35,32 +41,6 @@ unfoldable pub flushedNode : Tree → List ℕ → List ℕ → Tree
 flushedNode (unread i) lo hi = unread i
 flushedNode (leaf i rs) lo hi = leaf i rs
 flushedNode (interior i f ms) lo hi = interior i (pushedAll ms f (shared lo hi) hi) []
-
--- what a node lifts begins what its children lift
-pub begins-longer : (l s : List ℕ) → begins l (l ++ s) ≡ true
-unfolding begins
-begins-longer [] s = refl
-begins-longer (a ∷ l) s = rw (eq-eqb a a refl) (begins-longer l s)
-
-pub shared-second : (a b : List ℕ) → begins (shared a b) b ≡ true
-unfolding begins shared
-shared-second [] b = refl
-shared-second (x ∷ a) [] = refl
-shared-second (x ∷ a) (y ∷ b) = go (eqb x y) refl (shared-second a b)
-  where
-    go : (z : Bool) → eqb x y ≡ z → begins (shared a b) b ≡ true → begins (shared (x ∷ a) (y ∷ b)) (y ∷ b) ≡ true
-    go true e ih = rw (e, e) ih
-    go false e ih = rw e
-
-pub begins-shared : (l a b : List ℕ) → begins l a ≡ true → begins l b ≡ true → begins l (shared a b) ≡ true
-unfolding begins shared
-begins-shared [] a b e f = refl
-begins-shared (c ∷ l) [] b e f = absurd (false≢true e)
-begins-shared (c ∷ l) (x ∷ a) [] e f = absurd (false≢true f)
-begins-shared (c ∷ l) (x ∷ a) (y ∷ b) e f =
-    let h : c ≡ x = eqb-true c x (and-left _ _ e) in
-    let k : c ≡ y = eqb-true c y (and-left _ _ f) in
-    rw (eq-eqb x y (sym h ∙ k), eq-eqb c x h) (begins-shared l a b (and-right (eqb c x) _ e) (and-right (eqb c y) _ f))
 
 high-begins : (f : Forest) (lo hi : List ℕ) → begins (shared lo hi) (highOf (shared lo hi) hi f) ≡ true
 unfolding highOf
@@ -101,35 +81,6 @@ unfolding apply passes
 every-apply test l (puts s v) t a e = every-with test (l ++ s) v t a e
 every-apply test l (drops s) t a e = every-without test (l ++ s) t e
 every-apply test l (clears s) t a e = every-cleared test (l ++ s) t e
-
-values-with : (p v : List ℕ) (t : List Row) → valueFits v ≡ true → valuesFit t ≡ true → valuesFit (withRow p v t) ≡ true
-unfolding valuesFit withRow
-values-with p v [] a e = both a refl
-values-with p v (r ∷ t) a e =
-    go (before (r .key) p) refl (same p (r .key)) refl (values-with p v t a (and-right (valueFits (r .value)) _ e))
-  where
-    go : (x : Bool) → before (r .key) p ≡ x → (y : Bool) → same p (r .key) ≡ y → valuesFit (withRow p v t) ≡ true → valuesFit (withRow p v (r ∷ t)) ≡ true
-    go true b y c ih = rw b (both (and-left (valueFits (r .value)) _ e) ih)
-    go false b true c ih = rw (b, c) (both a (and-right (valueFits (r .value)) _ e))
-    go false b false c ih = rw (b, c) (both a e)
-
-values-without : (p : List ℕ) (t : List Row) → valuesFit t ≡ true → valuesFit (without p t) ≡ true
-unfolding valuesFit without
-values-without p [] e = refl
-values-without p (r ∷ t) e = go (same p (r .key)) refl (values-without p t (and-right (valueFits (r .value)) _ e))
-  where
-    go : (x : Bool) → same p (r .key) ≡ x → valuesFit (without p t) ≡ true → valuesFit (without p (r ∷ t)) ≡ true
-    go true b ih = rw b ih
-    go false b ih = rw b (both (and-left (valueFits (r .value)) _ e) ih)
-
-values-cleared : (p : List ℕ) (t : List Row) → valuesFit t ≡ true → valuesFit (withoutBelow p t) ≡ true
-unfolding valuesFit withoutBelow
-values-cleared p [] e = refl
-values-cleared p (r ∷ t) e = go (below (r .key) p) refl (values-cleared p t (and-right (valueFits (r .value)) _ e))
-  where
-    go : (x : Bool) → below (r .key) p ≡ x → valuesFit (withoutBelow p t) ≡ true → valuesFit (withoutBelow p (r ∷ t)) ≡ true
-    go true b ih = rw b ih
-    go false b ih = rw b (both (and-left (valueFits (r .value)) _ e) ih)
 
 pub values-apply : (l : List ℕ) (m : Message) (t : List Row) → smallValue m ≡ true → valuesFit t ≡ true → valuesFit (apply l m t) ≡ true
 unfolding apply smallValue

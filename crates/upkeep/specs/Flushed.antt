@@ -15,7 +15,7 @@ use Rattle.image.specs.Image.{Tree, unread, leaf, interior, Forest, end, tree}
 use Rattle.image.specs.Meaning.{highOf}
 use Rattle.image.specs.Sound.{soundTree, soundForest, numbers, once}
 use Rattle.image.specs.Upkeep.{Reachable, reachable, reachableIn, reachableAt, every, holdsNoMessage, overlap, gainsNoMessage, fromLevel, emptied, noneWaits, flushed}
-use Rattle.octets.specs.Order.{and-left, and-right, and-false, not-so, not-true, before-irrefl, before-le, before-trans}
+use Rattle.octets.specs.Order.{and-left, and-right, and-false, not-so, not-true, before-irrefl, before-le}
 use Rattle.laws.specs.Rising.{both}
 use Rattle.laws.specs.Frame.{or-left, or-right}
 use Rattle.laws.specs.LookupTable.{parts, inner, high-under}
@@ -25,6 +25,7 @@ use Rattle.upkeep.specs.Mends.{tall-kids, tall-first, tall-later}
 use Rattle.upkeep.specs.Alter.{altered, alteredIn, high-altered, altered-mends, altered-mends-in}
 use Rattle.upkeep.specs.Healed.{orElse, place-append, every-places, place-number, place-test}
 use Rattle.upkeep.specs.Flush.{pushedAll, flushedNode, flush-sane, flushedTree}
+use Rattle.octets.specs.Order.{before-asym as lt-not}
 
 every-weaker : (a b : Reachable → Bool) (xs : List Reachable) → ((y : Reachable) → a y ≡ true → b y ≡ true) → every a xs ≡ true → every b xs ≡ true
 unfolding every
@@ -76,13 +77,6 @@ le-le a b c e f = go (before c a) refl
   where
     go : (x : Bool) → before c a ≡ x → before c a ≡ false
     go true g = not-so (before-le c a b g e) f
-    go false g = g
-
-lt-not : (a b : List ℕ) → before a b ≡ true → before b a ≡ false
-lt-not a b e = go (before b a) refl
-  where
-    go : (x : Bool) → before b a ≡ x → before b a ≡ false
-    go true g = not-so (before-trans a b a e g) (before-irrefl a)
     go false g = g
 
 high-low : (f : Forest) (lifted lo hi : List ℕ) → soundForest f lifted lo hi ≡ true → before hi (highOf lifted hi f) ≡ false

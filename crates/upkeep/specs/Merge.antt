@@ -19,7 +19,8 @@ use Rattle.laws.specs.Page.{numberOf}
 use Rattle.laws.specs.RowsRising.{rising-append, leaf-rises}
 use Rattle.laws.specs.LookupTable.{parts, inner, leaf-owned, not-low, under-high, does-own}
 use Rattle.laws.specs.Shift.{under-append}
-use Rattle.laws.specs.PushDown.{every-imp, owned-begins}
+use Rattle.laws.specs.Filter.{owned-begins}
+use Rattle.laws.specs.Filter.{every-imp}
 use mathlib.Core.Logic.{inr}
 use Rattle.upkeep.specs.Sublists.{Sub, sub-refl, sub-append}
 use Rattle.upkeep.specs.Kept.{Kept, kept-refl, kept-append}

@@ -1,0 +1,299 @@
+// The page: one file without outside resources, for one image or for two side by side.
+// It relies on `card` for the nodes; its style and script stand beside this file.
+
+use crate::card::{badges, change_classes, escape, Drawing};
+use crate::compare::Comparison;
+use crate::report;
+use crate::rules;
+use crate::spell;
+use crate::survey::Survey;
+use std::collections::BTreeSet;
+use std::fmt::Write;
+
+/// What the marks on every page mean.
+const KEY: &str = "<p class=key><span class=l>Grey bytes</span> are lifted: the node does not \
+    store them. A <span class=f>dotted</span> part of a pivot is what the child below it lifts: \
+    it is stored there and nowhere further down.";
+
+const STYLE: &str = include_str!("page.css");
+const SCRIPT: &str = include_str!("page.js");
+
+/// With more reachable nodes than this the cards begin closed.
+const OPEN_LIMIT: usize = 40;
+/// With more levels than this columns get too wide to be the first choice, as does a lone leaf.
+const COLUMN_LEVELS: u16 = 4;
+
+pub struct Side<'s, 'a> {
+    pub name: &'s str,
+    pub survey: &'s Survey<'a>,
+}
+
+pub fn one(side: &Side<'_, '_>) -> String {
+    let drawing = drawing(side.survey, "a", None);
+    let columns = (2..=COLUMN_LEVELS).contains(&side.survey.header.levels);
+    let mut out = head(side.name, columns, 1);
+    bar(&mut out, side.name, &[("a", "")], &paths(&[side]), false);
+    let _ = write!(out, "<main class=one>{KEY}</p>");
+    section(&mut out, side, "a", "", &drawing);
+    out.push_str("</main>");
+    tail(&mut out);
+    out
+}
+
+pub fn two(sides: &[Side<'_, '_>; 2], comparison: &Comparison) -> String {
+    let title = format!("{} and {}", sides[0].name, sides[1].name);
+    let mut out = head(&title, false, 2);
+    let both = [&sides[0], &sides[1]];
+    bar(
+        &mut out,
+        &title,
+        &[("a", "before"), ("b", "after")],
+        &paths(&both),
+        true,
+    );
+    legend(&mut out, comparison);
+    out.push_str("<main class=two>");
+    let [before, after] = sides;
+    let mut was = drawing(before.survey, "a", Some(comparison));
+    was.fresh = Some(&comparison.fresh_before);
+    was.other = Some((after.survey, "moves to"));
+    section(&mut out, before, "a", "before", &was);
+    let mut is = drawing(after.survey, "b", Some(comparison));
+    is.fresh = Some(&comparison.fresh_after);
+    is.other = Some((before.survey, "moved from"));
+    section(&mut out, after, "b", "after", &is);
+    out.push_str("</main>");
+    tail(&mut out);
+    out
+}
+
+fn drawing<'d, 'a>(
+    survey: &'d Survey<'a>,
+    id: &'static str,
+    comparison: Option<&'d Comparison>,
+) -> Drawing<'d, 'a> {
+    Drawing {
+        survey,
+        id,
+        comparison,
+        other: None,
+        fresh: None,
+        compact: survey.nodes.len() > OPEN_LIMIT,
+        opened: opened(survey, comparison),
+    }
+}
+
+/// The nodes above a changed or faulty one.
+fn opened(survey: &Survey<'_>, comparison: Option<&Comparison>) -> BTreeSet<u16> {
+    let mut opened = BTreeSet::new();
+    let changed = comparison.iter().flat_map(|c| c.changes.keys());
+    let faulty = survey.findings.iter().map(|f| &f.node);
+    for number in changed.chain(faulty) {
+        let mut next = survey.node(*number).and_then(|node| node.origin);
+        while let Some(origin) = next {
+            opened.insert(origin.parent);
+            next = survey.node(origin.parent).and_then(|node| node.origin);
+        }
+    }
+    opened
+}
+
+fn head(title: &str, columns: bool, sides: usize) -> String {
+    let layout = match columns {
+        true => "columns",
+        false => "outline",
+    };
+    format!(
+        "<!DOCTYPE html>\n<html lang=en><head><meta charset=utf-8>\
+         <meta name=viewport content=\"width=device-width, initial-scale=1\">\
+         <title>{} - splice log</title>\n<style>\n{STYLE}</style></head>\n\
+         <body class=\"{layout} sides{sides}\">\n",
+        escape(title)
+    )
+}
+
+fn tail(out: &mut String) {
+    let _ = write!(out, "\n<script>\n{SCRIPT}</script>\n</body></html>\n");
+}
+
+/// The present paths of sound images, to be offered in the field.
+fn paths(sides: &[&Side<'_, '_>]) -> BTreeSet<Vec<u8>> {
+    let mut paths = BTreeSet::new();
+    for side in sides {
+        if let Ok(sound) = second::sound::judge(side.survey.image) {
+            paths.extend(sound.table.into_keys());
+        }
+    }
+    paths
+}
+
+fn bar(
+    out: &mut String,
+    title: &str,
+    answers: &[(&str, &str)],
+    paths: &BTreeSet<Vec<u8>>,
+    changes: bool,
+) {
+    let title = escape(title);
+    let _ = write!(out, "<header class=bar><form id=form><h1>{title}</h1>");
+    controls(out, paths, changes);
+    out.push_str("</form><datalist id=paths>");
+    for path in paths {
+        let _ = write!(out, "<option value=\"{}\">", escape(&spell::path(path)));
+    }
+    out.push_str("</datalist><div class=answers aria-live=polite>");
+    for (id, word) in answers {
+        let id = format!("id=answer-{id} data-word=\"{word}\"");
+        let _ = write!(out, "<div class=answer {id}></div>");
+    }
+    out.push_str("</div></header>\n");
+}
+
+/// The field for a path and the switches, each with its key.
+fn controls(out: &mut String, paths: &BTreeSet<Vec<u8>>, changes: bool) {
+    let example = paths.first().map_or("r1/c7/t1".into(), |p| spell::path(p));
+    let _ = write!(
+        out,
+        "<label class=field>Path <input id=path list=paths autocomplete=off spellcheck=false \
+         placeholder=\"{}\" title=\"the key / comes here, Escape clears, Enter goes to what \
+         decides\"></label>",
+        escape(&example)
+    );
+    out.push_str(
+        "<label class=check><input type=checkbox id=only> only the way</label>\
+         <button type=button id=layout title=\"columns or outline (l)\">Layout</button>\
+         <button type=button id=all title=\"open or close every node (o)\">Open all</button>",
+    );
+    if changes {
+        let title = "go to the next changed node (n)";
+        let _ = write!(
+            out,
+            "<button type=button id=change title=\"{title}\">Next change</button>"
+        );
+    }
+}
+
+fn legend(out: &mut String, comparison: &Comparison) {
+    out.push_str("<dl class=legend>");
+    let classes = ["changed", "new", "gone", "renamed"];
+    for ((heading, numbers), class) in comparison.words().iter().zip(classes) {
+        let _ = write!(
+            out,
+            "<div class={class}><dt>{heading}</dt><dd>{numbers}</dd></div>"
+        );
+    }
+    let framed =
+        "An entry in an <span class=box>orange frame</span> is not in the other image's node.";
+    let _ = writeln!(out, "</dl>{KEY} {framed}</p>");
+}
+
+fn section(out: &mut String, side: &Side<'_, '_>, id: &str, word: &str, drawing: &Drawing<'_, '_>) {
+    let survey = side.survey;
+    let heading = match word {
+        "" => String::new(),
+        _ => format!("<h2><b>{word}</b> {}</h2>", escape(side.name)),
+    };
+    let _ = write!(
+        out,
+        "<section class=image id=image-{id} data-root={} data-levels={}>{heading}<p class=facts>{}</p>",
+        survey.header.root, survey.header.levels, escape(&report::facts(survey)),
+    );
+    findings(out, survey, id);
+    header_card(out, drawing);
+    out.push_str("<div class=tree>");
+    if let Some(root) = survey.nodes.first() {
+        drawing.branch(root, out);
+    }
+    out.push_str("</div>");
+    free(out, drawing);
+    out.push_str("</section>\n");
+}
+
+fn findings(out: &mut String, survey: &Survey<'_>, id: &str) {
+    if survey.sound() {
+        return;
+    }
+    out.push_str(
+        "<div class=unsound><h3>This image is unsound: every call refuses it (2)</h3><ol>",
+    );
+    for finding in &survey.findings {
+        let place = match survey.n {
+            0 => "the store".into(),
+            _ => format!("<a href=\"#{id}{0}\">node {0}</a>", finding.node),
+        };
+        let _ = write!(
+            out,
+            "<li><b>{}</b> in {place}: {} <span class=paper>The paper: {}</span></li>",
+            finding.rule.name(),
+            escape(&finding.detail),
+            escape(rules::words(finding.rule)),
+        );
+    }
+    out.push_str("</ol></div>");
+}
+
+fn header_card(out: &mut String, drawing: &Drawing<'_, '_>) {
+    let (survey, id) = (drawing.survey, drawing.id);
+    if survey.n == 0 {
+        return;
+    }
+    let change = drawing
+        .comparison
+        .map_or(Default::default(), |c| c.of_node(0));
+    let h = &survey.header;
+    let _ = write!(
+        out,
+        "<article class=\"zero{}\" id={id}0><span class=name>Node 0</span> {} nodes · root \
+         <a href=\"#{id}{}\">node {}</a> · levels {} · live paths {}{}",
+        change_classes(change),
+        h.n,
+        h.root,
+        h.root,
+        h.levels,
+        h.live,
+        badges(change),
+    );
+    for finding in survey.findings_in(0) {
+        let _ = write!(
+            out,
+            "<p class=fault><b>{}</b> {}</p>",
+            finding.rule.name(),
+            escape(&finding.detail)
+        );
+    }
+    out.push_str("</article>");
+}
+
+/// The free nodes, and which of them the call wrote to all the same.
+fn free(out: &mut String, drawing: &Drawing<'_, '_>) {
+    let free = drawing.survey.free();
+    if drawing.survey.n == 0 {
+        return;
+    }
+    let listed = match free.is_empty() {
+        true => "none".into(),
+        false => format!(
+            "{} <span class=facts>({})</span>",
+            spell::runs(&free),
+            free.len()
+        ),
+    };
+    let _ = write!(
+        out,
+        "<p class=free><span class=name>Free nodes</span> {listed}"
+    );
+    let is_changed = |number: &u16| {
+        drawing
+            .comparison
+            .is_some_and(|c| c.of_node(*number).changed)
+    };
+    let written: Vec<u16> = free.into_iter().filter(is_changed).collect();
+    if !written.is_empty() {
+        let _ = write!(
+            out,
+            " <span class=\"badge changed\">bytes differ: {}</span>",
+            spell::runs(&written)
+        );
+    }
+    out.push_str("</p>");
+}

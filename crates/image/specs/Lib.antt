@@ -13,3 +13,5 @@ pub mod Listing
 pub mod Answers
 pub mod Cases
 pub mod Examples
+pub mod Program
+pub mod ProgramExamples

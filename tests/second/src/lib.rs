@@ -11,6 +11,7 @@
 //   paper                         the paper's thirteen cases
 //   rng, words, feature, corner   what images and calls are made of, and what they are to show
 //   plan, generate, cuts          sound images from a seed, and some that are hard to cut
+//   lines                         scripts for the program from a seed
 //   mutate                        damaged images, one for each rule
 //   pack, reference, lazy, swing  simple stores to test the judge with, right or wrong
 //   wrong                         upkeep that only seems to be done
@@ -31,6 +32,7 @@ pub mod image;
 pub mod judge;
 pub mod lazy;
 pub mod limits;
+pub mod lines;
 pub mod meaning;
 pub mod moves;
 pub mod mutate;

@@ -5,7 +5,7 @@
 
 use second::feature::Feature;
 use second::sound::{judge, Rule};
-use second::{antt, generate, mutate, path, program};
+use second::{antt, generate, lines, mutate, path, program};
 use std::io::{Read, Write};
 use std::process::ExitCode;
 
@@ -14,6 +14,7 @@ usage: second antt                   the examples as antt data
        second sound FILE             is the image sound; the first broken rule if not
        second table FILE             the paths of a sound image with their values
        second program < LINES        the line language with the plain map behind it
+       second script SEED            random lines for the program
        second generate PRESET SEED   a sound image; PRESET random, or a feature's name
        second mutate RULE SEED       a damaged image
        second names                  the presets and the rules";
@@ -43,6 +44,7 @@ fn answer(words: &[&str]) -> Result<Vec<u8>, String> {
         ["sound", file] => sound(&read(file)?),
         ["table", file] => table(&read(file)?),
         ["program"] => Ok(program::run(&input()?)),
+        ["script", seed] => Ok(lines::script(number(seed)?)),
         ["generate", preset, seed] => generated(preset, number(seed)?),
         ["mutate", rule, seed] => mutated(rule, number(seed)?),
         ["names"] => Ok(names().into_bytes()),

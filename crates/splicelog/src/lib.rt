@@ -13,7 +13,7 @@ ghost use Rattle.image.specs.Contract.{Meets, MakeMeets, SameMeets};
 ghost use Rattle.query.specs.Asked.{foundLength};
 ghost use Rattle.splicelog.specs.Words.{foundNumber};
 
-fn refusal_number(refusal: Refusal) -> u32
+pub fn refusal_number(refusal: Refusal) -> u32
     ensures { λ r. ⌜ (r ≡ refusalNumber refusal) × (r ≤ 10) ⌝ }
 {
     match refusal {

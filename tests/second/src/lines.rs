@@ -1,0 +1,130 @@
+// Random scripts for the program: good lines near what the map holds, near misses of every rule of the line language, long lines, bytes 00,
+// stores filled to their last path, and a last line with or without its line feed. All follows from a seed.
+
+use crate::path::to_text;
+use crate::rng::Rng;
+use crate::words;
+
+/// All that is read in one run of the program.
+pub fn script(seed: u64) -> Vec<u8> {
+    let mut rng = Rng::new(seed);
+    let mut present: Vec<Vec<u8>> = Vec::new();
+    let mut input = Vec::new();
+    if rng.chance(1, 4) {
+        input.extend(filling(&mut rng, &mut present));
+    }
+    let count = match rng.below(8) {
+        0 => rng.between(500, 2000),
+        1 => rng.below(3),
+        _ => rng.between(20, 200),
+    };
+    for _ in 0..count {
+        input.extend(line(&mut rng, &mut present));
+        input.push(b'\n');
+    }
+    if rng.chance(1, 3) {
+        input.pop();
+    }
+    input
+}
+
+/// More different paths than a store of 64 nodes takes.
+fn filling(rng: &mut Rng, present: &mut Vec<Vec<u8>>) -> Vec<u8> {
+    let mut input = Vec::new();
+    for i in 0..rng.between(60, 70) {
+        let path = format!("f/{i:03}/{}", "x".repeat(rng.between(1, 16)));
+        input.extend(format!("put {path} {}\n", hex(rng)).into_bytes());
+        present.push(crate::path::from_text(path.as_bytes()));
+    }
+    input.extend(b"list f\n");
+    input
+}
+
+fn line(rng: &mut Rng, present: &mut Vec<Vec<u8>>) -> Vec<u8> {
+    let mut line = good(rng, present);
+    match rng.below(12) {
+        0 => miss(rng, &mut line),
+        1 if rng.chance(1, 3) => line = long(rng),
+        _ => {}
+    }
+    line.retain(|b| *b != b'\n');
+    line
+}
+
+fn good(rng: &mut Rng, present: &mut Vec<Vec<u8>>) -> Vec<u8> {
+    let path = text(rng, present);
+    match rng.below(20) {
+        0..=6 => [b"put ", &path[..], b" ", hex(rng).as_bytes()].concat(),
+        7 => [b"drop ", &path[..]].concat(),
+        8 => [b"clear ", &path[..]].concat(),
+        9..=11 => [b"move ", &path[..], b" ", &text(rng, present)].concat(),
+        12 => b"settle".to_vec(),
+        13 => b"tidy".to_vec(),
+        14..=16 => [b"list ", &path[..]].concat(),
+        _ => [b"get ", &path[..]].concat(),
+    }
+}
+
+/// A path as text: most often a present one or near one, sometimes malformed.
+fn text(rng: &mut Rng, present: &mut Vec<Vec<u8>>) -> Vec<u8> {
+    if rng.chance(1, 20) {
+        let odd: [&[u8]; 6] = [b"/", b"a//b", b"/a", b"a/", b"a\0b", b"a\x7F"];
+        return rng.pick(&odd).map_or(Vec::new(), |p| p.to_vec());
+    }
+    let path = if rng.chance(1, 20) {
+        words::malformed(rng)
+    } else {
+        words::near(rng, present)
+    };
+    if present.len() < 200 {
+        present.push(path.clone());
+    }
+    to_text(&path)
+}
+
+/// Hexadecimal of either case, of any length up to one byte too many, or a hyphen.
+fn hex(rng: &mut Rng) -> String {
+    let bytes = match rng.below(8) {
+        0 => return "-".into(),
+        1 => 32,
+        2 => 33,
+        _ => rng.between(1, 4),
+    };
+    let digits: String = rng
+        .bytes(bytes)
+        .iter()
+        .map(|b| format!("{b:02x}"))
+        .collect();
+    if rng.chance(1, 2) {
+        digits.to_uppercase()
+    } else {
+        digits
+    }
+}
+
+/// One byte more, one less, or another one; two spaces, or a space at either end.
+fn miss(rng: &mut Rng, line: &mut Vec<u8>) {
+    let at = rng.below(line.len());
+    let byte = *rng.pick(b" /-g0aA\0\r\x7F\xFF").unwrap_or(&b' ');
+    match rng.below(6) {
+        0 => line.insert(at, byte),
+        1 => drop(line.remove(at)),
+        2 => line[at] = byte,
+        3 => line.push(b' '),
+        4 => line.insert(0, b' '),
+        _ => line.truncate(at),
+    }
+}
+
+/// A line of nearly or more than 255 bytes, sometimes of very many.
+fn long(rng: &mut Rng) -> Vec<u8> {
+    let length = match rng.below(4) {
+        0 => 255,
+        1 => 256,
+        2 => rng.between(250, 520),
+        _ => rng.between(4000, 70000),
+    };
+    let mut line = b"get ".to_vec();
+    line.resize(length, b'a');
+    line
+}

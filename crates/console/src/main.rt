@@ -1,5 +1,5 @@
 // The program: makes a 64-node store, reads standard input, and prints what each line says. Script has the work; here are the reads, the
-// writes and the loop. Relies on: script, make, io and libc.
+// writes and the loop. With a file's name as its one argument, it leaves the image there at the end. Relies on: script, make, io, os and libc.
 ghost use Prim.Native.Nat.{_≤_};
 ghost use mathlib.Core.Path.{_≡_};
 ghost use lib.ListN.{length};
@@ -97,6 +97,24 @@ fn run(store: &mut [u8], work: &mut [u8], line: &mut [u8], chunk: &mut [u8], out
     }
 }
 
+// Leaves the image in the file that the one argument names, if there is one, so that it can be looked at.
+fn keep_image(store: &[u8]) {
+    if os::arg_count() != 2 {
+        return;
+    }
+    let mut name = io::buffer();
+    let n = os::arg(1, &mut name);
+    let file = os::open_overwrite(&name[0..n]);
+    if file < 0 {
+        os::fail(b"the image's file");
+        return;
+    }
+    if !io::write_all(file, store) {
+        os::fail(b"the image's file");
+    }
+    libc::close(file);
+}
+
 fn main() {
     let mut store = io::large_buffer();
     let mut work = io::large_buffer();
@@ -105,4 +123,5 @@ fn main() {
     let mut out = io::large_buffer();
     make::make(&mut store);
     run(&mut store, &mut work, &mut line, &mut chunk, &mut out);
+    keep_image(&store);
 }

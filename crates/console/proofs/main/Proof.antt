@@ -1,7 +1,7 @@
 -- `console::main` meets its contract: the store that make leaves is what run asks for. Assumes nothing.
-use borrow.Author.Needs.{needs}
 use native.Mathlib.Omega.{arith}
 use Rattle.script.specs.Input.{made-held}
+use borrow.Author.Needs.{needs}
 use Rattle.console.proofs.main.Statement.{statement}
 use Rattle.console.proofs.main.Tie as tie
 
@@ -44,6 +44,12 @@ slice-aggregate-run-5 c = search needs
 run-requires : tie.Need-run-requires
 run-requires c κs = (made-held _ _ _ _ (c .before .before .before .before .before .before .make .ensures) (omega (arith, c .before .before .before .before .before .before .before .before .before .before .before .before .large-buffer .ensures)) (omega (arith, c .before .before .before .before .before .before .before .before .large-buffer4 .ensures)), omega (arith, c .before .before .before .before .before .before .before .before .before .before .before .large-buffer2 .ensures), omega (arith, c .before .before .before .before .before .before .before .before .before .before .buffer .ensures))
 
+slice-aggregate-keep-image : tie.Need-slice-aggregate-keep-image
+slice-aggregate-keep-image c = search needs
+
+keep-image-requires : tie.Need-keep-image-requires
+keep-image-requires c κs = search needs
+
 returns : tie.Need-returns
 returns c = search needs
 
@@ -64,4 +70,6 @@ main-spec =
     slice-aggregate-run-4
     slice-aggregate-run-5
     run-requires
+    slice-aggregate-keep-image
+    keep-image-requires
     returns)

@@ -1,0 +1,67 @@
+/* Reads an image just far enough to count: which nodes are reachable, how many messages wait in the root. It writes one thing, a root above
+ * the root, which makes room for messages. Relies on the image being sound, laid out as docs/FORMAT.md says.
+ */
+#include "peers.h"
+
+#include <string.h>
+
+enum { HEAD = 8, ENTRY_HEAD = 4, KIND_INTERIOR = 2, KIND_CHILD = 0x10 };
+
+static uint16_t word(const uint8_t *at) { return (uint16_t)(at[0] | at[1] << 8); }
+
+static void set_word(uint8_t *at, size_t value) {
+    at[0] = (uint8_t)value;
+    at[1] = (uint8_t)(value >> 8);
+}
+
+static size_t walk(const uint8_t *image, uint16_t number, uint16_t *nodes, size_t count) {
+    const uint8_t *node = image + (size_t)number * NODE;
+    nodes[count++] = number;
+    if (word(node + 2) != KIND_INTERIOR)
+        return count;
+    const uint8_t *end = node + HEAD + word(node);
+    for (const uint8_t *entry = node + HEAD; entry < end; entry += ENTRY_HEAD + word(entry))
+        if (word(entry + 2) == KIND_CHILD)
+            count = walk(image, word(entry + ENTRY_HEAD), nodes, count);
+    return count;
+}
+
+/* The reachable nodes, the root first; node 0 is not among them, as in bench/run. */
+size_t image_reachable(const uint8_t *image, uint16_t nodes[NODES_MOST]) { return walk(image, word(image + 6), nodes, 0); }
+
+/* How many messages wait in the root. */
+size_t image_waiting(const uint8_t *image) {
+    const uint8_t *node = image + (size_t)word(image + 6) * NODE;
+    if (word(node + 2) != KIND_INTERIOR)
+        return 0;
+    size_t count = 0;
+    const uint8_t *end = node + HEAD + word(node);
+    for (const uint8_t *entry = node + HEAD; entry < end; entry += ENTRY_HEAD + word(entry))
+        count += word(entry + 2) != KIND_CHILD;
+    return count;
+}
+
+static size_t free_node(const uint8_t *image) {
+    uint16_t nodes[NODES_MOST];
+    const size_t count = image_reachable(image, nodes);
+    for (size_t number = 1; number < word(image + 4); number++) {
+        bool used = false;
+        for (size_t i = 0; i < count; i++)
+            used |= nodes[i] == number;
+        if (!used)
+            return number;
+    }
+    fail("no node is free");
+}
+
+/* A new root that has the old one as its one child, from the empty string on: room for the most messages that a root can hold. */
+void image_raise(uint8_t *image) {
+    const size_t number = free_node(image), levels = word(image + 8) + 1u;
+    uint8_t *node = image + number * NODE;
+    const size_t fields[] = {ENTRY_HEAD + 2, KIND_INTERIOR, levels, 0, 2, KIND_CHILD, word(image + 6)};
+    memset(node, 0, NODE);
+    for (size_t i = 0; i < sizeof fields / sizeof *fields; i++)
+        set_word(node + 2 * i, fields[i]);
+    set_word(image + 6, number);
+    set_word(image + 8, levels);
+}

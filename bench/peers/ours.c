@@ -1,0 +1,119 @@
+/* This library as a peer: every call judges the image anew. Relies on target/staticlib/libsplicelog.a. The pristine image is made by the
+ * library's own puts and tidy; for waiting messages, puts below a raised root (image.c), which the library judges at each of them.
+ */
+#include "peers.h"
+#include "splicelog.h"
+
+#include <string.h>
+
+static uint8_t pristine[NODES_MOST * NODE], store[NODES_MOST * NODE], work[NODES_MOST * 128];
+static size_t store_len, work_len;
+static const struct content *loaded;
+
+static uint32_t put(uint8_t *to, const struct record *record) {
+    return splicelog_put(to, store_len, work, work_len, record->path.at, record->path.len, record->value.at, record->value.len);
+}
+
+/* Puts until so many wait in the root; where one more would send them down, the image before it stays. */
+static void wait_for(struct content *content, size_t wanted) {
+    image_raise(pristine);
+    while (content->waiting < wanted && content->waiting < WAITING_MOST) {
+        const struct record next = content_later(content, content->waiting);
+        memcpy(store, pristine, store_len);
+        if (put(store, &next) != 0)
+            fail("a put to a sound store was refused");
+        if (image_waiting(store) != content->waiting + 1)
+            return;
+        memcpy(pristine, store, store_len);
+        content->later[content->waiting++] = next;
+    }
+}
+
+void ours_build(struct content *content, size_t wanted) {
+    store_len = content->nodes * NODE;
+    work_len = content->nodes * 128;
+    bool made = splicelog_make(pristine, store_len) == 0;
+    for (size_t i = 0; i < content->nodes; i++)
+        made &= put(pristine, &content->rows[i]) == 0;
+    made &= splicelog_tidy(pristine, store_len, work, work_len) == 0;
+    if (!made)
+        fail("the library refused to make a store of %zu nodes", content->nodes);
+    if (wanted > 0)
+        wait_for(content, wanted);
+}
+
+const uint8_t *ours_pristine(void) { return pristine; }
+
+/* ours_build has made the image, since it decides how many messages wait. */
+static void load(const struct content *content) { loaded = content; }
+
+static void reset(enum call call) {
+    (void)call;
+    memcpy(store, pristine, store_len);
+}
+
+static bool get(const struct arguments *a, struct answer *answer) {
+    const uint64_t got = splicelog_get(store, store_len, a->path.at, a->path.len, answer->given.at, sizeof answer->given.at);
+    answer->given.len = splicelog_beside(got);
+    return splicelog_number(got) == 0;
+}
+
+static bool next(const struct arguments *a, struct answer *answer) {
+    const uint64_t got = splicelog_next(store, store_len, a->path.at, a->path.len, a->other.at, a->other.len, answer->given.at,
+                                        sizeof answer->given.at);
+    answer->given.len = splicelog_beside(got);
+    return splicelog_number(got) == 0;
+}
+
+static bool run(enum call call, const struct arguments *a, struct answer *answer) {
+    switch (call) {
+    case GET:
+        return get(a, answer);
+    case NEXT:
+        return next(a, answer);
+    case PUT:
+        return splicelog_put(store, store_len, work, work_len, a->path.at, a->path.len, a->value.at, a->value.len) == 0;
+    case DROP:
+        return splicelog_drop(store, store_len, work, work_len, a->path.at, a->path.len) == 0;
+    case CLEAR:
+        return splicelog_clear(store, store_len, work, work_len, a->path.at, a->path.len) == 0;
+    case MOVE:
+        return splicelog_move(store, store_len, work, work_len, a->path.at, a->path.len, a->other.at, a->other.len) == 0;
+    case SETTLE:
+        return splicelog_settle(store, store_len, work, work_len) == 0;
+    case TIDY:
+        return splicelog_tidy(store, store_len, work, work_len) == 0;
+    default:
+        return false;
+    }
+}
+
+/* The records of one route; routes are listed one by one because a listing is below a path. */
+static uint64_t digest_route(uint64_t hash, const uint8_t *route, size_t route_len) {
+    struct splicelog_place place = {{0}, 0};
+    uint8_t value[VALUE_MOST];
+    while (splicelog_step(store, store_len, route, route_len, &place) == 0) {
+        const uint64_t got = splicelog_get(store, store_len, place.bytes, place.length, value, sizeof value);
+        hash = fnv_record(hash, place.bytes, place.length, value, splicelog_beside(got));
+    }
+    return hash;
+}
+
+static uint64_t digest(void) {
+    const uint8_t *route = NULL;
+    size_t route_len = 0;
+    uint64_t hash = fnv_start();
+    for (size_t i = 0; i < loaded->nodes; i++) {
+        const uint8_t *path = loaded->rows[i].path.at;
+        if (route && memcmp(route, path, route_len) == 0)
+            continue;
+        route = path;
+        route_len = strlen((const char *)route) + 1;
+        hash = digest_route(hash, route, route_len);
+    }
+    return hash;
+}
+
+static const char *version(void) { return "this library"; }
+
+const struct peer ours = {"ours", version, load, reset, run, digest, {true, true, true, true, true, true, true, true}};

@@ -8,10 +8,11 @@ use native.Mathlib.Omega.{arith}
 use lib.ListN.{length, take, drop, length-append}
 use lib.Dec.{leb}
 use borrow.Author.Tests.{not-true, not-false, leb-true, leb-false}
-use Rattle.image.specs.Path.{valueFits}
+use Rattle.image.specs.Path.{valueFits, owns}
 use Rattle.image.specs.Entry as defined
 use Rattle.image.specs.Table.{Row, underPrefix}
 use Rattle.octets.specs.Order.{and-left, and-right}
+use Rattle.laws.specs.Rising.{both}
 use Rattle.laws.specs.Shift.{under-append}
 use Rattle.laws.specs.Filter.{keep, keep-append}
 use Rattle.packed.specs.Leaves.{value-length}
@@ -21,14 +22,16 @@ use Rattle.node.specs.declared.Message.{Message}
 use Rattle.node.specs.declared.Entry.{Entry}
 use Rattle.rows.specs.Area.{rowsOf, RowsFit}
 use Rattle.build.specs.Rows.{RowPut}
-use Rattle.live.specs.Live.{Shortens}
+use Rattle.notes.specs.Notes.{quiet}
+use Rattle.live.specs.Live.{Shortens, short}
 use Rattle.live.specs.PathBuffers.{pathIn}
 use Rattle.live.specs.PathSteps.{path-length}
 use Rattle.live.specs.declared.path_buffer.PathBuffer.{PathBuffer}
 use Rattle.live.specs.declared.Trail.{Trail}
+use Rattle.live.specs.Noted.{keyed, LeafTold}
 use Rattle.live.specs.Walk.{passing}
 use Rattle.live.specs.Steps.{passes-short, as-path}
-use Rattle.dump.specs.Dump.{rowIn, pairsE, valueFitsE, valuesFitE, Room, Added}
+use Rattle.dump.specs.Dump.{rowIn, pairsE, valueFitsE, valuesFitE, Room, Added, KeyTold}
 
 -- ROWS ADDED
 pub added-none : (m : ℕ) (area : List ℕ) (t : List Row) → t ≡ [] → RowsFit m area → Added m area area m t
@@ -127,6 +130,41 @@ path-short full h l = rw (as-path full (full .len) (full .bytes) refl refl, path
 pub value-short : (v : List ℕ) → valueFits v ≡ true → length v ≤ 60
 value-short v e = let m = value-length v e in omega arith
 
+-- THE KEYS OF A LEAF AND THEIR NOTES
+module _ (s : List ℕ) (t : Trail) (X ns : List ℕ) (n : ℕ) where
+  keyed-first : (lo hi : List ℕ) (e : defined.Entry) (es : List defined.Entry) → keyed X lo hi (e ∷ es) ≡ true → keyed X lo hi (e ∷ []) ≡ true
+  unfolding keyed
+  keyed-first lo hi (defined.pair k v) es h = both {a = owns lo hi k && short (X ++ k)} (and-left (owns lo hi k && short (X ++ k)) (keyed X lo hi es) h) refl
+  keyed-first lo hi (defined.child i k) es h = h
+  keyed-first lo hi (defined.message m) es h = h
+
+  keyed-later : (lo hi : List ℕ) (e : defined.Entry) (es : List defined.Entry) → keyed X lo hi (e ∷ es) ≡ true → keyed X lo hi es ≡ true
+  unfolding keyed
+  keyed-later lo hi (defined.pair k v) es h = and-right (owns lo hi k && short (X ++ k)) _ h
+  keyed-later lo hi (defined.child i k) es h = absurd (true≢false (sym h))
+  keyed-later lo hi (defined.message m) es h = absurd (true≢false (sym h))
+
+  module _ (e : defined.Entry) (es ts : List defined.Entry) (q : es ≡ e ∷ ts) (h : LeafTold s t X es ns n) where
+    keys : keyed X (h .lo) (h .hi) (e ∷ ts) ≡ true
+    keys = ap (λ l. keyed X (h .lo) (h .hi) l) (sym q) ∙ h .keys
+
+    pub told-first : LeafTold s t X (e ∷ []) ns n
+    told-first = record { lo = h .lo; hi = h .hi; keys = keyed-first (h .lo) (h .hi) e ts keys; tells = h .tells }
+
+    pub told-later : LeafTold s t X ts ns n
+    told-later = record { lo = h .lo; hi = h .hi; keys = keyed-later (h .lo) (h .hi) e ts keys; tells = h .tells }
+
+  pub told-key : (k v : List ℕ) → LeafTold s t X (defined.pair k v ∷ []) ns n → KeyTold s t X k ns n
+  unfolding keyed
+  told-key k v h =
+      let a : owns (h .lo) (h .hi) k && short (X ++ k) ≡ true = and-left (owns (h .lo) (h .hi) k && short (X ++ k)) true (h .keys) in
+      record {
+        fits = h .tells .fits;
+        told = λ l.
+            h .tells .told l k (and-left (owns (h .lo) (h .hi) k) (short (X ++ k)) a)
+            ∙ ap (λ b. b && quiet s ns n k) (and-right (owns (h .lo) (h .hi) k) (short (X ++ k)) a);
+      }
+
 -- ONE ENTRY, BY ITS KIND
 module _ (s : List ℕ) (p : PathBuffer) (t : Trail) (e : Entry) where
   abbrev Rows : List Row
@@ -139,6 +177,9 @@ module _ (s : List ℕ) (p : PathBuffer) (t : Trail) (e : Entry) where
   pub entry-value : (k v : Place) → e ≡ Entry.Pair k v → valueFitsE (entryIn s e) ≡ true → valueFits (part s v) ≡ true
   unfolding valueFitsE
   entry-value k v q h = rw q at h
+
+  pub entry-told : (k v : Place) (ns : List ℕ) (n : ℕ) → e ≡ Entry.Pair k v → LeafTold s t (pathIn p) (entryIn s e ∷ []) ns n → KeyTold s t (pathIn p) (part s k) ns n
+  entry-told k v ns n q h = told-key s t (pathIn p) ns n (part s k) (part s v) (subst (λ x. LeafTold s t (pathIn p) (entryIn s x ∷ []) ns n) q h)
 
   pub entry-child : (i : ℕ) (k : Place) → e ≡ Entry.Child i k → Rows ≡ []
   unfolding underPrefix pairsE keep

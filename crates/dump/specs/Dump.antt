@@ -12,12 +12,16 @@ use Rattle.image.specs.Image.{Kid, treeAt, forestOf}
 use Rattle.image.specs.Sound.{soundForest, tableOf}
 use Rattle.node.specs.Places.{part}
 use Rattle.node.specs.declared.Place.{Place}
+use Rattle.node.specs.declared.Cursor.{Cursor}
 use Rattle.search.specs.Hear.{newestE}
 use Rattle.rows.specs.Area.{rowsOf, RowsFit}
+use Rattle.notes.specs.Notes.{NotesFit, quiet}
 use Rattle.live.specs.Live.{holdsNoMessage}
+use Rattle.live.specs.Noted as noted
 use Rattle.live.specs.PathBuffers.{pathIn}
 use Rattle.live.specs.declared.path_buffer.PathBuffer.{PathBuffer}
-use Rattle.live.specs.Walk.{decides}
+use Rattle.live.specs.declared.Trail.{Trail}
+use Rattle.live.specs.Walk.{passing, decides}
 
 -- the row of a key and a value at places of the store, under a prefix
 abbrev pub rowIn : List ℕ → PathBuffer → Place → Place → Row
@@ -88,10 +92,19 @@ pub record Placed (first : ℕ) (area area′ : List ℕ) (r : ℕ) (t : List Ro
   pub rows : rowsOf (r - first) area′ first ≡ t
   pub size : length area′ ≡ length area
 
+-- notes tell whether the path of a key of a leaf passes the trail; more than 64 notes tell nothing
+pub record KeyTold (s : List ℕ) (t : Trail) (X k ns : List ℕ) (n : ℕ) : Type 0 where
+  pub fits : n ≤ 64 → NotesFit s ns n
+  pub told : n ≤ 64 → passing s t (X ++ k) ≡ quiet s ns n k
+
 -- children, from the one in hand on, of a sound node that lifts X; hi is its high pivot without X, low its low one
 pub record SoundKids (s : List ℕ) (level : ℕ) (X hi : List ℕ) (ks : List Kid) : Type 0 where
   pub low : List ℕ
   pub kids : soundForest (forestOf (λ j. treeAt level s j) ks) X low (X ++ hi) ≡ true
+
+-- notes tell of all that the node of the children owns, from the child in hand on
+abbrev pub KidsTold : List ℕ → ℕ → ℕ → Place → Cursor → PathBuffer → List ℕ → Trail → List ℕ → ℕ → Type 0
+KidsTold s level first pivot start p hi t ns n = noted.SoundKids s level first pivot start p hi t ns n
 
 -- all m rows of the table stand in the area after the dump
 pub record Dumped (s area area′ : List ℕ) (m : ℕ) : Type 0 where

@@ -1,6 +1,6 @@
 // Every row of a sound store's map, rising, in the rows of the work area, by one walk over the tree: a leaf's pairs are appended in their
 // order, and a waiting put is inserted among the rows of its node's children. Only what decides a path is written, so that there are never
-// more rows than live paths. Relies on the tests of `live`, on `build` (one row) and `insertion`; the caller has checked the store.
+// more rows than live paths. Relies on the tests of `live`, on `notes`, `build` (one row) and `insertion`; the caller has checked the store.
 use live::Pending;
 use live::Trail;
 use live::path_buffer;
@@ -27,8 +27,29 @@ ghost use Rattle.node.specs.Entries.{listed};
 ghost use Rattle.search.specs.Own.{kid, kidsE};
 ghost use Rattle.rows.specs.Area.{rowsOf};
 ghost use Rattle.live.specs.PathBuffers.{pathIn};
+ghost use Rattle.live.specs.Noted.{Tells, LeafTold};
 ghost use Rattle.live.specs.Walk.{passing, decides, TrailIn, Ready, ReadyKids};
-ghost use Rattle.dump.specs.Dump.{rowIn, pairsE, valueFitsE, valuesFitE, withEntry, insertE, Room, Added, Open, Placed, SoundKids, Dumped};
+ghost use Rattle.dump.specs.Dump.{rowIn, pairsE, valueFitsE, valuesFitE, withEntry, insertE, Room, Added, Open, Placed, KeyTold, KidsTold, SoundKids, Dumped};
+
+// Whether a leaf's key is shown: no message above says anything of its path. The notes tell, and where these had no room, the trail.
+fn is_shown(
+    store: &[u8],
+    prefix: PathBuffer,
+    trail: Trail,
+    key: &[u8],
+    notes: &[usize; 64],
+    n: usize,
+) -> bool
+    requires { ⌜ (prefix .len ≤ 64)
+        × TrailIn (now store) (prefix .len) trail
+        × KeyTold (now store) trail (pathIn prefix) (now key) (now notes) n ⌝ }
+    ensures { λ r. ⌜ r ≡ passing (now (store .entry)) trail (pathIn prefix ++ now (key .entry)) ⌝ }
+{
+    if 64 < n {
+        return live::is_live(store, prefix, trail, key);
+    }
+    notes::is_quiet(store, notes, n, key)
+}
 
 // A pair's row after the `m` rows of the area, if no message above says anything of its path.
 fn append_pair(
@@ -39,26 +60,29 @@ fn append_pair(
     trail: Trail,
     key: Place,
     value: Place,
+    notes: &[usize; 64],
+    n: usize,
 ) -> usize
     requires { ⌜ (prefix .len ≤ 64)
         × TrailIn (now store) (prefix .len) trail
         × Within 0 (length (now store)) key
         × Within 0 (length (now store)) value
         × (valueFits (part (now store) value) ≡ true)
-        × Room (now area) m (keep (passing (now store) trail) (rowIn (now store) prefix key value ∷ [])) ⌝ }
+        × Room (now area) m (keep (passing (now store) trail) (rowIn (now store) prefix key value ∷ []))
+        × KeyTold (now store) trail (pathIn prefix) (part (now store) key) (now notes) n ⌝ }
     ensures { λ r. ⌜ Added m (now (area .entry)) (now (area .exit)) r (keep (passing (now (store .entry)) trail) (rowIn (now (store .entry)) prefix key value ∷ [])) ⌝ }
 {
     let a = key.start;
     let b = key.stop;
-    if !live::is_live(store, prefix, trail, &store[a..b]) {
+    if !is_shown(store, prefix, trail, &store[a..b], notes, n) {
         return m;
     }
     let full = path_buffer::extend(prefix, &store[a..b]);
-    let n = full.len;
+    let len = full.len;
     let path = full.bytes;
     let x = value.start;
     let y = value.stop;
-    build::put_row(area, m, &path[0..n], &store[x..y]);
+    build::put_row(area, m, &path[0..len], &store[x..y]);
     m + 1
 }
 
@@ -69,16 +93,19 @@ fn append_entry(
     prefix: PathBuffer,
     trail: Trail,
     e: Entry,
+    notes: &[usize; 64],
+    n: usize,
 ) -> usize
     requires { ⌜ (prefix .len ≤ 64)
         × TrailIn (now store) (prefix .len) trail
         × EntryWithin 0 (length (now store)) e
         × (valueFitsE (entryIn (now store) e) ≡ true)
-        × Room (now area) m (keep (passing (now store) trail) (underPrefix (pathIn prefix) (pairsE (entryIn (now store) e ∷ [])))) ⌝ }
+        × Room (now area) m (keep (passing (now store) trail) (underPrefix (pathIn prefix) (pairsE (entryIn (now store) e ∷ []))))
+        × LeafTold (now store) trail (pathIn prefix) (entryIn (now store) e ∷ []) (now notes) n ⌝ }
     ensures { λ r. ⌜ Added m (now (area .entry)) (now (area .exit)) r (keep (passing (now (store .entry)) trail) (underPrefix (pathIn prefix) (pairsE (entryIn (now (store .entry)) e ∷ [])))) ⌝ }
 {
     match e {
-        Entry::Pair(key, value) => append_pair(store, area, m, prefix, trail, key, value),
+        Entry::Pair(key, value) => append_pair(store, area, m, prefix, trail, key, value, notes, n),
         Entry::Child(_, _) => m,
         Entry::Message(_) => m,
     }
@@ -93,12 +120,15 @@ fn append_pairs(
     end: usize,
     prefix: PathBuffer,
     trail: Trail,
+    notes: &[usize; 64],
+    n: usize,
 ) -> usize
     requires { ⌜ (end ≤ length (now store))
         × (prefix .len ≤ 64)
         × TrailIn (now store) (prefix .len) trail
         × (valuesFitE (listed (now store) from end) ≡ true)
-        × Room (now area) first (keep (passing (now store) trail) (underPrefix (pathIn prefix) (pairsE (listed (now store) from end)))) ⌝ }
+        × Room (now area) first (keep (passing (now store) trail) (underPrefix (pathIn prefix) (pairsE (listed (now store) from end))))
+        × LeafTold (now store) trail (pathIn prefix) (listed (now store) from end) (now notes) n ⌝ }
     ensures { λ r. ⌜ Added first (now (area .entry)) (now (area .exit)) r (keep (passing (now (store .entry)) trail) (underPrefix (pathIn prefix) (pairsE (listed (now (store .entry)) from end)))) ⌝ }
 {
     let mut c = Cursor { at: from, end };
@@ -107,7 +137,7 @@ fn append_pairs(
         let Step::Read(e, next) = c.step(store) else {
             return m;
         };
-        m = append_entry(store, area, m, prefix, trail, e);
+        m = append_entry(store, area, m, prefix, trail, e, notes, n);
         c = next;
     }
     m
@@ -252,7 +282,8 @@ fn insert_puts(
 }
 
 // The rows under a node whose paths pass the trail, after the `m` rows of the area. The pivots lack what the parent lifts, which is the
-// prefix; a lifted prefix that is too long for any path leaves no row.
+// prefix; a lifted prefix that is too long for any path leaves no row. `handed` has `many` notes of the
+// parent, which tell what the trail tells.
 fn dump_node(
     store: &[u8],
     area: &mut [u8],
@@ -263,10 +294,13 @@ fn dump_node(
     lo: &[u8],
     hi: &[u8],
     trail: Trail,
+    handed: &[usize; 64],
+    many: usize,
 ) -> usize
     requires { ⌜ Ready (now store) level num prefix trail
         × (soundTree (treeAt level (now store) num) (pathIn prefix ++ now lo) (pathIn prefix ++ now hi) ≡ true)
-        × Room (now area) m (keep (passing (now store) trail) (rows (treeAt level (now store) num) (pathIn prefix ++ now lo) (pathIn prefix ++ now hi))) ⌝ }
+        × Room (now area) m (keep (passing (now store) trail) (rows (treeAt level (now store) num) (pathIn prefix ++ now lo) (pathIn prefix ++ now hi)))
+        × Tells (now store) trail (pathIn prefix) (now lo) (now hi) (now handed) many ⌝ }
     ensures { λ r. ⌜ Added m (now (area .entry)) (now (area .exit)) r
         (keep (passing (now (store .entry)) trail)
         (rows (treeAt level (now (store .entry)) num) (pathIn prefix ++ now (lo .entry)) (pathIn prefix ++ now (hi .entry)))) ⌝ }
@@ -277,12 +311,24 @@ fn dump_node(
         return m;
     }
     let here = path_buffer::extend(prefix, &lo[0..k]);
+    let mut notes = [0usize; 64];
+    let n = live::note_above(
+        store,
+        here,
+        trail,
+        &lo[0..k],
+        &lo[k..],
+        &hi[k..],
+        handed,
+        many,
+        &mut notes,
+    );
     let at = num * image::NODE_SIZE;
     let len = octets::u16_at(store, at);
     let from = at + image::ENTRIES_AT;
     let end = from + len;
     if level <= 1 {
-        return append_pairs(store, area, m, from, end, here, trail);
+        return append_pairs(store, area, m, from, end, here, trail, &notes, n);
     }
     let Pending::Child(child, pivot, next) = live::read_child(store, Cursor { at: from, end })
     else {
@@ -290,7 +336,8 @@ fn dump_node(
     };
     let lift = here.len;
     let above = live::lengthen_trail(store, trail, num, lift);
-    let n = dump_children(
+    let more = live::note_own(store, num, &lo[k..], &hi[k..], &mut notes, n);
+    let r = dump_children(
         store,
         area,
         m,
@@ -301,8 +348,10 @@ fn dump_node(
         here,
         &hi[k..],
         above,
+        &notes,
+        more,
     );
-    insert_puts(store, area, m, n, from, end, here, trail)
+    insert_puts(store, area, m, r, from, end, here, trail)
 }
 
 // The same for a child and those that follow from the cursor on; a child's high pivot is the next one's low pivot, or else hi.
@@ -317,6 +366,8 @@ fn dump_children(
     prefix: PathBuffer,
     hi: &[u8],
     trail: Trail,
+    notes: &[usize; 64],
+    n: usize,
 ) -> usize
     requires { ⌜ ReadyKids (now store) level child pivot start prefix trail
         × SoundKids (now store) level (pathIn prefix) (now hi)
@@ -326,7 +377,8 @@ fn dump_children(
         (rowsIn
         (forestOf (λ j. treeAt level (now store) j)
         (kid child (part (now store) pivot) ∷ kidsE (listed (now store) (start .at) (start .end)))) (pathIn prefix)
-        (pathIn prefix ++ now hi))) ⌝ }
+        (pathIn prefix ++ now hi)))
+        × KidsTold (now store) level child pivot start prefix (now hi) trail (now notes) n ⌝ }
     ensures { λ r. ⌜ Added first (now (area .entry)) (now (area .exit)) r
         (keep (passing (now (store .entry)) trail)
         (rowsIn
@@ -342,7 +394,19 @@ fn dump_children(
         let a = low.start;
         let b = low.stop;
         let Pending::Child(k, p, next) = live::read_child(store, c) else {
-            return dump_node(store, area, m, num, level, prefix, &store[a..b], hi, trail);
+            return dump_node(
+                store,
+                area,
+                m,
+                num,
+                level,
+                prefix,
+                &store[a..b],
+                hi,
+                trail,
+                notes,
+                n,
+            );
         };
         let x = p.start;
         let y = p.stop;
@@ -356,6 +420,8 @@ fn dump_children(
             &store[a..b],
             &store[x..y],
             trail,
+            notes,
+            n,
         );
         num = k;
         low = p;
@@ -381,5 +447,18 @@ pub fn dump(store: &[u8], area: &mut [u8]) -> usize
         lifts: [0usize; 8],
         depth: 0,
     };
-    dump_node(store, area, 0, root, levels, prefix, &lo[0..0], &hi, trail)
+    let notes = [0usize; 64];
+    dump_node(
+        store,
+        area,
+        0,
+        root,
+        levels,
+        prefix,
+        &lo[0..0],
+        &hi,
+        trail,
+        &notes,
+        0,
+    )
 }

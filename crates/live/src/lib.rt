@@ -220,7 +220,7 @@ fn note_trail(
 
 // The messages above a node that can be on a key from lo up to hi, as notes: of those that the node above hands down, which sees the keys
 // after w, and where it has none to hand down, of the trail. Gives how many; 65 where there is no room.
-fn note_above(
+pub fn note_above(
     store: &[u8],
     here: PathBuffer,
     trail: Trail,
@@ -241,7 +241,14 @@ fn note_above(
 }
 
 // A node's own messages that can be on a key from lo up to hi, noted after the n notes that it was handed. Gives how many there are then.
-fn note_own(store: &[u8], num: usize, lo: &[u8], hi: &[u8], notes: &mut [usize], n: usize) -> usize
+pub fn note_own(
+    store: &[u8],
+    num: usize,
+    lo: &[u8],
+    hi: &[u8],
+    notes: &mut [usize],
+    n: usize,
+) -> usize
     requires { ⌜ (num * 1024 + 1024 ≤ length (now store)) × (u16 (now store) (num * 1024) ≤ 1016) × (n ≤ 64 → NotesFit (now store) (now notes) n) ⌝ }
     ensures { λ r. ⌜ Joined (now (store .entry)) num (now (lo .entry)) (now (hi .entry)) (now (notes .entry)) n (now (notes .exit)) r ⌝ }
 {

@@ -12,7 +12,7 @@ use borrow.Author.Tests.{leb-true, leb-false, le-leb, lt-leb, ltb-true, lt-ltb}
 use Rattle.image.specs.Bytes.{before, begins, shared, u16}
 use Rattle.image.specs.Entry.{Message, Entry, pair, child, message}
 use Rattle.image.specs.Table.{Row}
-use Rattle.image.specs.Image.{Tree, unread, leaf, interior, Forest, end, tree, Kid, forestOf, treeAt, nodesOf, pairThen, pairsOf}
+use Rattle.image.specs.Image.{Tree, unread, leaf, interior, Forest, end, tree, treeAt, nodesOf, pairThen, pairsOf}
 use Rattle.image.specs.Upkeep.{noMessage, pairBytes, childBytes, shortPivots, treeBytes, treeShort, wouldFit}
 use Rattle.octets.specs.Order.{and-left, and-right, before-asym, shared-append}
 use Rattle.octets.specs.Beginnings.{shared-left, shared-right, shared-most, begins-length}
@@ -24,10 +24,12 @@ use Rattle.laws.specs.Page.{numberOf, pairEntries, childEntries}
 use Rattle.reading.specs.Relative.{usable, usableIn}
 use Rattle.upkeep.specs.Merge.{rewritten, repointed, followed, merged, Pair}
 use Rattle.upkeep.specs.Size.{messageEntries, entriesFor, bytes-append}
-use Rattle.upkeep.specs.Reading.{kidEntries, inside-entries, number-at}
+use Rattle.upkeep.specs.Reading.{inside-entries, number-at}
 use Rattle.lookup.specs.Look.{listing, LeafAt, leaf-at, InteriorAt, interior-at, node-inside}
 use Rattle.mend_laws.specs.Joined.{prefixed, prefixedAll, weight, weights, nodeWeight, leftMore, rightMore, pairFits, smallEntry, smallEntries, bothEntries}
 use Rattle.mend_laws.specs.Weights.{weights-rise}
+use Rattle.upkeep.specs.Size.{pairs-for-append as pairs-more, kids-for-append as kids-more}
+use Rattle.upkeep.specs.Reading.{kids-for-forest as kids-for}
 
 -- THE SUM OF ALL WEIGHTS
 unfoldable pub total : ℕ → List Entry → ℕ
@@ -119,16 +121,6 @@ module _ (J L m : List ℕ) (grows : (k : List ℕ) → drop (length J) (L ++ k)
       omega arith
 
 -- THE ENTRIES OF BOTH
-pairs-more : (t u : List Row) → pairEntries (t ++ u) ≡ pairEntries t ++ pairEntries u
-unfolding pairEntries
-pairs-more [] u = refl
-pairs-more (r ∷ t) u = ap (λ l. pair (r .key) (r .value) ∷ l) (pairs-more t u)
-
-kids-more : (f g : Forest) → childEntries (followed f g) ≡ childEntries f ++ childEntries g
-unfolding childEntries followed
-kids-more end g = refl
-kids-more (tree s t f) g = ap (λ l. child (numberOf t) s ∷ l) (kids-more f g)
-
 pub merged-entries : {t u : Tree} → Pair t u → (lo mid hi m n : List ℕ) → ((k : List ℕ) → drop (length (shared lo hi)) (shared lo mid ++ k) ≡ m ++ k)
     → ((k : List ℕ) → drop (length (shared lo hi)) (shared mid hi ++ k) ≡ n ++ k)
     → prefixedAll m (entriesFor t) ++ prefixedAll n (entriesFor u) ≡ entriesFor (merged t u lo mid hi)
@@ -155,11 +147,6 @@ pairs-entries [] rs p = ap pairEntries (Option·some-injective [] rs p)
 pairs-entries (pair k v ∷ es) rs p = pairs-then k v es (pairsOf es) rs p (λ qs q. pairs-entries es qs q)
 pairs-entries (child i k ∷ es) rs p = absurd (Option·none-ne-some rs p)
 pairs-entries (message m ∷ es) rs p = absurd (Option·none-ne-some rs p)
-
-pub kids-for : (under : ℕ → Tree) → ((j : ℕ) → numberOf (under j) ≡ j) → (ks : List Kid) → childEntries (forestOf under ks) ≡ kidEntries ks
-unfolding childEntries forestOf kidEntries
-kids-for under law [] = refl
-kids-for under law (k ∷ ks) = ap₂ (λ i l. child i (k .pivot) ∷ l) (law (k .number)) (kids-for under law ks)
 
 pub lists-tree : (s : List ℕ) (i level : ℕ) → usable (nodesOf (length s)) (treeAt level s i) ≡ true → listing s i ≡ entriesFor (treeAt level s i)
 unfolding entriesFor

@@ -11,7 +11,6 @@ use Rattle.image.specs.Bytes.{before, shared}
 use Rattle.image.specs.Entry as defined
 use Rattle.image.specs.Image.{Tree, Forest, end, tree, Kid, forestOf}
 use Rattle.octets.specs.Order.{and-left, and-right}
-use Rattle.laws.specs.Rising.{both}
 use Rattle.laws.specs.Encode.{bytesOf, bytesOfAll}
 use Rattle.laws.specs.Pieces.{joined, raise, lower, node, over}
 use Rattle.laws.specs.Page.{page, numberOf, childEntries, kidsOf}
@@ -26,6 +25,7 @@ use Rattle.search.specs.Own.{kid}
 use Rattle.push.specs.WriteSteps.{child-length}
 use Rattle.slice.specs.Point.{within, between, pointOf, kidLine}
 use Rattle.slice.specs.Right.{skipOf, restOf, edgeAt, rightAt, raiseKids, allLine, overBody}
+use Rattle.slicing.specs.SliceFits.{fits-lower}
 
 -- THE REST
 module _ (hi k : List ℕ) where
@@ -112,23 +112,6 @@ pub kids-forest : (under : ℕ → Tree) (ks : List Kid) → ((j : ℕ) → numb
 unfolding kidsOf forestOf
 kids-forest under [] num = refl
 kids-forest under (c ∷ cs) num = ap₂ (λ i ks. kid i (c .pivot) ∷ ks) (num (c .number)) (kids-forest under cs num)
-
-pub fits-raise : (l : List ℕ) (f : Forest) → fitsIn (raise l f) ≡ fitsIn f
-unfolding fitsIn raise
-fits-raise l end = refl
-fits-raise l (tree s t f) = ap (λ b. fits t && b) (fits-raise l f)
-
-pub fits-lower : (l : List ℕ) (f : Forest) → fitsIn (lower l f) ≡ fitsIn f
-unfolding fitsIn lower
-fits-lower l end = refl
-fits-lower l (tree s t f) = ap (λ b. fits t && b) (fits-lower l f)
-
-pub fits-parts : (f g : Forest) → fitsIn (joined f g) ≡ true → (fitsIn f ≡ true) × (fitsIn g ≡ true)
-unfolding fitsIn joined
-fits-parts end g e = (refl, e)
-fits-parts (tree s t f) g e =
-    let z : (fitsIn f ≡ true) × (fitsIn g ≡ true) = fits-parts f g (and-right (fits t) _ e) in
-    (both (and-left (fits t) _ e) (z .0), z .1)
 
 -- LINES
 pub line-lower : (l : List ℕ) (f : Forest) → bytesOfAll (childEntries (lower l f)) ≡ allLine (length l) (kidsOf f)

@@ -10,7 +10,6 @@ use lib.Seq.{take-append-seam}
 use lib.Dec.{ltb, leb}
 use borrow.Author.Tests.{leb-true}
 use Rattle.image.specs.Bytes.{u16, before, shared}
-use Rattle.image.specs.Entry as defined
 use Rattle.image.specs.Table.{Row, underPrefix}
 use Rattle.image.specs.Image.{Tree, leaf, interior, Forest, end, tree, Kid, nodesOf, nodeBytes, treeAt, forestOf}
 use Rattle.image.specs.Meaning.{highOf}
@@ -41,7 +40,9 @@ use Rattle.slice.specs.declared.Parts.{Parts}
 use Rattle.slice.specs.Point.{Point, within, between, nowhere, freshIn, pointOf, pointIn, CutAs, onSide, sideLine}
 use Rattle.slice.specs.PointLaws.{side-line}
 use Rattle.slice.specs.Right.{skipOf, restOf, edgeAt, rightAt, piecesIn, PartsFit, raiseKids, allLine, overBody, wideBody, oneNode, headKid, RightAsks, PointAsksRight, RightAs, EdgeAs, NarrowAsks, WideReady, WideAs}
-use Rattle.slice.specs.RightLaws.{rest-skip, rest-is, edge-is, edge-write, kids-raise, kids-joined, kids-forest, fits-raise, fits-parts, over-body, over-fits}
+use Rattle.slice.specs.RightLaws.{rest-skip, rest-is, edge-is, edge-write, kids-raise, kids-joined, kids-forest, over-body, over-fits}
+use Rattle.slicing.specs.SliceFits.{fits-raise}
+use Rattle.slicing.specs.RightWrite.{fits-parts}
 use Rattle.slice.specs.LeftSteps.{small-kids, no-level, one-level, node-lists, node-short}
 
 under-none : (t : List Row) → underPrefix [] t ≡ t

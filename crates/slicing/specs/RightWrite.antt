@@ -46,7 +46,7 @@ reads-rest under (tree s t f) lifted hi k e = go (before k (highOf lifted hi f))
     go true a false b ih = rw (a, b) (e .0, reads-raise under lifted f (e .1))
     go false a y b ih = rw a ih
 
-fits-parts : (f g : Forest) → fitsIn (joined f g) ≡ true → (fitsIn f ≡ true) × (fitsIn g ≡ true)
+pub fits-parts : (f g : Forest) → fitsIn (joined f g) ≡ true → (fitsIn f ≡ true) × (fitsIn g ≡ true)
 unfolding fitsIn joined
 fits-parts end g e = (refl, e)
 fits-parts (tree s t f) g e =

@@ -98,12 +98,12 @@ unfolding shortIn shortAt lower
 short-lower l end = refl
 short-lower l (tree s t f) = rw (length-drop (length l) s, short-lower l f)
 
-fits-lower : (l : List ℕ) (f : Forest) → fitsIn (lower l f) ≡ fitsIn f
+pub fits-lower : (l : List ℕ) (f : Forest) → fitsIn (lower l f) ≡ fitsIn f
 unfolding fitsIn lower
 fits-lower l end = refl
 fits-lower l (tree s t f) = rw (fits-lower l f)
 
-fits-raise : (l : List ℕ) (f : Forest) → fitsIn (raise l f) ≡ fitsIn f
+pub fits-raise : (l : List ℕ) (f : Forest) → fitsIn (raise l f) ≡ fitsIn f
 unfolding fitsIn raise
 fits-raise l end = refl
 fits-raise l (tree s t f) = rw (fits-raise l f)

@@ -209,7 +209,7 @@ number-at zero s i = refl
 number-at (suc zero) s i = leaf-number i (orNone pairsOf (nodeEntries 0x0001 1 (nodeBytes s i)))
 number-at (suc (suc l)) s i = interior-number (λ j. treeAt (suc l) s j) i (orNone insideOf (nodeEntries 0x0002 (suc (suc l)) (nodeBytes s i)))
 
-kids-for-forest : (under : ℕ → Tree) → ((j : ℕ) → numberOf (under j) ≡ j) → (ks : List Kid) → childEntries (forestOf under ks) ≡ kidEntries ks
+pub kids-for-forest : (under : ℕ → Tree) → ((j : ℕ) → numberOf (under j) ≡ j) → (ks : List Kid) → childEntries (forestOf under ks) ≡ kidEntries ks
 unfolding childEntries forestOf kidEntries
 kids-for-forest under law [] = refl
 kids-for-forest under law (k ∷ ks) = ap₂ (λ i l. child i (k .pivot) ∷ l) (law (k .number)) (kids-for-forest under law ks)

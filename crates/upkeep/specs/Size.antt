@@ -74,12 +74,12 @@ unfolding sizeOf bytesOfAll
 size-nil = refl
 
 -- Upkeep's counts are the bytes of the entries rewritten
-pairs-for-append : (t u : List Row) → pairEntries (t ++ u) ≡ pairEntries t ++ pairEntries u
+pub pairs-for-append : (t u : List Row) → pairEntries (t ++ u) ≡ pairEntries t ++ pairEntries u
 unfolding pairEntries
 pairs-for-append [] u = refl
 pairs-for-append (r ∷ t) u = ap (λ l. pair (r .key) (r .value) ∷ l) (pairs-for-append t u)
 
-kids-for-append : (f g : Forest) → childEntries (followed f g) ≡ childEntries f ++ childEntries g
+pub kids-for-append : (f g : Forest) → childEntries (followed f g) ≡ childEntries f ++ childEntries g
 unfolding childEntries followed
 kids-for-append end g = refl
 kids-for-append (tree s t f) g = ap (λ l. child (numberOf t) s ∷ l) (kids-for-append f g)

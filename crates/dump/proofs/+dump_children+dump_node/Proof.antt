@@ -1,6 +1,8 @@
 -- `dump_node` and `dump_children` meet their contracts. The level falls from a node to its children. The loop over the children: the rows
--- so far, and those of the child in hand and those after it, make all. Relies on specs/NodeSteps.
+-- so far, and those of the child in hand and those after it, make all. Relies on specs/NodeSteps and on live/specs/NotedSteps.
+use Rattle.dump.specs.Dump.{KidsTold}
 use Rattle.dump.specs.NodeSteps.{node-long, leaf-values, leaf-room, leaf-added, node-bare, sound-kids, kids-room, puts-open, node-inner, Descending, descend-first, last-sound, last-room, last-added, more-sound, more-room, descend-next}
+use Rattle.live.specs.NotedSteps.{handed, told-joined, leaf-told, kids-sound, last-told, next-told, later-sound}
 use Rattle.live.specs.NodeSteps.{node-above, child-ready, kids-ready}
 use Rattle.live.specs.WalkLaws.{later-usable}
 use Rattle.live.specs.Steps.{trail-wider, pends-child, pends-end}
@@ -33,6 +35,8 @@ use Rattle.dump.proofs.+dump_children+dump_node.Lts-dump_node as dump-n
 use Rattle.dump.proofs.append_pairs.Reads as append-pairs-reads
 use Rattle.dump.proofs.insert_puts.Reads as insert-puts-reads
 use Rattle.live.proofs.lengthen_trail.Reads as lengthen-trail-reads
+use Rattle.live.proofs.note_above.Reads as note-above-reads
+use Rattle.live.proofs.note_own.Reads as note-own-reads
 use Rattle.live.proofs.path_buffer.extend.Reads as extend-reads
 use Rattle.live.proofs.read_child.Reads as read-child-reads
 use Rattle.octets.proofs.common_length.Reads as common-length-reads
@@ -40,42 +44,44 @@ use Rattle.octets.proofs.u16_at.Reads as u16-at-reads
 use Rattle.dump.proofs.+dump_children+dump_node.{statement}
 use Rattle.dump.proofs.+dump_children+dump_node.Tie.{close}
 
-abbrev μ-dump-children : Measures 3 dump-children-kinds.ps ℕ
+abbrev μ-dump-children : Measures 4 dump-children-kinds.ps ℕ
 μ-dump-children κs a = a .1 .1 .1 .1 .1 .1 .0 * 2 + 1
 
-abbrev μ-dump-node : Measures 4 dump-node-kinds.ps ℕ
+abbrev μ-dump-node : Measures 5 dump-node-kinds.ps ℕ
 μ-dump-node κs a = a .1 .1 .1 .1 .0 * 2
 
-abbrev dump-children-at : ℕ → In 3 dump-children-kinds.ps
+abbrev dump-children-at : ℕ → In 4 dump-children-kinds.ps
 dump-children-at t =
-    and 3 dump-children-kinds.ps (is 3 dump-children-kinds.ps μ-dump-children t) dump-children.Pre
+    and 4 dump-children-kinds.ps (is 4 dump-children-kinds.ps μ-dump-children t) dump-children.Pre
 
-abbrev dump-children-below : ℕ → In 3 dump-children-kinds.ps
+abbrev dump-children-below : ℕ → In 4 dump-children-kinds.ps
 dump-children-below t =
     and
-    3
+    4
     dump-children-kinds.ps
-    (falls 3 dump-children-kinds.ps _<_ μ-dump-children t)
+    (falls 4 dump-children-kinds.ps _<_ μ-dump-children t)
     dump-children.Pre
 
-abbrev dump-node-at : ℕ → In 4 dump-node-kinds.ps
-dump-node-at t = and 4 dump-node-kinds.ps (is 4 dump-node-kinds.ps μ-dump-node t) dump-node.Pre
+abbrev dump-node-at : ℕ → In 5 dump-node-kinds.ps
+dump-node-at t = and 5 dump-node-kinds.ps (is 5 dump-node-kinds.ps μ-dump-node t) dump-node.Pre
 
-abbrev dump-node-below : ℕ → In 4 dump-node-kinds.ps
+abbrev dump-node-below : ℕ → In 5 dump-node-kinds.ps
 dump-node-below t =
-    and 4 dump-node-kinds.ps (falls 4 dump-node-kinds.ps _<_ μ-dump-node t) dump-node.Pre
+    and 5 dump-node-kinds.ps (falls 5 dump-node-kinds.ps _<_ μ-dump-node t) dump-node.Pre
 
 abbrev dump-children-Inv-loop : dump-children-lts.InvT-loop
-dump-children-Inv-loop store area₀ first child level prefix hi trail c₀ num₀ low₀ m₀ area c num low m = (c .end ≤ length store) × Within 0 (length store) low × (usableIn (nodesOf (length store)) (forestOf (λ j. treeAt level store j) (kid num (part store low) ∷ kidsE (listed store (c .at) (c .end)))) ≡ true) × Descending store level (pathIn prefix) hi (passing store trail) first area₀ area m (kid num (part store low) ∷ kidsE (listed store (c .at) (c .end))) (keep (passing store trail) (rowsIn (forestOf (λ j. treeAt level store j) (kid child (part store low₀) ∷ kidsE (listed store (c₀ .at) (c₀ .end)))) (pathIn prefix) (pathIn prefix ++ hi)))
+dump-children-Inv-loop store area₀ first child level prefix hi trail notes n c₀ num₀ low₀ m₀ area c num low m = (c .end ≤ length store) × Within 0 (length store) low × (usableIn (nodesOf (length store)) (forestOf (λ j. treeAt level store j) (kid num (part store low) ∷ kidsE (listed store (c .at) (c .end)))) ≡ true) × Descending store level (pathIn prefix) hi (passing store trail) first area₀ area m (kid num (part store low) ∷ kidsE (listed store (c .at) (c .end))) (keep (passing store trail) (rowsIn (forestOf (λ j. treeAt level store j) (kid child (part store low₀) ∷ kidsE (listed store (c₀ .at) (c₀ .end)))) (pathIn prefix) (pathIn prefix ++ hi))) × KidsTold store level num low c prefix hi trail notes n
 
 abbrev dump-children-μ-loop : dump-children-lts.MeasureT-loop
-dump-children-μ-loop store area₀ first child level prefix hi trail c₀ num₀ low₀ m₀ area c num low m = c .end - c .at
+dump-children-μ-loop store area₀ first child level prefix hi trail notes n c₀ num₀ low₀ m₀ area c num low m = c .end - c .at
 
 here-length : (t : ℕ) (c : dump-node-lts.After-extend (
   common-length-reads.Asked,
   common-length-reads.Learnt,
   extend-reads.Asked,
   extend-reads.Learnt,
+  note-above-reads.Asked,
+  note-above-reads.Learnt,
   u16-at-reads.Asked,
   u16-at-reads.Learnt,
   append-pairs-reads.Asked,
@@ -84,6 +90,8 @@ here-length : (t : ℕ) (c : dump-node-lts.After-extend (
   read-child-reads.Learnt,
   lengthen-trail-reads.Asked,
   lengthen-trail-reads.Learnt,
+  note-own-reads.Asked,
+  note-own-reads.Learnt,
   dump-children-below t,
   dump-children.Post,
   insert-puts-reads.Asked,
@@ -97,6 +105,8 @@ here-short : (t : ℕ) (c : dump-node-lts.After-extend (
   common-length-reads.Learnt,
   extend-reads.Asked,
   extend-reads.Learnt,
+  note-above-reads.Asked,
+  note-above-reads.Learnt,
   u16-at-reads.Asked,
   u16-at-reads.Learnt,
   append-pairs-reads.Asked,
@@ -105,6 +115,8 @@ here-short : (t : ℕ) (c : dump-node-lts.After-extend (
   read-child-reads.Learnt,
   lengthen-trail-reads.Asked,
   lengthen-trail-reads.Learnt,
+  note-own-reads.Asked,
+  note-own-reads.Learnt,
   dump-children-below t,
   dump-children.Post,
   insert-puts-reads.Asked,
@@ -117,6 +129,8 @@ first-next : (t : ℕ) (c : dump-node-lts.After-known-told (
   common-length-reads.Learnt,
   extend-reads.Asked,
   extend-reads.Learnt,
+  note-above-reads.Asked,
+  note-above-reads.Learnt,
   u16-at-reads.Asked,
   u16-at-reads.Learnt,
   append-pairs-reads.Asked,
@@ -125,12 +139,14 @@ first-next : (t : ℕ) (c : dump-node-lts.After-known-told (
   read-child-reads.Learnt,
   lengthen-trail-reads.Asked,
   lengthen-trail-reads.Learnt,
+  note-own-reads.Asked,
+  note-own-reads.Learnt,
   dump-children-below t,
   dump-children.Post,
   insert-puts-reads.Asked,
   insert-puts-reads.Learnt,
 ) (dump-node-at t) dump-node.Post)
-    → NextChild (c .before .before .before .before .before .before .before .before .before .before .before .before .before .before .before .args .store .now) (c .before .before .before .before .before .before .before .before .before .before .before .before .before .before .before .args .num * 1024 + 8) (c .before .before .before .before .before .before .before .before .before .before .before .before .before .before .before .args .num * 1024 + 8 + c .before .before .before .before .before .u16-at .result) (c .before .child .given .0 .0) (c .before .child .given .0 .1 .0) (c .before .child .given .0 .1 .1 .0)
+    → NextChild (c .before .before .before .before .before .before .before .before .before .before .before .before .before .before .before .before .before .before .before .before .before .args .store .now) (c .before .before .before .before .before .before .before .before .before .before .before .before .before .before .before .before .before .before .before .before .before .args .num * 1024 + 8) (c .before .before .before .before .before .before .before .before .before .before .before .before .before .before .before .before .before .before .before .before .before .args .num * 1024 + 8 + c .before .before .before .before .before .u16-at .result) (c .before .child .given .0 .0) (c .before .child .given .0 .1 .0) (c .before .child .given .0 .1 .1 .0)
 first-next t c = pends-child _ _ _ _ _ _ _ (c .before .before .before .read-child .ensures) (c .before .child .given .1)
 
 -- the next child that was read, and where it leaves the cursor
@@ -149,7 +165,7 @@ dump-children-loop-holds : (t : ℕ) → dump-children-lts.Need-loop-holds (
   dump-node-below t,
   dump-node.Post,
 ) (dump-children-at t) dump-children.Post dump-children-Inv-loop dump-children-μ-loop
-dump-children-loop-holds t c = ((c .before .before .before .pre .1 .0) .ends, (c .before .before .before .pre .1 .0) .place, (c .before .before .before .pre .1 .0) .reads, descend-first (c .before .before .before .args .store .now) (c .before .before .before .args .level) _ _ (passing (c .before .before .before .args .store .now) (c .before .before .before .args .trail)) _ _ _ (c .before .before .before .pre .1 .2) (c .before .before .before .pre .1 .1))
+dump-children-loop-holds t c = ((c .before .before .before .pre .1 .0) .ends, (c .before .before .before .pre .1 .0) .place, (c .before .before .before .pre .1 .0) .reads, descend-first (c .before .before .before .args .store .now) (c .before .before .before .args .level) _ _ (passing (c .before .before .before .args .store .now) (c .before .before .before .args .trail)) _ _ _ (c .before .before .before .pre .1 .2) (c .before .before .before .pre .1 .1), c .before .before .before .pre .1 .3)
 
 dump-children-read-child-requires : (t : ℕ) → dump-children-lts.Need-read-child-requires (
   read-child-reads.Asked,
@@ -205,7 +221,7 @@ dump-children-dump-node-requires : (t : ℕ) → dump-children-lts.Need-dump-nod
   dump-node-below t,
   dump-node.Post,
 ) (dump-children-at t) dump-children.Post dump-children-Inv-loop dump-children-μ-loop
-dump-children-dump-node-requires t c κs = (omega arith, (child-ready (c .before .before .before .before .before .before .before .before .before .args .store .now) (c .before .before .before .before .before .before .before .before .before .args .level) (c .before .before .before .before .before .loop .num) (part (c .before .before .before .before .before .before .before .before .before .args .store .now) (c .before .before .before .before .before .loop .low)) (kidsE (listed (c .before .before .before .before .before .before .before .before .before .args .store .now) (c .before .before .before .before .before .loop .c .at) (c .before .before .before .before .before .loop .c .end))) (c .before .before .before .before .before .before .before .before .before .args .prefix) (c .before .before .before .before .before .before .before .before .before .args .trail) (c .before .before .before .before .before .loop .inv .2) ((c .before .before .before .before .before .before .before .before .before .pre .1 .0) .room) ((c .before .before .before .before .before .before .before .before .before .pre .1 .0) .trail) ((c .before .before .before .before .before .before .before .before .before .pre .1 .0) .deep), last-sound _ _ _ _ _ _ _ _ _ _ _ _ _ (c .before .before .before .before .before .loop .inv .3) (pends-end _ _ _ _ (c .before .before .before .before .read-child .ensures) (c .before .before .enum-told .given .1)), last-room _ _ _ _ _ _ _ _ _ _ _ _ _ (c .before .before .before .before .before .loop .inv .3) (pends-end _ _ _ _ (c .before .before .before .before .read-child .ensures) (c .before .before .enum-told .given .1))))
+dump-children-dump-node-requires t c κs = (omega arith, (child-ready (c .before .before .before .before .before .before .before .before .before .args .store .now) (c .before .before .before .before .before .before .before .before .before .args .level) (c .before .before .before .before .before .loop .num) (part (c .before .before .before .before .before .before .before .before .before .args .store .now) (c .before .before .before .before .before .loop .low)) (kidsE (listed (c .before .before .before .before .before .before .before .before .before .args .store .now) (c .before .before .before .before .before .loop .c .at) (c .before .before .before .before .before .loop .c .end))) (c .before .before .before .before .before .before .before .before .before .args .prefix) (c .before .before .before .before .before .before .before .before .before .args .trail) (c .before .before .before .before .before .loop .inv .2) ((c .before .before .before .before .before .before .before .before .before .pre .1 .0) .room) ((c .before .before .before .before .before .before .before .before .before .pre .1 .0) .trail) ((c .before .before .before .before .before .before .before .before .before .pre .1 .0) .deep), last-sound _ _ _ _ _ _ _ _ _ _ _ _ _ (c .before .before .before .before .before .loop .inv .3) (pends-end _ _ _ _ (c .before .before .before .before .read-child .ensures) (c .before .before .enum-told .given .1)), last-room _ _ _ _ _ _ _ _ _ _ _ _ _ (c .before .before .before .before .before .loop .inv .3) (pends-end _ _ _ _ (c .before .before .before .before .read-child .ensures) (c .before .before .enum-told .given .1)), last-told (c .before .before .before .before .before .before .before .before .before .args .store .now) (c .before .before .before .before .before .before .before .before .before .args .level) (c .before .before .before .before .before .loop .num) (c .before .before .before .before .before .loop .low) (c .before .before .before .before .before .loop .c) (c .before .before .before .before .before .before .before .before .before .args .prefix) (c .before .before .before .before .before .before .before .before .before .args .hi .now) (c .before .before .before .before .before .before .before .before .before .args .trail) (c .before .before .before .before .before .before .before .before .before .args .notes .now) (c .before .before .before .before .before .before .before .before .before .args .n) (c .before .before .before .before .before .loop .inv .4) (pends-end _ _ _ _ (c .before .before .before .before .read-child .ensures) (c .before .before .enum-told .given .1))))
 
 dump-children-same-length : (t : ℕ) → dump-children-lts.Need-same-length (
   read-child-reads.Asked,
@@ -277,7 +293,7 @@ dump-children-dump-node-requires-2 : (t : ℕ) → dump-children-lts.Need-dump-n
   dump-node-below t,
   dump-node.Post,
 ) (dump-children-at t) dump-children.Post dump-children-Inv-loop dump-children-μ-loop
-dump-children-dump-node-requires-2 t c κs = let n = kid-next t (c .before .before .before) in (omega arith, (child-ready (c .before .before .before .before .before .before .before .before .before .before .before .args .store .now) (c .before .before .before .before .before .before .before .before .before .before .before .args .level) (c .before .before .before .before .before .before .before .loop .num) (part (c .before .before .before .before .before .before .before .before .before .before .before .args .store .now) (c .before .before .before .before .before .before .before .loop .low)) (kidsE (listed (c .before .before .before .before .before .before .before .before .before .before .before .args .store .now) (c .before .before .before .before .before .before .before .loop .c .at) (c .before .before .before .before .before .before .before .loop .c .end))) (c .before .before .before .before .before .before .before .before .before .before .before .args .prefix) (c .before .before .before .before .before .before .before .before .before .before .before .args .trail) (c .before .before .before .before .before .before .before .loop .inv .2) ((c .before .before .before .before .before .before .before .before .before .before .before .pre .1 .0) .room) ((c .before .before .before .before .before .before .before .before .before .before .before .pre .1 .0) .trail) ((c .before .before .before .before .before .before .before .before .before .before .before .pre .1 .0) .deep), more-sound _ _ _ _ _ _ _ _ _ _ _ _ _ (c .before .before .before .before .before .before .before .loop .inv .3) _ _ _ (n .lists), more-room _ _ _ _ _ _ _ _ _ _ _ _ _ (c .before .before .before .before .before .before .before .loop .inv .3) _ _ _ (n .lists)))
+dump-children-dump-node-requires-2 t c κs = let n = kid-next t (c .before .before .before) in (omega arith, (child-ready (c .before .before .before .before .before .before .before .before .before .before .before .args .store .now) (c .before .before .before .before .before .before .before .before .before .before .before .args .level) (c .before .before .before .before .before .before .before .loop .num) (part (c .before .before .before .before .before .before .before .before .before .before .before .args .store .now) (c .before .before .before .before .before .before .before .loop .low)) (kidsE (listed (c .before .before .before .before .before .before .before .before .before .before .before .args .store .now) (c .before .before .before .before .before .before .before .loop .c .at) (c .before .before .before .before .before .before .before .loop .c .end))) (c .before .before .before .before .before .before .before .before .before .before .before .args .prefix) (c .before .before .before .before .before .before .before .before .before .before .before .args .trail) (c .before .before .before .before .before .before .before .loop .inv .2) ((c .before .before .before .before .before .before .before .before .before .before .before .pre .1 .0) .room) ((c .before .before .before .before .before .before .before .before .before .before .before .pre .1 .0) .trail) ((c .before .before .before .before .before .before .before .before .before .before .before .pre .1 .0) .deep), more-sound _ _ _ _ _ _ _ _ _ _ _ _ _ (c .before .before .before .before .before .before .before .loop .inv .3) _ _ _ (n .lists), more-room _ _ _ _ _ _ _ _ _ _ _ _ _ (c .before .before .before .before .before .before .before .loop .inv .3) _ _ _ (n .lists), next-told (c .before .before .before .before .before .before .before .before .before .before .before .args .store .now) (c .before .before .before .before .before .before .before .before .before .before .before .args .level) (c .before .before .before .before .before .before .before .loop .num) (c .before .before .before .before .before .before .before .loop .low) (c .before .before .before .before .before .before .before .loop .c) (c .before .before .before .before .before .before .before .before .before .before .before .args .prefix) (c .before .before .before .before .before .before .before .before .before .before .before .args .hi .now) (c .before .before .before .before .before .before .before .before .before .before .before .args .trail) (c .before .before .before .before .before .before .before .before .before .before .before .args .notes .now) (c .before .before .before .before .before .before .before .before .before .before .before .args .n) (c .before .before .before .before .before .before .before .loop .inv .4) (c .before .before .before .before .k .given .0 .0) (c .before .before .before .before .k .given .0 .1 .0) (c .before .before .before .before .k .given .0 .1 .1 .0) (n .lists)))
 
 dump-children-loop-less : (t : ℕ) → dump-children-lts.Need-loop-less (
   read-child-reads.Asked,
@@ -293,13 +309,15 @@ dump-children-loop-again : (t : ℕ) → dump-children-lts.Need-loop-again (
   dump-node-below t,
   dump-node.Post,
 ) (dump-children-at t) dump-children.Post dump-children-Inv-loop dump-children-μ-loop
-dump-children-loop-again t c = let n = kid-next t (c .before .before .before .before .before .before) in let a = (c .before .before .before .before .before .before .before .before .before .before .loop .inv .0) in let d = n .ends in (omega arith, n .place, later-usable (nodesOf (length (c .before .before .before .before .before .before .before .before .before .before .before .before .before .before .args .store .now))) (λ j. treeAt (c .before .before .before .before .before .before .before .before .before .before .before .before .before .before .args .level) (c .before .before .before .before .before .before .before .before .before .before .before .before .before .before .args .store .now) j) (kid (c .before .before .before .before .before .before .before .before .before .before .loop .num) (part (c .before .before .before .before .before .before .before .before .before .before .before .before .before .before .args .store .now) (c .before .before .before .before .before .before .before .before .before .before .loop .low))) _ _ (n .lists) (c .before .before .before .before .before .before .before .before .before .before .loop .inv .2), descend-next _ _ _ _ _ _ _ _ _ _ _ _ _ (c .before .before .before .before .before .before .before .before .before .before .loop .inv .3) _ _ _ (n .lists) _ _ (c .before .before .dump-node2 .ensures))
+dump-children-loop-again t c = let n = kid-next t (c .before .before .before .before .before .before) in let a = (c .before .before .before .before .before .before .before .before .before .before .loop .inv .0) in let d = n .ends in (omega arith, n .place, later-usable (nodesOf (length (c .before .before .before .before .before .before .before .before .before .before .before .before .before .before .args .store .now))) (λ j. treeAt (c .before .before .before .before .before .before .before .before .before .before .before .before .before .before .args .level) (c .before .before .before .before .before .before .before .before .before .before .before .before .before .before .args .store .now) j) (kid (c .before .before .before .before .before .before .before .before .before .before .loop .num) (part (c .before .before .before .before .before .before .before .before .before .before .before .before .before .before .args .store .now) (c .before .before .before .before .before .before .before .before .before .before .loop .low))) _ _ (n .lists) (c .before .before .before .before .before .before .before .before .before .before .loop .inv .2), descend-next _ _ _ _ _ _ _ _ _ _ _ _ _ (c .before .before .before .before .before .before .before .before .before .before .loop .inv .3) _ _ _ (n .lists) _ _ (c .before .before .dump-node2 .ensures), later-sound (c .before .before .before .before .before .before .before .before .before .before .before .before .before .before .args .store .now) (c .before .before .before .before .before .before .before .before .before .before .before .before .before .before .args .level) (c .before .before .before .before .before .before .before .before .before .before .loop .num) (c .before .before .before .before .before .before .before .before .before .before .loop .low) (c .before .before .before .before .before .before .before .before .before .before .loop .c) (c .before .before .before .before .before .before .before .before .before .before .before .before .before .before .args .prefix) (c .before .before .before .before .before .before .before .before .before .before .before .before .before .before .args .hi .now) (c .before .before .before .before .before .before .before .before .before .before .before .before .before .before .args .trail) (c .before .before .before .before .before .before .before .before .before .before .before .before .before .before .args .notes .now) (c .before .before .before .before .before .before .before .before .before .before .before .before .before .before .args .n) (c .before .before .before .before .before .before .before .before .before .before .loop .inv .4) _ _ _ (n .lists))
 
 dump-node-common-length-requires : (t : ℕ) → dump-node-lts.Need-common-length-requires (
   common-length-reads.Asked,
   common-length-reads.Learnt,
   extend-reads.Asked,
   extend-reads.Learnt,
+  note-above-reads.Asked,
+  note-above-reads.Learnt,
   u16-at-reads.Asked,
   u16-at-reads.Learnt,
   append-pairs-reads.Asked,
@@ -308,6 +326,8 @@ dump-node-common-length-requires : (t : ℕ) → dump-node-lts.Need-common-lengt
   read-child-reads.Learnt,
   lengthen-trail-reads.Asked,
   lengthen-trail-reads.Learnt,
+  note-own-reads.Asked,
+  note-own-reads.Learnt,
   dump-children-below t,
   dump-children.Post,
   insert-puts-reads.Asked,
@@ -320,6 +340,8 @@ dump-node-sub-room : (t : ℕ) → dump-node-lts.Need-sub-room (
   common-length-reads.Learnt,
   extend-reads.Asked,
   extend-reads.Learnt,
+  note-above-reads.Asked,
+  note-above-reads.Learnt,
   u16-at-reads.Asked,
   u16-at-reads.Learnt,
   append-pairs-reads.Asked,
@@ -328,6 +350,8 @@ dump-node-sub-room : (t : ℕ) → dump-node-lts.Need-sub-room (
   read-child-reads.Learnt,
   lengthen-trail-reads.Asked,
   lengthen-trail-reads.Learnt,
+  note-own-reads.Asked,
+  note-own-reads.Learnt,
   dump-children-below t,
   dump-children.Post,
   insert-puts-reads.Asked,
@@ -340,6 +364,8 @@ dump-node-returns : (t : ℕ) → dump-node-lts.Need-returns (
   common-length-reads.Learnt,
   extend-reads.Asked,
   extend-reads.Learnt,
+  note-above-reads.Asked,
+  note-above-reads.Learnt,
   u16-at-reads.Asked,
   u16-at-reads.Learnt,
   append-pairs-reads.Asked,
@@ -348,6 +374,8 @@ dump-node-returns : (t : ℕ) → dump-node-lts.Need-returns (
   read-child-reads.Learnt,
   lengthen-trail-reads.Asked,
   lengthen-trail-reads.Learnt,
+  note-own-reads.Asked,
+  note-own-reads.Learnt,
   dump-children-below t,
   dump-children.Post,
   insert-puts-reads.Asked,
@@ -360,6 +388,8 @@ dump-node-sub-extend : (t : ℕ) → dump-node-lts.Need-sub-extend (
   common-length-reads.Learnt,
   extend-reads.Asked,
   extend-reads.Learnt,
+  note-above-reads.Asked,
+  note-above-reads.Learnt,
   u16-at-reads.Asked,
   u16-at-reads.Learnt,
   append-pairs-reads.Asked,
@@ -368,6 +398,8 @@ dump-node-sub-extend : (t : ℕ) → dump-node-lts.Need-sub-extend (
   read-child-reads.Learnt,
   lengthen-trail-reads.Asked,
   lengthen-trail-reads.Learnt,
+  note-own-reads.Asked,
+  note-own-reads.Learnt,
   dump-children-below t,
   dump-children.Post,
   insert-puts-reads.Asked,
@@ -380,6 +412,8 @@ dump-node-part-extend-start : (t : ℕ) → dump-node-lts.Need-part-extend-start
   common-length-reads.Learnt,
   extend-reads.Asked,
   extend-reads.Learnt,
+  note-above-reads.Asked,
+  note-above-reads.Learnt,
   u16-at-reads.Asked,
   u16-at-reads.Learnt,
   append-pairs-reads.Asked,
@@ -388,6 +422,8 @@ dump-node-part-extend-start : (t : ℕ) → dump-node-lts.Need-part-extend-start
   read-child-reads.Learnt,
   lengthen-trail-reads.Asked,
   lengthen-trail-reads.Learnt,
+  note-own-reads.Asked,
+  note-own-reads.Learnt,
   dump-children-below t,
   dump-children.Post,
   insert-puts-reads.Asked,
@@ -400,6 +436,8 @@ dump-node-part-extend-end : (t : ℕ) → dump-node-lts.Need-part-extend-end (
   common-length-reads.Learnt,
   extend-reads.Asked,
   extend-reads.Learnt,
+  note-above-reads.Asked,
+  note-above-reads.Learnt,
   u16-at-reads.Asked,
   u16-at-reads.Learnt,
   append-pairs-reads.Asked,
@@ -408,6 +446,8 @@ dump-node-part-extend-end : (t : ℕ) → dump-node-lts.Need-part-extend-end (
   read-child-reads.Learnt,
   lengthen-trail-reads.Asked,
   lengthen-trail-reads.Learnt,
+  note-own-reads.Asked,
+  note-own-reads.Learnt,
   dump-children-below t,
   dump-children.Post,
   insert-puts-reads.Asked,
@@ -420,6 +460,8 @@ dump-node-extend-requires : (t : ℕ) → dump-node-lts.Need-extend-requires (
   common-length-reads.Learnt,
   extend-reads.Asked,
   extend-reads.Learnt,
+  note-above-reads.Asked,
+  note-above-reads.Learnt,
   u16-at-reads.Asked,
   u16-at-reads.Learnt,
   append-pairs-reads.Asked,
@@ -428,6 +470,8 @@ dump-node-extend-requires : (t : ℕ) → dump-node-lts.Need-extend-requires (
   read-child-reads.Learnt,
   lengthen-trail-reads.Asked,
   lengthen-trail-reads.Learnt,
+  note-own-reads.Asked,
+  note-own-reads.Learnt,
   dump-children-below t,
   dump-children.Post,
   insert-puts-reads.Asked,
@@ -435,11 +479,13 @@ dump-node-extend-requires : (t : ℕ) → dump-node-lts.Need-extend-requires (
 ) (dump-node-at t) dump-node.Post
 dump-node-extend-requires t c κs = let l : length (take ((c .before .before .before .common-length .result) - 0) (c .before .before .before .before .before .before .before .before .args .lo .now)) ≡ (c .before .before .before .common-length .result) - 0 = length-take-le ((c .before .before .before .common-length .result) - 0) (c .before .before .before .before .before .before .before .before .args .lo .now) (omega arith) in let r = (c .before .before .before .before .before .before .before .before .pre .1 .0) .room in omega arith
 
-dump-node-mul-at : (t : ℕ) → dump-node-lts.Need-mul-at (
+dump-node-sub-note-above : (t : ℕ) → dump-node-lts.Need-sub-note-above (
   common-length-reads.Asked,
   common-length-reads.Learnt,
   extend-reads.Asked,
   extend-reads.Learnt,
+  note-above-reads.Asked,
+  note-above-reads.Learnt,
   u16-at-reads.Asked,
   u16-at-reads.Learnt,
   append-pairs-reads.Asked,
@@ -448,18 +494,286 @@ dump-node-mul-at : (t : ℕ) → dump-node-lts.Need-mul-at (
   read-child-reads.Learnt,
   lengthen-trail-reads.Asked,
   lengthen-trail-reads.Learnt,
+  note-own-reads.Asked,
+  note-own-reads.Learnt,
   dump-children-below t,
   dump-children.Post,
   insert-puts-reads.Asked,
   insert-puts-reads.Learnt,
 ) (dump-node-at t) dump-node.Post
-dump-node-mul-at t c = let w = node-inside (c .before .before .before .before .before .before .before .before .before .args .store .now) (c .before .before .before .before .before .before .before .before .before .args .num) (c .before .before .before .before .before .before .before .before .before .args .level) ((c .before .before .before .before .before .before .before .before .before .pre .1 .0) .reads) in omega arith
+dump-node-sub-note-above t c = search needs
+
+dump-node-part-note-above-start : (t : ℕ) → dump-node-lts.Need-part-note-above-start (
+  common-length-reads.Asked,
+  common-length-reads.Learnt,
+  extend-reads.Asked,
+  extend-reads.Learnt,
+  note-above-reads.Asked,
+  note-above-reads.Learnt,
+  u16-at-reads.Asked,
+  u16-at-reads.Learnt,
+  append-pairs-reads.Asked,
+  append-pairs-reads.Learnt,
+  read-child-reads.Asked,
+  read-child-reads.Learnt,
+  lengthen-trail-reads.Asked,
+  lengthen-trail-reads.Learnt,
+  note-own-reads.Asked,
+  note-own-reads.Learnt,
+  dump-children-below t,
+  dump-children.Post,
+  insert-puts-reads.Asked,
+  insert-puts-reads.Learnt,
+) (dump-node-at t) dump-node.Post
+dump-node-part-note-above-start t c = search needs
+
+dump-node-part-note-above-end : (t : ℕ) → dump-node-lts.Need-part-note-above-end (
+  common-length-reads.Asked,
+  common-length-reads.Learnt,
+  extend-reads.Asked,
+  extend-reads.Learnt,
+  note-above-reads.Asked,
+  note-above-reads.Learnt,
+  u16-at-reads.Asked,
+  u16-at-reads.Learnt,
+  append-pairs-reads.Asked,
+  append-pairs-reads.Learnt,
+  read-child-reads.Asked,
+  read-child-reads.Learnt,
+  lengthen-trail-reads.Asked,
+  lengthen-trail-reads.Learnt,
+  note-own-reads.Asked,
+  note-own-reads.Learnt,
+  dump-children-below t,
+  dump-children.Post,
+  insert-puts-reads.Asked,
+  insert-puts-reads.Learnt,
+) (dump-node-at t) dump-node.Post
+dump-node-part-note-above-end t c = search needs
+
+dump-node-sub-note-above-2 : (t : ℕ) → dump-node-lts.Need-sub-note-above-2 (
+  common-length-reads.Asked,
+  common-length-reads.Learnt,
+  extend-reads.Asked,
+  extend-reads.Learnt,
+  note-above-reads.Asked,
+  note-above-reads.Learnt,
+  u16-at-reads.Asked,
+  u16-at-reads.Learnt,
+  append-pairs-reads.Asked,
+  append-pairs-reads.Learnt,
+  read-child-reads.Asked,
+  read-child-reads.Learnt,
+  lengthen-trail-reads.Asked,
+  lengthen-trail-reads.Learnt,
+  note-own-reads.Asked,
+  note-own-reads.Learnt,
+  dump-children-below t,
+  dump-children.Post,
+  insert-puts-reads.Asked,
+  insert-puts-reads.Learnt,
+) (dump-node-at t) dump-node.Post
+dump-node-sub-note-above-2 t c = search needs
+
+dump-node-part-note-above-start-2 : (t : ℕ) → dump-node-lts.Need-part-note-above-start-2 (
+  common-length-reads.Asked,
+  common-length-reads.Learnt,
+  extend-reads.Asked,
+  extend-reads.Learnt,
+  note-above-reads.Asked,
+  note-above-reads.Learnt,
+  u16-at-reads.Asked,
+  u16-at-reads.Learnt,
+  append-pairs-reads.Asked,
+  append-pairs-reads.Learnt,
+  read-child-reads.Asked,
+  read-child-reads.Learnt,
+  lengthen-trail-reads.Asked,
+  lengthen-trail-reads.Learnt,
+  note-own-reads.Asked,
+  note-own-reads.Learnt,
+  dump-children-below t,
+  dump-children.Post,
+  insert-puts-reads.Asked,
+  insert-puts-reads.Learnt,
+) (dump-node-at t) dump-node.Post
+dump-node-part-note-above-start-2 t c = search needs
+
+dump-node-part-note-above-end-2 : (t : ℕ) → dump-node-lts.Need-part-note-above-end-2 (
+  common-length-reads.Asked,
+  common-length-reads.Learnt,
+  extend-reads.Asked,
+  extend-reads.Learnt,
+  note-above-reads.Asked,
+  note-above-reads.Learnt,
+  u16-at-reads.Asked,
+  u16-at-reads.Learnt,
+  append-pairs-reads.Asked,
+  append-pairs-reads.Learnt,
+  read-child-reads.Asked,
+  read-child-reads.Learnt,
+  lengthen-trail-reads.Asked,
+  lengthen-trail-reads.Learnt,
+  note-own-reads.Asked,
+  note-own-reads.Learnt,
+  dump-children-below t,
+  dump-children.Post,
+  insert-puts-reads.Asked,
+  insert-puts-reads.Learnt,
+) (dump-node-at t) dump-node.Post
+dump-node-part-note-above-end-2 t c = search needs
+
+dump-node-sub-note-above-3 : (t : ℕ) → dump-node-lts.Need-sub-note-above-3 (
+  common-length-reads.Asked,
+  common-length-reads.Learnt,
+  extend-reads.Asked,
+  extend-reads.Learnt,
+  note-above-reads.Asked,
+  note-above-reads.Learnt,
+  u16-at-reads.Asked,
+  u16-at-reads.Learnt,
+  append-pairs-reads.Asked,
+  append-pairs-reads.Learnt,
+  read-child-reads.Asked,
+  read-child-reads.Learnt,
+  lengthen-trail-reads.Asked,
+  lengthen-trail-reads.Learnt,
+  note-own-reads.Asked,
+  note-own-reads.Learnt,
+  dump-children-below t,
+  dump-children.Post,
+  insert-puts-reads.Asked,
+  insert-puts-reads.Learnt,
+) (dump-node-at t) dump-node.Post
+dump-node-sub-note-above-3 t c = search needs
+
+dump-node-part-note-above-start-3 : (t : ℕ) → dump-node-lts.Need-part-note-above-start-3 (
+  common-length-reads.Asked,
+  common-length-reads.Learnt,
+  extend-reads.Asked,
+  extend-reads.Learnt,
+  note-above-reads.Asked,
+  note-above-reads.Learnt,
+  u16-at-reads.Asked,
+  u16-at-reads.Learnt,
+  append-pairs-reads.Asked,
+  append-pairs-reads.Learnt,
+  read-child-reads.Asked,
+  read-child-reads.Learnt,
+  lengthen-trail-reads.Asked,
+  lengthen-trail-reads.Learnt,
+  note-own-reads.Asked,
+  note-own-reads.Learnt,
+  dump-children-below t,
+  dump-children.Post,
+  insert-puts-reads.Asked,
+  insert-puts-reads.Learnt,
+) (dump-node-at t) dump-node.Post
+dump-node-part-note-above-start-3 t c = search needs
+
+dump-node-part-note-above-end-3 : (t : ℕ) → dump-node-lts.Need-part-note-above-end-3 (
+  common-length-reads.Asked,
+  common-length-reads.Learnt,
+  extend-reads.Asked,
+  extend-reads.Learnt,
+  note-above-reads.Asked,
+  note-above-reads.Learnt,
+  u16-at-reads.Asked,
+  u16-at-reads.Learnt,
+  append-pairs-reads.Asked,
+  append-pairs-reads.Learnt,
+  read-child-reads.Asked,
+  read-child-reads.Learnt,
+  lengthen-trail-reads.Asked,
+  lengthen-trail-reads.Learnt,
+  note-own-reads.Asked,
+  note-own-reads.Learnt,
+  dump-children-below t,
+  dump-children.Post,
+  insert-puts-reads.Asked,
+  insert-puts-reads.Learnt,
+) (dump-node-at t) dump-node.Post
+dump-node-part-note-above-end-3 t c = search needs
+
+dump-node-slice-aggregate-note-above : (t : ℕ) → dump-node-lts.Need-slice-aggregate-note-above (
+  common-length-reads.Asked,
+  common-length-reads.Learnt,
+  extend-reads.Asked,
+  extend-reads.Learnt,
+  note-above-reads.Asked,
+  note-above-reads.Learnt,
+  u16-at-reads.Asked,
+  u16-at-reads.Learnt,
+  append-pairs-reads.Asked,
+  append-pairs-reads.Learnt,
+  read-child-reads.Asked,
+  read-child-reads.Learnt,
+  lengthen-trail-reads.Asked,
+  lengthen-trail-reads.Learnt,
+  note-own-reads.Asked,
+  note-own-reads.Learnt,
+  dump-children-below t,
+  dump-children.Post,
+  insert-puts-reads.Asked,
+  insert-puts-reads.Learnt,
+) (dump-node-at t) dump-node.Post
+dump-node-slice-aggregate-note-above t c = search needs
+
+dump-node-note-above-requires : (t : ℕ) → dump-node-lts.Need-note-above-requires (
+  common-length-reads.Asked,
+  common-length-reads.Learnt,
+  extend-reads.Asked,
+  extend-reads.Learnt,
+  note-above-reads.Asked,
+  note-above-reads.Learnt,
+  u16-at-reads.Asked,
+  u16-at-reads.Learnt,
+  append-pairs-reads.Asked,
+  append-pairs-reads.Learnt,
+  read-child-reads.Asked,
+  read-child-reads.Learnt,
+  lengthen-trail-reads.Asked,
+  lengthen-trail-reads.Learnt,
+  note-own-reads.Asked,
+  note-own-reads.Learnt,
+  dump-children-below t,
+  dump-children.Post,
+  insert-puts-reads.Asked,
+  insert-puts-reads.Learnt,
+) (dump-node-at t) dump-node.Post
+dump-node-note-above-requires t c κs = let l : length (take ((c .before .before .before .before .before .before .before .before .common-length .result) - 0) (c .before .before .before .before .before .before .before .before .before .before .before .before .before .args .lo .now)) ≡ (c .before .before .before .before .before .before .before .before .common-length .result) - 0 = length-take-le ((c .before .before .before .before .before .before .before .before .common-length .result) - 0) (c .before .before .before .before .before .before .before .before .before .before .before .before .before .args .lo .now) (omega arith) in let r = (c .before .before .before .before .before .before .before .before .before .before .before .before .before .pre .1 .0) .room in (omega arith, trail-wider (c .before .before .before .before .before .before .before .before .before .before .before .before .before .args .store .now) ((c .before .before .before .before .before .before .before .before .before .before .before .before .before .args .prefix) .len) ((c .before .before .before .before .extend .result) .len) (c .before .before .before .before .before .before .before .before .before .before .before .before .before .args .trail) (omega arith) ((c .before .before .before .before .before .before .before .before .before .before .before .before .before .pre .1 .0) .trail), handed (c .before .before .before .before .before .before .before .before .before .before .before .before .before .args .prefix) (c .before .before .before .before .before .before .before .before .before .before .before .before .before .args .lo .now) (c .before .before .before .before .before .before .before .before .before .before .before .before .before .args .hi .now) (c .before .before .before .before .before .before .before .before .common-length .result) (c .before .before .before .before .before .before .before .before .common-length .ensures .0) (c .before .before .before .before .extend .result) (c .before .before .before .before .extend .ensures .0) (c .before .before .before .before .before .before .before .before .before .before .before .before .before .args .store .now) (c .before .before .before .before .before .before .before .before .before .before .before .before .before .args .trail) (c .before .before .before .before .before .before .before .before .before .before .before .before .before .args .handed .now) (c .before .before .before .before .before .before .before .before .before .before .before .before .before .args .many) (c .before .before .before .before .before .before .before .before .before .before .before .before .before .pre .1 .3))
+
+dump-node-mul-at : (t : ℕ) → dump-node-lts.Need-mul-at (
+  common-length-reads.Asked,
+  common-length-reads.Learnt,
+  extend-reads.Asked,
+  extend-reads.Learnt,
+  note-above-reads.Asked,
+  note-above-reads.Learnt,
+  u16-at-reads.Asked,
+  u16-at-reads.Learnt,
+  append-pairs-reads.Asked,
+  append-pairs-reads.Learnt,
+  read-child-reads.Asked,
+  read-child-reads.Learnt,
+  lengthen-trail-reads.Asked,
+  lengthen-trail-reads.Learnt,
+  note-own-reads.Asked,
+  note-own-reads.Learnt,
+  dump-children-below t,
+  dump-children.Post,
+  insert-puts-reads.Asked,
+  insert-puts-reads.Learnt,
+) (dump-node-at t) dump-node.Post
+dump-node-mul-at t c = let w = node-inside (c .before .before .before .before .before .before .before .before .before .before .before .before .before .before .before .args .store .now) (c .before .before .before .before .before .before .before .before .before .before .before .before .before .before .before .args .num) (c .before .before .before .before .before .before .before .before .before .before .before .before .before .before .before .args .level) ((c .before .before .before .before .before .before .before .before .before .before .before .before .before .before .before .pre .1 .0) .reads) in omega arith
 
 dump-node-u16-at-requires : (t : ℕ) → dump-node-lts.Need-u16-at-requires (
   common-length-reads.Asked,
   common-length-reads.Learnt,
   extend-reads.Asked,
   extend-reads.Learnt,
+  note-above-reads.Asked,
+  note-above-reads.Learnt,
   u16-at-reads.Asked,
   u16-at-reads.Learnt,
   append-pairs-reads.Asked,
@@ -468,18 +782,22 @@ dump-node-u16-at-requires : (t : ℕ) → dump-node-lts.Need-u16-at-requires (
   read-child-reads.Learnt,
   lengthen-trail-reads.Asked,
   lengthen-trail-reads.Learnt,
+  note-own-reads.Asked,
+  note-own-reads.Learnt,
   dump-children-below t,
   dump-children.Post,
   insert-puts-reads.Asked,
   insert-puts-reads.Learnt,
 ) (dump-node-at t) dump-node.Post
-dump-node-u16-at-requires t c κs = let w = node-inside (c .before .before .before .before .before .before .before .before .before .args .store .now) (c .before .before .before .before .before .before .before .before .before .args .num) (c .before .before .before .before .before .before .before .before .before .args .level) ((c .before .before .before .before .before .before .before .before .before .pre .1 .0) .reads) in omega arith
+dump-node-u16-at-requires t c κs = let w = node-inside (c .before .before .before .before .before .before .before .before .before .before .before .before .before .before .before .args .store .now) (c .before .before .before .before .before .before .before .before .before .before .before .before .before .before .before .args .num) (c .before .before .before .before .before .before .before .before .before .before .before .before .before .before .before .args .level) ((c .before .before .before .before .before .before .before .before .before .before .before .before .before .before .before .pre .1 .0) .reads) in omega arith
 
 dump-node-add-from : (t : ℕ) → dump-node-lts.Need-add-from (
   common-length-reads.Asked,
   common-length-reads.Learnt,
   extend-reads.Asked,
   extend-reads.Learnt,
+  note-above-reads.Asked,
+  note-above-reads.Learnt,
   u16-at-reads.Asked,
   u16-at-reads.Learnt,
   append-pairs-reads.Asked,
@@ -488,18 +806,22 @@ dump-node-add-from : (t : ℕ) → dump-node-lts.Need-add-from (
   read-child-reads.Learnt,
   lengthen-trail-reads.Asked,
   lengthen-trail-reads.Learnt,
+  note-own-reads.Asked,
+  note-own-reads.Learnt,
   dump-children-below t,
   dump-children.Post,
   insert-puts-reads.Asked,
   insert-puts-reads.Learnt,
 ) (dump-node-at t) dump-node.Post
-dump-node-add-from t c = let w = node-inside (c .before .before .before .before .before .before .before .before .before .before .args .store .now) (c .before .before .before .before .before .before .before .before .before .before .args .num) (c .before .before .before .before .before .before .before .before .before .before .args .level) ((c .before .before .before .before .before .before .before .before .before .before .pre .1 .0) .reads) in omega arith
+dump-node-add-from t c = let w = node-inside (c .before .before .before .before .before .before .before .before .before .before .before .before .before .before .before .before .args .store .now) (c .before .before .before .before .before .before .before .before .before .before .before .before .before .before .before .before .args .num) (c .before .before .before .before .before .before .before .before .before .before .before .before .before .before .before .before .args .level) ((c .before .before .before .before .before .before .before .before .before .before .before .before .before .before .before .before .pre .1 .0) .reads) in omega arith
 
 dump-node-add-end : (t : ℕ) → dump-node-lts.Need-add-end (
   common-length-reads.Asked,
   common-length-reads.Learnt,
   extend-reads.Asked,
   extend-reads.Learnt,
+  note-above-reads.Asked,
+  note-above-reads.Learnt,
   u16-at-reads.Asked,
   u16-at-reads.Learnt,
   append-pairs-reads.Asked,
@@ -508,18 +830,22 @@ dump-node-add-end : (t : ℕ) → dump-node-lts.Need-add-end (
   read-child-reads.Learnt,
   lengthen-trail-reads.Asked,
   lengthen-trail-reads.Learnt,
+  note-own-reads.Asked,
+  note-own-reads.Learnt,
   dump-children-below t,
   dump-children.Post,
   insert-puts-reads.Asked,
   insert-puts-reads.Learnt,
 ) (dump-node-at t) dump-node.Post
-dump-node-add-end t c = let w = node-inside (c .before .before .before .before .before .before .before .before .before .before .args .store .now) (c .before .before .before .before .before .before .before .before .before .before .args .num) (c .before .before .before .before .before .before .before .before .before .before .args .level) ((c .before .before .before .before .before .before .before .before .before .before .pre .1 .0) .reads) in omega arith
+dump-node-add-end t c = let w = node-inside (c .before .before .before .before .before .before .before .before .before .before .before .before .before .before .before .before .args .store .now) (c .before .before .before .before .before .before .before .before .before .before .before .before .before .before .before .before .args .num) (c .before .before .before .before .before .before .before .before .before .before .before .before .before .before .before .before .args .level) ((c .before .before .before .before .before .before .before .before .before .before .before .before .before .before .before .before .pre .1 .0) .reads) in omega arith
 
 dump-node-append-pairs-requires : (t : ℕ) → dump-node-lts.Need-append-pairs-requires (
   common-length-reads.Asked,
   common-length-reads.Learnt,
   extend-reads.Asked,
   extend-reads.Learnt,
+  note-above-reads.Asked,
+  note-above-reads.Learnt,
   u16-at-reads.Asked,
   u16-at-reads.Learnt,
   append-pairs-reads.Asked,
@@ -528,18 +854,22 @@ dump-node-append-pairs-requires : (t : ℕ) → dump-node-lts.Need-append-pairs-
   read-child-reads.Learnt,
   lengthen-trail-reads.Asked,
   lengthen-trail-reads.Learnt,
+  note-own-reads.Asked,
+  note-own-reads.Learnt,
   dump-children-below t,
   dump-children.Post,
   insert-puts-reads.Asked,
   insert-puts-reads.Learnt,
 ) (dump-node-at t) dump-node.Post
-dump-node-append-pairs-requires t c κs = let w = node-inside (c .before .before .before .before .before .before .before .before .before .before .before .before .args .store .now) (c .before .before .before .before .before .before .before .before .before .before .before .before .args .num) (c .before .before .before .before .before .before .before .before .before .before .before .before .args .level) ((c .before .before .before .before .before .before .before .before .before .before .before .before .pre .1 .0) .reads) in let l : length (take ((c .before .before .before .before .before .before .before .common-length .result) - 0) (c .before .before .before .before .before .before .before .before .before .before .before .before .args .lo .now)) ≡ (c .before .before .before .before .before .before .before .common-length .result) - 0 = length-take-le ((c .before .before .before .before .before .before .before .common-length .result) - 0) (c .before .before .before .before .before .before .before .before .before .before .before .before .args .lo .now) (omega arith) in let r = (c .before .before .before .before .before .before .before .before .before .before .before .before .pre .1 .0) .room in (omega arith, omega arith, trail-wider (c .before .before .before .before .before .before .before .before .before .before .before .before .args .store .now) ((c .before .before .before .before .before .before .before .before .before .before .before .before .args .prefix) .len) ((c .before .before .before .extend .result) .len) (c .before .before .before .before .before .before .before .before .before .before .before .before .args .trail) (omega arith) ((c .before .before .before .before .before .before .before .before .before .before .before .before .pre .1 .0) .trail), leaf-values (c .before .before .before .before .before .before .before .before .before .before .before .before .args .store .now) (c .before .before .before .before .before .before .before .before .before .before .before .before .args .level) (c .before .before .before .before .before .before .before .before .before .before .before .before .args .num) (c .before .before .before .before .before .before .before .before .before .before .before .before .args .prefix) (c .before .before .before .before .before .before .before .before .before .before .before .before .args .trail) (c .before .before .before .before .before .before .before .before .before .before .before .before .pre .1 .0) (c .before .before .before .before .before .before .before .before .before .before .before .before .args .lo .now) (c .before .before .before .before .before .before .before .before .before .before .before .before .args .hi .now) (c .before .before .before .before .before .before .before .before .before .before .before .before .pre .1 .1) (c .before .before .before .before .before .before .before .before .before .before .before .before .args .area .now) (c .before .before .before .before .before .before .before .before .before .before .before .before .args .m) (c .before .before .before .before .before .before .before .before .before .before .before .before .pre .1 .2) (c .before .before .before .before .before .before .before .common-length .result) (c .before .before .before .before .before .before .before .common-length .ensures .0) (c .before .before .before .extend .result) (c .before .before .before .extend .ensures .0) (c .before .before .u16-at .result) (c .before .before .u16-at .ensures .0) (omega arith), leaf-room (c .before .before .before .before .before .before .before .before .before .before .before .before .args .store .now) (c .before .before .before .before .before .before .before .before .before .before .before .before .args .level) (c .before .before .before .before .before .before .before .before .before .before .before .before .args .num) (c .before .before .before .before .before .before .before .before .before .before .before .before .args .prefix) (c .before .before .before .before .before .before .before .before .before .before .before .before .args .trail) (c .before .before .before .before .before .before .before .before .before .before .before .before .pre .1 .0) (c .before .before .before .before .before .before .before .before .before .before .before .before .args .lo .now) (c .before .before .before .before .before .before .before .before .before .before .before .before .args .hi .now) (c .before .before .before .before .before .before .before .before .before .before .before .before .pre .1 .1) (c .before .before .before .before .before .before .before .before .before .before .before .before .args .area .now) (c .before .before .before .before .before .before .before .before .before .before .before .before .args .m) (c .before .before .before .before .before .before .before .before .before .before .before .before .pre .1 .2) (c .before .before .before .before .before .before .before .common-length .result) (c .before .before .before .before .before .before .before .common-length .ensures .0) (c .before .before .before .extend .result) (c .before .before .before .extend .ensures .0) (c .before .before .u16-at .result) (c .before .before .u16-at .ensures .0) (omega arith))
+dump-node-append-pairs-requires t c κs = let w = node-inside (c .before .before .before .before .before .before .before .before .before .before .before .before .before .before .before .before .before .before .before .args .store .now) (c .before .before .before .before .before .before .before .before .before .before .before .before .before .before .before .before .before .before .before .args .num) (c .before .before .before .before .before .before .before .before .before .before .before .before .before .before .before .before .before .before .before .args .level) ((c .before .before .before .before .before .before .before .before .before .before .before .before .before .before .before .before .before .before .before .pre .1 .0) .reads) in let l : length (take ((c .before .before .before .before .before .before .before .before .before .before .before .before .before .before .common-length .result) - 0) (c .before .before .before .before .before .before .before .before .before .before .before .before .before .before .before .before .before .before .before .args .lo .now)) ≡ (c .before .before .before .before .before .before .before .before .before .before .before .before .before .before .common-length .result) - 0 = length-take-le ((c .before .before .before .before .before .before .before .before .before .before .before .before .before .before .common-length .result) - 0) (c .before .before .before .before .before .before .before .before .before .before .before .before .before .before .before .before .before .before .before .args .lo .now) (omega arith) in let r = (c .before .before .before .before .before .before .before .before .before .before .before .before .before .before .before .before .before .before .before .pre .1 .0) .room in (omega arith, omega arith, trail-wider (c .before .before .before .before .before .before .before .before .before .before .before .before .before .before .before .before .before .before .before .args .store .now) ((c .before .before .before .before .before .before .before .before .before .before .before .before .before .before .before .before .before .before .before .args .prefix) .len) ((c .before .before .before .before .before .before .before .before .before .before .extend .result) .len) (c .before .before .before .before .before .before .before .before .before .before .before .before .before .before .before .before .before .before .before .args .trail) (omega arith) ((c .before .before .before .before .before .before .before .before .before .before .before .before .before .before .before .before .before .before .before .pre .1 .0) .trail), leaf-values (c .before .before .before .before .before .before .before .before .before .before .before .before .before .before .before .before .before .before .before .args .store .now) (c .before .before .before .before .before .before .before .before .before .before .before .before .before .before .before .before .before .before .before .args .level) (c .before .before .before .before .before .before .before .before .before .before .before .before .before .before .before .before .before .before .before .args .num) (c .before .before .before .before .before .before .before .before .before .before .before .before .before .before .before .before .before .before .before .args .prefix) (c .before .before .before .before .before .before .before .before .before .before .before .before .before .before .before .before .before .before .before .args .trail) (c .before .before .before .before .before .before .before .before .before .before .before .before .before .before .before .before .before .before .before .pre .1 .0) (c .before .before .before .before .before .before .before .before .before .before .before .before .before .before .before .before .before .before .before .args .lo .now) (c .before .before .before .before .before .before .before .before .before .before .before .before .before .before .before .before .before .before .before .args .hi .now) (c .before .before .before .before .before .before .before .before .before .before .before .before .before .before .before .before .before .before .before .pre .1 .1) (c .before .before .before .before .before .before .before .before .before .before .before .before .before .before .before .before .before .before .before .args .area .now) (c .before .before .before .before .before .before .before .before .before .before .before .before .before .before .before .before .before .before .before .args .m) (c .before .before .before .before .before .before .before .before .before .before .before .before .before .before .before .before .before .before .before .pre .1 .2) (c .before .before .before .before .before .before .before .before .before .before .before .before .before .before .common-length .result) (c .before .before .before .before .before .before .before .before .before .before .before .before .before .before .common-length .ensures .0) (c .before .before .before .before .before .before .before .before .before .before .extend .result) (c .before .before .before .before .before .before .before .before .before .before .extend .ensures .0) (c .before .before .before .u16-at .result) (c .before .before .before .u16-at .ensures .0) (omega arith), leaf-room (c .before .before .before .before .before .before .before .before .before .before .before .before .before .before .before .before .before .before .before .args .store .now) (c .before .before .before .before .before .before .before .before .before .before .before .before .before .before .before .before .before .before .before .args .level) (c .before .before .before .before .before .before .before .before .before .before .before .before .before .before .before .before .before .before .before .args .num) (c .before .before .before .before .before .before .before .before .before .before .before .before .before .before .before .before .before .before .before .args .prefix) (c .before .before .before .before .before .before .before .before .before .before .before .before .before .before .before .before .before .before .before .args .trail) (c .before .before .before .before .before .before .before .before .before .before .before .before .before .before .before .before .before .before .before .pre .1 .0) (c .before .before .before .before .before .before .before .before .before .before .before .before .before .before .before .before .before .before .before .args .lo .now) (c .before .before .before .before .before .before .before .before .before .before .before .before .before .before .before .before .before .before .before .args .hi .now) (c .before .before .before .before .before .before .before .before .before .before .before .before .before .before .before .before .before .before .before .pre .1 .1) (c .before .before .before .before .before .before .before .before .before .before .before .before .before .before .before .before .before .before .before .args .area .now) (c .before .before .before .before .before .before .before .before .before .before .before .before .before .before .before .before .before .before .before .args .m) (c .before .before .before .before .before .before .before .before .before .before .before .before .before .before .before .before .before .before .before .pre .1 .2) (c .before .before .before .before .before .before .before .before .before .before .before .before .before .before .common-length .result) (c .before .before .before .before .before .before .before .before .before .before .before .before .before .before .common-length .ensures .0) (c .before .before .before .before .before .before .before .before .before .before .extend .result) (c .before .before .before .before .before .before .before .before .before .before .extend .ensures .0) (c .before .before .before .u16-at .result) (c .before .before .before .u16-at .ensures .0) (omega arith), leaf-told (c .before .before .before .before .before .before .before .before .before .before .before .before .before .before .before .before .before .before .before .args .prefix) (c .before .before .before .before .before .before .before .before .before .before .before .before .before .before .before .before .before .before .before .args .lo .now) (c .before .before .before .before .before .before .before .before .before .before .before .before .before .before .before .before .before .before .before .args .hi .now) (c .before .before .before .before .before .before .before .before .before .before .before .before .before .before .common-length .result) (c .before .before .before .before .before .before .before .before .before .before .before .before .before .before .common-length .ensures .0) (c .before .before .before .before .before .before .before .before .before .before .extend .result) (c .before .before .before .before .before .before .before .before .before .before .extend .ensures .0) (c .before .before .before .before .before .before .before .before .before .before .before .before .before .before .before .before .before .before .before .args .store .now) (c .before .before .before .before .before .before .before .before .before .before .before .before .before .before .before .before .before .before .before .args .level) (c .before .before .before .before .before .before .before .before .before .before .before .before .before .before .before .before .before .before .before .args .num) (c .before .before .before .before .before .before .before .before .before .before .before .before .before .before .before .before .before .before .before .pre .1 .0 .reads) (c .before .before .before .before .before .before .before .before .before .before .before .before .before .before .before .before .before .before .before .pre .1 .1) (c .before .before .before .u16-at .result) (c .before .before .before .u16-at .ensures .0) (omega arith) _ _ _ (c .before .before .before .before .before .note-above .ensures))
 
 dump-node-same-length : (t : ℕ) → dump-node-lts.Need-same-length (
   common-length-reads.Asked,
   common-length-reads.Learnt,
   extend-reads.Asked,
   extend-reads.Learnt,
+  note-above-reads.Asked,
+  note-above-reads.Learnt,
   u16-at-reads.Asked,
   u16-at-reads.Learnt,
   append-pairs-reads.Asked,
@@ -548,6 +878,8 @@ dump-node-same-length : (t : ℕ) → dump-node-lts.Need-same-length (
   read-child-reads.Learnt,
   lengthen-trail-reads.Asked,
   lengthen-trail-reads.Learnt,
+  note-own-reads.Asked,
+  note-own-reads.Learnt,
   dump-children-below t,
   dump-children.Post,
   insert-puts-reads.Asked,
@@ -560,6 +892,8 @@ dump-node-returns-2 : (t : ℕ) → dump-node-lts.Need-returns-2 (
   common-length-reads.Learnt,
   extend-reads.Asked,
   extend-reads.Learnt,
+  note-above-reads.Asked,
+  note-above-reads.Learnt,
   u16-at-reads.Asked,
   u16-at-reads.Learnt,
   append-pairs-reads.Asked,
@@ -568,18 +902,22 @@ dump-node-returns-2 : (t : ℕ) → dump-node-lts.Need-returns-2 (
   read-child-reads.Learnt,
   lengthen-trail-reads.Asked,
   lengthen-trail-reads.Learnt,
+  note-own-reads.Asked,
+  note-own-reads.Learnt,
   dump-children-below t,
   dump-children.Post,
   insert-puts-reads.Asked,
   insert-puts-reads.Learnt,
 ) (dump-node-at t) dump-node.Post
-dump-node-returns-2 t c = leaf-added (c .before .before .before .before .before .before .before .before .before .before .before .before .before .before .before .args .store .now) (c .before .before .before .before .before .before .before .before .before .before .before .before .before .before .before .args .level) (c .before .before .before .before .before .before .before .before .before .before .before .before .before .before .before .args .num) (c .before .before .before .before .before .before .before .before .before .before .before .before .before .before .before .args .prefix) (c .before .before .before .before .before .before .before .before .before .before .before .before .before .before .before .args .trail) (c .before .before .before .before .before .before .before .before .before .before .before .before .before .before .before .pre .1 .0) (c .before .before .before .before .before .before .before .before .before .before .before .before .before .before .before .args .lo .now) (c .before .before .before .before .before .before .before .before .before .before .before .before .before .before .before .args .hi .now) (c .before .before .before .before .before .before .before .before .before .before .before .before .before .before .before .pre .1 .1) (c .before .before .before .before .before .before .before .before .before .before .before .before .before .before .before .args .area .now) (c .before .before .before .before .before .before .before .before .before .before .before .before .before .before .before .args .m) (c .before .before .before .before .before .before .before .before .before .before .before .before .before .before .before .pre .1 .2) (c .before .before .before .before .before .before .before .before .before .before .common-length .result) (c .before .before .before .before .before .before .before .before .before .before .common-length .ensures .0) (c .before .before .before .before .before .before .extend .result) (c .before .before .before .before .before .before .extend .ensures .0) (c .before .before .before .before .before .u16-at .result) (c .before .before .before .before .before .u16-at .ensures .0) (omega arith) _ _ (c .before .before .append-pairs .ensures)
+dump-node-returns-2 t c = leaf-added (c .before .before .before .before .before .before .before .before .before .before .before .before .before .before .before .before .before .before .before .before .before .before .args .store .now) (c .before .before .before .before .before .before .before .before .before .before .before .before .before .before .before .before .before .before .before .before .before .before .args .level) (c .before .before .before .before .before .before .before .before .before .before .before .before .before .before .before .before .before .before .before .before .before .before .args .num) (c .before .before .before .before .before .before .before .before .before .before .before .before .before .before .before .before .before .before .before .before .before .before .args .prefix) (c .before .before .before .before .before .before .before .before .before .before .before .before .before .before .before .before .before .before .before .before .before .before .args .trail) (c .before .before .before .before .before .before .before .before .before .before .before .before .before .before .before .before .before .before .before .before .before .before .pre .1 .0) (c .before .before .before .before .before .before .before .before .before .before .before .before .before .before .before .before .before .before .before .before .before .before .args .lo .now) (c .before .before .before .before .before .before .before .before .before .before .before .before .before .before .before .before .before .before .before .before .before .before .args .hi .now) (c .before .before .before .before .before .before .before .before .before .before .before .before .before .before .before .before .before .before .before .before .before .before .pre .1 .1) (c .before .before .before .before .before .before .before .before .before .before .before .before .before .before .before .before .before .before .before .before .before .before .args .area .now) (c .before .before .before .before .before .before .before .before .before .before .before .before .before .before .before .before .before .before .before .before .before .before .args .m) (c .before .before .before .before .before .before .before .before .before .before .before .before .before .before .before .before .before .before .before .before .before .before .pre .1 .2) (c .before .before .before .before .before .before .before .before .before .before .before .before .before .before .before .before .before .common-length .result) (c .before .before .before .before .before .before .before .before .before .before .before .before .before .before .before .before .before .common-length .ensures .0) (c .before .before .before .before .before .before .before .before .before .before .before .before .before .extend .result) (c .before .before .before .before .before .before .before .before .before .before .before .before .before .extend .ensures .0) (c .before .before .before .before .before .before .u16-at .result) (c .before .before .before .before .before .before .u16-at .ensures .0) (omega arith) _ _ (c .before .before .append-pairs .ensures)
 
 dump-node-read-child-requires : (t : ℕ) → dump-node-lts.Need-read-child-requires (
   common-length-reads.Asked,
   common-length-reads.Learnt,
   extend-reads.Asked,
   extend-reads.Learnt,
+  note-above-reads.Asked,
+  note-above-reads.Learnt,
   u16-at-reads.Asked,
   u16-at-reads.Learnt,
   append-pairs-reads.Asked,
@@ -588,18 +926,22 @@ dump-node-read-child-requires : (t : ℕ) → dump-node-lts.Need-read-child-requ
   read-child-reads.Learnt,
   lengthen-trail-reads.Asked,
   lengthen-trail-reads.Learnt,
+  note-own-reads.Asked,
+  note-own-reads.Learnt,
   dump-children-below t,
   dump-children.Post,
   insert-puts-reads.Asked,
   insert-puts-reads.Learnt,
 ) (dump-node-at t) dump-node.Post
-dump-node-read-child-requires t c κs = let w = node-inside (c .before .before .before .before .before .before .before .before .before .before .before .args .store .now) (c .before .before .before .before .before .before .before .before .before .before .before .args .num) (c .before .before .before .before .before .before .before .before .before .before .before .args .level) ((c .before .before .before .before .before .before .before .before .before .before .before .pre .1 .0) .reads) in omega arith
+dump-node-read-child-requires t c κs = let w = node-inside (c .before .before .before .before .before .before .before .before .before .before .before .before .before .before .before .before .before .args .store .now) (c .before .before .before .before .before .before .before .before .before .before .before .before .before .before .before .before .before .args .num) (c .before .before .before .before .before .before .before .before .before .before .before .before .before .before .before .before .before .args .level) ((c .before .before .before .before .before .before .before .before .before .before .before .before .before .before .before .before .before .pre .1 .0) .reads) in omega arith
 
 dump-node-enum-known-child : (t : ℕ) → dump-node-lts.Need-enum-known-child (
   common-length-reads.Asked,
   common-length-reads.Learnt,
   extend-reads.Asked,
   extend-reads.Learnt,
+  note-above-reads.Asked,
+  note-above-reads.Learnt,
   u16-at-reads.Asked,
   u16-at-reads.Learnt,
   append-pairs-reads.Asked,
@@ -608,6 +950,8 @@ dump-node-enum-known-child : (t : ℕ) → dump-node-lts.Need-enum-known-child (
   read-child-reads.Learnt,
   lengthen-trail-reads.Asked,
   lengthen-trail-reads.Learnt,
+  note-own-reads.Asked,
+  note-own-reads.Learnt,
   dump-children-below t,
   dump-children.Post,
   insert-puts-reads.Asked,
@@ -620,6 +964,8 @@ dump-node-enum-told : (t : ℕ) → dump-node-lts.Need-enum-told (
   common-length-reads.Learnt,
   extend-reads.Asked,
   extend-reads.Learnt,
+  note-above-reads.Asked,
+  note-above-reads.Learnt,
   u16-at-reads.Asked,
   u16-at-reads.Learnt,
   append-pairs-reads.Asked,
@@ -628,6 +974,8 @@ dump-node-enum-told : (t : ℕ) → dump-node-lts.Need-enum-told (
   read-child-reads.Learnt,
   lengthen-trail-reads.Asked,
   lengthen-trail-reads.Learnt,
+  note-own-reads.Asked,
+  note-own-reads.Learnt,
   dump-children-below t,
   dump-children.Post,
   insert-puts-reads.Asked,
@@ -640,6 +988,8 @@ dump-node-returns-3 : (t : ℕ) → dump-node-lts.Need-returns-3 (
   common-length-reads.Learnt,
   extend-reads.Asked,
   extend-reads.Learnt,
+  note-above-reads.Asked,
+  note-above-reads.Learnt,
   u16-at-reads.Asked,
   u16-at-reads.Learnt,
   append-pairs-reads.Asked,
@@ -648,18 +998,22 @@ dump-node-returns-3 : (t : ℕ) → dump-node-lts.Need-returns-3 (
   read-child-reads.Learnt,
   lengthen-trail-reads.Asked,
   lengthen-trail-reads.Learnt,
+  note-own-reads.Asked,
+  note-own-reads.Learnt,
   dump-children-below t,
   dump-children.Post,
   insert-puts-reads.Asked,
   insert-puts-reads.Learnt,
 ) (dump-node-at t) dump-node.Post
-dump-node-returns-3 t c = node-bare (c .before .before .before .before .before .before .before .before .before .before .before .before .before .before .args .store .now) (c .before .before .before .before .before .before .before .before .before .before .before .before .before .before .args .level) (c .before .before .before .before .before .before .before .before .before .before .before .before .before .before .args .num) (c .before .before .before .before .before .before .before .before .before .before .before .before .before .before .args .prefix) (c .before .before .before .before .before .before .before .before .before .before .before .before .before .before .args .trail) (c .before .before .before .before .before .before .before .before .before .before .before .before .before .before .pre .1 .0) (c .before .before .before .before .before .before .before .before .before .before .before .before .before .before .args .lo .now) (c .before .before .before .before .before .before .before .before .before .before .before .before .before .before .args .hi .now) (c .before .before .before .before .before .before .before .before .before .before .before .before .before .before .pre .1 .1) (c .before .before .before .before .before .before .before .before .before .before .before .before .before .before .args .area .now) (c .before .before .before .before .before .before .before .before .before .before .before .before .before .before .args .m) (c .before .before .before .before .before .before .before .before .before .before .before .before .before .before .pre .1 .2) (c .before .before .before .before .before .before .before .before .before .common-length .result) (c .before .before .before .before .before .before .before .before .before .common-length .ensures .0) (c .before .before .before .before .before .extend .result) (c .before .before .before .before .before .extend .ensures .0) (c .before .before .before .before .u16-at .result) (c .before .before .before .before .u16-at .ensures .0) (omega arith) (pends-end _ _ _ _ (c .before .before .read-child .ensures) (c .enum-told .given .1))
+dump-node-returns-3 t c = node-bare (c .before .before .before .before .before .before .before .before .before .before .before .before .before .before .before .before .before .before .before .before .args .store .now) (c .before .before .before .before .before .before .before .before .before .before .before .before .before .before .before .before .before .before .before .before .args .level) (c .before .before .before .before .before .before .before .before .before .before .before .before .before .before .before .before .before .before .before .before .args .num) (c .before .before .before .before .before .before .before .before .before .before .before .before .before .before .before .before .before .before .before .before .args .prefix) (c .before .before .before .before .before .before .before .before .before .before .before .before .before .before .before .before .before .before .before .before .args .trail) (c .before .before .before .before .before .before .before .before .before .before .before .before .before .before .before .before .before .before .before .before .pre .1 .0) (c .before .before .before .before .before .before .before .before .before .before .before .before .before .before .before .before .before .before .before .before .args .lo .now) (c .before .before .before .before .before .before .before .before .before .before .before .before .before .before .before .before .before .before .before .before .args .hi .now) (c .before .before .before .before .before .before .before .before .before .before .before .before .before .before .before .before .before .before .before .before .pre .1 .1) (c .before .before .before .before .before .before .before .before .before .before .before .before .before .before .before .before .before .before .before .before .args .area .now) (c .before .before .before .before .before .before .before .before .before .before .before .before .before .before .before .before .before .before .before .before .args .m) (c .before .before .before .before .before .before .before .before .before .before .before .before .before .before .before .before .before .before .before .before .pre .1 .2) (c .before .before .before .before .before .before .before .before .before .before .before .before .before .before .before .common-length .result) (c .before .before .before .before .before .before .before .before .before .before .before .before .before .before .before .common-length .ensures .0) (c .before .before .before .before .before .before .before .before .before .before .before .extend .result) (c .before .before .before .before .before .before .before .before .before .before .before .extend .ensures .0) (c .before .before .before .before .u16-at .result) (c .before .before .before .before .u16-at .ensures .0) (omega arith) (pends-end _ _ _ _ (c .before .before .read-child .ensures) (c .enum-told .given .1))
 
 dump-node-lengthen-trail-requires : (t : ℕ) → dump-node-lts.Need-lengthen-trail-requires (
   common-length-reads.Asked,
   common-length-reads.Learnt,
   extend-reads.Asked,
   extend-reads.Learnt,
+  note-above-reads.Asked,
+  note-above-reads.Learnt,
   u16-at-reads.Asked,
   u16-at-reads.Learnt,
   append-pairs-reads.Asked,
@@ -668,18 +1022,214 @@ dump-node-lengthen-trail-requires : (t : ℕ) → dump-node-lts.Need-lengthen-tr
   read-child-reads.Learnt,
   lengthen-trail-reads.Asked,
   lengthen-trail-reads.Learnt,
+  note-own-reads.Asked,
+  note-own-reads.Learnt,
   dump-children-below t,
   dump-children.Post,
   insert-puts-reads.Asked,
   insert-puts-reads.Learnt,
 ) (dump-node-at t) dump-node.Post
-dump-node-lengthen-trail-requires t c κs = let l : length (take ((c .before .before .before .before .before .before .before .before .before .before .common-length .result) - 0) (c .before .before .before .before .before .before .before .before .before .before .before .before .before .before .before .args .lo .now)) ≡ (c .before .before .before .before .before .before .before .before .before .before .common-length .result) - 0 = length-take-le ((c .before .before .before .before .before .before .before .before .before .before .common-length .result) - 0) (c .before .before .before .before .before .before .before .before .before .before .before .before .before .before .before .args .lo .now) (omega arith) in let r = (c .before .before .before .before .before .before .before .before .before .before .before .before .before .before .before .pre .1 .0) .room in let d = (c .before .before .before .before .before .before .before .before .before .before .before .before .before .before .before .pre .1 .0) .deep in (omega arith, trail-wider (c .before .before .before .before .before .before .before .before .before .before .before .before .before .before .before .args .store .now) ((c .before .before .before .before .before .before .before .before .before .before .before .before .before .before .before .args .prefix) .len) ((c .before .before .before .before .before .before .extend .result) .len) (c .before .before .before .before .before .before .before .before .before .before .before .before .before .before .before .args .trail) (omega arith) ((c .before .before .before .before .before .before .before .before .before .before .before .before .before .before .before .pre .1 .0) .trail), node-above (c .before .before .before .before .before .before .before .before .before .before .before .before .before .before .before .args .store .now) (c .before .before .before .before .before .before .before .before .before .before .before .before .before .before .before .args .level) (c .before .before .before .before .before .before .before .before .before .before .before .before .before .before .before .args .num) ((c .before .before .before .before .before .before .extend .result) .len) ((c .before .before .before .before .before .before .before .before .before .before .before .before .before .before .before .pre .1 .0) .reads))
+dump-node-lengthen-trail-requires t c κs = let l : length (take ((c .before .before .before .before .before .before .before .before .before .before .before .before .before .before .before .before .common-length .result) - 0) (c .before .before .before .before .before .before .before .before .before .before .before .before .before .before .before .before .before .before .before .before .before .args .lo .now)) ≡ (c .before .before .before .before .before .before .before .before .before .before .before .before .before .before .before .before .common-length .result) - 0 = length-take-le ((c .before .before .before .before .before .before .before .before .before .before .before .before .before .before .before .before .common-length .result) - 0) (c .before .before .before .before .before .before .before .before .before .before .before .before .before .before .before .before .before .before .before .before .before .args .lo .now) (omega arith) in let r = (c .before .before .before .before .before .before .before .before .before .before .before .before .before .before .before .before .before .before .before .before .before .pre .1 .0) .room in let d = (c .before .before .before .before .before .before .before .before .before .before .before .before .before .before .before .before .before .before .before .before .before .pre .1 .0) .deep in (omega arith, trail-wider (c .before .before .before .before .before .before .before .before .before .before .before .before .before .before .before .before .before .before .before .before .before .args .store .now) ((c .before .before .before .before .before .before .before .before .before .before .before .before .before .before .before .before .before .before .before .before .before .args .prefix) .len) ((c .before .before .before .before .before .before .before .before .before .before .before .before .extend .result) .len) (c .before .before .before .before .before .before .before .before .before .before .before .before .before .before .before .before .before .before .before .before .before .args .trail) (omega arith) ((c .before .before .before .before .before .before .before .before .before .before .before .before .before .before .before .before .before .before .before .before .before .pre .1 .0) .trail), node-above (c .before .before .before .before .before .before .before .before .before .before .before .before .before .before .before .before .before .before .before .before .before .args .store .now) (c .before .before .before .before .before .before .before .before .before .before .before .before .before .before .before .before .before .before .before .before .before .args .level) (c .before .before .before .before .before .before .before .before .before .before .before .before .before .before .before .before .before .before .before .before .before .args .num) ((c .before .before .before .before .before .before .before .before .before .before .before .before .extend .result) .len) ((c .before .before .before .before .before .before .before .before .before .before .before .before .before .before .before .before .before .before .before .before .before .pre .1 .0) .reads))
+
+dump-node-sub-note-own : (t : ℕ) → dump-node-lts.Need-sub-note-own (
+  common-length-reads.Asked,
+  common-length-reads.Learnt,
+  extend-reads.Asked,
+  extend-reads.Learnt,
+  note-above-reads.Asked,
+  note-above-reads.Learnt,
+  u16-at-reads.Asked,
+  u16-at-reads.Learnt,
+  append-pairs-reads.Asked,
+  append-pairs-reads.Learnt,
+  read-child-reads.Asked,
+  read-child-reads.Learnt,
+  lengthen-trail-reads.Asked,
+  lengthen-trail-reads.Learnt,
+  note-own-reads.Asked,
+  note-own-reads.Learnt,
+  dump-children-below t,
+  dump-children.Post,
+  insert-puts-reads.Asked,
+  insert-puts-reads.Learnt,
+) (dump-node-at t) dump-node.Post
+dump-node-sub-note-own t c = let q = c .before .before .before .before .before .before .before .before .before .before .before .before .before .before .before .before .before .before .before .before .before .before .pre .0 in let m = c .before .before .before .before .before .before .before .before .before .before .before .before .before .before .before .before .before .common-length .ensures .1 in let i = c .before .before .before .before .before .before .before .before .before .before .before .before .before .before .before .before .before .common-length .ensures .2 in let g = c .before .before .before .before .before .before .before .before .before .before .before .before .before .before .before .if1 .left in let x = c .before .before .before .before .before .before .before .before .before .before .before .before .before .extend .ensures .1 in let v = c .before .before .before .before .before .if2 .left in omega arith
+
+dump-node-part-note-own-start : (t : ℕ) → dump-node-lts.Need-part-note-own-start (
+  common-length-reads.Asked,
+  common-length-reads.Learnt,
+  extend-reads.Asked,
+  extend-reads.Learnt,
+  note-above-reads.Asked,
+  note-above-reads.Learnt,
+  u16-at-reads.Asked,
+  u16-at-reads.Learnt,
+  append-pairs-reads.Asked,
+  append-pairs-reads.Learnt,
+  read-child-reads.Asked,
+  read-child-reads.Learnt,
+  lengthen-trail-reads.Asked,
+  lengthen-trail-reads.Learnt,
+  note-own-reads.Asked,
+  note-own-reads.Learnt,
+  dump-children-below t,
+  dump-children.Post,
+  insert-puts-reads.Asked,
+  insert-puts-reads.Learnt,
+) (dump-node-at t) dump-node.Post
+dump-node-part-note-own-start t c = let q = c .before .before .before .before .before .before .before .before .before .before .before .before .before .before .before .before .before .before .before .before .before .before .pre .0 in let m = c .before .before .before .before .before .before .before .before .before .before .before .before .before .before .before .before .before .common-length .ensures .1 in let i = c .before .before .before .before .before .before .before .before .before .before .before .before .before .before .before .before .before .common-length .ensures .2 in let g = c .before .before .before .before .before .before .before .before .before .before .before .before .before .before .before .if1 .left in let x = c .before .before .before .before .before .before .before .before .before .before .before .before .before .extend .ensures .1 in let v = c .before .before .before .before .before .if2 .left in omega arith
+
+dump-node-part-note-own-end : (t : ℕ) → dump-node-lts.Need-part-note-own-end (
+  common-length-reads.Asked,
+  common-length-reads.Learnt,
+  extend-reads.Asked,
+  extend-reads.Learnt,
+  note-above-reads.Asked,
+  note-above-reads.Learnt,
+  u16-at-reads.Asked,
+  u16-at-reads.Learnt,
+  append-pairs-reads.Asked,
+  append-pairs-reads.Learnt,
+  read-child-reads.Asked,
+  read-child-reads.Learnt,
+  lengthen-trail-reads.Asked,
+  lengthen-trail-reads.Learnt,
+  note-own-reads.Asked,
+  note-own-reads.Learnt,
+  dump-children-below t,
+  dump-children.Post,
+  insert-puts-reads.Asked,
+  insert-puts-reads.Learnt,
+) (dump-node-at t) dump-node.Post
+dump-node-part-note-own-end t c = search needs
+
+dump-node-sub-note-own-2 : (t : ℕ) → dump-node-lts.Need-sub-note-own-2 (
+  common-length-reads.Asked,
+  common-length-reads.Learnt,
+  extend-reads.Asked,
+  extend-reads.Learnt,
+  note-above-reads.Asked,
+  note-above-reads.Learnt,
+  u16-at-reads.Asked,
+  u16-at-reads.Learnt,
+  append-pairs-reads.Asked,
+  append-pairs-reads.Learnt,
+  read-child-reads.Asked,
+  read-child-reads.Learnt,
+  lengthen-trail-reads.Asked,
+  lengthen-trail-reads.Learnt,
+  note-own-reads.Asked,
+  note-own-reads.Learnt,
+  dump-children-below t,
+  dump-children.Post,
+  insert-puts-reads.Asked,
+  insert-puts-reads.Learnt,
+) (dump-node-at t) dump-node.Post
+dump-node-sub-note-own-2 t c = let q = c .before .before .before .before .before .before .before .before .before .before .before .before .before .before .before .before .before .before .before .before .before .before .before .pre .0 in let m = c .before .before .before .before .before .before .before .before .before .before .before .before .before .before .before .before .before .before .common-length .ensures .1 in let i = c .before .before .before .before .before .before .before .before .before .before .before .before .before .before .before .before .before .before .common-length .ensures .2 in let g = c .before .before .before .before .before .before .before .before .before .before .before .before .before .before .before .before .if1 .left in let x = c .before .before .before .before .before .before .before .before .before .before .before .before .before .before .extend .ensures .1 in let v = c .before .before .before .before .before .before .if2 .left in omega arith
+
+dump-node-part-note-own-start-2 : (t : ℕ) → dump-node-lts.Need-part-note-own-start-2 (
+  common-length-reads.Asked,
+  common-length-reads.Learnt,
+  extend-reads.Asked,
+  extend-reads.Learnt,
+  note-above-reads.Asked,
+  note-above-reads.Learnt,
+  u16-at-reads.Asked,
+  u16-at-reads.Learnt,
+  append-pairs-reads.Asked,
+  append-pairs-reads.Learnt,
+  read-child-reads.Asked,
+  read-child-reads.Learnt,
+  lengthen-trail-reads.Asked,
+  lengthen-trail-reads.Learnt,
+  note-own-reads.Asked,
+  note-own-reads.Learnt,
+  dump-children-below t,
+  dump-children.Post,
+  insert-puts-reads.Asked,
+  insert-puts-reads.Learnt,
+) (dump-node-at t) dump-node.Post
+dump-node-part-note-own-start-2 t c = let q = c .before .before .before .before .before .before .before .before .before .before .before .before .before .before .before .before .before .before .before .before .before .before .before .pre .0 in let m = c .before .before .before .before .before .before .before .before .before .before .before .before .before .before .before .before .before .before .common-length .ensures .1 in let i = c .before .before .before .before .before .before .before .before .before .before .before .before .before .before .before .before .before .before .common-length .ensures .2 in let g = c .before .before .before .before .before .before .before .before .before .before .before .before .before .before .before .before .if1 .left in let x = c .before .before .before .before .before .before .before .before .before .before .before .before .before .before .extend .ensures .1 in let v = c .before .before .before .before .before .before .if2 .left in omega arith
+
+dump-node-part-note-own-end-2 : (t : ℕ) → dump-node-lts.Need-part-note-own-end-2 (
+  common-length-reads.Asked,
+  common-length-reads.Learnt,
+  extend-reads.Asked,
+  extend-reads.Learnt,
+  note-above-reads.Asked,
+  note-above-reads.Learnt,
+  u16-at-reads.Asked,
+  u16-at-reads.Learnt,
+  append-pairs-reads.Asked,
+  append-pairs-reads.Learnt,
+  read-child-reads.Asked,
+  read-child-reads.Learnt,
+  lengthen-trail-reads.Asked,
+  lengthen-trail-reads.Learnt,
+  note-own-reads.Asked,
+  note-own-reads.Learnt,
+  dump-children-below t,
+  dump-children.Post,
+  insert-puts-reads.Asked,
+  insert-puts-reads.Learnt,
+) (dump-node-at t) dump-node.Post
+dump-node-part-note-own-end-2 t c = search needs
+
+dump-node-slice-aggregate-note-own : (t : ℕ) → dump-node-lts.Need-slice-aggregate-note-own (
+  common-length-reads.Asked,
+  common-length-reads.Learnt,
+  extend-reads.Asked,
+  extend-reads.Learnt,
+  note-above-reads.Asked,
+  note-above-reads.Learnt,
+  u16-at-reads.Asked,
+  u16-at-reads.Learnt,
+  append-pairs-reads.Asked,
+  append-pairs-reads.Learnt,
+  read-child-reads.Asked,
+  read-child-reads.Learnt,
+  lengthen-trail-reads.Asked,
+  lengthen-trail-reads.Learnt,
+  note-own-reads.Asked,
+  note-own-reads.Learnt,
+  dump-children-below t,
+  dump-children.Post,
+  insert-puts-reads.Asked,
+  insert-puts-reads.Learnt,
+) (dump-node-at t) dump-node.Post
+dump-node-slice-aggregate-note-own t c = search needs
+
+dump-node-note-own-requires : (t : ℕ) → dump-node-lts.Need-note-own-requires (
+  common-length-reads.Asked,
+  common-length-reads.Learnt,
+  extend-reads.Asked,
+  extend-reads.Learnt,
+  note-above-reads.Asked,
+  note-above-reads.Learnt,
+  u16-at-reads.Asked,
+  u16-at-reads.Learnt,
+  append-pairs-reads.Asked,
+  append-pairs-reads.Learnt,
+  read-child-reads.Asked,
+  read-child-reads.Learnt,
+  lengthen-trail-reads.Asked,
+  lengthen-trail-reads.Learnt,
+  note-own-reads.Asked,
+  note-own-reads.Learnt,
+  dump-children-below t,
+  dump-children.Post,
+  insert-puts-reads.Asked,
+  insert-puts-reads.Learnt,
+) (dump-node-at t) dump-node.Post
+dump-node-note-own-requires t c κs = let w = node-inside (c .before .before .before .before .before .before .before .before .before .before .before .before .before .before .before .before .before .before .before .before .before .before .before .before .before .args .store .now) (c .before .before .before .before .before .before .before .before .before .before .before .before .before .before .before .before .before .before .before .before .before .before .before .before .before .args .num) (c .before .before .before .before .before .before .before .before .before .before .before .before .before .before .before .before .before .before .before .before .before .before .before .before .before .args .level) ((c .before .before .before .before .before .before .before .before .before .before .before .before .before .before .before .before .before .before .before .before .before .before .before .before .before .pre .1 .0) .reads) in (w .0, w .1, c .before .before .before .before .before .before .before .before .before .before .before .note-above .ensures .fits)
 
 dump-node-sub-dump-children : (t : ℕ) → dump-node-lts.Need-sub-dump-children (
   common-length-reads.Asked,
   common-length-reads.Learnt,
   extend-reads.Asked,
   extend-reads.Learnt,
+  note-above-reads.Asked,
+  note-above-reads.Learnt,
   u16-at-reads.Asked,
   u16-at-reads.Learnt,
   append-pairs-reads.Asked,
@@ -688,6 +1238,8 @@ dump-node-sub-dump-children : (t : ℕ) → dump-node-lts.Need-sub-dump-children
   read-child-reads.Learnt,
   lengthen-trail-reads.Asked,
   lengthen-trail-reads.Learnt,
+  note-own-reads.Asked,
+  note-own-reads.Learnt,
   dump-children-below t,
   dump-children.Post,
   insert-puts-reads.Asked,
@@ -700,6 +1252,8 @@ dump-node-sub-dump-children-2 : (t : ℕ) → dump-node-lts.Need-sub-dump-childr
   common-length-reads.Learnt,
   extend-reads.Asked,
   extend-reads.Learnt,
+  note-above-reads.Asked,
+  note-above-reads.Learnt,
   u16-at-reads.Asked,
   u16-at-reads.Learnt,
   append-pairs-reads.Asked,
@@ -708,18 +1262,22 @@ dump-node-sub-dump-children-2 : (t : ℕ) → dump-node-lts.Need-sub-dump-childr
   read-child-reads.Learnt,
   lengthen-trail-reads.Asked,
   lengthen-trail-reads.Learnt,
+  note-own-reads.Asked,
+  note-own-reads.Learnt,
   dump-children-below t,
   dump-children.Post,
   insert-puts-reads.Asked,
   insert-puts-reads.Learnt,
 ) (dump-node-at t) dump-node.Post
-dump-node-sub-dump-children-2 t c = search needs
+dump-node-sub-dump-children-2 t c = let q = c .before .before .before .before .before .before .before .before .before .before .before .before .before .before .before .before .before .before .before .before .before .before .before .before .before .before .before .before .pre .0 in let m = c .before .before .before .before .before .before .before .before .before .before .before .before .before .before .before .before .before .before .before .before .before .before .before .common-length .ensures .1 in let i = c .before .before .before .before .before .before .before .before .before .before .before .before .before .before .before .before .before .before .before .before .before .before .before .common-length .ensures .2 in let g = c .before .before .before .before .before .before .before .before .before .before .before .before .before .before .before .before .before .before .before .before .before .if1 .left in let x = c .before .before .before .before .before .before .before .before .before .before .before .before .before .before .before .before .before .before .before .extend .ensures .1 in let v = c .before .before .before .before .before .before .before .before .before .before .before .if2 .left in omega arith
 
 dump-node-part-dump-children-start : (t : ℕ) → dump-node-lts.Need-part-dump-children-start (
   common-length-reads.Asked,
   common-length-reads.Learnt,
   extend-reads.Asked,
   extend-reads.Learnt,
+  note-above-reads.Asked,
+  note-above-reads.Learnt,
   u16-at-reads.Asked,
   u16-at-reads.Learnt,
   append-pairs-reads.Asked,
@@ -728,18 +1286,22 @@ dump-node-part-dump-children-start : (t : ℕ) → dump-node-lts.Need-part-dump-
   read-child-reads.Learnt,
   lengthen-trail-reads.Asked,
   lengthen-trail-reads.Learnt,
+  note-own-reads.Asked,
+  note-own-reads.Learnt,
   dump-children-below t,
   dump-children.Post,
   insert-puts-reads.Asked,
   insert-puts-reads.Learnt,
 ) (dump-node-at t) dump-node.Post
-dump-node-part-dump-children-start t c = search needs
+dump-node-part-dump-children-start t c = let q = c .before .before .before .before .before .before .before .before .before .before .before .before .before .before .before .before .before .before .before .before .before .before .before .before .before .before .before .before .pre .0 in let m = c .before .before .before .before .before .before .before .before .before .before .before .before .before .before .before .before .before .before .before .before .before .before .before .common-length .ensures .1 in let i = c .before .before .before .before .before .before .before .before .before .before .before .before .before .before .before .before .before .before .before .before .before .before .before .common-length .ensures .2 in let g = c .before .before .before .before .before .before .before .before .before .before .before .before .before .before .before .before .before .before .before .before .before .if1 .left in let x = c .before .before .before .before .before .before .before .before .before .before .before .before .before .before .before .before .before .before .before .extend .ensures .1 in let v = c .before .before .before .before .before .before .before .before .before .before .before .if2 .left in omega arith
 
 dump-node-part-dump-children-end : (t : ℕ) → dump-node-lts.Need-part-dump-children-end (
   common-length-reads.Asked,
   common-length-reads.Learnt,
   extend-reads.Asked,
   extend-reads.Learnt,
+  note-above-reads.Asked,
+  note-above-reads.Learnt,
   u16-at-reads.Asked,
   u16-at-reads.Learnt,
   append-pairs-reads.Asked,
@@ -748,6 +1310,8 @@ dump-node-part-dump-children-end : (t : ℕ) → dump-node-lts.Need-part-dump-ch
   read-child-reads.Learnt,
   lengthen-trail-reads.Asked,
   lengthen-trail-reads.Learnt,
+  note-own-reads.Asked,
+  note-own-reads.Learnt,
   dump-children-below t,
   dump-children.Post,
   insert-puts-reads.Asked,
@@ -760,6 +1324,8 @@ dump-node-dump-children-requires : (t : ℕ) → dump-node-lts.Need-dump-childre
   common-length-reads.Learnt,
   extend-reads.Asked,
   extend-reads.Learnt,
+  note-above-reads.Asked,
+  note-above-reads.Learnt,
   u16-at-reads.Asked,
   u16-at-reads.Learnt,
   append-pairs-reads.Asked,
@@ -768,18 +1334,22 @@ dump-node-dump-children-requires : (t : ℕ) → dump-node-lts.Need-dump-childre
   read-child-reads.Learnt,
   lengthen-trail-reads.Asked,
   lengthen-trail-reads.Learnt,
+  note-own-reads.Asked,
+  note-own-reads.Learnt,
   dump-children-below t,
   dump-children.Post,
   insert-puts-reads.Asked,
   insert-puts-reads.Learnt,
 ) (dump-node-at t) dump-node.Post
-dump-node-dump-children-requires t c κs = let q = (c .before .before .before .before .before .before .before .before .before .before .before .before .before .before .before .before .before .before .pre .0) in let v = (c .before .before .before .before .before .before .before .if2 .left) in let w = node-inside (c .before .before .before .before .before .before .before .before .before .before .before .before .before .before .before .before .before .before .args .store .now) (c .before .before .before .before .before .before .before .before .before .before .before .before .before .before .before .before .before .before .args .num) (c .before .before .before .before .before .before .before .before .before .before .before .before .before .before .before .before .before .before .args .level) ((c .before .before .before .before .before .before .before .before .before .before .before .before .before .before .before .before .before .before .pre .1 .0) .reads) in let hs = here-short t (c .before .before .before .before .before .before .before .before .before) in let nc = first-next t (c .before .before .before) in let z = here-length t (c .before .before .before .before .before .before .before .before .before) in let d = nc .ends in (omega arith, (kids-ready (c .before .before .before .before .before .before .before .before .before .before .before .before .before .before .before .before .before .before .args .store .now) (c .before .before .before .before .before .before .before .before .before .before .before .before .before .before .before .before .before .before .args .level) (c .before .before .before .before .before .before .before .before .before .before .before .before .before .before .before .before .before .before .args .num) (c .before .before .before .before .before .before .before .before .before .before .before .before .before .before .before .before .before .before .args .prefix) (c .before .before .before .before .before .before .before .before .before .before .before .before .before .before .before .before .before .before .args .trail) (c .before .before .before .before .before .before .before .before .before .before .before .before .before .before .before .before .before .before .pre .1 .0) (c .before .before .before .before .before .before .before .before .before .before .before .before .before .before .before .before .before .before .args .lo .now) (c .before .before .before .before .before .before .before .before .before .before .before .before .before .before .before .before .before .before .args .hi .now) (c .before .before .before .before .before .before .before .before .before .before .before .before .before .common-length .result) (c .before .before .before .before .before .before .before .before .before .before .before .before .before .common-length .ensures .0) (c .before .before .before .before .before .before .before .before .before .extend .result) (c .before .before .before .before .before .before .before .before .before .extend .ensures .0) (c .before .before .before .before .before .before .before .before .u16-at .result) _ (c .before .before .before .before .before .before .before .before .u16-at .ensures .0) refl (omega arith) (c .before .before .before .before .child .given .0 .0) (c .before .before .before .before .child .given .0 .1 .0) (c .before .before .before .before .child .given .0 .1 .1 .0) nc (c .before .before .lengthen-trail .result) (c .before .before .lengthen-trail .ensures) (omega arith) (omega arith), sound-kids (c .before .before .before .before .before .before .before .before .before .before .before .before .before .before .before .before .before .before .args .store .now) (c .before .before .before .before .before .before .before .before .before .before .before .before .before .before .before .before .before .before .args .level) (c .before .before .before .before .before .before .before .before .before .before .before .before .before .before .before .before .before .before .args .num) (c .before .before .before .before .before .before .before .before .before .before .before .before .before .before .before .before .before .before .args .prefix) (c .before .before .before .before .before .before .before .before .before .before .before .before .before .before .before .before .before .before .args .trail) (c .before .before .before .before .before .before .before .before .before .before .before .before .before .before .before .before .before .before .pre .1 .0) (c .before .before .before .before .before .before .before .before .before .before .before .before .before .before .before .before .before .before .args .lo .now) (c .before .before .before .before .before .before .before .before .before .before .before .before .before .before .before .before .before .before .args .hi .now) (c .before .before .before .before .before .before .before .before .before .before .before .before .before .before .before .before .before .before .pre .1 .1) (c .before .before .before .before .before .before .before .before .before .before .before .before .before .before .before .before .before .before .args .area .now) (c .before .before .before .before .before .before .before .before .before .before .before .before .before .before .before .before .before .before .args .m) (c .before .before .before .before .before .before .before .before .before .before .before .before .before .before .before .before .before .before .pre .1 .2) (c .before .before .before .before .before .before .before .before .before .before .before .before .before .common-length .result) (c .before .before .before .before .before .before .before .before .before .before .before .before .before .common-length .ensures .0) (c .before .before .before .before .before .before .before .before .before .extend .result) (c .before .before .before .before .before .before .before .before .before .extend .ensures .0) (c .before .before .before .before .before .before .before .before .u16-at .result) (c .before .before .before .before .before .before .before .before .u16-at .ensures .0) (omega arith) (c .before .before .before .before .child .given .0 .0) (c .before .before .before .before .child .given .0 .1 .0) (c .before .before .before .before .child .given .0 .1 .1 .0) nc, kids-room (c .before .before .before .before .before .before .before .before .before .before .before .before .before .before .before .before .before .before .args .store .now) (c .before .before .before .before .before .before .before .before .before .before .before .before .before .before .before .before .before .before .args .level) (c .before .before .before .before .before .before .before .before .before .before .before .before .before .before .before .before .before .before .args .num) (c .before .before .before .before .before .before .before .before .before .before .before .before .before .before .before .before .before .before .args .prefix) (c .before .before .before .before .before .before .before .before .before .before .before .before .before .before .before .before .before .before .args .trail) (c .before .before .before .before .before .before .before .before .before .before .before .before .before .before .before .before .before .before .pre .1 .0) (c .before .before .before .before .before .before .before .before .before .before .before .before .before .before .before .before .before .before .args .lo .now) (c .before .before .before .before .before .before .before .before .before .before .before .before .before .before .before .before .before .before .args .hi .now) (c .before .before .before .before .before .before .before .before .before .before .before .before .before .before .before .before .before .before .pre .1 .1) (c .before .before .before .before .before .before .before .before .before .before .before .before .before .before .before .before .before .before .args .area .now) (c .before .before .before .before .before .before .before .before .before .before .before .before .before .before .before .before .before .before .args .m) (c .before .before .before .before .before .before .before .before .before .before .before .before .before .before .before .before .before .before .pre .1 .2) (c .before .before .before .before .before .before .before .before .before .before .before .before .before .common-length .result) (c .before .before .before .before .before .before .before .before .before .before .before .before .before .common-length .ensures .0) (c .before .before .before .before .before .before .before .before .before .extend .result) (c .before .before .before .before .before .before .before .before .before .extend .ensures .0) (c .before .before .before .before .before .before .before .before .u16-at .result) (c .before .before .before .before .before .before .before .before .u16-at .ensures .0) (omega arith) (c .before .before .before .before .child .given .0 .0) (c .before .before .before .before .child .given .0 .1 .0) (c .before .before .before .before .child .given .0 .1 .1 .0) nc (c .before .before .lengthen-trail .result) (c .before .before .lengthen-trail .ensures) (omega arith)))
+dump-node-dump-children-requires t c κs = let q = (c .before .before .before .before .before .before .before .before .before .before .before .before .before .before .before .before .before .before .before .before .before .before .before .before .before .before .before .before .before .before .pre .0) in let v = (c .before .before .before .before .before .before .before .before .before .before .before .before .before .if2 .left) in let w = node-inside (c .before .before .before .before .before .before .before .before .before .before .before .before .before .before .before .before .before .before .before .before .before .before .before .before .before .before .before .before .before .before .args .store .now) (c .before .before .before .before .before .before .before .before .before .before .before .before .before .before .before .before .before .before .before .before .before .before .before .before .before .before .before .before .before .before .args .num) (c .before .before .before .before .before .before .before .before .before .before .before .before .before .before .before .before .before .before .before .before .before .before .before .before .before .before .before .before .before .before .args .level) ((c .before .before .before .before .before .before .before .before .before .before .before .before .before .before .before .before .before .before .before .before .before .before .before .before .before .before .before .before .before .before .pre .1 .0) .reads) in let hs = here-short t (c .before .before .before .before .before .before .before .before .before .before .before .before .before .before .before .before .before .before .before .before .before) in let nc = first-next t (c .before .before .before .before .before .before .before .before .before) in let z = here-length t (c .before .before .before .before .before .before .before .before .before .before .before .before .before .before .before .before .before .before .before .before .before) in let d = nc .ends in (omega arith, (kids-ready (c .before .before .before .before .before .before .before .before .before .before .before .before .before .before .before .before .before .before .before .before .before .before .before .before .before .before .before .before .before .before .args .store .now) (c .before .before .before .before .before .before .before .before .before .before .before .before .before .before .before .before .before .before .before .before .before .before .before .before .before .before .before .before .before .before .args .level) (c .before .before .before .before .before .before .before .before .before .before .before .before .before .before .before .before .before .before .before .before .before .before .before .before .before .before .before .before .before .before .args .num) (c .before .before .before .before .before .before .before .before .before .before .before .before .before .before .before .before .before .before .before .before .before .before .before .before .before .before .before .before .before .before .args .prefix) (c .before .before .before .before .before .before .before .before .before .before .before .before .before .before .before .before .before .before .before .before .before .before .before .before .before .before .before .before .before .before .args .trail) (c .before .before .before .before .before .before .before .before .before .before .before .before .before .before .before .before .before .before .before .before .before .before .before .before .before .before .before .before .before .before .pre .1 .0) (c .before .before .before .before .before .before .before .before .before .before .before .before .before .before .before .before .before .before .before .before .before .before .before .before .before .before .before .before .before .before .args .lo .now) (c .before .before .before .before .before .before .before .before .before .before .before .before .before .before .before .before .before .before .before .before .before .before .before .before .before .before .before .before .before .before .args .hi .now) (c .before .before .before .before .before .before .before .before .before .before .before .before .before .before .before .before .before .before .before .before .before .before .before .before .before .common-length .result) (c .before .before .before .before .before .before .before .before .before .before .before .before .before .before .before .before .before .before .before .before .before .before .before .before .before .common-length .ensures .0) (c .before .before .before .before .before .before .before .before .before .before .before .before .before .before .before .before .before .before .before .before .before .extend .result) (c .before .before .before .before .before .before .before .before .before .before .before .before .before .before .before .before .before .before .before .before .before .extend .ensures .0) (c .before .before .before .before .before .before .before .before .before .before .before .before .before .before .u16-at .result) _ (c .before .before .before .before .before .before .before .before .before .before .before .before .before .before .u16-at .ensures .0) refl (omega arith) (c .before .before .before .before .before .before .before .before .before .before .child .given .0 .0) (c .before .before .before .before .before .before .before .before .before .before .child .given .0 .1 .0) (c .before .before .before .before .before .before .before .before .before .before .child .given .0 .1 .1 .0) nc (c .before .before .before .before .before .before .before .before .lengthen-trail .result) (c .before .before .before .before .before .before .before .before .lengthen-trail .ensures) (omega arith) (omega arith), sound-kids (c .before .before .before .before .before .before .before .before .before .before .before .before .before .before .before .before .before .before .before .before .before .before .before .before .before .before .before .before .before .before .args .store .now) (c .before .before .before .before .before .before .before .before .before .before .before .before .before .before .before .before .before .before .before .before .before .before .before .before .before .before .before .before .before .before .args .level) (c .before .before .before .before .before .before .before .before .before .before .before .before .before .before .before .before .before .before .before .before .before .before .before .before .before .before .before .before .before .before .args .num) (c .before .before .before .before .before .before .before .before .before .before .before .before .before .before .before .before .before .before .before .before .before .before .before .before .before .before .before .before .before .before .args .prefix) (c .before .before .before .before .before .before .before .before .before .before .before .before .before .before .before .before .before .before .before .before .before .before .before .before .before .before .before .before .before .before .args .trail) (c .before .before .before .before .before .before .before .before .before .before .before .before .before .before .before .before .before .before .before .before .before .before .before .before .before .before .before .before .before .before .pre .1 .0) (c .before .before .before .before .before .before .before .before .before .before .before .before .before .before .before .before .before .before .before .before .before .before .before .before .before .before .before .before .before .before .args .lo .now) (c .before .before .before .before .before .before .before .before .before .before .before .before .before .before .before .before .before .before .before .before .before .before .before .before .before .before .before .before .before .before .args .hi .now) (c .before .before .before .before .before .before .before .before .before .before .before .before .before .before .before .before .before .before .before .before .before .before .before .before .before .before .before .before .before .before .pre .1 .1) (c .before .before .before .before .before .before .before .before .before .before .before .before .before .before .before .before .before .before .before .before .before .before .before .before .before .before .before .before .before .before .args .area .now) (c .before .before .before .before .before .before .before .before .before .before .before .before .before .before .before .before .before .before .before .before .before .before .before .before .before .before .before .before .before .before .args .m) (c .before .before .before .before .before .before .before .before .before .before .before .before .before .before .before .before .before .before .before .before .before .before .before .before .before .before .before .before .before .before .pre .1 .2) (c .before .before .before .before .before .before .before .before .before .before .before .before .before .before .before .before .before .before .before .before .before .before .before .before .before .common-length .result) (c .before .before .before .before .before .before .before .before .before .before .before .before .before .before .before .before .before .before .before .before .before .before .before .before .before .common-length .ensures .0) (c .before .before .before .before .before .before .before .before .before .before .before .before .before .before .before .before .before .before .before .before .before .extend .result) (c .before .before .before .before .before .before .before .before .before .before .before .before .before .before .before .before .before .before .before .before .before .extend .ensures .0) (c .before .before .before .before .before .before .before .before .before .before .before .before .before .before .u16-at .result) (c .before .before .before .before .before .before .before .before .before .before .before .before .before .before .u16-at .ensures .0) (omega arith) (c .before .before .before .before .before .before .before .before .before .before .child .given .0 .0) (c .before .before .before .before .before .before .before .before .before .before .child .given .0 .1 .0) (c .before .before .before .before .before .before .before .before .before .before .child .given .0 .1 .1 .0) nc, kids-room (c .before .before .before .before .before .before .before .before .before .before .before .before .before .before .before .before .before .before .before .before .before .before .before .before .before .before .before .before .before .before .args .store .now) (c .before .before .before .before .before .before .before .before .before .before .before .before .before .before .before .before .before .before .before .before .before .before .before .before .before .before .before .before .before .before .args .level) (c .before .before .before .before .before .before .before .before .before .before .before .before .before .before .before .before .before .before .before .before .before .before .before .before .before .before .before .before .before .before .args .num) (c .before .before .before .before .before .before .before .before .before .before .before .before .before .before .before .before .before .before .before .before .before .before .before .before .before .before .before .before .before .before .args .prefix) (c .before .before .before .before .before .before .before .before .before .before .before .before .before .before .before .before .before .before .before .before .before .before .before .before .before .before .before .before .before .before .args .trail) (c .before .before .before .before .before .before .before .before .before .before .before .before .before .before .before .before .before .before .before .before .before .before .before .before .before .before .before .before .before .before .pre .1 .0) (c .before .before .before .before .before .before .before .before .before .before .before .before .before .before .before .before .before .before .before .before .before .before .before .before .before .before .before .before .before .before .args .lo .now) (c .before .before .before .before .before .before .before .before .before .before .before .before .before .before .before .before .before .before .before .before .before .before .before .before .before .before .before .before .before .before .args .hi .now) (c .before .before .before .before .before .before .before .before .before .before .before .before .before .before .before .before .before .before .before .before .before .before .before .before .before .before .before .before .before .before .pre .1 .1) (c .before .before .before .before .before .before .before .before .before .before .before .before .before .before .before .before .before .before .before .before .before .before .before .before .before .before .before .before .before .before .args .area .now) (c .before .before .before .before .before .before .before .before .before .before .before .before .before .before .before .before .before .before .before .before .before .before .before .before .before .before .before .before .before .before .args .m) (c .before .before .before .before .before .before .before .before .before .before .before .before .before .before .before .before .before .before .before .before .before .before .before .before .before .before .before .before .before .before .pre .1 .2) (c .before .before .before .before .before .before .before .before .before .before .before .before .before .before .before .before .before .before .before .before .before .before .before .before .before .common-length .result) (c .before .before .before .before .before .before .before .before .before .before .before .before .before .before .before .before .before .before .before .before .before .before .before .before .before .common-length .ensures .0) (c .before .before .before .before .before .before .before .before .before .before .before .before .before .before .before .before .before .before .before .before .before .extend .result) (c .before .before .before .before .before .before .before .before .before .before .before .before .before .before .before .before .before .before .before .before .before .extend .ensures .0) (c .before .before .before .before .before .before .before .before .before .before .before .before .before .before .u16-at .result) (c .before .before .before .before .before .before .before .before .before .before .before .before .before .before .u16-at .ensures .0) (omega arith) (c .before .before .before .before .before .before .before .before .before .before .child .given .0 .0) (c .before .before .before .before .before .before .before .before .before .before .child .given .0 .1 .0) (c .before .before .before .before .before .before .before .before .before .before .child .given .0 .1 .1 .0) nc (c .before .before .before .before .before .before .before .before .lengthen-trail .result) (c .before .before .before .before .before .before .before .before .lengthen-trail .ensures) (omega arith), kids-sound (c .before .before .before .before .before .before .before .before .before .before .before .before .before .before .before .before .before .before .before .before .before .before .before .before .before .before .before .before .before .before .args .prefix) (c .before .before .before .before .before .before .before .before .before .before .before .before .before .before .before .before .before .before .before .before .before .before .before .before .before .before .before .before .before .before .args .lo .now) (c .before .before .before .before .before .before .before .before .before .before .before .before .before .before .before .before .before .before .before .before .before .before .before .before .before .before .before .before .before .before .args .hi .now) (c .before .before .before .before .before .before .before .before .before .before .before .before .before .before .before .before .before .before .before .before .before .before .before .before .before .common-length .result) (c .before .before .before .before .before .before .before .before .before .before .before .before .before .before .before .before .before .before .before .before .before .before .before .before .before .common-length .ensures .0) (c .before .before .before .before .before .before .before .before .before .before .before .before .before .before .before .before .before .before .before .before .before .extend .result) (c .before .before .before .before .before .before .before .before .before .before .before .before .before .before .before .before .before .before .before .before .before .extend .ensures .0) (c .before .before .before .before .before .before .before .before .before .before .before .before .before .before .before .before .before .before .before .before .before .before .before .before .before .before .before .before .before .before .args .store .now) (c .before .before .before .before .before .before .before .before .before .before .before .before .before .before .before .before .before .before .before .before .before .before .before .before .before .before .before .before .before .before .args .level) (c .before .before .before .before .before .before .before .before .before .before .before .before .before .before .before .before .before .before .before .before .before .before .before .before .before .before .before .before .before .before .args .num) (c .before .before .before .before .before .before .before .before .before .before .before .before .before .before .before .before .before .before .before .before .before .before .before .before .before .before .before .before .before .before .pre .1 .0 .reads) (c .before .before .before .before .before .before .before .before .before .before .before .before .before .before .before .before .before .before .before .before .before .before .before .before .before .before .before .before .before .before .pre .1 .1) (c .before .before .before .before .before .before .before .before .before .before .before .before .before .before .u16-at .result) (c .before .before .before .before .before .before .before .before .before .before .before .before .before .before .u16-at .ensures .0) (omega arith) _ _ _ nc _ _ _ (told-joined _ _ _ _ _ _ (c .before .before .before .before .before .before .before .before .before .before .before .before .before .before .before .before .before .before .before .before .before .extend .result) _ _ _ _ (omega arith) (c .before .before .before .before .before .before .before .before .lengthen-trail .ensures) (c .before .before .before .before .before .before .before .before .before .before .before .before .before .before .before .before .note-above .ensures) (c .before .before .before .before .note-own .ensures))))
 
 dump-node-insert-puts-requires : (t : ℕ) → dump-node-lts.Need-insert-puts-requires (
   common-length-reads.Asked,
   common-length-reads.Learnt,
   extend-reads.Asked,
   extend-reads.Learnt,
+  note-above-reads.Asked,
+  note-above-reads.Learnt,
   u16-at-reads.Asked,
   u16-at-reads.Learnt,
   append-pairs-reads.Asked,
@@ -788,18 +1358,22 @@ dump-node-insert-puts-requires : (t : ℕ) → dump-node-lts.Need-insert-puts-re
   read-child-reads.Learnt,
   lengthen-trail-reads.Asked,
   lengthen-trail-reads.Learnt,
+  note-own-reads.Asked,
+  note-own-reads.Learnt,
   dump-children-below t,
   dump-children.Post,
   insert-puts-reads.Asked,
   insert-puts-reads.Learnt,
 ) (dump-node-at t) dump-node.Post
-dump-node-insert-puts-requires t c κs = let w = node-inside (c .before .before .before .before .before .before .before .before .before .before .before .before .before .before .before .before .before .before .before .before .before .before .args .store .now) (c .before .before .before .before .before .before .before .before .before .before .before .before .before .before .before .before .before .before .before .before .before .before .args .num) (c .before .before .before .before .before .before .before .before .before .before .before .before .before .before .before .before .before .before .before .before .before .before .args .level) ((c .before .before .before .before .before .before .before .before .before .before .before .before .before .before .before .before .before .before .before .before .before .before .pre .1 .0) .reads) in let hs = here-short t (c .before .before .before .before .before .before .before .before .before .before .before .before .before) in let ul = (c .before .before .before .before .before .before .before .before .before .before .before .before .u16-at .ensures .0) in let nc = first-next t (c .before .before .before .before .before .before .before) in let z = here-length t (c .before .before .before .before .before .before .before .before .before .before .before .before .before) in (omega arith, omega arith, trail-wider (c .before .before .before .before .before .before .before .before .before .before .before .before .before .before .before .before .before .before .before .before .before .before .args .store .now) ((c .before .before .before .before .before .before .before .before .before .before .before .before .before .before .before .before .before .before .before .before .before .before .args .prefix) .len) ((c .before .before .before .before .before .before .before .before .before .before .before .before .before .extend .result) .len) (c .before .before .before .before .before .before .before .before .before .before .before .before .before .before .before .before .before .before .before .before .before .before .args .trail) (omega arith) ((c .before .before .before .before .before .before .before .before .before .before .before .before .before .before .before .before .before .before .before .before .before .before .pre .1 .0) .trail), puts-open (c .before .before .before .before .before .before .before .before .before .before .before .before .before .before .before .before .before .before .before .before .before .before .args .store .now) (c .before .before .before .before .before .before .before .before .before .before .before .before .before .before .before .before .before .before .before .before .before .before .args .level) (c .before .before .before .before .before .before .before .before .before .before .before .before .before .before .before .before .before .before .before .before .before .before .args .num) (c .before .before .before .before .before .before .before .before .before .before .before .before .before .before .before .before .before .before .before .before .before .before .args .prefix) (c .before .before .before .before .before .before .before .before .before .before .before .before .before .before .before .before .before .before .before .before .before .before .args .trail) (c .before .before .before .before .before .before .before .before .before .before .before .before .before .before .before .before .before .before .before .before .before .before .pre .1 .0) (c .before .before .before .before .before .before .before .before .before .before .before .before .before .before .before .before .before .before .before .before .before .before .args .lo .now) (c .before .before .before .before .before .before .before .before .before .before .before .before .before .before .before .before .before .before .before .before .before .before .args .hi .now) (c .before .before .before .before .before .before .before .before .before .before .before .before .before .before .before .before .before .before .before .before .before .before .pre .1 .1) (c .before .before .before .before .before .before .before .before .before .before .before .before .before .before .before .before .before .before .before .before .before .before .args .area .now) (c .before .before .before .before .before .before .before .before .before .before .before .before .before .before .before .before .before .before .before .before .before .before .args .m) (c .before .before .before .before .before .before .before .before .before .before .before .before .before .before .before .before .before .before .before .before .before .before .pre .1 .2) (c .before .before .before .before .before .before .before .before .before .before .before .before .before .before .before .before .before .common-length .result) (c .before .before .before .before .before .before .before .before .before .before .before .before .before .before .before .before .before .common-length .ensures .0) (c .before .before .before .before .before .before .before .before .before .before .before .before .before .extend .result) (c .before .before .before .before .before .before .before .before .before .before .before .before .before .extend .ensures .0) (c .before .before .before .before .before .before .before .before .before .before .before .before .u16-at .result) (c .before .before .before .before .before .before .before .before .before .before .before .before .u16-at .ensures .0) (omega arith) (c .before .before .before .before .before .before .before .before .child .given .0 .0) (c .before .before .before .before .before .before .before .before .child .given .0 .1 .0) (c .before .before .before .before .before .before .before .before .child .given .0 .1 .1 .0) nc (c .before .before .before .before .before .before .lengthen-trail .result) (c .before .before .before .before .before .before .lengthen-trail .ensures) (omega arith) _ _ (c .before .before .before .dump-children .ensures))
+dump-node-insert-puts-requires t c κs = let w = node-inside (c .before .before .before .before .before .before .before .before .before .before .before .before .before .before .before .before .before .before .before .before .before .before .before .before .before .before .before .before .before .before .before .before .before .before .args .store .now) (c .before .before .before .before .before .before .before .before .before .before .before .before .before .before .before .before .before .before .before .before .before .before .before .before .before .before .before .before .before .before .before .before .before .before .args .num) (c .before .before .before .before .before .before .before .before .before .before .before .before .before .before .before .before .before .before .before .before .before .before .before .before .before .before .before .before .before .before .before .before .before .before .args .level) ((c .before .before .before .before .before .before .before .before .before .before .before .before .before .before .before .before .before .before .before .before .before .before .before .before .before .before .before .before .before .before .before .before .before .before .pre .1 .0) .reads) in let hs = here-short t (c .before .before .before .before .before .before .before .before .before .before .before .before .before .before .before .before .before .before .before .before .before .before .before .before .before) in let ul = (c .before .before .before .before .before .before .before .before .before .before .before .before .before .before .before .before .before .before .u16-at .ensures .0) in let nc = first-next t (c .before .before .before .before .before .before .before .before .before .before .before .before .before) in let z = here-length t (c .before .before .before .before .before .before .before .before .before .before .before .before .before .before .before .before .before .before .before .before .before .before .before .before .before) in (omega arith, omega arith, trail-wider (c .before .before .before .before .before .before .before .before .before .before .before .before .before .before .before .before .before .before .before .before .before .before .before .before .before .before .before .before .before .before .before .before .before .before .args .store .now) ((c .before .before .before .before .before .before .before .before .before .before .before .before .before .before .before .before .before .before .before .before .before .before .before .before .before .before .before .before .before .before .before .before .before .before .args .prefix) .len) ((c .before .before .before .before .before .before .before .before .before .before .before .before .before .before .before .before .before .before .before .before .before .before .before .before .before .extend .result) .len) (c .before .before .before .before .before .before .before .before .before .before .before .before .before .before .before .before .before .before .before .before .before .before .before .before .before .before .before .before .before .before .before .before .before .before .args .trail) (omega arith) ((c .before .before .before .before .before .before .before .before .before .before .before .before .before .before .before .before .before .before .before .before .before .before .before .before .before .before .before .before .before .before .before .before .before .before .pre .1 .0) .trail), puts-open (c .before .before .before .before .before .before .before .before .before .before .before .before .before .before .before .before .before .before .before .before .before .before .before .before .before .before .before .before .before .before .before .before .before .before .args .store .now) (c .before .before .before .before .before .before .before .before .before .before .before .before .before .before .before .before .before .before .before .before .before .before .before .before .before .before .before .before .before .before .before .before .before .before .args .level) (c .before .before .before .before .before .before .before .before .before .before .before .before .before .before .before .before .before .before .before .before .before .before .before .before .before .before .before .before .before .before .before .before .before .before .args .num) (c .before .before .before .before .before .before .before .before .before .before .before .before .before .before .before .before .before .before .before .before .before .before .before .before .before .before .before .before .before .before .before .before .before .before .args .prefix) (c .before .before .before .before .before .before .before .before .before .before .before .before .before .before .before .before .before .before .before .before .before .before .before .before .before .before .before .before .before .before .before .before .before .before .args .trail) (c .before .before .before .before .before .before .before .before .before .before .before .before .before .before .before .before .before .before .before .before .before .before .before .before .before .before .before .before .before .before .before .before .before .before .pre .1 .0) (c .before .before .before .before .before .before .before .before .before .before .before .before .before .before .before .before .before .before .before .before .before .before .before .before .before .before .before .before .before .before .before .before .before .before .args .lo .now) (c .before .before .before .before .before .before .before .before .before .before .before .before .before .before .before .before .before .before .before .before .before .before .before .before .before .before .before .before .before .before .before .before .before .before .args .hi .now) (c .before .before .before .before .before .before .before .before .before .before .before .before .before .before .before .before .before .before .before .before .before .before .before .before .before .before .before .before .before .before .before .before .before .before .pre .1 .1) (c .before .before .before .before .before .before .before .before .before .before .before .before .before .before .before .before .before .before .before .before .before .before .before .before .before .before .before .before .before .before .before .before .before .before .args .area .now) (c .before .before .before .before .before .before .before .before .before .before .before .before .before .before .before .before .before .before .before .before .before .before .before .before .before .before .before .before .before .before .before .before .before .before .args .m) (c .before .before .before .before .before .before .before .before .before .before .before .before .before .before .before .before .before .before .before .before .before .before .before .before .before .before .before .before .before .before .before .before .before .before .pre .1 .2) (c .before .before .before .before .before .before .before .before .before .before .before .before .before .before .before .before .before .before .before .before .before .before .before .before .before .before .before .before .before .common-length .result) (c .before .before .before .before .before .before .before .before .before .before .before .before .before .before .before .before .before .before .before .before .before .before .before .before .before .before .before .before .before .common-length .ensures .0) (c .before .before .before .before .before .before .before .before .before .before .before .before .before .before .before .before .before .before .before .before .before .before .before .before .before .extend .result) (c .before .before .before .before .before .before .before .before .before .before .before .before .before .before .before .before .before .before .before .before .before .before .before .before .before .extend .ensures .0) (c .before .before .before .before .before .before .before .before .before .before .before .before .before .before .before .before .before .before .u16-at .result) (c .before .before .before .before .before .before .before .before .before .before .before .before .before .before .before .before .before .before .u16-at .ensures .0) (omega arith) (c .before .before .before .before .before .before .before .before .before .before .before .before .before .before .child .given .0 .0) (c .before .before .before .before .before .before .before .before .before .before .before .before .before .before .child .given .0 .1 .0) (c .before .before .before .before .before .before .before .before .before .before .before .before .before .before .child .given .0 .1 .1 .0) nc (c .before .before .before .before .before .before .before .before .before .before .before .before .lengthen-trail .result) (c .before .before .before .before .before .before .before .before .before .before .before .before .lengthen-trail .ensures) (omega arith) _ _ (c .before .before .before .dump-children .ensures))
 
 dump-node-same-length-2 : (t : ℕ) → dump-node-lts.Need-same-length-2 (
   common-length-reads.Asked,
   common-length-reads.Learnt,
   extend-reads.Asked,
   extend-reads.Learnt,
+  note-above-reads.Asked,
+  note-above-reads.Learnt,
   u16-at-reads.Asked,
   u16-at-reads.Learnt,
   append-pairs-reads.Asked,
@@ -808,18 +1382,22 @@ dump-node-same-length-2 : (t : ℕ) → dump-node-lts.Need-same-length-2 (
   read-child-reads.Learnt,
   lengthen-trail-reads.Asked,
   lengthen-trail-reads.Learnt,
+  note-own-reads.Asked,
+  note-own-reads.Learnt,
   dump-children-below t,
   dump-children.Post,
   insert-puts-reads.Asked,
   insert-puts-reads.Learnt,
 ) (dump-node-at t) dump-node.Post
-dump-node-same-length-2 t c = search needs
+dump-node-same-length-2 t c = let a = (c .before .before .insert-puts .kept .0) in let b = (c .before .before .before .before .before .before .dump-children .kept .0) in omega arith
 
 dump-node-returns-4 : (t : ℕ) → dump-node-lts.Need-returns-4 (
   common-length-reads.Asked,
   common-length-reads.Learnt,
   extend-reads.Asked,
   extend-reads.Learnt,
+  note-above-reads.Asked,
+  note-above-reads.Learnt,
   u16-at-reads.Asked,
   u16-at-reads.Learnt,
   append-pairs-reads.Asked,
@@ -828,12 +1406,14 @@ dump-node-returns-4 : (t : ℕ) → dump-node-lts.Need-returns-4 (
   read-child-reads.Learnt,
   lengthen-trail-reads.Asked,
   lengthen-trail-reads.Learnt,
+  note-own-reads.Asked,
+  note-own-reads.Learnt,
   dump-children-below t,
   dump-children.Post,
   insert-puts-reads.Asked,
   insert-puts-reads.Learnt,
 ) (dump-node-at t) dump-node.Post
-dump-node-returns-4 t c = let hs = here-short t (c .before .before .before .before .before .before .before .before .before .before .before .before .before .before .before .before) in let nc = first-next t (c .before .before .before .before .before .before .before .before .before .before) in let z = here-length t (c .before .before .before .before .before .before .before .before .before .before .before .before .before .before .before .before) in node-inner (c .before .before .before .before .before .before .before .before .before .before .before .before .before .before .before .before .before .before .before .before .before .before .before .before .before .args .store .now) (c .before .before .before .before .before .before .before .before .before .before .before .before .before .before .before .before .before .before .before .before .before .before .before .before .before .args .level) (c .before .before .before .before .before .before .before .before .before .before .before .before .before .before .before .before .before .before .before .before .before .before .before .before .before .args .num) (c .before .before .before .before .before .before .before .before .before .before .before .before .before .before .before .before .before .before .before .before .before .before .before .before .before .args .prefix) (c .before .before .before .before .before .before .before .before .before .before .before .before .before .before .before .before .before .before .before .before .before .before .before .before .before .args .trail) (c .before .before .before .before .before .before .before .before .before .before .before .before .before .before .before .before .before .before .before .before .before .before .before .before .before .pre .1 .0) (c .before .before .before .before .before .before .before .before .before .before .before .before .before .before .before .before .before .before .before .before .before .before .before .before .before .args .lo .now) (c .before .before .before .before .before .before .before .before .before .before .before .before .before .before .before .before .before .before .before .before .before .before .before .before .before .args .hi .now) (c .before .before .before .before .before .before .before .before .before .before .before .before .before .before .before .before .before .before .before .before .before .before .before .before .before .pre .1 .1) (c .before .before .before .before .before .before .before .before .before .before .before .before .before .before .before .before .before .before .before .before .before .before .before .before .before .args .area .now) (c .before .before .before .before .before .before .before .before .before .before .before .before .before .before .before .before .before .before .before .before .before .before .before .before .before .args .m) (c .before .before .before .before .before .before .before .before .before .before .before .before .before .before .before .before .before .before .before .before .before .before .before .before .before .pre .1 .2) (c .before .before .before .before .before .before .before .before .before .before .before .before .before .before .before .before .before .before .before .before .common-length .result) (c .before .before .before .before .before .before .before .before .before .before .before .before .before .before .before .before .before .before .before .before .common-length .ensures .0) (c .before .before .before .before .before .before .before .before .before .before .before .before .before .before .before .before .extend .result) (c .before .before .before .before .before .before .before .before .before .before .before .before .before .before .before .before .extend .ensures .0) (c .before .before .before .before .before .before .before .before .before .before .before .before .before .before .before .u16-at .result) (c .before .before .before .before .before .before .before .before .before .before .before .before .before .before .before .u16-at .ensures .0) (omega arith) (c .before .before .before .before .before .before .before .before .before .before .before .child .given .0 .0) (c .before .before .before .before .before .before .before .before .before .before .before .child .given .0 .1 .0) (c .before .before .before .before .before .before .before .before .before .before .before .child .given .0 .1 .1 .0) nc (c .before .before .before .before .before .before .before .before .before .lengthen-trail .result) (c .before .before .before .before .before .before .before .before .before .lengthen-trail .ensures) (omega arith) _ _ (c .before .before .before .before .before .before .dump-children .ensures) _ _ (c .before .before .insert-puts .ensures)
+dump-node-returns-4 t c = let v = (c .before .before .before .before .before .before .before .before .before .before .before .before .before .before .before .before .before .before .before .before .if2 .left) in let hs = here-short t (c .before .before .before .before .before .before .before .before .before .before .before .before .before .before .before .before .before .before .before .before .before .before .before .before .before .before .before .before) in let nc = first-next t (c .before .before .before .before .before .before .before .before .before .before .before .before .before .before .before .before) in let z = here-length t (c .before .before .before .before .before .before .before .before .before .before .before .before .before .before .before .before .before .before .before .before .before .before .before .before .before .before .before .before) in node-inner (c .before .before .before .before .before .before .before .before .before .before .before .before .before .before .before .before .before .before .before .before .before .before .before .before .before .before .before .before .before .before .before .before .before .before .before .before .before .args .store .now) (c .before .before .before .before .before .before .before .before .before .before .before .before .before .before .before .before .before .before .before .before .before .before .before .before .before .before .before .before .before .before .before .before .before .before .before .before .before .args .level) (c .before .before .before .before .before .before .before .before .before .before .before .before .before .before .before .before .before .before .before .before .before .before .before .before .before .before .before .before .before .before .before .before .before .before .before .before .before .args .num) (c .before .before .before .before .before .before .before .before .before .before .before .before .before .before .before .before .before .before .before .before .before .before .before .before .before .before .before .before .before .before .before .before .before .before .before .before .before .args .prefix) (c .before .before .before .before .before .before .before .before .before .before .before .before .before .before .before .before .before .before .before .before .before .before .before .before .before .before .before .before .before .before .before .before .before .before .before .before .before .args .trail) (c .before .before .before .before .before .before .before .before .before .before .before .before .before .before .before .before .before .before .before .before .before .before .before .before .before .before .before .before .before .before .before .before .before .before .before .before .before .pre .1 .0) (c .before .before .before .before .before .before .before .before .before .before .before .before .before .before .before .before .before .before .before .before .before .before .before .before .before .before .before .before .before .before .before .before .before .before .before .before .before .args .lo .now) (c .before .before .before .before .before .before .before .before .before .before .before .before .before .before .before .before .before .before .before .before .before .before .before .before .before .before .before .before .before .before .before .before .before .before .before .before .before .args .hi .now) (c .before .before .before .before .before .before .before .before .before .before .before .before .before .before .before .before .before .before .before .before .before .before .before .before .before .before .before .before .before .before .before .before .before .before .before .before .before .pre .1 .1) (c .before .before .before .before .before .before .before .before .before .before .before .before .before .before .before .before .before .before .before .before .before .before .before .before .before .before .before .before .before .before .before .before .before .before .before .before .before .args .area .now) (c .before .before .before .before .before .before .before .before .before .before .before .before .before .before .before .before .before .before .before .before .before .before .before .before .before .before .before .before .before .before .before .before .before .before .before .before .before .args .m) (c .before .before .before .before .before .before .before .before .before .before .before .before .before .before .before .before .before .before .before .before .before .before .before .before .before .before .before .before .before .before .before .before .before .before .before .before .before .pre .1 .2) (c .before .before .before .before .before .before .before .before .before .before .before .before .before .before .before .before .before .before .before .before .before .before .before .before .before .before .before .before .before .before .before .before .common-length .result) (c .before .before .before .before .before .before .before .before .before .before .before .before .before .before .before .before .before .before .before .before .before .before .before .before .before .before .before .before .before .before .before .before .common-length .ensures .0) (c .before .before .before .before .before .before .before .before .before .before .before .before .before .before .before .before .before .before .before .before .before .before .before .before .before .before .before .before .extend .result) (c .before .before .before .before .before .before .before .before .before .before .before .before .before .before .before .before .before .before .before .before .before .before .before .before .before .before .before .before .extend .ensures .0) (c .before .before .before .before .before .before .before .before .before .before .before .before .before .before .before .before .before .before .before .before .before .u16-at .result) (c .before .before .before .before .before .before .before .before .before .before .before .before .before .before .before .before .before .before .before .before .before .u16-at .ensures .0) (omega arith) (c .before .before .before .before .before .before .before .before .before .before .before .before .before .before .before .before .before .child .given .0 .0) (c .before .before .before .before .before .before .before .before .before .before .before .before .before .before .before .before .before .child .given .0 .1 .0) (c .before .before .before .before .before .before .before .before .before .before .before .before .before .before .before .before .before .child .given .0 .1 .1 .0) nc (c .before .before .before .before .before .before .before .before .before .before .before .before .before .before .before .lengthen-trail .result) (c .before .before .before .before .before .before .before .before .before .before .before .before .before .before .before .lengthen-trail .ensures) (omega arith) _ _ (c .before .before .before .before .before .before .dump-children .ensures) _ _ (c .before .before .insert-puts .ensures)
 
 pub +dump-children+dump-node-spec : {M : Type 1} → statement M
 +dump-children+dump-node-spec = close μ-dump-children μ-dump-node (λ t. dump-children-lts.spec (
@@ -870,6 +1450,8 @@ pub +dump-children+dump-node-spec : {M : Type 1} → statement M
       common-length-reads.Learnt,
       extend-reads.Asked,
       extend-reads.Learnt,
+      note-above-reads.Asked,
+      note-above-reads.Learnt,
       u16-at-reads.Asked,
       u16-at-reads.Learnt,
       append-pairs-reads.Asked,
@@ -878,6 +1460,8 @@ pub +dump-children+dump-node-spec : {M : Type 1} → statement M
       read-child-reads.Learnt,
       lengthen-trail-reads.Asked,
       lengthen-trail-reads.Learnt,
+      note-own-reads.Asked,
+      note-own-reads.Learnt,
       dump-children-below t,
       dump-children.Post,
       insert-puts-reads.Asked,
@@ -892,6 +1476,17 @@ pub +dump-children+dump-node-spec : {M : Type 1} → statement M
     (dump-node-part-extend-start t)
     (dump-node-part-extend-end t)
     (dump-node-extend-requires t)
+    (dump-node-sub-note-above t)
+    (dump-node-part-note-above-start t)
+    (dump-node-part-note-above-end t)
+    (dump-node-sub-note-above-2 t)
+    (dump-node-part-note-above-start-2 t)
+    (dump-node-part-note-above-end-2 t)
+    (dump-node-sub-note-above-3 t)
+    (dump-node-part-note-above-start-3 t)
+    (dump-node-part-note-above-end-3 t)
+    (dump-node-slice-aggregate-note-above t)
+    (dump-node-note-above-requires t)
     (dump-node-mul-at t)
     (dump-node-u16-at-requires t)
     (dump-node-add-from t)
@@ -904,6 +1499,14 @@ pub +dump-children+dump-node-spec : {M : Type 1} → statement M
     (dump-node-enum-told t)
     (dump-node-returns-3 t)
     (dump-node-lengthen-trail-requires t)
+    (dump-node-sub-note-own t)
+    (dump-node-part-note-own-start t)
+    (dump-node-part-note-own-end t)
+    (dump-node-sub-note-own-2 t)
+    (dump-node-part-note-own-start-2 t)
+    (dump-node-part-note-own-end-2 t)
+    (dump-node-slice-aggregate-note-own t)
+    (dump-node-note-own-requires t)
     (dump-node-sub-dump-children t)
     (dump-node-sub-dump-children-2 t)
     (dump-node-part-dump-children-start t)

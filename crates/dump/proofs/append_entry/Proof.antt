@@ -1,5 +1,5 @@
 -- An entry by its kind: only a pair has a row (specs/AppendSteps).
-use Rattle.dump.specs.AppendSteps.{added-none, added-as, entry-pair, entry-value, entry-child, entry-message}
+use Rattle.dump.specs.AppendSteps.{added-none, added-as, entry-pair, entry-value, entry-told, entry-child, entry-message}
 use mathlib.Core.Path.{subst, sym}
 use Rattle.node.specs.Places.{EntryWithin}
 use Rattle.dump.specs.Dump.{Room}
@@ -12,7 +12,7 @@ enum-known-e : tie.Need-enum-known-e
 enum-known-e c = search needs
 
 append-pair-requires : tie.Need-append-pair-requires
-append-pair-requires c κs = let w = subst (EntryWithin 0 (length (c .before .before .before .before .before .before .args .store .now))) (c .before .before .e .given .1) (c .before .before .before .before .before .before .pre .2) in ((c .before .before .before .before .before .before .pre .0), (c .before .before .before .before .before .before .pre .1), w .0, w .1, entry-value _ (c .before .before .before .before .before .before .args .prefix) (c .before .before .before .before .before .before .args .trail) _ _ _ (c .before .before .e .given .1) (c .before .before .before .before .before .before .pre .3), subst (λ t. Room (c .before .before .before .before .before .before .args .area .now) (c .before .before .before .before .before .before .args .m) t) (entry-pair (c .before .before .before .before .before .before .args .store .now) (c .before .before .before .before .before .before .args .prefix) (c .before .before .before .before .before .before .args .trail) _ _ _ (c .before .before .e .given .1)) (c .before .before .before .before .before .before .pre .4))
+append-pair-requires c κs = let w = subst (EntryWithin 0 (length (c .before .before .before .before .before .before .args .store .now))) (c .before .before .e .given .1) (c .before .before .before .before .before .before .pre .2) in ((c .before .before .before .before .before .before .pre .0), (c .before .before .before .before .before .before .pre .1), w .0, w .1, entry-value _ (c .before .before .before .before .before .before .args .prefix) (c .before .before .before .before .before .before .args .trail) _ _ _ (c .before .before .e .given .1) (c .before .before .before .before .before .before .pre .3), subst (λ t. Room (c .before .before .before .before .before .before .args .area .now) (c .before .before .before .before .before .before .args .m) t) (entry-pair (c .before .before .before .before .before .before .args .store .now) (c .before .before .before .before .before .before .args .prefix) (c .before .before .before .before .before .before .args .trail) _ _ _ (c .before .before .e .given .1)) (c .before .before .before .before .before .before .pre .4), entry-told _ (c .before .before .before .before .before .before .args .prefix) (c .before .before .before .before .before .before .args .trail) _ _ _ _ _ (c .before .before .e .given .1) (c .before .before .before .before .before .before .pre .5))
 
 enum-told : tie.Need-enum-told
 enum-told c = search needs

@@ -1,5 +1,6 @@
 -- The dump from the root: an empty prefix, an empty trail, and the pivots of the root (specs/RootSteps).
 use Rattle.dump.specs.RootSteps.{dump-long, dump-ready, dump-sound, dump-room, dump-done}
+use Rattle.live.specs.NotedSteps.{root-told}
 use borrow.Author.Needs.{needs}
 use native.Mathlib.Omega.{arith}
 use mathlib.Core.Path.{refl}
@@ -25,13 +26,13 @@ slice-aggregate-dump-node : tie.Need-slice-aggregate-dump-node
 slice-aggregate-dump-node c = search needs
 
 dump-node-requires : tie.Need-dump-node-requires
-dump-node-requires c κs = (dump-ready (c .before .before .before .before .before .before .before .before .args .store .now) (c .before .before .before .before .before .before .before .before .pre .0) _ _ (c .before .before .before .before .before .u16-at .ensures .0) (c .before .before .before .before .u16-at2 .ensures .0) _ refl _ refl, dump-sound (c .before .before .before .before .before .before .before .before .args .store .now) (c .before .before .before .before .before .before .before .before .pre .0) _ _ (c .before .before .before .before .before .u16-at .ensures .0) (c .before .before .before .before .u16-at2 .ensures .0) _ refl _ _ refl refl, dump-room (c .before .before .before .before .before .before .before .before .args .store .now) (c .before .before .before .before .before .before .before .before .pre .0) _ _ (c .before .before .before .before .before .u16-at .ensures .0) (c .before .before .before .before .u16-at2 .ensures .0) _ refl _ _ refl refl _ refl _ (c .before .before .before .before .before .before .before .before .pre .1))
+dump-node-requires c κs = (dump-ready (c .before .before .before .before .before .before .before .before .before .args .store .now) (c .before .before .before .before .before .before .before .before .before .pre .0) _ _ (c .before .before .before .before .before .before .u16-at .ensures .0) (c .before .before .before .before .before .u16-at2 .ensures .0) _ refl _ refl, dump-sound (c .before .before .before .before .before .before .before .before .before .args .store .now) (c .before .before .before .before .before .before .before .before .before .pre .0) _ _ (c .before .before .before .before .before .before .u16-at .ensures .0) (c .before .before .before .before .before .u16-at2 .ensures .0) _ refl _ _ refl refl, dump-room (c .before .before .before .before .before .before .before .before .before .args .store .now) (c .before .before .before .before .before .before .before .before .before .pre .0) _ _ (c .before .before .before .before .before .before .u16-at .ensures .0) (c .before .before .before .before .before .u16-at2 .ensures .0) _ refl _ _ refl refl _ refl _ (c .before .before .before .before .before .before .before .before .before .pre .1), root-told _ _ _ _ _ _ refl)
 
 same-length : tie.Need-same-length
 same-length c = search needs
 
 returns : tie.Need-returns
-returns c = dump-done (c .before .before .before .before .before .before .before .before .before .before .before .args .store .now) (c .before .before .before .before .before .before .before .before .before .before .before .pre .0) _ _ (c .before .before .before .before .before .before .before .before .u16-at .ensures .0) (c .before .before .before .before .before .before .before .u16-at2 .ensures .0) _ refl _ _ refl refl _ refl _ _ _ (c .before .before .dump-node .ensures)
+returns c = dump-done (c .before .before .before .before .before .before .before .before .before .before .before .before .args .store .now) (c .before .before .before .before .before .before .before .before .before .before .before .before .pre .0) _ _ (c .before .before .before .before .before .before .before .before .before .u16-at .ensures .0) (c .before .before .before .before .before .before .before .before .u16-at2 .ensures .0) _ refl _ _ refl refl _ refl _ _ _ (c .before .before .dump-node .ensures)
 
 pub dump-spec : {M : Type 1} → statement M
 dump-spec =

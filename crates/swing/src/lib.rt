@@ -12,6 +12,10 @@ ghost use Rattle.slicing.specs.Range.{past};
 ghost use Rattle.swing.specs.Cuts.{RangeAsks, RangeAs, BothAsks, BothAs, OutAsks, outIn, TakeAsks, takenOut, lowPlace};
 ghost use Rattle.swing.specs.Plan.{SwingAsks, Swings, Plan, PastPlan, swungOver};
 
+// The list of free nodes in blocks of h numbers, h the levels, so that no slice has to tell what it took: 0 what lies left of the end of the
+// higher range, 1 and 2 what lies right of it, 3 what lies left of the higher path; 4, 5 and 6, 7 the same of the lower range; 8 the range that
+// moves, 9 the empty chain; the number after them, 10 h, is the new root's.
+
 // What lies right of the two cut ranges.
 pub struct Cuts {
     pub low: Parts,

@@ -142,7 +142,7 @@ fn the_status_tells_what_was_found() {
 fn an_error_is_one_line() {
     let directory = directory("error");
     let file = |name: &str| directory.join(name).to_string_lossy().into_owned();
-    let (good, large) = (file("waiting.img"), file("large.img"));
+    let (good, large, never) = (file("waiting.img"), file("large.img"), file("never.html"));
     let cases: Vec<(Vec<&str>, &str)> = vec![
         (vec![], "no image"),
         (vec!["/no/such/file"], "/no/such/file"),
@@ -150,7 +150,7 @@ fn an_error_is_one_line() {
         (vec![&good, "r1//t1"], "a component is empty"),
         (vec![&good, "--html", "/no/such/page"], "/no/such/page"),
         (
-            vec![&good, &large, "--html", "/tmp/never"],
+            vec![&good, &large, "--html", &never],
             "no call changes a store's length",
         ),
         (vec![&good, "a", "b"], "too many"),

@@ -1,32 +1,30 @@
 -- The steps of the questions as code.
--- Relies on seek/specs/Callers (what next hands back) and on Below, Judge and Shorter.
-use Prim.Native.Nat.{ℕ, _+_, _-_, _<_, _≤_}
+-- Relies on seek/specs/BufferSteps (what next hands back) and on Below, Judge and Shorter.
+use Prim.Native.Nat.{ℕ, _<_, _≤_}
 use mathlib.Core.Path.{_≡_, refl, sym, ap, ap₂, _∙_}
 use mathlib.Core.List.{List, []}
 use mathlib.Core.Bool.{Bool, true, false, not}
-use native.Mathlib.Omega.{arith}
-use lib.ListN.{length, take, drop, length-take}
-use lib.Dec.{leb}
-use borrow.Author.Tests.{le-leb, lt-leb, leb-true, leb-false}
+use lib.ListN.{length, drop}
+use lib.Dec.{leb, ltb}
+use borrow.Author.Tests.{le-leb, lt-leb, le-ltb, lt-ltb, leb-true, leb-false}
 use Rattle.image.specs.Bytes.{same, begins}
 use Rattle.image.specs.Path.{wellFormed, properBeginning, mayMove}
-use Rattle.image.specs.Table.{rowsBelow, rowsAfter, leastAfter, moved, everyKey}
+use Rattle.image.specs.Table.{Row, rowsBelow, leastAfter, moved, everyKey, rising}
 use Rattle.image.specs.Calls.{isEmpty}
 use Rattle.image.specs.Sound.{sound, tableOf}
-use Rattle.octets.specs.Beginnings.{begins-length}
+use Rattle.laws.specs.Filter.{keep, keep-passes, keep-rises}
 use Rattle.laws.specs.Follow.{table-rises}
-use Rattle.node.specs.Cut.{cut-drop}
 use Rattle.path.specs.Shape as defined
 use Rattle.path.specs.Fed.{shapeIs}
 use Rattle.path.specs.declared.Shape.{Shape}
 use Rattle.seek.specs.declared.PathBuffer.{PathBuffer}
 use Rattle.seek.specs.Buffer.{bufferIs}
-use Rattle.seek.specs.Steps.{front-is}
-use Rattle.seek.specs.Callers.{next-none, next-some, next-path-is}
+use Rattle.seek.specs.BufferSteps.{held, empty-handed}
+use Rattle.seek.specs.Walk.{unfit}
 use Rattle.rebuild.specs.StoreTable.{table-formed}
 use Rattle.move_asks.specs.Judge.{restFits, restsFit, nine-is}
 use Rattle.move_asks.specs.Shorter.{noWider, quick-yes}
-use Rattle.move_asks.specs.Below as below
+use Rattle.move_asks.specs.Below.{none-below, some-below, none-fails}
 
 -- QUESTION 7
 pub not-begins : (p q : List ℕ) (x : Bool) → x ≡ begins p q → x ≡ false → false ≡ properBeginning p q
@@ -45,14 +43,18 @@ pub second-says : (from to : List ℕ) (x y : Bool) → x ≡ properBeginning fr
 unfolding mayMove
 second-says from to x y e f g = rw (sym e ∙ f) (ap not g)
 
--- QUESTION 8
+-- QUESTION 8: a path is handed back where a row is below p
+handed-back : (p : List ℕ) (t : List Row) (b : PathBuffer) → everyKey wellFormed t ≡ true → rising t ≡ true → bufferIs b ≡ leastAfter p [] t
+    → leb (b .len) 64 ≡ not (isEmpty (rowsBelow p t))
+handed-back p t b e f h = go (leb (b .len) 64) refl
+  where
+    go : (x : Bool) → leb (b .len) 64 ≡ x → x ≡ not (isEmpty (rowsBelow p t))
+    go true q = ap not (sym (some-below p _ t e f (sym h ∙ held b (leb-true (b .len) 64 q))))
+    go false q = ap not (sym (none-below p t e f (sym h ∙ empty-handed b (leb-false (b .len) 64 q))))
+
 pub eight-is : (s from : List ℕ) (p : PathBuffer) → sound s ≡ true → bufferIs p ≡ leastAfter from [] (tableOf s)
     → leb (p .len) 64 ≡ not (isEmpty (rowsBelow from (tableOf s)))
-eight-is s from p ok e = go (leb (p .len) 64) refl
-  where
-    go : (x : Bool) → leb (p .len) 64 ≡ x → x ≡ not (isEmpty (rowsBelow from (tableOf s)))
-    go true q = ap not (sym (below.some-below from _ (tableOf s) (table-formed s ok) (table-rises s ok) (next-some s from [] p e (leb-true (p .len) 64 q))))
-    go false q = ap not (sym (below.none-below from (tableOf s) (table-formed s ok) (table-rises s ok) (next-none s from [] p e (leb-false (p .len) 64 q))))
+eight-is s from p ok e = handed-back from (tableOf s) p (table-formed s ok) (table-rises s ok) e
 
 -- QUESTION 9
 module _ (old new : Shape) where
@@ -74,58 +76,28 @@ module _ (old new : Shape) where
       unfolding shapeIs noWider
       by-bytes h = rw (e, f, le-leb count done h)
 
--- the rows below `from` after the path k decide
-abbrev pub Undecided : (s from : List ℕ) (sh : Shape) (k : List ℕ) → Type 0
-Undecided s from sh k = below.Undecided (restFits (shapeIs sh) (length from)) from (tableOf s) k
+-- no path is handed back of those whose rests do not go on
+pub rests-are : (s from : List ℕ) (sh : Shape) (p : PathBuffer) → sound s ≡ true → bufferIs p ≡ leastAfter from [] (keep (unfit (shapeIs sh) from) (tableOf s))
+    → ltb 64 (p .len) ≡ restsFit (shapeIs sh) from (tableOf s)
+unfolding restsFit restFits unfit
+rests-are s from sh p ok e =
+    over (p .len)
+    ∙ ap not
+    (handed-back from (keep (λ k. not (defined.goesOn (shapeIs sh) (drop (length from) k))) (tableOf s)) p
+    (keep-passes wellFormed _ wellFormed (tableOf s) (λ q a b. a) (table-formed s ok)) (keep-rises _ (tableOf s) (table-rises s ok)) e)
+    ∙ twice (isEmpty (rowsBelow from (keep (λ k. not (defined.goesOn (shapeIs sh) (drop (length from) k))) (tableOf s))))
+    ∙ none-fails (λ k. defined.goesOn (shapeIs sh) (drop (length from) k)) from (tableOf s)
+  where
+    over : (n : ℕ) → ltb 64 n ≡ not (leb n 64)
+    over n = go (leb n 64) refl
+      where
+        go : (x : Bool) → leb n 64 ≡ x → ltb 64 n ≡ not x
+        go true q = le-ltb 64 n (leb-true n 64 q)
+        go false q = lt-ltb 64 n (leb-false n 64 q)
 
-pub fit-starts : (s from : List ℕ) (sh : Shape) → sound s ≡ true → Undecided s from sh []
-fit-starts s from sh ok = below.walk-starts (restFits (shapeIs sh) (length from)) from (tableOf s) (table-formed s ok) (table-rises s ok)
-
-module _ (s from : List ℕ) (ok : sound s ≡ true) (n : ℕ) (last : List ℕ) (p : PathBuffer) (p-is : bufferIs p ≡ leastAfter from (take (n - 0) (drop 0 last)) (tableOf s)) where
-  found-is : bufferIs p ≡ leastAfter from (take n last) (tableOf s)
-  found-is = p-is ∙ ap (λ k. leastAfter from k (tableOf s)) (front-is n last)
-
-  -- the path that was found begins with `from`
-  pub cut-fits : p .len ≤ 64 → length from ≤ p .len
-  cut-fits h =
-      let a : length from ≤ length (take (p .len) (p .bytes)) = begins-length from (take (p .len) (p .bytes)) (next-path-is s from (take n last) p found-is ok h .under) in
-      let b = front-length (p .len) (p .bytes) in
-      omega arith
-    where
-      front-length : (k : ℕ) (l : List ℕ) → length (take k l) ≤ k
-      front-length k l = simp length-take (omega arith)
-
-  module _ (sh : Shape) (so : Undecided s from sh (take n last)) where
-    pub fit-ends : 64 < p .len → true ≡ restsFit (shapeIs sh) from (tableOf s)
-    unfolding restsFit
-    fit-ends h = below.walk-ends (restFits (shapeIs sh) (length from)) from (tableOf s) (take n last) so (next-none s from (take n last) p found-is h)
-
-    module _ (h : p .len ≤ 64) (x : Bool) (x-is : x ≡ defined.goesOn (shapeIs sh) (take (p .len - length from) (drop (length from) (p .bytes)))) where
-      rest-is : restFits (shapeIs sh) (length from) (take (p .len) (p .bytes)) ≡ x
-      unfolding restFits
-      rest-is = ap (defined.goesOn (shapeIs sh)) part ∙ sym x-is
-        where
-          part : drop (length from) (take (p .len) (p .bytes)) ≡ take (p .len - length from) (drop (length from) (p .bytes))
-          part =
-              let z : 0 + length from ≡ length from = omega arith in
-              ap (drop (length from)) (sym (front-is (p .len) (p .bytes)))
-              ∙ cut-drop (p .bytes) 0 (p .len) (length from) (let q = cut-fits h in omega arith)
-              ∙ ap (λ m. take (p .len - m) (drop m (p .bytes))) z
-
-      pub fit-refuses : x ≡ false → false ≡ restsFit (shapeIs sh) from (tableOf s)
-      unfolding restsFit
-      fit-refuses e =
-          below.walk-refuses (restFits (shapeIs sh) (length from)) from (tableOf s) (take n last) so (take (p .len) (p .bytes)) (next-some s from (take n last) p found-is h) (rest-is ∙ e)
-
-      pub fit-goes-on : x ≡ true → Undecided s from sh (take (p .len) (p .bytes))
-      fit-goes-on e =
-          below.walk-goes-on (restFits (shapeIs sh) (length from)) from (tableOf s) (take n last) so (take (p .len) (p .bytes)) (next-some s from (take n last) p found-is h)
-          (table-rises s ok) (rest-is ∙ e)
-
-      pub fit-shortens : length (rowsAfter (take (p .len) (p .bytes)) (rowsBelow from (tableOf s))) < length (rowsAfter (take n last) (rowsBelow from (tableOf s)))
-      fit-shortens =
-          below.walk-shortens (restFits (shapeIs sh) (length from)) from (tableOf s) (take n last) so (take (p .len) (p .bytes)) (next-some s from (take n last) p found-is h)
-          (table-rises s ok)
+    twice : (x : Bool) → not (not x) ≡ x
+    twice true = refl
+    twice false = refl
 
 module _ (s from to : List ℕ) (ok : sound s ≡ true) (formed-from : wellFormed from ≡ true) (formed-to : wellFormed to ≡ true) (old new : Shape)
     (old-is : shapeIs old ≡ defined.feed (shapeIs (Shape.Partway 0 0 0)) from) (new-is : shapeIs new ≡ defined.feed (shapeIs (Shape.Partway 0 0 0)) to)

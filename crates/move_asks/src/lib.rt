@@ -1,5 +1,5 @@
 // Questions 7, 8 and 9 of a move. They read the store and both paths, and touch neither the store nor the work area.
-// Relies on path (the shape of a path, fed in pieces) and seek (the next path below a path).
+// Relies on path (the shape of a path, fed in pieces) and seek (the next path below a path, or the next whose rest does not fit a shape).
 use path::Shape;
 ghost use mathlib.Core.Path.{_≡_};
 ghost use mathlib.Core.Bool.{true, not};
@@ -56,25 +56,13 @@ fn no_wider(old: Shape, new: Shape) -> bool
     size <= len
 }
 
-// Whether, of every present path below `from`, what follows `from` goes on from the shape.
+// Whether, of every present path below `from`, what follows `from` goes on from the shape: one walk looks for a path that does not.
 fn rests_fit(store: &[u8], from: &[u8], shape: Shape) -> bool
     requires { ⌜ sound (now store) ≡ true ⌝ }
     ensures { λ r. ⌜ r ≡ restsFit (shapeIs shape) (now (from .entry)) (tableOf (now (store .entry))) ⌝ }
 {
-    let mut last = [0u8; 64];
-    let mut size = 0;
-    let cut = from.len();
-    loop {
-        let p = seek::next_path(store, from, &last[0..size]);
-        size = p.len;
-        if image::PATH_LIMIT < size {
-            return true;
-        }
-        last = p.bytes;
-        if !path::goes_on(shape, &last[cut..size]) {
-            return false;
-        }
-    }
+    let found = seek::next_unfit(store, from, &from[0..0], shape);
+    image::PATH_LIMIT < found.len
 }
 
 // Question 9: is every present path still well formed after the move?

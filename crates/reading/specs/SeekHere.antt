@@ -2,22 +2,23 @@
 use Prim.Native.Nat.{ℕ}
 use mathlib.Core.Path.{_≡_, refl, sym, ap, ap₂, _∙_}
 use mathlib.Core.List.{List, [], _∷_, _++_, append-assoc}
-use mathlib.Core.Bool.{Bool, true, not}
+use mathlib.Core.Bool.{Bool, true, false, _&&_, not}
 use mathlib.Core.Option.{Option, none}
 use lib.ListN.{length, drop, length-append}
 use lib.Seq.{drop-append-add}
-use Rattle.image.specs.Bytes.{shared}
+use Rattle.image.specs.Bytes.{same, shared}
 use Rattle.image.specs.Entry.{Message, puts, drops, clears}
-use Rattle.image.specs.Table.{Row, underPrefix, leastAfter}
+use Rattle.image.specs.Table.{Row, find, isSome, underPrefix, leastAfter}
 use Rattle.image.specs.Image.{Tree, unread, leaf, interior, Forest, end, tree}
 use Rattle.image.specs.Meaning.{highOf, rows}
 use Rattle.image.specs.Sound.{soundTree}
-use Rattle.octets.specs.Order.{shared-append, begins-split}
+use Rattle.octets.specs.Order.{and-right, and-false, same-eq, shared-append, begins-split}
 use Rattle.laws.specs.RowsRising.{rows-rise}
+use Rattle.laws.specs.Filter.{keep, keep-rises}
 use Rattle.octets.specs.Beginnings.{shared-right}
 use Rattle.reading.specs.Relative.{lifts}
 use Rattle.reading.specs.Far.{farFrom, far-fair}
-use Rattle.reading.specs.Seek.{keysOf, putsOf, keys, keysIn, walk, every-impl, holds, keys-hold, wanted, walk-none, present, walk-least, stands}
+use Rattle.reading.specs.Seek.{keysOf, putsOf, keys, keysIn, walk, every-impl, holds, keys-hold, wanted, walk-none, present, walk-least, walk-same, stands}
 
 unfoldable pub under : List ℕ → List (List ℕ) → List (List ℕ)
 under X [] = []
@@ -102,10 +103,25 @@ skip-here there P Q X s h t best e f =
     ∙ walk-none there P Q best (keys t (X ++ s) (X ++ h))
     (every-impl (holds (X ++ s) (X ++ h)) (λ k. not (wanted P Q best k)) (λ k q. far-fair P Q (X ++ s) (X ++ h) best f k q) (keys t (X ++ s) (X ++ h)) (keys-hold t (X ++ s) (X ++ h) e))
 
--- at the root
-pub next-here : (P Q : List ℕ) (t : Tree) (hi : List ℕ) → soundTree t [] hi ≡ true
-    → walk (λ k. present k (rows t [] hi)) P Q none (under [] (keysHere t hi)) ≡ leastAfter P Q (rows t [] hi)
+-- what is present among the rows that pass a test is present, and passes it
+present-keep : (test : List ℕ → Bool) (k : List ℕ) (t : List Row) → test k && present k t ≡ present k (keep test t)
+unfolding keep present find isSome
+present-keep test k [] = and-false (test k)
+present-keep test k (r ∷ t) = go (same k (r .key)) refl (test (r .key)) refl (present-keep test k t)
+  where
+    go : (x : Bool) → same k (r .key) ≡ x → (y : Bool) → test (r .key) ≡ y → test k && present k t ≡ present k (keep test t)
+        → test k && present k (r ∷ t) ≡ present k (keep test (r ∷ t))
+    go true s true e ih = rw (e, s, ap test (same-eq k (r .key) s) ∙ e)
+    go true s false e ih = rw (e, s, ap test (same-eq k (r .key) s) ∙ e) (rw (ap test (same-eq k (r .key) s) ∙ e) at ih)
+    go false s true e ih = rw (e, s) ih
+    go false s false e ih = rw (e, s) ih
+
+-- at the root: of the present paths that pass a test
+pub next-here : (test : List ℕ → Bool) (P Q : List ℕ) (t : Tree) (hi : List ℕ) → soundTree t [] hi ≡ true
+    → walk (λ k. test k && present k (rows t [] hi)) P Q none (under [] (keysHere t hi)) ≡ leastAfter P Q (keep test (rows t [] hi))
 unfolding lifts shared
-next-here P Q t hi e =
-    ap (λ ks. walk (λ k. present k (rows t [] hi)) P Q none ks) (sym (keys-here t [] hi))
-    ∙ walk-least P Q (rows t [] hi) (keys t [] hi) (rows-rise t [] hi e) (λ k h. stands t [] hi k h)
+next-here test P Q t hi e =
+    ap (λ ks. walk (λ k. test k && present k (rows t [] hi)) P Q none ks) (sym (keys-here t [] hi))
+    ∙ walk-same (λ k. test k && present k (rows t [] hi)) (λ k. present k (keep test (rows t [] hi))) P Q (λ k. present-keep test k (rows t [] hi)) none (keys t [] hi)
+    ∙ walk-least P Q (keep test (rows t [] hi)) (keys t [] hi) (keep-rises test (rows t [] hi) (rows-rise t [] hi e))
+    (λ k h. stands t [] hi k (and-right (test k) _ (present-keep test k (rows t [] hi) ∙ h)))

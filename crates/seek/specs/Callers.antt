@@ -1,17 +1,15 @@
 -- For a caller of next: what the buffer that is handed back says, by its length alone.
--- Relies on: Buffer, Present.
+-- Relies on: Buffer.
 use Prim.Native.Nat.{ℕ, _<_, _≤_}
 use mathlib.Core.Path.{_≡_, sym, _∙_}
 use mathlib.Core.List.{List}
-use mathlib.Core.Bool.{true}
 use mathlib.Core.Option.{none, some}
 use lib.ListN.{take}
 use Rattle.image.specs.Table.{leastAfter}
-use Rattle.image.specs.Sound.{sound, tableOf}
+use Rattle.image.specs.Sound.{tableOf}
 use Rattle.seek.specs.declared.PathBuffer.{PathBuffer}
 use Rattle.seek.specs.Buffer.{bufferIs}
 use Rattle.seek.specs.BufferSteps.{held, empty-handed}
-use Rattle.seek.specs.Present.{Next, next-found}
 
 module _ (s p q : List ℕ) (r : PathBuffer) (e : bufferIs r ≡ leastAfter p q (tableOf s)) where
   -- a length over 64: there is no next path
@@ -21,7 +19,3 @@ module _ (s p q : List ℕ) (r : PathBuffer) (e : bufferIs r ≡ leastAfter p q 
   -- else the first bytes are the next path
   pub next-some : r .len ≤ 64 → leastAfter p q (tableOf s) ≡ some (take (r .len) (r .bytes))
   next-some h = sym e ∙ held r h
-
-  -- which is present, below p, greater than q, well formed, and at most 64 bytes
-  pub next-path-is : sound s ≡ true → r .len ≤ 64 → Next s p q (take (r .len) (r .bytes))
-  next-path-is w h = next-found s p q (take (r .len) (r .bytes)) w (next-some h)

@@ -12,10 +12,14 @@ use Rattle.image.specs.Bytes.{shared, u16}
 use Rattle.image.specs.Entry as defined
 use Rattle.image.specs.Image as image
 use Rattle.image.specs.Image.{treeAt}
-use Rattle.image.specs.Table.{leastAfter}
+use Rattle.image.specs.Table.{Row, leastAfter}
 use Rattle.image.specs.Sound.{sound, tableOf, highest}
 use Rattle.octets.specs.Order.{begins-split}
 use Rattle.octets.specs.Beginnings.{shared-left}
+use Rattle.laws.specs.Filter.{keep}
+use Rattle.path.specs.Shape.{Shape}
+use Rattle.path.specs.Fed.{shapeIs}
+use Rattle.path.specs.declared.Shape as path
 use Rattle.reading.specs.Relative.{lifts, kidHigh}
 use Rattle.reading.specs.Far.{farFrom}
 use Rattle.reading.specs.SeekHere.{under, keysHere, keysKids}
@@ -29,15 +33,15 @@ use Rattle.lookup.specs.Look.{listing, part-rest}
 use Rattle.seek.specs.declared.PathBuffer.{PathBuffer}
 use Rattle.seek.specs.Buffer.{bufferIs, fitted}
 use Rattle.seek.specs.BufferSteps.{empty-handed, fitted-held, fitted-not}
-use Rattle.seek.specs.Present.{root-walk}
-use Rattle.seek.specs.Walk.{walkIn, pathOf, pathsOf, childPaths, runPaths, ChildReady, NodeReady, KidsReady}
+use Rattle.seek.specs.Present.{root-walk, dead-keeps}
+use Rattle.seek.specs.Walk.{unfit, walkIn, pathOf, pathsOf, childPaths, runPaths, ChildReady, NodeReady, KidsReady}
 use Rattle.seek.specs.WalkLaws.{walk-more, run-last, run-more, child-skipped, child-too-long, child-entered, child-ready, kids-first, kids-later, leaf-paths, interior-paths, kids-ready}
 use Rattle.seek.specs.Steps.{front-is}
 
 -- 1. A child.
-module _ (s X low high : List ℕ) (level num : ℕ) (c : ChildReady s X low high level num) (P Q : List ℕ) (best : Option (List ℕ)) where
-  pub skips-child : (t : Bool) → t ≡ farFrom P Q (X ++ low) (X ++ high) best → t ≡ true → best ≡ walkIn s P Q best (under X (childPaths level s num low high))
-  skips-child t e h = child-skipped s X low high level num c P Q best (sym e ∙ h)
+module _ (s X low high : List ℕ) (level num : ℕ) (c : ChildReady s X low high level num) (sh : Shape) (P Q : List ℕ) (best : Option (List ℕ)) where
+  pub skips-child : (t : Bool) → t ≡ farFrom P Q (X ++ low) (X ++ high) best → t ≡ true → best ≡ walkIn s sh P Q best (under X (childPaths level s num low high))
+  skips-child t e h = child-skipped s X low high level num c sh P Q best (sym e ∙ h)
 
   module _ (k : ℕ) (ek : k ≡ length (shared low high)) (l : PathBuffer) (el : bufferIs l ≡ fitted (X ++ take (k - 0) (drop 0 low))) where
     front-shared : take (k - 0) (drop 0 low) ≡ shared low high
@@ -48,8 +52,8 @@ module _ (s X low high : List ℕ) (level num : ℕ) (c : ChildReady s X low hig
     lifted-is : bufferIs l ≡ fitted (X ++ shared low high)
     lifted-is = el ∙ ap (λ z. fitted (X ++ z)) front-shared
 
-    pub long-child : 64 < l .len → best ≡ walkIn s P Q best (under X (childPaths level s num low high))
-    long-child h = child-too-long s X low high level num c P Q best (fitted-not l (X ++ shared low high) lifted-is h)
+    pub long-child : 64 < l .len → best ≡ walkIn s sh P Q best (under X (childPaths level s num low high))
+    long-child h = child-too-long s X low high level num c sh P Q best (fitted-not l (X ++ shared low high) lifted-is h)
 
     module _ (fit : l .len ≤ 64) where
       prefix-is : take (l .len - 0) (drop 0 (l .bytes)) ≡ X ++ shared low high
@@ -62,22 +66,22 @@ module _ (s X low high : List ℕ) (level num : ℕ) (c : ChildReady s X low hig
       pub enters-ready : NodeReady s (take (l .len - 0) (drop 0 (l .bytes))) (take (length high - k) (drop k high)) level num
       enters-ready =
           subst (λ (y : List ℕ). NodeReady s y (take (length high - k) (drop k high)) level num) (sym prefix-is)
-          (subst (λ (h : List ℕ). NodeReady s (X ++ shared low high) h level num) (sym high-is) (child-ready s X low high level num c P Q best))
+          (subst (λ (h : List ℕ). NodeReady s (X ++ shared low high) h level num) (sym high-is) (child-ready s X low high level num c sh P Q best))
 
-      pub enters-child : (r : Option (List ℕ)) → r ≡ walkIn s P Q best (under (take (l .len - 0) (drop 0 (l .bytes))) (keysHere (treeAt level s num) (take (length high - k) (drop k high))))
-          → r ≡ walkIn s P Q best (under X (childPaths level s num low high))
+      pub enters-child : (r : Option (List ℕ)) → r ≡ walkIn s sh P Q best (under (take (l .len - 0) (drop 0 (l .bytes))) (keysHere (treeAt level s num) (take (length high - k) (drop k high))))
+          → r ≡ walkIn s sh P Q best (under X (childPaths level s num low high))
       enters-child r e =
-          child-entered s X low high level num c P Q best r
-          (e ∙ ap₂ (λ y h. walkIn s P Q best (under y (keysHere (treeAt level s num) h))) prefix-is high-is)
+          child-entered s X low high level num c sh P Q best r
+          (e ∙ ap₂ (λ y h. walkIn s sh P Q best (under y (keysHere (treeAt level s num) h))) prefix-is high-is)
 
 -- 2. The last child, and what follows it.
-pub last-child : (s P Q X hi : List ℕ) (best : Option (List ℕ)) (level num : ℕ) (low : Place) (es : List defined.Entry) (f r : Option (List ℕ))
-    → f ≡ walkIn s P Q best (under X (childPaths level s num (part s low) hi)) → r ≡ walkIn s P Q f (under X (pathsOf es))
-    → r ≡ walkIn s P Q best (under X (runPaths level s hi (kid num (part s low) ∷ []) es))
-last-child s P Q X hi best level num low es f r e g =
-    g ∙ ap (λ b. walkIn s P Q b (under X (pathsOf es))) e
-    ∙ sym (walk-more s P Q best X (childPaths level s num (part s low) hi) (pathsOf es))
-    ∙ ap (λ ks. walkIn s P Q best (under X ks)) (sym (run-last level s hi (kid num (part s low)) es))
+pub last-child : (s : List ℕ) (sh : Shape) (P Q X hi : List ℕ) (best : Option (List ℕ)) (level num : ℕ) (low : Place) (es : List defined.Entry) (f r : Option (List ℕ))
+    → f ≡ walkIn s sh P Q best (under X (childPaths level s num (part s low) hi)) → r ≡ walkIn s sh P Q f (under X (pathsOf es))
+    → r ≡ walkIn s sh P Q best (under X (runPaths level s hi (kid num (part s low) ∷ []) es))
+last-child s sh P Q X hi best level num low es f r e g =
+    g ∙ ap (λ b. walkIn s sh P Q b (under X (pathsOf es))) e
+    ∙ sym (walk-more s sh P Q best X (childPaths level s num (part s low) hi) (pathsOf es))
+    ∙ ap (λ ks. walkIn s sh P Q best (under X ks)) (sym (run-last level s hi (kid num (part s low)) es))
 
 -- 3. The loop over children: the child in hand, and those among the entries es that are left.
 child-path : (e : Entry) (i : ℕ) (p : Place) (s : List ℕ) → kidIs e ≡ Kid.Of i p → pathOf (entryIn s e) ≡ []
@@ -94,14 +98,14 @@ run-same : (level : ℕ) (s hi : List ℕ) (ks : List image.Kid) (es ts : List d
 unfolding runPaths
 run-same level s hi ks es ts e = ap (λ l. keysKids (image.forestOf (λ j. treeAt level s j) ks) hi ++ l) e
 
-module _ (s P Q X hi : List ℕ) (level num : ℕ) (low : Place) (best : Option (List ℕ)) (es : List defined.Entry) (ready : KidsReady s level X hi (kid num (part s low) ∷ kidsE es)) where
+module _ (s : List ℕ) (sh : Shape) (P Q X hi : List ℕ) (level num : ℕ) (low : Place) (best : Option (List ℕ)) (es : List defined.Entry) (ready : KidsReady s level X hi (kid num (part s low) ∷ kidsE es)) where
   pub last-ready : kidsE es ≡ [] → ChildReady s X (part s low) hi level num
   unfolding kidHigh
   last-ready q = kids-first s level X hi (kid num (part s low)) [] (subst (λ (ks : List image.Kid). KidsReady s level X hi (kid num (part s low) ∷ ks)) q ready)
 
-  module _ (R : Option (List ℕ)) (inv : walkIn s P Q best (under X (runPaths level s hi (kid num (part s low) ∷ kidsE es) es)) ≡ R) where
-    pub run-ends : kidsE es ≡ [] → (r : Option (List ℕ)) → r ≡ walkIn s P Q best (under X (runPaths level s hi (kid num (part s low) ∷ []) es)) → r ≡ R
-    run-ends q r e = e ∙ ap (λ ks. walkIn s P Q best (under X (runPaths level s hi (kid num (part s low) ∷ ks) es))) (sym q) ∙ inv
+  module _ (R : Option (List ℕ)) (inv : walkIn s sh P Q best (under X (runPaths level s hi (kid num (part s low) ∷ kidsE es) es)) ≡ R) where
+    pub run-ends : kidsE es ≡ [] → (r : Option (List ℕ)) → r ≡ walkIn s sh P Q best (under X (runPaths level s hi (kid num (part s low) ∷ []) es)) → r ≡ R
+    run-ends q r e = e ∙ ap (λ ks. walkIn s sh P Q best (under X (runPaths level s hi (kid num (part s low) ∷ ks) es))) (sym q) ∙ inv
 
   module _ (e : Entry) (i : ℕ) (p : Place) (ts : List defined.Entry) (q : es ≡ entryIn s e ∷ ts) (h : kidIs e ≡ Kid.Of i p) where
     more : kidsE es ≡ kid i (part s p) ∷ kidsE ts
@@ -117,13 +121,13 @@ module _ (s P Q X hi : List ℕ) (level num : ℕ) (low : Place) (best : Option 
     pub later-ready : KidsReady s level X hi (kid i (part s p) ∷ kidsE ts)
     later-ready = kids-later s level X hi (kid num (part s low)) (kid i (part s p) ∷ kidsE ts) ready-more
 
-    pub run-step : (R : Option (List ℕ)) → walkIn s P Q best (under X (runPaths level s hi (kid num (part s low) ∷ kidsE es) es)) ≡ R
-        → (r : Option (List ℕ)) → r ≡ walkIn s P Q best (under X (childPaths level s num (part s low) (part s p)))
-        → walkIn s P Q r (under X (runPaths level s hi (kid i (part s p) ∷ kidsE ts) ts)) ≡ R
+    pub run-step : (R : Option (List ℕ)) → walkIn s sh P Q best (under X (runPaths level s hi (kid num (part s low) ∷ kidsE es) es)) ≡ R
+        → (r : Option (List ℕ)) → r ≡ walkIn s sh P Q best (under X (childPaths level s num (part s low) (part s p)))
+        → walkIn s sh P Q r (under X (runPaths level s hi (kid i (part s p) ∷ kidsE ts) ts)) ≡ R
     run-step R inv r f =
-        ap (λ b. walkIn s P Q b (under X (runPaths level s hi (kid i (part s p) ∷ kidsE ts) ts))) f
-        ∙ sym (walk-more s P Q best X (childPaths level s num (part s low) (part s p)) (runPaths level s hi (kid i (part s p) ∷ kidsE ts) ts))
-        ∙ ap (λ ks. walkIn s P Q best (under X ks))
+        ap (λ b. walkIn s sh P Q b (under X (runPaths level s hi (kid i (part s p) ∷ kidsE ts) ts))) f
+        ∙ sym (walk-more s sh P Q best X (childPaths level s num (part s low) (part s p)) (runPaths level s hi (kid i (part s p) ∷ kidsE ts) ts))
+        ∙ ap (λ ks. walkIn s sh P Q best (under X ks))
         (sym (run-more level s hi (kid num (part s low)) (kid i (part s p)) (kidsE ts) ts)
         ∙ sym (run-same level s hi (kid num (part s low) ∷ kid i (part s p) ∷ kidsE ts) es ts (child-paths e i p s es ts q h))
         ∙ ap (λ ks. runPaths level s hi (kid num (part s low) ∷ ks) es) (sym more))
@@ -134,25 +138,25 @@ no-kids : (level : ℕ) (s hi : List ℕ) (es : List defined.Entry) → runPaths
 unfolding runPaths image.forestOf keysKids
 no-kids level s hi es = refl
 
-module _ (s X hi : List ℕ) (level num : ℕ) (n : NodeReady s X hi level num) (P Q : List ℕ) (best : Option (List ℕ)) (len : ℕ) (el : len ≡ u16 s (num * 1024)) where
+module _ (s X hi : List ℕ) (level num : ℕ) (n : NodeReady s X hi level num) (sh : Shape) (P Q : List ℕ) (best : Option (List ℕ)) (len : ℕ) (el : len ≡ u16 s (num * 1024)) where
   abbrev L : List defined.Entry
   L = listed s (num * 1024 + 8) (num * 1024 + 8 + len)
 
   same-list : L ≡ listing s num
   same-list = ap (λ k. listed s (num * 1024 + 8) (num * 1024 + 8 + k)) el
 
-  pub node-leaf : level ≤ 1 → (r : Option (List ℕ)) → r ≡ walkIn s P Q best (under X (pathsOf L)) → r ≡ walkIn s P Q best (under X (keysHere (treeAt level s num) hi))
-  node-leaf l r e = e ∙ ap (λ ks. walkIn s P Q best (under X ks)) (ap (λ es. pathsOf es) same-list ∙ sym (leaf-paths s X hi level num n l))
+  pub node-leaf : level ≤ 1 → (r : Option (List ℕ)) → r ≡ walkIn s sh P Q best (under X (pathsOf L)) → r ≡ walkIn s sh P Q best (under X (keysHere (treeAt level s num) hi))
+  node-leaf l r e = e ∙ ap (λ ks. walkIn s sh P Q best (under X ks)) (ap (λ es. pathsOf es) same-list ∙ sym (leaf-paths s X hi level num n l))
 
   module _ (two : 2 ≤ level) where
-    whole : walkIn s P Q best (under X (runPaths (level - 1) s hi (kidsE L) L)) ≡ walkIn s P Q best (under X (keysHere (treeAt level s num) hi))
+    whole : walkIn s sh P Q best (under X (runPaths (level - 1) s hi (kidsE L) L)) ≡ walkIn s sh P Q best (under X (keysHere (treeAt level s num) hi))
     whole =
-        ap (λ ks. walkIn s P Q best (under X ks))
+        ap (λ ks. walkIn s sh P Q best (under X ks))
         (ap (λ es. runPaths (level - 1) s hi (kidsE es) es) same-list ∙ sym (interior-paths s X hi level num n two))
 
-    pub node-childless : kidsE L ≡ [] → (r : Option (List ℕ)) → r ≡ walkIn s P Q best (under X (pathsOf L)) → r ≡ walkIn s P Q best (under X (keysHere (treeAt level s num) hi))
+    pub node-childless : kidsE L ≡ [] → (r : Option (List ℕ)) → r ≡ walkIn s sh P Q best (under X (pathsOf L)) → r ≡ walkIn s sh P Q best (under X (keysHere (treeAt level s num) hi))
     node-childless q r e =
-        e ∙ ap (λ ks. walkIn s P Q best (under X ks)) (sym (no-kids (level - 1) s hi L) ∙ ap (λ ks. runPaths (level - 1) s hi ks L) (sym q)) ∙ whole
+        e ∙ ap (λ ks. walkIn s sh P Q best (under X ks)) (sym (no-kids (level - 1) s hi L) ∙ ap (λ ks. runPaths (level - 1) s hi ks L) (sym q)) ∙ whole
 
     module _ (e : Entry) (i : ℕ) (p : Place) (ts : List defined.Entry) (q : L ≡ entryIn s e ∷ ts) (h : kidIs e ≡ Kid.Of i p) where
       pub node-ready : KidsReady s (level - 1) X hi (kid i (part s p) ∷ kidsE ts)
@@ -160,16 +164,21 @@ module _ (s X hi : List ℕ) (level num : ℕ) (n : NodeReady s X hi level num) 
           subst (λ (ks : List image.Kid). KidsReady s (level - 1) X hi ks) (ap (λ es. kidsE es) (sym same-list) ∙ kids-more e i p s L ts q h)
           (kids-ready s X hi level num n two)
 
-      pub node-children : (r : Option (List ℕ)) → r ≡ walkIn s P Q best (under X (runPaths (level - 1) s hi (kid i (part s p) ∷ kidsE ts) ts))
-          → r ≡ walkIn s P Q best (under X (keysHere (treeAt level s num) hi))
+      pub node-children : (r : Option (List ℕ)) → r ≡ walkIn s sh P Q best (under X (runPaths (level - 1) s hi (kid i (part s p) ∷ kidsE ts) ts))
+          → r ≡ walkIn s sh P Q best (under X (keysHere (treeAt level s num) hi))
       node-children r f =
-          f ∙ ap (λ ks. walkIn s P Q best (under X ks))
+          f ∙ ap (λ ks. walkIn s sh P Q best (under X ks))
           (sym (run-same (level - 1) s hi (kid i (part s p) ∷ kidsE ts) L ts (child-paths e i p s L ts q h))
           ∙ ap (λ ks. runPaths (level - 1) s hi ks L) (sym (kids-more e i p s L ts q h)))
           ∙ whole
 
 -- 5. The root, from a buffer that holds no path.
-pub root-next : (s : List ℕ) (root levels : ℕ) → sound s ≡ true → root ≡ u16 s 6 → levels ≡ u16 s 8 → (P Q : List ℕ) (best : PathBuffer) → 64 < best .len → (r : Option (List ℕ))
-    → r ≡ walkIn s P Q (bufferIs best) (under [] (keysHere (treeAt levels s root) highest)) → r ≡ leastAfter P Q (tableOf s)
-root-next s root levels e a b P Q best h r f =
-    f ∙ ap (λ o. walkIn s P Q o (under [] (keysHere (treeAt levels s root) highest))) (empty-handed best h) ∙ root-walk s root levels e a b P Q
+pub root-next : (s : List ℕ) (root levels : ℕ) → sound s ≡ true → root ≡ u16 s 6 → levels ≡ u16 s 8 → (sh : Shape) (P Q : List ℕ) (best : PathBuffer) → 64 < best .len → (r : Option (List ℕ))
+    → r ≡ walkIn s sh P Q (bufferIs best) (under [] (keysHere (treeAt levels s root) highest)) → r ≡ leastAfter P Q (keep (unfit sh P) (tableOf s))
+root-next s root levels e a b sh P Q best h r f =
+    f ∙ ap (λ o. walkIn s sh P Q o (under [] (keysHere (treeAt levels s root) highest))) (empty-handed best h) ∙ root-walk s root levels e a b sh P Q
+
+-- 6. Next: every path is unfit for the dead shape.
+pub next-any : (P Q : List ℕ) (t : List Row) (r : Option (List ℕ)) → r ≡ leastAfter P Q (keep (unfit (shapeIs path.Shape.Dead) P) t) → r ≡ leastAfter P Q t
+unfolding shapeIs
+next-any P Q t r e = e ∙ ap (leastAfter P Q) (dead-keeps P t)

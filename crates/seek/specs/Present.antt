@@ -1,12 +1,13 @@
--- Present paths of a sound image are well formed, and so at most 64 bytes; the walk from the root over all paths is next.
+-- Present paths of a sound image are well formed, and so at most 64 bytes; the walk from the root over all paths is next, of those that are
+-- unfit for a shape; all are for the dead one.
 -- Relies on: the walk of reading (Seek, SeekHere), the root of lookup.
 use Prim.Native.Nat.{ℕ, _<_, _≤_}
 use mathlib.Core.Path.{_≡_, refl, sym, ap, subst, _∙_}
 use mathlib.Core.List.{List, [], _∷_}
-use mathlib.Core.Bool.{Bool, true, false, false≢true}
+use mathlib.Core.Bool.{Bool, true, false, _&&_, false≢true}
 use mathlib.Core.Option.{none, some}
 use native.Mathlib.Omega.{arith}
-use lib.ListN.{length}
+use lib.ListN.{length, drop}
 use borrow.Author.Tests.{leb-true}
 use Rattle.image.specs.Bytes.{same, before, begins, shared, u16}
 use Rattle.image.specs.Path.{wellFormed, owns, pathLimit}
@@ -18,10 +19,12 @@ use Rattle.octets.specs.Order.{and-left, and-right, same-eq}
 use Rattle.laws.specs.LookupTable.{means-table}
 use Rattle.laws.specs.RowsRising.{rows-rise}
 use Rattle.laws.specs.Next.{Fits, least-yes, least-far, least-early, later-fits, nil-none, first-present}
+use Rattle.laws.specs.Filter.{keep}
+use Rattle.path.specs.Shape.{Shape, dead, goesOn, feed-dead}
 use Rattle.reading.specs.Seek.{every, holds, isKey, present, keys, keys-hold, stands, walk, walk-same}
 use Rattle.reading.specs.SeekHere.{under, keysHere, next-here}
 use Rattle.lookup.specs.Root.{starts, root-is, root-usable}
-use Rattle.seek.specs.Walk.{isPresent, walkIn, NodeReady}
+use Rattle.seek.specs.Walk.{isPresent, unfit, isSought, walkIn, NodeReady}
 
 -- a path that stands among paths that all pass a test passes it
 key-passes : (test : List ℕ → Bool) (k : List ℕ) (ks : List (List ℕ)) → isKey k ks ≡ true → every test ks ≡ true → test k ≡ true
@@ -75,12 +78,23 @@ module _ (s : List ℕ) (root levels : ℕ) (e : sound s ≡ true) (a : root ≡
         tree = ap (λ t. soundTree t lowest highest) (root-is s root levels e a b) ∙ starts s e .tree;
       }
 
-  pub root-walk : (P Q : List ℕ) → walkIn s P Q none (under [] (keysHere (treeAt levels s root) highest)) ≡ leastAfter P Q (tableOf s)
-  unfolding walkIn tableOf
-  root-walk P Q =
-      ap (λ t. walk (isPresent s) P Q none (under [] (keysHere t highest))) (root-is s root levels e a b)
-      ∙ walk-same (isPresent s) (λ k. present k (rows (treeOf s) lowest highest)) P Q (λ k. present-is s e k) none (under [] (keysHere (treeOf s) highest))
-      ∙ next-here P Q (treeOf s) highest (starts s e .tree)
+  pub root-walk : (sh : Shape) (P Q : List ℕ) → walkIn s sh P Q none (under [] (keysHere (treeAt levels s root) highest)) ≡ leastAfter P Q (keep (unfit sh P) (tableOf s))
+  unfolding walkIn isSought tableOf
+  root-walk sh P Q =
+      ap (λ t. walk (λ k. unfit sh P k && isPresent s k) P Q none (under [] (keysHere t highest))) (root-is s root levels e a b)
+      ∙ walk-same (λ k. unfit sh P k && isPresent s k) (λ k. unfit sh P k && present k (rows (treeOf s) lowest highest)) P Q
+      (λ k. ap (λ x. unfit sh P k && x) (present-is s e k)) none (under [] (keysHere (treeOf s) highest))
+      ∙ next-here (unfit sh P) P Q (treeOf s) highest (starts s e .tree)
+
+-- every path is unfit for the dead shape
+dead-unfit : (P k : List ℕ) → unfit dead P k ≡ true
+unfolding unfit goesOn
+dead-unfit P k = rw (feed-dead (drop (length P) k))
+
+pub dead-keeps : (P : List ℕ) (t : List Row) → keep (unfit dead P) t ≡ t
+unfolding keep
+dead-keeps P [] = refl
+dead-keeps P (r ∷ t) = rw (dead-unfit P (r .key)) (ap (λ l. r ∷ l) (dead-keeps P t))
 
 -- what the least path is: present, below p, greater than q
 least-fits : (p q : List ℕ) (t : List Row) (k : List ℕ) → rising t ≡ true → leastAfter p q t ≡ some k → Fits p q t k

@@ -1,18 +1,21 @@
 -- The steps of the functions that try a path, an entry, and a list of entries: one law for each return.
 -- Relies on: Walk, WalkLaws, BufferSteps, and that present paths are short (Present).
-use Prim.Native.Nat.{ℕ, _-_, _<_, _≤_}
+use Prim.Native.Nat.{ℕ, _+_, _-_, _<_, _≤_}
 use mathlib.Core.Path.{_≡_, refl, sym, ap, subst, _∙_}
 use mathlib.Core.List.{List, [], _∷_, _++_}
-use mathlib.Core.Bool.{Bool, true, false, not}
+use mathlib.Core.Bool.{Bool, true, false, _&&_, not}
 use mathlib.Core.Option.{Option, none, some}
 use native.Mathlib.Omega.{arith}
-use lib.ListN.{take, drop}
+use lib.ListN.{length, take, drop, length-append}
 use borrow.Author.Tests.{not-true, not-false}
+use Rattle.image.specs.Bytes.{before, begins}
 use Rattle.image.specs.Entry as defined
 use Rattle.image.specs.Table.{isSome}
 use Rattle.image.specs.Sound.{sound, valueIn}
-use Rattle.octets.specs.Order.{and-false}
-use Rattle.reading.specs.Seek.{wanted, try}
+use Rattle.octets.specs.Order.{and-left, and-false}
+use Rattle.octets.specs.Beginnings.{begins-length}
+use Rattle.path.specs.Shape.{Shape}
+use Rattle.reading.specs.Seek.{better, wanted, try}
 use Rattle.reading.specs.SeekHere.{under}
 use Rattle.node.specs.Places.{part, entryIn, Within, EntryWithin}
 use Rattle.node.specs.declared.Place.{Place}
@@ -24,7 +27,7 @@ use Rattle.seek.specs.declared.PathBuffer.{PathBuffer}
 use Rattle.seek.specs.declared.Suffix.{Suffix}
 use Rattle.seek.specs.Buffer.{bufferIs, fitted}
 use Rattle.seek.specs.BufferSteps.{held, fitted-held, fitted-not}
-use Rattle.seek.specs.Walk.{isPresent, tryIn, walkIn, pathOf, pathsOf}
+use Rattle.seek.specs.Walk.{isPresent, unfit, isSought, tryIn, walkIn, pathOf, pathsOf}
 use Rattle.seek.specs.Suffixes.{putIs, suffixIs}
 use Rattle.seek.specs.Present.{too-long}
 use Rattle.seek.specs.WalkLaws.{walk-nothing, walk-one, walk-more}
@@ -34,45 +37,60 @@ pub front-is : (n : ℕ) (l : List ℕ) → take (n - 0) (drop 0 l) ≡ take n l
 front-is n l = let e : n - 0 ≡ n = omega arith in rw e
 
 -- 1. One path.
-module _ (s P Q k : List ℕ) (best : Option (List ℕ)) where
-  not-there : isPresent s k ≡ false → best ≡ tryIn s P Q best k
-  unfolding tryIn try
-  not-there h = rw (h, and-false (wanted P Q best k))
+-- it begins with P, if it is wanted
+pub wanted-long : (P Q a b : List ℕ) (best : Option (List ℕ)) (w : Bool) → w ≡ wanted P Q best (a ++ b) → not w ≡ false → length P ≤ length a + length b
+unfolding wanted
+wanted-long P Q a b best w e h =
+    let f : begins P (a ++ b) && before Q (a ++ b) && better best (a ++ b) ≡ true = sym e ∙ not-false w h in
+    let l = begins-length P (a ++ b) (and-left (begins P (a ++ b)) (before Q (a ++ b)) (and-left _ _ f)) in
+    let n = length-append a b in
+    omega arith
+
+module _ (s : List ℕ) (sh : Shape) (P Q k : List ℕ) (best : Option (List ℕ)) where
+  not-there : isPresent s k ≡ false → best ≡ tryIn s sh P Q best k
+  unfolding tryIn try isSought
+  not-there h = rw (h, and-false (unfit sh P k), and-false (wanted P Q best k))
 
   module _ (w : Bool) (ew : w ≡ wanted P Q best k) where
-    pub try-unwanted : not w ≡ true → best ≡ tryIn s P Q best k
+    pub try-unwanted : not w ≡ true → best ≡ tryIn s sh P Q best k
     unfolding tryIn try
     try-unwanted h = rw (sym ew ∙ not-true w h)
 
-    module _ (e : sound s ≡ true) (yes : not w ≡ false) (full : PathBuffer) (j : bufferIs full ≡ fitted k) where
-      pub try-long : 64 < full .len → best ≡ tryIn s P Q best k
-      try-long h = not-there (too-long s k e (fitted-not full k j h))
+    module _ (yes : not w ≡ false) where
+      module _ (u : Bool) (eu : u ≡ unfit sh P k) where
+        pub try-fit : not u ≡ true → best ≡ tryIn s sh P Q best k
+        unfolding tryIn try isSought
+        try-fit h = rw (sym eu ∙ not-true u h, and-false (wanted P Q best k))
 
-      module _ (fit : full .len ≤ 64) (f : Found) (v : Finds s (valueIn s (take (full .len - 0) (drop 0 (full .bytes)))) f) where
-        value-there : foundIn s f ≡ valueIn s k
-        value-there = v .meant ∙ ap (λ x. valueIn s x) (front-is (full .len) (full .bytes) ∙ fitted-held full k j fit)
+        module _ (e : sound s ≡ true) (apart : not u ≡ false) (full : PathBuffer) (j : bufferIs full ≡ fitted k) where
+          pub try-long : 64 < full .len → best ≡ tryIn s sh P Q best k
+          try-long h = not-there (too-long s k e (fitted-not full k j h))
 
-        pub try-absent : f ≡ Found.Nothing → best ≡ tryIn s P Q best k
-        unfolding isPresent
-        try-absent h = not-there (ap (λ o. isSome o) (sym value-there ∙ nothing h) ∙ is-none)
-          where
-            nothing : f ≡ Found.Nothing → foundIn s f ≡ none
-            nothing h = unfold foundIn in rw h
+          module _ (fit : full .len ≤ 64) (f : Found) (v : Finds s (valueIn s (take (full .len - 0) (drop 0 (full .bytes)))) f) where
+            value-there : foundIn s f ≡ valueIn s k
+            value-there = v .meant ∙ ap (λ x. valueIn s x) (front-is (full .len) (full .bytes) ∙ fitted-held full k j fit)
 
-            is-none : isSome none ≡ false
-            is-none = unfold isSome in refl
+            pub try-absent : f ≡ Found.Nothing → best ≡ tryIn s sh P Q best k
+            unfolding isPresent
+            try-absent h = not-there (ap (λ o. isSome o) (sym value-there ∙ nothing h) ∙ is-none)
+              where
+                nothing : f ≡ Found.Nothing → foundIn s f ≡ none
+                nothing h = unfold foundIn in rw h
 
-        pub try-found : (p : Place) → f ≡ Found.Value p → bufferIs full ≡ tryIn s P Q best k
-        unfolding tryIn try isPresent
-        try-found p h =
-            held full fit ∙ ap (λ x. some x) (fitted-held full k j fit)
-            ∙ rw (sym ew ∙ not-false w yes, sym value-there ∙ value h, is-some (part s p))
-          where
-            value : f ≡ Found.Value p → foundIn s f ≡ some (part s p)
-            value h = unfold foundIn in rw h
+                is-none : isSome none ≡ false
+                is-none = unfold isSome in refl
 
-            is-some : (x : List ℕ) → isSome (some x) ≡ true
-            is-some x = unfold isSome in refl
+            pub try-found : (p : Place) → f ≡ Found.Value p → bufferIs full ≡ tryIn s sh P Q best k
+            unfolding tryIn try isSought isPresent
+            try-found p h =
+                held full fit ∙ ap (λ x. some x) (fitted-held full k j fit)
+                ∙ rw (sym ew ∙ not-false w yes, sym eu ∙ not-false u apart, sym value-there ∙ value h, is-some (part s p))
+              where
+                value : f ≡ Found.Value p → foundIn s f ≡ some (part s p)
+                value h = unfold foundIn in rw h
+
+                is-some : (x : List ℕ) → isSome (some x) ≡ true
+                is-some x = unfold isSome in refl
 
 -- 2. The suffix of an entry.
 pub put-at : (m : Message) (p v : Place) → m ≡ Message.Put p v → Suffix.At p ≡ putIs m
@@ -124,23 +142,23 @@ suffix-place a b (Entry.Message (Message.Drop q)) p h w = let z : _≡_ {A = ℕ
 suffix-place a b (Entry.Message (Message.Clear q)) p h w = let z : _≡_ {A = ℕ} 0 1 = cc in absurd (omega arith)
 
 -- 3. One entry, and the loop over entries: the walk over what is left of them is R.
-module _ (s P Q X : List ℕ) (best : Option (List ℕ)) where
-  pub entry-tried : (e : Entry) (p : Place) (r : Option (List ℕ)) → suffixIs e ≡ Suffix.At p → r ≡ tryIn s P Q best (X ++ part s p)
-      → r ≡ walkIn s P Q best (under X (pathOf (entryIn s e)))
-  entry-tried e p r h f = f ∙ walk-one s P Q best X (part s p) ∙ ap (λ ks. walkIn s P Q best (under X ks)) (sym (at-path s e p h))
+module _ (s : List ℕ) (sh : Shape) (P Q X : List ℕ) (best : Option (List ℕ)) where
+  pub entry-tried : (e : Entry) (p : Place) (r : Option (List ℕ)) → suffixIs e ≡ Suffix.At p → r ≡ tryIn s sh P Q best (X ++ part s p)
+      → r ≡ walkIn s sh P Q best (under X (pathOf (entryIn s e)))
+  entry-tried e p r h f = f ∙ walk-one s sh P Q best X (part s p) ∙ ap (λ ks. walkIn s sh P Q best (under X ks)) (sym (at-path s e p h))
 
-  pub entry-other : (e : Entry) → suffixIs e ≡ Suffix.Other → best ≡ walkIn s P Q best (under X (pathOf (entryIn s e)))
-  entry-other e h = walk-nothing s P Q best X ∙ ap (λ ks. walkIn s P Q best (under X ks)) (sym (other-path s e h))
+  pub entry-other : (e : Entry) → suffixIs e ≡ Suffix.Other → best ≡ walkIn s sh P Q best (under X (pathOf (entryIn s e)))
+  entry-other e h = walk-nothing s sh P Q best X ∙ ap (λ ks. walkIn s sh P Q best (under X ks)) (sym (other-path s e h))
 
-  module _ (es : List defined.Entry) (R : Option (List ℕ)) (inv : walkIn s P Q best (under X (pathsOf es)) ≡ R) where
-    pub entries-step : (e : Entry) (ts : List defined.Entry) (r : Option (List ℕ)) → es ≡ entryIn s e ∷ ts → r ≡ walkIn s P Q best (under X (pathOf (entryIn s e)))
-        → walkIn s P Q r (under X (pathsOf ts)) ≡ R
+  module _ (es : List defined.Entry) (R : Option (List ℕ)) (inv : walkIn s sh P Q best (under X (pathsOf es)) ≡ R) where
+    pub entries-step : (e : Entry) (ts : List defined.Entry) (r : Option (List ℕ)) → es ≡ entryIn s e ∷ ts → r ≡ walkIn s sh P Q best (under X (pathOf (entryIn s e)))
+        → walkIn s sh P Q r (under X (pathsOf ts)) ≡ R
     unfolding pathsOf
     entries-step e ts r q f =
-        ap (λ b. walkIn s P Q b (under X (pathsOf ts))) f
-        ∙ sym (walk-more s P Q best X (pathOf (entryIn s e)) (pathsOf ts))
-        ∙ ap (λ l. walkIn s P Q best (under X (pathsOf l))) (sym q) ∙ inv
+        ap (λ b. walkIn s sh P Q b (under X (pathsOf ts))) f
+        ∙ sym (walk-more s sh P Q best X (pathOf (entryIn s e)) (pathsOf ts))
+        ∙ ap (λ l. walkIn s sh P Q best (under X (pathsOf l))) (sym q) ∙ inv
 
     pub entries-end : es ≡ [] → best ≡ R
     unfolding pathsOf
-    entries-end q = walk-nothing s P Q best X ∙ ap (λ l. walkIn s P Q best (under X (pathsOf l))) (sym q) ∙ inv
+    entries-end q = walk-nothing s sh P Q best X ∙ ap (λ l. walkIn s sh P Q best (under X (pathsOf l))) (sym q) ∙ inv

@@ -1,17 +1,24 @@
 -- The tests on a path or a range, one law for each return.
--- Relies on: better and wanted of reading/specs/Seek, farFrom of reading/specs/Far.
-use Prim.Native.Nat.{ℕ, _-_, _<_, _≤_}
+-- Relies on: better and wanted of reading/specs/Seek, farFrom of reading/specs/Far, the shape of a path fed in parts (path/specs/Shape).
+use Prim.Native.Nat.{ℕ, _+_, _-_, _<_, _≤_}
 use mathlib.Core.Path.{_≡_, refl, sym, ap, _∙_}
-use mathlib.Core.List.{List}
+use mathlib.Core.List.{List, _++_}
 use mathlib.Core.Bool.{Bool, true, false, _&&_, _||_, not}
 use mathlib.Core.Option.{Option}
 use native.Mathlib.Omega.{arith}
-use lib.ListN.{take, drop}
+use lib.ListN.{length, take, drop}
+use lib.Seq.{drop-append-le, drop-append-add}
 use borrow.Author.Tests.{not-true, not-false}
 use Rattle.image.specs.Bytes.{before, begins}
+use Rattle.path.specs.Shape.{feed, closed, goesOn, feed-append}
+use Rattle.path.specs.Fed.{shapeIs}
+use Rattle.path.specs.Reads.{goes-dead}
+use Rattle.path.specs.declared.Shape.{Shape}
 use Rattle.reading.specs.Far.{farFrom}
 use Rattle.reading.specs.Seek.{better, wanted}
 use Rattle.seek.specs.declared.PathBuffer.{PathBuffer}
+use Rattle.lookup.specs.Look.{part-rest}
+use Rattle.seek.specs.Walk.{unfit}
 use Rattle.seek.specs.Buffer.{bufferIs}
 use Rattle.seek.specs.BufferSteps.{held, empty-handed}
 
@@ -49,6 +56,32 @@ module _ (P Q k : List ℕ) (best : Option (List ℕ)) (q : Bool) (eq : q ≡ be
     pub wanted-last : not p ≡ false → (r : Bool) → r ≡ better best k → r ≡ wanted P Q best k
     unfolding wanted
     wanted-last h r e = e ∙ three-last (begins P k) (before Q k) (better best k) (sym ep ∙ not-false p h) (sym eq ∙ not-false q late)
+
+-- the rest after P of a path in two parts, a and b
+module _ (sh : Shape) (P a b : List ℕ) where
+  pub unfit-dead : sh ≡ Shape.Dead → true ≡ unfit (shapeIs sh) P (a ++ b)
+  unfolding unfit
+  unfit-dead e = ap not (goes-dead sh (drop (length P) (a ++ b)) e)
+
+  -- it begins in a
+  pub unfit-first : length P ≤ length a → (front : Shape) → shapeIs front ≡ feed (shapeIs sh) (take (length a - length P) (drop (length P) a))
+      → (r : Bool) → r ≡ goesOn (shapeIs front) b → not r ≡ unfit (shapeIs sh) P (a ++ b)
+  unfolding unfit goesOn
+  unfit-first h front ef r er =
+      ap not
+      (er ∙ ap (λ z. closed (feed z b)) (ef ∙ ap (feed (shapeIs sh)) (part-rest (length P) a))
+      ∙ ap closed (sym (feed-append (shapeIs sh) (drop (length P) a) b) ∙ ap (feed (shapeIs sh)) (sym (drop-append-le (length P) a b h))))
+
+  -- it begins in b
+  pub unfit-second : length a < length P → (r : Bool) → r ≡ goesOn (shapeIs sh) (take (length b - (length P - length a)) (drop (length P - length a) b))
+      → not r ≡ unfit (shapeIs sh) P (a ++ b)
+  unfolding unfit
+  unfit-second h r er =
+      let z : length a + (length P - length a) ≡ length P = omega arith in
+      ap not
+      (er
+      ∙ ap (goesOn (shapeIs sh))
+      (part-rest (length P - length a) b ∙ sym (drop-append-add a b (length P - length a)) ∙ ap (λ n. drop n (a ++ b)) z))
 
 four-1 : (x y z w : Bool) → x ≡ true → true ≡ x || y || z || w
 four-1 x y z w e = rw e

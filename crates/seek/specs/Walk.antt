@@ -1,9 +1,9 @@
 -- The walk of next as its functions see it: the paths that entries name, the paths under a child and under a run of children, and what
--- each function may rely on. Relies on: the walk over keys of reading (Seek, SeekHere).
+-- each function may rely on. Relies on: the walk over keys of reading (Seek, SeekHere), the shape of a path (path/specs/Shape).
 use Prim.Native.Nat.{ℕ}
 use mathlib.Core.Path.{_≡_}
 use mathlib.Core.List.{List, [], _∷_, _++_}
-use mathlib.Core.Bool.{Bool, true}
+use mathlib.Core.Bool.{Bool, true, _&&_, not}
 use mathlib.Core.Option.{Option}
 use lib.ListN.{length, drop}
 use Rattle.image.specs.Bytes.{shared}
@@ -11,6 +11,7 @@ use Rattle.image.specs.Entry.{puts, drops, clears, Entry, pair, child, message}
 use Rattle.image.specs.Table.{isSome}
 use Rattle.image.specs.Image.{Kid, nodesOf, forestOf, treeAt}
 use Rattle.image.specs.Sound.{sound, soundTree, valueIn}
+use Rattle.path.specs.Shape.{Shape, goesOn}
 use Rattle.reading.specs.Relative.{lifts, kidHigh, usable}
 use Rattle.reading.specs.Seek.{try, walk}
 use Rattle.reading.specs.SeekHere.{under, keysHere, keysKids}
@@ -19,12 +20,20 @@ use Rattle.reading.specs.SeekHere.{under, keysHere, keysKids}
 unfoldable pub isPresent : List ℕ → List ℕ → Bool
 isPresent s k = isSome (valueIn s k)
 
--- one path tried, and the walk over a list of paths, both from the best so far: below P, after Q
-unfoldable pub tryIn : List ℕ → List ℕ → List ℕ → Option (List ℕ) → List ℕ → Option (List ℕ)
-tryIn s P Q best k = try (isPresent s) P Q best k
+-- what follows the bytes of P does not go on from a shape; from the dead shape nothing does
+unfoldable pub unfit : Shape → List ℕ → List ℕ → Bool
+unfit sh P k = not (goesOn sh (drop (length P) k))
 
-unfoldable pub walkIn : List ℕ → List ℕ → List ℕ → Option (List ℕ) → List (List ℕ) → Option (List ℕ)
-walkIn s P Q best ks = walk (isPresent s) P Q best ks
+-- a path is unfit, and present in the image
+unfoldable pub isSought : List ℕ → Shape → List ℕ → List ℕ → Bool
+isSought s sh P k = unfit sh P k && isPresent s k
+
+-- one path tried, and the walk over a list of paths, both from the best so far: below P, after Q, unfit for the shape
+unfoldable pub tryIn : List ℕ → Shape → List ℕ → List ℕ → Option (List ℕ) → List ℕ → Option (List ℕ)
+tryIn s sh P Q best k = try (isSought s sh P) P Q best k
+
+unfoldable pub walkIn : List ℕ → Shape → List ℕ → List ℕ → Option (List ℕ) → List (List ℕ) → Option (List ℕ)
+walkIn s sh P Q best ks = walk (isSought s sh P) P Q best ks
 
 -- the path that an entry may hold a value for: of a pair and of a put
 unfoldable pub pathOf : Entry → List (List ℕ)

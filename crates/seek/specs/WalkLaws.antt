@@ -18,28 +18,29 @@ use Rattle.octets.specs.Order.{and-left, and-right, begins-split, shared-append
 use Rattle.octets.specs.Beginnings.{shared-left}
 use Rattle.laws.specs.LookupTable.{parts, inner}
 use Rattle.octets.specs.Beginnings.{shared-right}
+use Rattle.path.specs.Shape.{Shape}
 use Rattle.reading.specs.Relative.{lifts, kidHigh, usable, usableIn}
 use Rattle.reading.specs.Far.{farFrom}
 use Rattle.reading.specs.Seek.{walk, walk-append, every, holds, keys-hold, keysOf, putsOf}
 use Rattle.reading.specs.SeekHere.{under, keysHere, keysKids, under-append, under-under, child-under, keys-here, skip-here}
 use Rattle.search.specs.Own.{kidsE}
 use Rattle.lookup.specs.Look.{listing, leaf-at, interior-at, inside-splits}
-use Rattle.seek.specs.Walk.{isPresent, tryIn, walkIn, pathOf, pathsOf, childPaths, runPaths, ChildReady, NodeReady, KidsReady}
+use Rattle.seek.specs.Walk.{isSought, tryIn, walkIn, pathOf, pathsOf, childPaths, runPaths, ChildReady, NodeReady, KidsReady}
 use Rattle.seek.specs.Present.{formed-of, formed-short}
 
 -- 1. The walk over no path, one path, and two lists of paths.
-module _ (s P Q : List ℕ) (best : Option (List ℕ)) (X : List ℕ) where
-  pub walk-nothing : best ≡ walkIn s P Q best (under X [])
+module _ (s : List ℕ) (sh : Shape) (P Q : List ℕ) (best : Option (List ℕ)) (X : List ℕ) where
+  pub walk-nothing : best ≡ walkIn s sh P Q best (under X [])
   unfolding walkIn walk under
   walk-nothing = refl
 
-  pub walk-one : (k : List ℕ) → tryIn s P Q best (X ++ k) ≡ walkIn s P Q best (under X (k ∷ []))
+  pub walk-one : (k : List ℕ) → tryIn s sh P Q best (X ++ k) ≡ walkIn s sh P Q best (under X (k ∷ []))
   unfolding tryIn walkIn walk under
   walk-one k = refl
 
-  pub walk-more : (a b : List (List ℕ)) → walkIn s P Q best (under X (a ++ b)) ≡ walkIn s P Q (walkIn s P Q best (under X a)) (under X b)
+  pub walk-more : (a b : List (List ℕ)) → walkIn s sh P Q best (under X (a ++ b)) ≡ walkIn s sh P Q (walkIn s sh P Q best (under X a)) (under X b)
   unfolding walkIn
-  walk-more a b = ap (λ ks. walk (isPresent s) P Q best ks) (under-append X a b) ∙ walk-append (isPresent s) P Q best (under X a) (under X b)
+  walk-more a b = ap (λ ks. walk (isSought s sh P) P Q best ks) (under-append X a b) ∙ walk-append (isSought s sh P) P Q best (under X a) (under X b)
 
 -- 2. The paths of a run of children, a child at a time.
 module _ (level : ℕ) (s hi : List ℕ) (k : Kid) where
@@ -71,10 +72,10 @@ nothing-shared (x ∷ a) (y ∷ b) = go (eqb x y) refl (nothing-shared a b)
 shared-rest : (a b : List ℕ) → shared a b ++ drop (length (shared a b)) a ≡ a
 shared-rest a b = begins-split (shared a b) a (shared-left a b)
 
-module _ (s X low high : List ℕ) (level num : ℕ) (c : ChildReady s X low high level num) (P Q : List ℕ) (best : Option (List ℕ)) where
-  pub child-skipped : farFrom P Q (X ++ low) (X ++ high) best ≡ true → best ≡ walkIn s P Q best (under X (childPaths level s num low high))
+module _ (s X low high : List ℕ) (level num : ℕ) (c : ChildReady s X low high level num) (sh : Shape) (P Q : List ℕ) (best : Option (List ℕ)) where
+  pub child-skipped : farFrom P Q (X ++ low) (X ++ high) best ≡ true → best ≡ walkIn s sh P Q best (under X (childPaths level s num low high))
   unfolding walkIn childPaths
-  child-skipped f = sym (skip-here (isPresent s) P Q X low high (treeAt level s num) best (c .tree) f)
+  child-skipped f = sym (skip-here (isSought s sh P) P Q X low high (treeAt level s num) best (c .tree) f)
 
   no-paths : (ks : List (List ℕ)) → 64 < length (X ++ shared low high) → every (holds (X ++ low) (X ++ high)) (under (X ++ shared low high) ks) ≡ true → ks ≡ []
   unfolding every under
@@ -90,14 +91,14 @@ module _ (s X low high : List ℕ) (level num : ℕ) (c : ChildReady s X low hig
       (under-under X (shared low high) (keysHere (treeAt level s num) (drop (lifts low high) high)) ∙ sym (child-under X low high (treeAt level s num)) ∙ sym (keys-here (treeAt level s num) (X ++ low) (X ++ high)))
       ∙ keys-hold (treeAt level s num) (X ++ low) (X ++ high) (c .tree)
 
-  pub child-too-long : 64 < length (X ++ shared low high) → best ≡ walkIn s P Q best (under X (childPaths level s num low high))
+  pub child-too-long : 64 < length (X ++ shared low high) → best ≡ walkIn s sh P Q best (under X (childPaths level s num low high))
   unfolding walkIn walk childPaths under
   child-too-long l = rw (no-paths (keysHere (treeAt level s num) (drop (lifts low high) high)) l all-hold)
 
-  pub child-entered : (r : Option (List ℕ)) → r ≡ walkIn s P Q best (under (X ++ shared low high) (keysHere (treeAt level s num) (drop (lifts low high) high)))
-      → r ≡ walkIn s P Q best (under X (childPaths level s num low high))
+  pub child-entered : (r : Option (List ℕ)) → r ≡ walkIn s sh P Q best (under (X ++ shared low high) (keysHere (treeAt level s num) (drop (lifts low high) high)))
+      → r ≡ walkIn s sh P Q best (under X (childPaths level s num low high))
   unfolding childPaths
-  child-entered r e = e ∙ ap (λ ks. walkIn s P Q best ks) (under-under X (shared low high) (keysHere (treeAt level s num) (drop (lifts low high) high)))
+  child-entered r e = e ∙ ap (λ ks. walkIn s sh P Q best ks) (under-under X (shared low high) (keysHere (treeAt level s num) (drop (lifts low high) high)))
 
   pub child-ready : NodeReady s (X ++ shared low high) (drop (lifts low high) high) level num
   unfolding lifts

@@ -1,20 +1,24 @@
-// Next as one walk over the tree: the best path so far is carried along, and a child that can hold no better one is not entered.
+// Next as one walk over the tree: the best path so far is carried along, and a child that can hold no better one is not entered. The walk
+// may ask one thing more of a path: that what follows `below` does not go on from a shape. Every path is unfit so for the dead shape.
 // Relies on: a sound store (the caller has checked it), the cursor over a node's entries, and the lookup from the root.
 use node::Cursor;
 use node::Entry;
 use node::Message;
 use node::Place;
 use node::Step;
+use path::Shape;
 use search::Found;
 use search::Kid;
 ghost use mathlib.Core.Path.{_≡_};
 ghost use mathlib.Core.Bool.{true};
 ghost use mathlib.Core.List.{[], _∷_, _++_};
-ghost use Prim.Native.Nat.{_≤_};
+ghost use Prim.Native.Nat.{_+_, _≤_};
 ghost use lib.ListN.{length};
 ghost use Rattle.image.specs.Bytes.{before, begins};
 ghost use Rattle.image.specs.Table.{leastAfter};
 ghost use Rattle.image.specs.Sound.{sound, tableOf};
+ghost use Rattle.path.specs.Fed.{shapeIs};
+ghost use Rattle.laws.specs.Filter.{keep};
 ghost use Rattle.reading.specs.Far.{farFrom};
 ghost use Rattle.reading.specs.Seek.{better, wanted};
 ghost use Rattle.reading.specs.SeekHere.{under, keysHere};
@@ -23,7 +27,7 @@ ghost use Rattle.node.specs.Places.{EntryWithin, Within, part, entryIn};
 ghost use Rattle.node.specs.Entries.{listed};
 ghost use Rattle.search.specs.Own.{kid, kidsE};
 ghost use Rattle.seek.specs.Buffer.{bufferIs, fitted, appended};
-ghost use Rattle.seek.specs.Walk.{tryIn, walkIn, pathOf, pathsOf, childPaths, runPaths, ChildReady, NodeReady, KidsReady};
+ghost use Rattle.seek.specs.Walk.{unfit, tryIn, walkIn, pathOf, pathsOf, childPaths, runPaths, ChildReady, NodeReady, KidsReady};
 ghost use Rattle.seek.specs.Suffixes.{suffixIs, putIs};
 
 // A path by value: the first len bytes, or none where len is over 64.
@@ -147,19 +151,42 @@ pub fn is_far(
     !starts_joined(below, pre, low)
 }
 
-// The path pre ++ s in place of the best so far, if it is wanted and present. The lookup comes last: it is the dear test.
+// Whether what follows `below` in pre ++ s does not go on from the shape, without joining them.
+pub fn is_unfit(pre: &[u8], s: &[u8], below: &[u8], shape: Shape) -> bool
+    requires { ⌜ length (now below) ≤ length (now pre) + length (now s) ⌝ }
+    ensures { λ r. ⌜ r ≡ unfit (shapeIs shape) (now (below .entry)) (now (pre .entry) ++ now (s .entry)) ⌝ }
+{
+    let Shape::Partway(_, _, _) = shape else {
+        return true;
+    };
+    let n = pre.len();
+    let cut = below.len();
+    if n < cut {
+        let k = cut - n;
+        return !path::goes_on(shape, &s[k..]);
+    }
+    let front = path::feed(shape, &pre[cut..]);
+    !path::goes_on(front, s)
+}
+
+// The path pre ++ s in place of the best so far, if it is wanted, unfit and present. The lookup comes last: it is the dear test.
 pub fn try_path(
     store: &[u8],
     pre: &[u8],
     s: &[u8],
     below: &[u8],
     after: &[u8],
+    sh: Shape,
     best: PathBuffer,
 ) -> PathBuffer
     requires { ⌜ sound (now store) ≡ true ⌝ }
-    ensures { λ r. ⌜ bufferIs r ≡ tryIn (now (store .entry)) (now (below .entry)) (now (after .entry)) (bufferIs best) (now (pre .entry) ++ now (s .entry)) ⌝ }
+    ensures { λ r. ⌜ bufferIs r
+        ≡ tryIn (now (store .entry)) (shapeIs sh) (now (below .entry)) (now (after .entry)) (bufferIs best) (now (pre .entry) ++ now (s .entry)) ⌝ }
 {
     if !is_wanted(pre, s, below, after, best) {
+        return best;
+    }
+    if !is_unfit(pre, s, below, sh) {
         return best;
     }
     let full = join(pre, s);
@@ -207,17 +234,19 @@ pub fn try_entry(
     pre: &[u8],
     below: &[u8],
     after: &[u8],
+    sh: Shape,
     best: PathBuffer,
 ) -> PathBuffer
     requires { ⌜ (sound (now store) ≡ true) × EntryWithin 0 (length (now store)) e ⌝ }
-    ensures { λ r. ⌜ bufferIs r ≡ walkIn (now (store .entry)) (now (below .entry)) (now (after .entry)) (bufferIs best) (under (now (pre .entry)) (pathOf (entryIn (now (store .entry)) e))) ⌝ }
+    ensures { λ r. ⌜ bufferIs r
+        ≡ walkIn (now (store .entry)) (shapeIs sh) (now (below .entry)) (now (after .entry)) (bufferIs best) (under (now (pre .entry)) (pathOf (entryIn (now (store .entry)) e))) ⌝ }
 {
     let Suffix::At(p) = suffix_of(e) else {
         return best;
     };
     let a = p.start;
     let b = p.stop;
-    try_path(store, pre, &store[a..b], below, after, best)
+    try_path(store, pre, &store[a..b], below, after, sh, best)
 }
 
 // The pairs and puts among the entries from a place up to another, each tried.
@@ -228,10 +257,12 @@ pub fn seek_entries(
     pre: &[u8],
     below: &[u8],
     after: &[u8],
+    sh: Shape,
     start: PathBuffer,
 ) -> PathBuffer
     requires { ⌜ (sound (now store) ≡ true) × (end ≤ length (now store)) ⌝ }
-    ensures { λ r. ⌜ bufferIs r ≡ walkIn (now (store .entry)) (now (below .entry)) (now (after .entry)) (bufferIs start) (under (now (pre .entry)) (pathsOf (listed (now (store .entry)) from end))) ⌝ }
+    ensures { λ r. ⌜ bufferIs r
+        ≡ walkIn (now (store .entry)) (shapeIs sh) (now (below .entry)) (now (after .entry)) (bufferIs start) (under (now (pre .entry)) (pathsOf (listed (now (store .entry)) from end))) ⌝ }
 {
     let mut c = Cursor { at: from, end };
     let mut best = start;
@@ -239,7 +270,7 @@ pub fn seek_entries(
         let Step::Read(e, next) = c.step(store) else {
             return best;
         };
-        best = try_entry(store, e, pre, below, after, best);
+        best = try_entry(store, e, pre, below, after, sh, best);
         c = next;
     }
     best
@@ -256,11 +287,12 @@ pub fn seek_child(
     pre: &[u8],
     below: &[u8],
     after: &[u8],
+    sh: Shape,
     best: PathBuffer,
 ) -> PathBuffer
     requires { ⌜ ChildReady (now store) (now pre) (now low) (now high) level num ⌝ }
     ensures { λ r. ⌜ bufferIs r
-        ≡ walkIn (now (store .entry)) (now (below .entry)) (now (after .entry)) (bufferIs best)
+        ≡ walkIn (now (store .entry)) (shapeIs sh) (now (below .entry)) (now (after .entry)) (bufferIs best)
         (under (now (pre .entry)) (childPaths level (now (store .entry)) num (now (low .entry)) (now (high .entry)))) ⌝ }
 {
     if is_far(pre, low, high, below, after, best) {
@@ -273,7 +305,17 @@ pub fn seek_child(
         return best;
     }
     let b = lifted.bytes;
-    seek_node(store, num, level, &b[0..n], &high[k..], below, after, best)
+    seek_node(
+        store,
+        num,
+        level,
+        &b[0..n],
+        &high[k..],
+        below,
+        after,
+        sh,
+        best,
+    )
 }
 
 // The last child of a node, and the messages that follow it.
@@ -287,21 +329,33 @@ pub fn seek_last(
     pre: &[u8],
     below: &[u8],
     after: &[u8],
+    sh: Shape,
     best: PathBuffer,
 ) -> PathBuffer
     requires { ⌜ (c .end ≤ length (now store)) × Within 0 (length (now store)) low × ChildReady (now store) (now pre) (part (now store) low) (now hi) level num ⌝ }
     ensures { λ r. ⌜ bufferIs r
-        ≡ walkIn (now (store .entry)) (now (below .entry)) (now (after .entry)) (bufferIs best)
+        ≡ walkIn (now (store .entry)) (shapeIs sh) (now (below .entry)) (now (after .entry)) (bufferIs best)
         (under (now (pre .entry))
         (runPaths level (now (store .entry)) (now (hi .entry)) (kid num (part (now (store .entry)) low) ∷ [])
         (listed (now (store .entry)) (c .at) (c .end)))) ⌝ }
 {
     let a = low.start;
     let b = low.stop;
-    let found = seek_child(store, num, level, &store[a..b], hi, pre, below, after, best);
+    let found = seek_child(
+        store,
+        num,
+        level,
+        &store[a..b],
+        hi,
+        pre,
+        below,
+        after,
+        sh,
+        best,
+    );
     let at = c.at;
     let end = c.end;
-    seek_entries(store, at, end, pre, below, after, found)
+    seek_entries(store, at, end, pre, below, after, sh, found)
 }
 
 // A child, those that follow from the cursor on, and the messages after them.
@@ -315,13 +369,14 @@ pub fn seek_children(
     pre: &[u8],
     below: &[u8],
     after: &[u8],
+    sh: Shape,
     held: PathBuffer,
 ) -> PathBuffer
     requires { ⌜ (start .end ≤ length (now store))
         × Within 0 (length (now store)) pivot
         × KidsReady (now store) level (now pre) (now hi) (kid first (part (now store) pivot) ∷ kidsE (listed (now store) (start .at) (start .end))) ⌝ }
     ensures { λ r. ⌜ bufferIs r
-        ≡ walkIn (now (store .entry)) (now (below .entry)) (now (after .entry)) (bufferIs held)
+        ≡ walkIn (now (store .entry)) (shapeIs sh) (now (below .entry)) (now (after .entry)) (bufferIs held)
         (under (now (pre .entry))
         (runPaths level (now (store .entry)) (now (hi .entry))
         (kid first (part (now (store .entry)) pivot) ∷ kidsE (listed (now (store .entry)) (start .at) (start .end)))
@@ -334,10 +389,10 @@ pub fn seek_children(
     let mut best = held;
     while c.at < end {
         let Step::Read(e, next) = c.step(store) else {
-            return seek_last(store, num, low, c, level, hi, pre, below, after, best);
+            return seek_last(store, num, low, c, level, hi, pre, below, after, sh, best);
         };
         let Kid::Of(k, p) = search::kid_of(e) else {
-            return seek_last(store, num, low, c, level, hi, pre, below, after, best);
+            return seek_last(store, num, low, c, level, hi, pre, below, after, sh, best);
         };
         let a = low.start;
         let b = low.stop;
@@ -352,13 +407,14 @@ pub fn seek_children(
             pre,
             below,
             after,
+            sh,
             best,
         );
         num = k;
         low = p;
         c = next;
     }
-    seek_last(store, num, low, c, level, hi, pre, below, after, best)
+    seek_last(store, num, low, c, level, hi, pre, below, after, sh, best)
 }
 
 // The node num of this level, which lifts pre; hi is its high pivot without pre.
@@ -370,11 +426,12 @@ pub fn seek_node(
     hi: &[u8],
     below: &[u8],
     after: &[u8],
+    sh: Shape,
     best: PathBuffer,
 ) -> PathBuffer
     requires { ⌜ NodeReady (now store) (now pre) (now hi) level num ⌝ }
     ensures { λ r. ⌜ bufferIs r
-        ≡ walkIn (now (store .entry)) (now (below .entry)) (now (after .entry)) (bufferIs best)
+        ≡ walkIn (now (store .entry)) (shapeIs sh) (now (below .entry)) (now (after .entry)) (bufferIs best)
         (under (now (pre .entry)) (keysHere (treeAt level (now (store .entry)) num) (now (hi .entry)))) ⌝ }
 {
     let at = num * image::NODE_SIZE;
@@ -382,22 +439,35 @@ pub fn seek_node(
     let from = at + image::ENTRIES_AT;
     let end = from + len;
     if level <= 1 {
-        return seek_entries(store, from, end, pre, below, after, best);
+        return seek_entries(store, from, end, pre, below, after, sh, best);
     }
     let c = Cursor { at: from, end };
     let Step::Read(e, next) = c.step(store) else {
-        return seek_entries(store, from, end, pre, below, after, best);
+        return seek_entries(store, from, end, pre, below, after, sh, best);
     };
     let Kid::Of(k, p) = search::kid_of(e) else {
-        return seek_entries(store, from, end, pre, below, after, best);
+        return seek_entries(store, from, end, pre, below, after, sh, best);
     };
-    seek_children(store, k, p, next, level - 1, hi, pre, below, after, best)
+    seek_children(
+        store,
+        k,
+        p,
+        next,
+        level - 1,
+        hi,
+        pre,
+        below,
+        after,
+        sh,
+        best,
+    )
 }
 
-// The least path of a sound store that is below `below` and after `after`; both may be empty.
-pub fn next_path(store: &[u8], below: &[u8], after: &[u8]) -> PathBuffer
+// The least path of a sound store that is below `below` and after `after`, and of which what follows `below` does not go on from the shape.
+pub fn next_unfit(store: &[u8], below: &[u8], after: &[u8], shape: Shape) -> PathBuffer
     requires { ⌜ sound (now store) ≡ true ⌝ }
-    ensures { λ r. ⌜ bufferIs r ≡ leastAfter (now (below .entry)) (now (after .entry)) (tableOf (now (store .entry))) ⌝ }
+    ensures { λ r. ⌜ bufferIs r
+        ≡ leastAfter (now (below .entry)) (now (after .entry)) (keep (unfit (shapeIs shape) (now (below .entry))) (tableOf (now (store .entry)))) ⌝ }
 {
     let root = octets::u16_at(store, image::ROOT_AT);
     let levels = octets::u16_at(store, image::LEVELS_AT);
@@ -406,5 +476,23 @@ pub fn next_path(store: &[u8], below: &[u8], after: &[u8]) -> PathBuffer
         bytes: [0u8; 64],
         len: 65,
     };
-    seek_node(store, root, levels, &below[0..0], &hi, below, after, none)
+    seek_node(
+        store,
+        root,
+        levels,
+        &below[0..0],
+        &hi,
+        below,
+        after,
+        shape,
+        none,
+    )
+}
+
+// The least path of a sound store that is below `below` and after `after`; both may be empty.
+pub fn next_path(store: &[u8], below: &[u8], after: &[u8]) -> PathBuffer
+    requires { ⌜ sound (now store) ≡ true ⌝ }
+    ensures { λ r. ⌜ bufferIs r ≡ leastAfter (now (below .entry)) (now (after .entry)) (tableOf (now (store .entry))) ⌝ }
+{
+    next_unfit(store, below, after, Shape::Dead)
 }

@@ -3,6 +3,7 @@
 use Rattle.seek.specs.NodeSteps.{skips-child, long-child, enters-ready, enters-child, last-child, last-ready, run-ends, inner-ready, later-ready, run-step, node-leaf, node-childless, node-ready, node-children}
 use Rattle.seek.specs.Walk.{walkIn, runPaths, KidsReady}
 use Rattle.seek.specs.Buffer.{bufferIs}
+use Rattle.path.specs.Fed.{shapeIs}
 use Rattle.lookup.specs.Look.{node-inside}
 use Rattle.search.specs.Own.{kid, kidsE, kid-place, kids-none, kids-other}
 use Rattle.node.specs.Entries.{listed, listed-end}
@@ -108,7 +109,7 @@ seek-child-returns : (t : ℕ) → seek-child-lts.Need-returns (
   seek-node-below t,
   seek-node.Post,
 ) (seek-child-at t) seek-child.Post
-seek-child-returns t c = skips-child (c .before .before .before .before .before .before .before .before .args .store .now) (c .before .before .before .before .before .before .before .before .args .pre .now) (c .before .before .before .before .before .before .before .before .args .low .now) (c .before .before .before .before .before .before .before .before .args .high .now) (c .before .before .before .before .before .before .before .before .args .level) (c .before .before .before .before .before .before .before .before .args .num) (c .before .before .before .before .before .before .before .before .pre .1) (c .before .before .before .before .before .before .before .before .args .below .now) (c .before .before .before .before .before .before .before .before .args .after .now) (bufferIs (c .before .before .before .before .before .before .before .before .args .best)) (c .before .is-far .result) (c .before .is-far .ensures) (c .if1 .taken)
+seek-child-returns t c = skips-child (c .before .before .before .before .before .before .before .before .args .store .now) (c .before .before .before .before .before .before .before .before .args .pre .now) (c .before .before .before .before .before .before .before .before .args .low .now) (c .before .before .before .before .before .before .before .before .args .high .now) (c .before .before .before .before .before .before .before .before .args .level) (c .before .before .before .before .before .before .before .before .args .num) (c .before .before .before .before .before .before .before .before .pre .1) (shapeIs (c .before .before .before .before .before .before .before .before .args .sh)) (c .before .before .before .before .before .before .before .before .args .below .now) (c .before .before .before .before .before .before .before .before .args .after .now) (bufferIs (c .before .before .before .before .before .before .before .before .args .best)) (c .before .is-far .result) (c .before .is-far .ensures) (c .if1 .taken)
 
 seek-child-common-length-requires : (t : ℕ) → seek-child-lts.Need-common-length-requires (
   is-far-reads.Asked,
@@ -180,7 +181,7 @@ seek-child-returns-2 : (t : ℕ) → seek-child-lts.Need-returns-2 (
   seek-node-below t,
   seek-node.Post,
 ) (seek-child-at t) seek-child.Post
-seek-child-returns-2 t c = long-child (c .before .before .before .before .before .before .before .before .before .before .before .before .args .store .now) (c .before .before .before .before .before .before .before .before .before .before .before .before .args .pre .now) (c .before .before .before .before .before .before .before .before .before .before .before .before .args .low .now) (c .before .before .before .before .before .before .before .before .before .before .before .before .args .high .now) (c .before .before .before .before .before .before .before .before .before .before .before .before .args .level) (c .before .before .before .before .before .before .before .before .before .before .before .before .args .num) (c .before .before .before .before .before .before .before .before .before .before .before .before .pre .1) (c .before .before .before .before .before .before .before .before .before .before .before .before .args .below .now) (c .before .before .before .before .before .before .before .before .before .before .before .before .args .after .now) (bufferIs (c .before .before .before .before .before .before .before .before .before .before .before .before .args .best)) (c .before .before .before .common-length .result) (c .before .before .before .common-length .ensures .0) (c .before .join .result) (c .before .join .ensures) (omega arith)
+seek-child-returns-2 t c = long-child (c .before .before .before .before .before .before .before .before .before .before .before .before .args .store .now) (c .before .before .before .before .before .before .before .before .before .before .before .before .args .pre .now) (c .before .before .before .before .before .before .before .before .before .before .before .before .args .low .now) (c .before .before .before .before .before .before .before .before .before .before .before .before .args .high .now) (c .before .before .before .before .before .before .before .before .before .before .before .before .args .level) (c .before .before .before .before .before .before .before .before .before .before .before .before .args .num) (c .before .before .before .before .before .before .before .before .before .before .before .before .pre .1) (shapeIs (c .before .before .before .before .before .before .before .before .before .before .before .before .args .sh)) (c .before .before .before .before .before .before .before .before .before .before .before .before .args .below .now) (c .before .before .before .before .before .before .before .before .before .before .before .before .args .after .now) (bufferIs (c .before .before .before .before .before .before .before .before .before .before .before .before .args .best)) (c .before .before .before .common-length .result) (c .before .before .before .common-length .ensures .0) (c .before .join .result) (c .before .join .ensures) (omega arith)
 
 seek-child-sub-seek-node : (t : ℕ) → seek-child-lts.Need-sub-seek-node (
   is-far-reads.Asked,
@@ -264,7 +265,7 @@ seek-child-seek-node-requires : (t : ℕ) → seek-child-lts.Need-seek-node-requ
   seek-node-below t,
   seek-node.Post,
 ) (seek-child-at t) seek-child.Post
-seek-child-seek-node-requires t c κs = (omega arith, enters-ready (c .before .before .before .before .before .before .before .before .before .before .before .before .before .before .before .before .args .store .now) (c .before .before .before .before .before .before .before .before .before .before .before .before .before .before .before .before .args .pre .now) (c .before .before .before .before .before .before .before .before .before .before .before .before .before .before .before .before .args .low .now) (c .before .before .before .before .before .before .before .before .before .before .before .before .before .before .before .before .args .high .now) (c .before .before .before .before .before .before .before .before .before .before .before .before .before .before .before .before .args .level) (c .before .before .before .before .before .before .before .before .before .before .before .before .before .before .before .before .args .num) (c .before .before .before .before .before .before .before .before .before .before .before .before .before .before .before .before .pre .1) (c .before .before .before .before .before .before .before .before .before .before .before .before .before .before .before .before .args .below .now) (c .before .before .before .before .before .before .before .before .before .before .before .before .before .before .before .before .args .after .now) (bufferIs (c .before .before .before .before .before .before .before .before .before .before .before .before .before .before .before .before .args .best)) (c .before .before .before .before .before .before .before .common-length .result) (c .before .before .before .before .before .before .before .common-length .ensures .0) (c .before .before .before .before .before .join .result) (c .before .before .before .before .before .join .ensures) (omega arith))
+seek-child-seek-node-requires t c κs = (omega arith, enters-ready (c .before .before .before .before .before .before .before .before .before .before .before .before .before .before .before .before .args .store .now) (c .before .before .before .before .before .before .before .before .before .before .before .before .before .before .before .before .args .pre .now) (c .before .before .before .before .before .before .before .before .before .before .before .before .before .before .before .before .args .low .now) (c .before .before .before .before .before .before .before .before .before .before .before .before .before .before .before .before .args .high .now) (c .before .before .before .before .before .before .before .before .before .before .before .before .before .before .before .before .args .level) (c .before .before .before .before .before .before .before .before .before .before .before .before .before .before .before .before .args .num) (c .before .before .before .before .before .before .before .before .before .before .before .before .before .before .before .before .pre .1) (shapeIs (c .before .before .before .before .before .before .before .before .before .before .before .before .before .before .before .before .args .sh)) (c .before .before .before .before .before .before .before .before .before .before .before .before .before .before .before .before .args .below .now) (c .before .before .before .before .before .before .before .before .before .before .before .before .before .before .before .before .args .after .now) (bufferIs (c .before .before .before .before .before .before .before .before .before .before .before .before .before .before .before .before .args .best)) (c .before .before .before .before .before .before .before .common-length .result) (c .before .before .before .before .before .before .before .common-length .ensures .0) (c .before .before .before .before .before .join .result) (c .before .before .before .before .before .join .ensures) (omega arith))
 
 seek-child-returns-3 : (t : ℕ) → seek-child-lts.Need-returns-3 (
   is-far-reads.Asked,
@@ -276,17 +277,17 @@ seek-child-returns-3 : (t : ℕ) → seek-child-lts.Need-returns-3 (
   seek-node-below t,
   seek-node.Post,
 ) (seek-child-at t) seek-child.Post
-seek-child-returns-3 t c = enters-child (c .before .before .before .before .before .before .before .before .before .before .before .before .before .before .before .before .before .args .store .now) (c .before .before .before .before .before .before .before .before .before .before .before .before .before .before .before .before .before .args .pre .now) (c .before .before .before .before .before .before .before .before .before .before .before .before .before .before .before .before .before .args .low .now) (c .before .before .before .before .before .before .before .before .before .before .before .before .before .before .before .before .before .args .high .now) (c .before .before .before .before .before .before .before .before .before .before .before .before .before .before .before .before .before .args .level) (c .before .before .before .before .before .before .before .before .before .before .before .before .before .before .before .before .before .args .num) (c .before .before .before .before .before .before .before .before .before .before .before .before .before .before .before .before .before .pre .1) (c .before .before .before .before .before .before .before .before .before .before .before .before .before .before .before .before .before .args .below .now) (c .before .before .before .before .before .before .before .before .before .before .before .before .before .before .before .before .before .args .after .now) (bufferIs (c .before .before .before .before .before .before .before .before .before .before .before .before .before .before .before .before .before .args .best)) (c .before .before .before .before .before .before .before .before .common-length .result) (c .before .before .before .before .before .before .before .before .common-length .ensures .0) (c .before .before .before .before .before .before .join .result) (c .before .before .before .before .before .before .join .ensures) (omega arith) _ (c .seek-node .ensures)
+seek-child-returns-3 t c = enters-child (c .before .before .before .before .before .before .before .before .before .before .before .before .before .before .before .before .before .args .store .now) (c .before .before .before .before .before .before .before .before .before .before .before .before .before .before .before .before .before .args .pre .now) (c .before .before .before .before .before .before .before .before .before .before .before .before .before .before .before .before .before .args .low .now) (c .before .before .before .before .before .before .before .before .before .before .before .before .before .before .before .before .before .args .high .now) (c .before .before .before .before .before .before .before .before .before .before .before .before .before .before .before .before .before .args .level) (c .before .before .before .before .before .before .before .before .before .before .before .before .before .before .before .before .before .args .num) (c .before .before .before .before .before .before .before .before .before .before .before .before .before .before .before .before .before .pre .1) (shapeIs (c .before .before .before .before .before .before .before .before .before .before .before .before .before .before .before .before .before .args .sh)) (c .before .before .before .before .before .before .before .before .before .before .before .before .before .before .before .before .before .args .below .now) (c .before .before .before .before .before .before .before .before .before .before .before .before .before .before .before .before .before .args .after .now) (bufferIs (c .before .before .before .before .before .before .before .before .before .before .before .before .before .before .before .before .before .args .best)) (c .before .before .before .before .before .before .before .before .common-length .result) (c .before .before .before .before .before .before .before .before .common-length .ensures .0) (c .before .before .before .before .before .before .join .result) (c .before .before .before .before .before .before .join .ensures) (omega arith) _ (c .seek-node .ensures)
 
 abbrev seek-children-Inv-loop : seek-children-lts.InvT-loop
-seek-children-Inv-loop store first level hi pre below after end c₀ num₀ low₀ best₀ c num low best =
+seek-children-Inv-loop store first level hi pre below after sh end c₀ num₀ low₀ best₀ c num low best =
     (end ≡ c₀ .end) × (c .end ≡ end) × Within 0 (length store) low
     × KidsReady store level pre hi (kid num (part store low) ∷ kidsE (listed store (c .at) (c .end)))
-    × (walkIn store below after (bufferIs best) (under pre (runPaths level store hi (kid num (part store low) ∷ kidsE (listed store (c .at) (c .end))) (listed store (c .at) (c .end))))
-    ≡ walkIn store below after (bufferIs best₀) (under pre (runPaths level store hi (kid first (part store low₀) ∷ kidsE (listed store (c₀ .at) (c₀ .end))) (listed store (c₀ .at) (c₀ .end)))))
+    × (walkIn store (shapeIs sh) below after (bufferIs best) (under pre (runPaths level store hi (kid num (part store low) ∷ kidsE (listed store (c .at) (c .end))) (listed store (c .at) (c .end))))
+    ≡ walkIn store (shapeIs sh) below after (bufferIs best₀) (under pre (runPaths level store hi (kid first (part store low₀) ∷ kidsE (listed store (c₀ .at) (c₀ .end))) (listed store (c₀ .at) (c₀ .end)))))
 
 abbrev seek-children-μ-loop : seek-children-lts.MeasureT-loop
-seek-children-μ-loop store first level hi pre below after end c₀ num₀ low₀ best₀ c num low best = end - c .at
+seek-children-μ-loop store first level hi pre below after sh end c₀ num₀ low₀ best₀ c num low best = end - c .at
 
 seek-children-loop-holds : (t : ℕ) → seek-children-lts.Need-loop-holds (
   step-reads.Asked,
@@ -346,7 +347,7 @@ seek-children-seek-last-requires : (t : ℕ) → seek-children-lts.Need-seek-las
   seek-child-below t,
   seek-child.Post,
 ) (seek-children-at t) seek-children.Post seek-children-Inv-loop seek-children-μ-loop
-seek-children-seek-last-requires t c κs = (omega arith, (omega arith, c .before .before .before .before .before .loop .inv .2, last-ready (c .before .before .before .before .before .before .before .before .before .before .before .args .store .now) (c .before .before .before .before .before .before .before .before .before .before .before .args .below .now) (c .before .before .before .before .before .before .before .before .before .before .before .args .after .now) (c .before .before .before .before .before .before .before .before .before .before .before .args .pre .now) (c .before .before .before .before .before .before .before .before .before .before .before .args .hi .now) (c .before .before .before .before .before .before .before .before .before .before .before .args .level) (c .before .before .before .before .before .loop .num) (c .before .before .before .before .before .loop .low) (bufferIs (c .before .before .before .before .before .loop .best)) (listed (c .before .before .before .before .before .before .before .before .before .before .before .args .store .now) (c .before .before .before .before .before .loop .c .at) (c .before .before .before .before .before .loop .c .end)) (c .before .before .before .before .before .loop .inv .3) (kids-none _ (step-bad-is _ _ _ _ (c .before .before .step .ensures) (c .enum-told .given .1) .1))))
+seek-children-seek-last-requires t c κs = (omega arith, (omega arith, c .before .before .before .before .before .loop .inv .2, last-ready (c .before .before .before .before .before .before .before .before .before .before .before .args .store .now) (shapeIs (c .before .before .before .before .before .before .before .before .before .before .before .args .sh)) (c .before .before .before .before .before .before .before .before .before .before .before .args .below .now) (c .before .before .before .before .before .before .before .before .before .before .before .args .after .now) (c .before .before .before .before .before .before .before .before .before .before .before .args .pre .now) (c .before .before .before .before .before .before .before .before .before .before .before .args .hi .now) (c .before .before .before .before .before .before .before .before .before .before .before .args .level) (c .before .before .before .before .before .loop .num) (c .before .before .before .before .before .loop .low) (bufferIs (c .before .before .before .before .before .loop .best)) (listed (c .before .before .before .before .before .before .before .before .before .before .before .args .store .now) (c .before .before .before .before .before .loop .c .at) (c .before .before .before .before .before .loop .c .end)) (c .before .before .before .before .before .loop .inv .3) (kids-none _ (step-bad-is _ _ _ _ (c .before .before .step .ensures) (c .enum-told .given .1) .1))))
 
 seek-children-returns : (t : ℕ) → seek-children-lts.Need-returns (
   step-reads.Asked,
@@ -358,7 +359,7 @@ seek-children-returns : (t : ℕ) → seek-children-lts.Need-returns (
   seek-child-below t,
   seek-child.Post,
 ) (seek-children-at t) seek-children.Post seek-children-Inv-loop seek-children-μ-loop
-seek-children-returns t c = run-ends (c .before .before .before .before .before .before .before .before .before .before .before .before .args .store .now) (c .before .before .before .before .before .before .before .before .before .before .before .before .args .below .now) (c .before .before .before .before .before .before .before .before .before .before .before .before .args .after .now) (c .before .before .before .before .before .before .before .before .before .before .before .before .args .pre .now) (c .before .before .before .before .before .before .before .before .before .before .before .before .args .hi .now) (c .before .before .before .before .before .before .before .before .before .before .before .before .args .level) (c .before .before .before .before .before .before .loop .num) (c .before .before .before .before .before .before .loop .low) (bufferIs (c .before .before .before .before .before .before .loop .best)) (listed (c .before .before .before .before .before .before .before .before .before .before .before .before .args .store .now) (c .before .before .before .before .before .before .loop .c .at) (c .before .before .before .before .before .before .loop .c .end)) (c .before .before .before .before .before .before .loop .inv .3) _ (c .before .before .before .before .before .before .loop .inv .4) (kids-none _ (step-bad-is _ _ _ _ (c .before .before .before .step .ensures) (c .before .enum-told .given .1) .1)) _ (c .seek-last .ensures)
+seek-children-returns t c = run-ends (c .before .before .before .before .before .before .before .before .before .before .before .before .args .store .now) (shapeIs (c .before .before .before .before .before .before .before .before .before .before .before .before .args .sh)) (c .before .before .before .before .before .before .before .before .before .before .before .before .args .below .now) (c .before .before .before .before .before .before .before .before .before .before .before .before .args .after .now) (c .before .before .before .before .before .before .before .before .before .before .before .before .args .pre .now) (c .before .before .before .before .before .before .before .before .before .before .before .before .args .hi .now) (c .before .before .before .before .before .before .before .before .before .before .before .before .args .level) (c .before .before .before .before .before .before .loop .num) (c .before .before .before .before .before .before .loop .low) (bufferIs (c .before .before .before .before .before .before .loop .best)) (listed (c .before .before .before .before .before .before .before .before .before .before .before .before .args .store .now) (c .before .before .before .before .before .before .loop .c .at) (c .before .before .before .before .before .before .loop .c .end)) (c .before .before .before .before .before .before .loop .inv .3) _ (c .before .before .before .before .before .before .loop .inv .4) (kids-none _ (step-bad-is _ _ _ _ (c .before .before .before .step .ensures) (c .before .enum-told .given .1) .1)) _ (c .seek-last .ensures)
 
 seek-children-kid-of-requires : (t : ℕ) → seek-children-lts.Need-kid-of-requires (
   step-reads.Asked,
@@ -408,7 +409,7 @@ seek-children-seek-last-requires-2 : (t : ℕ) → seek-children-lts.Need-seek-l
 ) (seek-children-at t) seek-children.Post seek-children-Inv-loop seek-children-μ-loop
 seek-children-seek-last-requires-2 t c κs =
     let n = step-read-is (c .before .before .before .before .before .before .before .before .before .before .before .before .before .before .before .args .store .now) (c .before .before .before .before .before .before .before .before .before .loop .c .at) (c .before .before .before .before .before .before .before .before .before .loop .c .end) _ (c .before .before .before .before .e .given .0 .0) (c .before .before .before .before .e .given .0 .1 .0) (c .before .before .before .before .before .before .step .ensures) (c .before .before .before .before .e .given .1) in
-    (omega arith, (omega arith, c .before .before .before .before .before .before .before .before .before .loop .inv .2, last-ready (c .before .before .before .before .before .before .before .before .before .before .before .before .before .before .before .args .store .now) (c .before .before .before .before .before .before .before .before .before .before .before .before .before .before .before .args .below .now) (c .before .before .before .before .before .before .before .before .before .before .before .before .before .before .before .args .after .now) (c .before .before .before .before .before .before .before .before .before .before .before .before .before .before .before .args .pre .now) (c .before .before .before .before .before .before .before .before .before .before .before .before .before .before .before .args .hi .now) (c .before .before .before .before .before .before .before .before .before .before .before .before .before .before .before .args .level) (c .before .before .before .before .before .before .before .before .before .loop .num) (c .before .before .before .before .before .before .before .before .before .loop .low) (bufferIs (c .before .before .before .before .before .before .before .before .before .loop .best)) (listed (c .before .before .before .before .before .before .before .before .before .before .before .before .before .before .before .args .store .now) (c .before .before .before .before .before .before .before .before .before .loop .c .at) (c .before .before .before .before .before .before .before .before .before .loop .c .end)) (c .before .before .before .before .before .before .before .before .before .loop .inv .3) (kids-other (c .before .before .before .before .e .given .0 .0) (c .before .before .before .before .before .before .before .before .before .before .before .before .before .before .before .args .store .now) _ _ (n .lists) (sym (c .before .before .kid-of .ensures) ∙ c .enum-told2 .given .1))))
+    (omega arith, (omega arith, c .before .before .before .before .before .before .before .before .before .loop .inv .2, last-ready (c .before .before .before .before .before .before .before .before .before .before .before .before .before .before .before .args .store .now) (shapeIs (c .before .before .before .before .before .before .before .before .before .before .before .before .before .before .before .args .sh)) (c .before .before .before .before .before .before .before .before .before .before .before .before .before .before .before .args .below .now) (c .before .before .before .before .before .before .before .before .before .before .before .before .before .before .before .args .after .now) (c .before .before .before .before .before .before .before .before .before .before .before .before .before .before .before .args .pre .now) (c .before .before .before .before .before .before .before .before .before .before .before .before .before .before .before .args .hi .now) (c .before .before .before .before .before .before .before .before .before .before .before .before .before .before .before .args .level) (c .before .before .before .before .before .before .before .before .before .loop .num) (c .before .before .before .before .before .before .before .before .before .loop .low) (bufferIs (c .before .before .before .before .before .before .before .before .before .loop .best)) (listed (c .before .before .before .before .before .before .before .before .before .before .before .before .before .before .before .args .store .now) (c .before .before .before .before .before .before .before .before .before .loop .c .at) (c .before .before .before .before .before .before .before .before .before .loop .c .end)) (c .before .before .before .before .before .before .before .before .before .loop .inv .3) (kids-other (c .before .before .before .before .e .given .0 .0) (c .before .before .before .before .before .before .before .before .before .before .before .before .before .before .before .args .store .now) _ _ (n .lists) (sym (c .before .before .kid-of .ensures) ∙ c .enum-told2 .given .1))))
 
 seek-children-returns-2 : (t : ℕ) → seek-children-lts.Need-returns-2 (
   step-reads.Asked,
@@ -422,7 +423,7 @@ seek-children-returns-2 : (t : ℕ) → seek-children-lts.Need-returns-2 (
 ) (seek-children-at t) seek-children.Post seek-children-Inv-loop seek-children-μ-loop
 seek-children-returns-2 t c =
     let n = step-read-is (c .before .before .before .before .before .before .before .before .before .before .before .before .before .before .before .before .args .store .now) (c .before .before .before .before .before .before .before .before .before .before .loop .c .at) (c .before .before .before .before .before .before .before .before .before .before .loop .c .end) _ (c .before .before .before .before .before .e .given .0 .0) (c .before .before .before .before .before .e .given .0 .1 .0) (c .before .before .before .before .before .before .before .step .ensures) (c .before .before .before .before .before .e .given .1) in
-    run-ends (c .before .before .before .before .before .before .before .before .before .before .before .before .before .before .before .before .args .store .now) (c .before .before .before .before .before .before .before .before .before .before .before .before .before .before .before .before .args .below .now) (c .before .before .before .before .before .before .before .before .before .before .before .before .before .before .before .before .args .after .now) (c .before .before .before .before .before .before .before .before .before .before .before .before .before .before .before .before .args .pre .now) (c .before .before .before .before .before .before .before .before .before .before .before .before .before .before .before .before .args .hi .now) (c .before .before .before .before .before .before .before .before .before .before .before .before .before .before .before .before .args .level) (c .before .before .before .before .before .before .before .before .before .before .loop .num) (c .before .before .before .before .before .before .before .before .before .before .loop .low) (bufferIs (c .before .before .before .before .before .before .before .before .before .before .loop .best)) (listed (c .before .before .before .before .before .before .before .before .before .before .before .before .before .before .before .before .args .store .now) (c .before .before .before .before .before .before .before .before .before .before .loop .c .at) (c .before .before .before .before .before .before .before .before .before .before .loop .c .end)) (c .before .before .before .before .before .before .before .before .before .before .loop .inv .3) _ (c .before .before .before .before .before .before .before .before .before .before .loop .inv .4) (kids-other (c .before .before .before .before .before .e .given .0 .0) (c .before .before .before .before .before .before .before .before .before .before .before .before .before .before .before .before .args .store .now) _ _ (n .lists) (sym (c .before .before .before .kid-of .ensures) ∙ c .before .enum-told2 .given .1)) _ (c .seek-last2 .ensures)
+    run-ends (c .before .before .before .before .before .before .before .before .before .before .before .before .before .before .before .before .args .store .now) (shapeIs (c .before .before .before .before .before .before .before .before .before .before .before .before .before .before .before .before .args .sh)) (c .before .before .before .before .before .before .before .before .before .before .before .before .before .before .before .before .args .below .now) (c .before .before .before .before .before .before .before .before .before .before .before .before .before .before .before .before .args .after .now) (c .before .before .before .before .before .before .before .before .before .before .before .before .before .before .before .before .args .pre .now) (c .before .before .before .before .before .before .before .before .before .before .before .before .before .before .before .before .args .hi .now) (c .before .before .before .before .before .before .before .before .before .before .before .before .before .before .before .before .args .level) (c .before .before .before .before .before .before .before .before .before .before .loop .num) (c .before .before .before .before .before .before .before .before .before .before .loop .low) (bufferIs (c .before .before .before .before .before .before .before .before .before .before .loop .best)) (listed (c .before .before .before .before .before .before .before .before .before .before .before .before .before .before .before .before .args .store .now) (c .before .before .before .before .before .before .before .before .before .before .loop .c .at) (c .before .before .before .before .before .before .before .before .before .before .loop .c .end)) (c .before .before .before .before .before .before .before .before .before .before .loop .inv .3) _ (c .before .before .before .before .before .before .before .before .before .before .loop .inv .4) (kids-other (c .before .before .before .before .before .e .given .0 .0) (c .before .before .before .before .before .before .before .before .before .before .before .before .before .before .before .before .args .store .now) _ _ (n .lists) (sym (c .before .before .before .kid-of .ensures) ∙ c .before .enum-told2 .given .1)) _ (c .seek-last2 .ensures)
 
 seek-children-sub-seek-child : (t : ℕ) → seek-children-lts.Need-sub-seek-child (
   step-reads.Asked,
@@ -517,7 +518,7 @@ seek-children-seek-child-requires : (t : ℕ) → seek-children-lts.Need-seek-ch
 ) (seek-children-at t) seek-children.Post seek-children-Inv-loop seek-children-μ-loop
 seek-children-seek-child-requires t c κs =
     let n = step-read-is (c .before .before .before .before .before .before .before .before .before .before .before .before .before .before .before .before .before .before .args .store .now) (c .before .before .before .before .before .before .before .before .before .before .before .before .loop .c .at) (c .before .before .before .before .before .before .before .before .before .before .before .before .loop .c .end) _ (c .before .before .before .before .before .before .before .e .given .0 .0) (c .before .before .before .before .before .before .before .e .given .0 .1 .0) (c .before .before .before .before .before .before .before .before .before .step .ensures) (c .before .before .before .before .before .before .before .e .given .1) in
-    (omega arith, inner-ready (c .before .before .before .before .before .before .before .before .before .before .before .before .before .before .before .before .before .before .args .store .now) (c .before .before .before .before .before .before .before .before .before .before .before .before .before .before .before .before .before .before .args .below .now) (c .before .before .before .before .before .before .before .before .before .before .before .before .before .before .before .before .before .before .args .after .now) (c .before .before .before .before .before .before .before .before .before .before .before .before .before .before .before .before .before .before .args .pre .now) (c .before .before .before .before .before .before .before .before .before .before .before .before .before .before .before .before .before .before .args .hi .now) (c .before .before .before .before .before .before .before .before .before .before .before .before .before .before .before .before .before .before .args .level) (c .before .before .before .before .before .before .before .before .before .before .before .before .loop .num) (c .before .before .before .before .before .before .before .before .before .before .before .before .loop .low) (bufferIs (c .before .before .before .before .before .before .before .before .before .before .before .before .loop .best)) (listed (c .before .before .before .before .before .before .before .before .before .before .before .before .before .before .before .before .before .before .args .store .now) (c .before .before .before .before .before .before .before .before .before .before .before .before .loop .c .at) (c .before .before .before .before .before .before .before .before .before .before .before .before .loop .c .end)) (c .before .before .before .before .before .before .before .before .before .before .before .before .loop .inv .3) (c .before .before .before .before .before .before .before .e .given .0 .0) (c .before .before .before .k .given .0 .0) (c .before .before .before .k .given .0 .1 .0) (listed (c .before .before .before .before .before .before .before .before .before .before .before .before .before .before .before .before .before .before .args .store .now) (c .before .before .before .before .before .before .before .e .given .0 .1 .0 .at) (c .before .before .before .before .before .before .before .e .given .0 .1 .0 .end)) (n .lists) (sym (c .before .before .before .before .before .kid-of .ensures) ∙ c .before .before .before .k .given .1))
+    (omega arith, inner-ready (c .before .before .before .before .before .before .before .before .before .before .before .before .before .before .before .before .before .before .args .store .now) (shapeIs (c .before .before .before .before .before .before .before .before .before .before .before .before .before .before .before .before .before .before .args .sh)) (c .before .before .before .before .before .before .before .before .before .before .before .before .before .before .before .before .before .before .args .below .now) (c .before .before .before .before .before .before .before .before .before .before .before .before .before .before .before .before .before .before .args .after .now) (c .before .before .before .before .before .before .before .before .before .before .before .before .before .before .before .before .before .before .args .pre .now) (c .before .before .before .before .before .before .before .before .before .before .before .before .before .before .before .before .before .before .args .hi .now) (c .before .before .before .before .before .before .before .before .before .before .before .before .before .before .before .before .before .before .args .level) (c .before .before .before .before .before .before .before .before .before .before .before .before .loop .num) (c .before .before .before .before .before .before .before .before .before .before .before .before .loop .low) (bufferIs (c .before .before .before .before .before .before .before .before .before .before .before .before .loop .best)) (listed (c .before .before .before .before .before .before .before .before .before .before .before .before .before .before .before .before .before .before .args .store .now) (c .before .before .before .before .before .before .before .before .before .before .before .before .loop .c .at) (c .before .before .before .before .before .before .before .before .before .before .before .before .loop .c .end)) (c .before .before .before .before .before .before .before .before .before .before .before .before .loop .inv .3) (c .before .before .before .before .before .before .before .e .given .0 .0) (c .before .before .before .k .given .0 .0) (c .before .before .before .k .given .0 .1 .0) (listed (c .before .before .before .before .before .before .before .before .before .before .before .before .before .before .before .before .before .before .args .store .now) (c .before .before .before .before .before .before .before .e .given .0 .1 .0 .at) (c .before .before .before .before .before .before .before .e .given .0 .1 .0 .end)) (n .lists) (sym (c .before .before .before .before .before .kid-of .ensures) ∙ c .before .before .before .k .given .1))
 
 seek-children-loop-less : (t : ℕ) → seek-children-lts.Need-loop-less (
   step-reads.Asked,
@@ -550,8 +551,8 @@ seek-children-loop-again t c =
       c .before .before .before .before .before .before .before .before .before .before .before .before .before .loop .inv .0,
       n .ends ∙ c .before .before .before .before .before .before .before .before .before .before .before .before .before .loop .inv .1,
       entry-wider (c .before .before .before .before .before .before .before .before .before .before .before .before .before .loop .c .at) (c .before .before .before .before .before .before .before .before .before .before .before .before .before .loop .c .end) 0 (length (c .before .before .before .before .before .before .before .before .before .before .before .before .before .before .before .before .before .before .before .args .store .now)) (Entry.Child (c .before .before .before .before .k .given .0 .0) (c .before .before .before .before .k .given .0 .1 .0)) (omega arith) b w,
-      later-ready (c .before .before .before .before .before .before .before .before .before .before .before .before .before .before .before .before .before .before .before .args .store .now) (c .before .before .before .before .before .before .before .before .before .before .before .before .before .before .before .before .before .before .before .args .below .now) (c .before .before .before .before .before .before .before .before .before .before .before .before .before .before .before .before .before .before .before .args .after .now) (c .before .before .before .before .before .before .before .before .before .before .before .before .before .before .before .before .before .before .before .args .pre .now) (c .before .before .before .before .before .before .before .before .before .before .before .before .before .before .before .before .before .before .before .args .hi .now) (c .before .before .before .before .before .before .before .before .before .before .before .before .before .before .before .before .before .before .before .args .level) (c .before .before .before .before .before .before .before .before .before .before .before .before .before .loop .num) (c .before .before .before .before .before .before .before .before .before .before .before .before .before .loop .low) (bufferIs (c .before .before .before .before .before .before .before .before .before .before .before .before .before .loop .best)) (listed (c .before .before .before .before .before .before .before .before .before .before .before .before .before .before .before .before .before .before .before .args .store .now) (c .before .before .before .before .before .before .before .before .before .before .before .before .before .loop .c .at) (c .before .before .before .before .before .before .before .before .before .before .before .before .before .loop .c .end)) (c .before .before .before .before .before .before .before .before .before .before .before .before .before .loop .inv .3) (c .before .before .before .before .before .before .before .before .e .given .0 .0) (c .before .before .before .before .k .given .0 .0) (c .before .before .before .before .k .given .0 .1 .0) (listed (c .before .before .before .before .before .before .before .before .before .before .before .before .before .before .before .before .before .before .before .args .store .now) (c .before .before .before .before .before .before .before .before .e .given .0 .1 .0 .at) (c .before .before .before .before .before .before .before .before .e .given .0 .1 .0 .end)) (n .lists) (sym (c .before .before .before .before .before .before .kid-of .ensures) ∙ c .before .before .before .before .k .given .1),
-      run-step (c .before .before .before .before .before .before .before .before .before .before .before .before .before .before .before .before .before .before .before .args .store .now) (c .before .before .before .before .before .before .before .before .before .before .before .before .before .before .before .before .before .before .before .args .below .now) (c .before .before .before .before .before .before .before .before .before .before .before .before .before .before .before .before .before .before .before .args .after .now) (c .before .before .before .before .before .before .before .before .before .before .before .before .before .before .before .before .before .before .before .args .pre .now) (c .before .before .before .before .before .before .before .before .before .before .before .before .before .before .before .before .before .before .before .args .hi .now) (c .before .before .before .before .before .before .before .before .before .before .before .before .before .before .before .before .before .before .before .args .level) (c .before .before .before .before .before .before .before .before .before .before .before .before .before .loop .num) (c .before .before .before .before .before .before .before .before .before .before .before .before .before .loop .low) (bufferIs (c .before .before .before .before .before .before .before .before .before .before .before .before .before .loop .best)) (listed (c .before .before .before .before .before .before .before .before .before .before .before .before .before .before .before .before .before .before .before .args .store .now) (c .before .before .before .before .before .before .before .before .before .before .before .before .before .loop .c .at) (c .before .before .before .before .before .before .before .before .before .before .before .before .before .loop .c .end)) (c .before .before .before .before .before .before .before .before .before .before .before .before .before .loop .inv .3) (c .before .before .before .before .before .before .before .before .e .given .0 .0) (c .before .before .before .before .k .given .0 .0) (c .before .before .before .before .k .given .0 .1 .0) (listed (c .before .before .before .before .before .before .before .before .before .before .before .before .before .before .before .before .before .before .before .args .store .now) (c .before .before .before .before .before .before .before .before .e .given .0 .1 .0 .at) (c .before .before .before .before .before .before .before .before .e .given .0 .1 .0 .end)) (n .lists) (sym (c .before .before .before .before .before .before .kid-of .ensures) ∙ c .before .before .before .before .k .given .1) _ (c .before .before .before .before .before .before .before .before .before .before .before .before .before .loop .inv .4) _ (c .seek-child .ensures),
+      later-ready (c .before .before .before .before .before .before .before .before .before .before .before .before .before .before .before .before .before .before .before .args .store .now) (shapeIs (c .before .before .before .before .before .before .before .before .before .before .before .before .before .before .before .before .before .before .before .args .sh)) (c .before .before .before .before .before .before .before .before .before .before .before .before .before .before .before .before .before .before .before .args .below .now) (c .before .before .before .before .before .before .before .before .before .before .before .before .before .before .before .before .before .before .before .args .after .now) (c .before .before .before .before .before .before .before .before .before .before .before .before .before .before .before .before .before .before .before .args .pre .now) (c .before .before .before .before .before .before .before .before .before .before .before .before .before .before .before .before .before .before .before .args .hi .now) (c .before .before .before .before .before .before .before .before .before .before .before .before .before .before .before .before .before .before .before .args .level) (c .before .before .before .before .before .before .before .before .before .before .before .before .before .loop .num) (c .before .before .before .before .before .before .before .before .before .before .before .before .before .loop .low) (bufferIs (c .before .before .before .before .before .before .before .before .before .before .before .before .before .loop .best)) (listed (c .before .before .before .before .before .before .before .before .before .before .before .before .before .before .before .before .before .before .before .args .store .now) (c .before .before .before .before .before .before .before .before .before .before .before .before .before .loop .c .at) (c .before .before .before .before .before .before .before .before .before .before .before .before .before .loop .c .end)) (c .before .before .before .before .before .before .before .before .before .before .before .before .before .loop .inv .3) (c .before .before .before .before .before .before .before .before .e .given .0 .0) (c .before .before .before .before .k .given .0 .0) (c .before .before .before .before .k .given .0 .1 .0) (listed (c .before .before .before .before .before .before .before .before .before .before .before .before .before .before .before .before .before .before .before .args .store .now) (c .before .before .before .before .before .before .before .before .e .given .0 .1 .0 .at) (c .before .before .before .before .before .before .before .before .e .given .0 .1 .0 .end)) (n .lists) (sym (c .before .before .before .before .before .before .kid-of .ensures) ∙ c .before .before .before .before .k .given .1),
+      run-step (c .before .before .before .before .before .before .before .before .before .before .before .before .before .before .before .before .before .before .before .args .store .now) (shapeIs (c .before .before .before .before .before .before .before .before .before .before .before .before .before .before .before .before .before .before .before .args .sh)) (c .before .before .before .before .before .before .before .before .before .before .before .before .before .before .before .before .before .before .before .args .below .now) (c .before .before .before .before .before .before .before .before .before .before .before .before .before .before .before .before .before .before .before .args .after .now) (c .before .before .before .before .before .before .before .before .before .before .before .before .before .before .before .before .before .before .before .args .pre .now) (c .before .before .before .before .before .before .before .before .before .before .before .before .before .before .before .before .before .before .before .args .hi .now) (c .before .before .before .before .before .before .before .before .before .before .before .before .before .before .before .before .before .before .before .args .level) (c .before .before .before .before .before .before .before .before .before .before .before .before .before .loop .num) (c .before .before .before .before .before .before .before .before .before .before .before .before .before .loop .low) (bufferIs (c .before .before .before .before .before .before .before .before .before .before .before .before .before .loop .best)) (listed (c .before .before .before .before .before .before .before .before .before .before .before .before .before .before .before .before .before .before .before .args .store .now) (c .before .before .before .before .before .before .before .before .before .before .before .before .before .loop .c .at) (c .before .before .before .before .before .before .before .before .before .before .before .before .before .loop .c .end)) (c .before .before .before .before .before .before .before .before .before .before .before .before .before .loop .inv .3) (c .before .before .before .before .before .before .before .before .e .given .0 .0) (c .before .before .before .before .k .given .0 .0) (c .before .before .before .before .k .given .0 .1 .0) (listed (c .before .before .before .before .before .before .before .before .before .before .before .before .before .before .before .before .before .before .before .args .store .now) (c .before .before .before .before .before .before .before .before .e .given .0 .1 .0 .at) (c .before .before .before .before .before .before .before .before .e .given .0 .1 .0 .end)) (n .lists) (sym (c .before .before .before .before .before .before .kid-of .ensures) ∙ c .before .before .before .before .k .given .1) _ (c .before .before .before .before .before .before .before .before .before .before .before .before .before .loop .inv .4) _ (c .seek-child .ensures),
     )
 
 seek-children-seek-last-requires-3 : (t : ℕ) → seek-children-lts.Need-seek-last-requires-3 (
@@ -564,7 +565,7 @@ seek-children-seek-last-requires-3 : (t : ℕ) → seek-children-lts.Need-seek-l
   seek-child-below t,
   seek-child.Post,
 ) (seek-children-at t) seek-children.Post seek-children-Inv-loop seek-children-μ-loop
-seek-children-seek-last-requires-3 t c κs = (omega arith, (omega arith, c .before .before .loop .inv .2, last-ready (c .before .before .before .before .before .before .before .before .args .store .now) (c .before .before .before .before .before .before .before .before .args .below .now) (c .before .before .before .before .before .before .before .before .args .after .now) (c .before .before .before .before .before .before .before .before .args .pre .now) (c .before .before .before .before .before .before .before .before .args .hi .now) (c .before .before .before .before .before .before .before .before .args .level) (c .before .before .loop .num) (c .before .before .loop .low) (bufferIs (c .before .before .loop .best)) (listed (c .before .before .before .before .before .before .before .before .args .store .now) (c .before .before .loop .c .at) (c .before .before .loop .c .end)) (c .before .before .loop .inv .3) (kids-none _ (listed-end _ _ _ (omega arith)))))
+seek-children-seek-last-requires-3 t c κs = (omega arith, (omega arith, c .before .before .loop .inv .2, last-ready (c .before .before .before .before .before .before .before .before .args .store .now) (shapeIs (c .before .before .before .before .before .before .before .before .args .sh)) (c .before .before .before .before .before .before .before .before .args .below .now) (c .before .before .before .before .before .before .before .before .args .after .now) (c .before .before .before .before .before .before .before .before .args .pre .now) (c .before .before .before .before .before .before .before .before .args .hi .now) (c .before .before .before .before .before .before .before .before .args .level) (c .before .before .loop .num) (c .before .before .loop .low) (bufferIs (c .before .before .loop .best)) (listed (c .before .before .before .before .before .before .before .before .args .store .now) (c .before .before .loop .c .at) (c .before .before .loop .c .end)) (c .before .before .loop .inv .3) (kids-none _ (listed-end _ _ _ (omega arith)))))
 
 seek-children-returns-3 : (t : ℕ) → seek-children-lts.Need-returns-3 (
   step-reads.Asked,
@@ -576,7 +577,7 @@ seek-children-returns-3 : (t : ℕ) → seek-children-lts.Need-returns-3 (
   seek-child-below t,
   seek-child.Post,
 ) (seek-children-at t) seek-children.Post seek-children-Inv-loop seek-children-μ-loop
-seek-children-returns-3 t c = run-ends (c .before .before .before .before .before .before .before .before .before .args .store .now) (c .before .before .before .before .before .before .before .before .before .args .below .now) (c .before .before .before .before .before .before .before .before .before .args .after .now) (c .before .before .before .before .before .before .before .before .before .args .pre .now) (c .before .before .before .before .before .before .before .before .before .args .hi .now) (c .before .before .before .before .before .before .before .before .before .args .level) (c .before .before .before .loop .num) (c .before .before .before .loop .low) (bufferIs (c .before .before .before .loop .best)) (listed (c .before .before .before .before .before .before .before .before .before .args .store .now) (c .before .before .before .loop .c .at) (c .before .before .before .loop .c .end)) (c .before .before .before .loop .inv .3) _ (c .before .before .before .loop .inv .4) (kids-none _ (listed-end _ _ _ (omega arith))) _ (c .seek-last3 .ensures)
+seek-children-returns-3 t c = run-ends (c .before .before .before .before .before .before .before .before .before .args .store .now) (shapeIs (c .before .before .before .before .before .before .before .before .before .args .sh)) (c .before .before .before .before .before .before .before .before .before .args .below .now) (c .before .before .before .before .before .before .before .before .before .args .after .now) (c .before .before .before .before .before .before .before .before .before .args .pre .now) (c .before .before .before .before .before .before .before .before .before .args .hi .now) (c .before .before .before .before .before .before .before .before .before .args .level) (c .before .before .before .loop .num) (c .before .before .before .loop .low) (bufferIs (c .before .before .before .loop .best)) (listed (c .before .before .before .before .before .before .before .before .before .args .store .now) (c .before .before .before .loop .c .at) (c .before .before .before .loop .c .end)) (c .before .before .before .loop .inv .3) _ (c .before .before .before .loop .inv .4) (kids-none _ (listed-end _ _ _ (omega arith))) _ (c .seek-last3 .ensures)
 
 seek-last-sub-seek-child : (t : ℕ) → seek-last-lts.Need-sub-seek-child (
   seek-child-below t,
@@ -624,7 +625,7 @@ seek-last-returns : (t : ℕ) → seek-last-lts.Need-returns (
   seek-entries-reads.Asked,
   seek-entries-reads.Learnt,
 ) (seek-last-at t) seek-last.Post
-seek-last-returns t c = last-child _ _ _ _ _ _ _ _ (c .before .before .before .before .before .before .before .before .args .low) _ _ _ (c .before .seek-child .ensures) (c .seek-entries .ensures)
+seek-last-returns t c = last-child _ _ _ _ _ _ _ _ _ (c .before .before .before .before .before .before .before .before .args .low) _ _ _ (c .before .seek-child .ensures) (c .seek-entries .ensures)
 
 seek-node-mul-at : (t : ℕ) → seek-node-lts.Need-mul-at (
   u16-at-reads.Asked,
@@ -708,7 +709,7 @@ seek-node-returns : (t : ℕ) → seek-node-lts.Need-returns (
   seek-children-below t,
   seek-children.Post,
 ) (seek-node-at t) seek-node.Post
-seek-node-returns t c = node-leaf (c .before .before .before .before .before .before .before .before .args .store .now) (c .before .before .before .before .before .before .before .before .args .pre .now) (c .before .before .before .before .before .before .before .before .args .hi .now) (c .before .before .before .before .before .before .before .before .args .level) (c .before .before .before .before .before .before .before .before .args .num) (c .before .before .before .before .before .before .before .before .pre .1) (c .before .before .before .before .before .before .before .before .args .below .now) (c .before .before .before .before .before .before .before .before .args .after .now) (bufferIs (c .before .before .before .before .before .before .before .before .args .best)) (c .before .before .u16-at .result) (c .before .before .u16-at .ensures .0) (omega arith) _ (c .seek-entries .ensures)
+seek-node-returns t c = node-leaf (c .before .before .before .before .before .before .before .before .args .store .now) (c .before .before .before .before .before .before .before .before .args .pre .now) (c .before .before .before .before .before .before .before .before .args .hi .now) (c .before .before .before .before .before .before .before .before .args .level) (c .before .before .before .before .before .before .before .before .args .num) (c .before .before .before .before .before .before .before .before .pre .1) (shapeIs (c .before .before .before .before .before .before .before .before .args .sh)) (c .before .before .before .before .before .before .before .before .args .below .now) (c .before .before .before .before .before .before .before .before .args .after .now) (bufferIs (c .before .before .before .before .before .before .before .before .args .best)) (c .before .before .u16-at .result) (c .before .before .u16-at .ensures .0) (omega arith) _ (c .seek-entries .ensures)
 
 seek-node-step-requires : (t : ℕ) → seek-node-lts.Need-step-requires (
   u16-at-reads.Asked,
@@ -778,7 +779,7 @@ seek-node-returns-2 : (t : ℕ) → seek-node-lts.Need-returns-2 (
   seek-children-below t,
   seek-children.Post,
 ) (seek-node-at t) seek-node.Post
-seek-node-returns-2 t c = node-childless (c .before .before .before .before .before .before .before .before .before .before .before .args .store .now) (c .before .before .before .before .before .before .before .before .before .before .before .args .pre .now) (c .before .before .before .before .before .before .before .before .before .before .before .args .hi .now) (c .before .before .before .before .before .before .before .before .before .before .before .args .level) (c .before .before .before .before .before .before .before .before .before .before .before .args .num) (c .before .before .before .before .before .before .before .before .before .before .before .pre .1) (c .before .before .before .before .before .before .before .before .before .before .before .args .below .now) (c .before .before .before .before .before .before .before .before .before .before .before .args .after .now) (bufferIs (c .before .before .before .before .before .before .before .before .before .before .before .args .best)) (c .before .before .before .before .before .u16-at .result) (c .before .before .before .before .before .u16-at .ensures .0) (omega arith) (kids-none _ (step-bad-is _ _ _ _ (c .before .before .before .step .ensures) (c .before .enum-told .given .1) .1)) _ (c .seek-entries2 .ensures)
+seek-node-returns-2 t c = node-childless (c .before .before .before .before .before .before .before .before .before .before .before .args .store .now) (c .before .before .before .before .before .before .before .before .before .before .before .args .pre .now) (c .before .before .before .before .before .before .before .before .before .before .before .args .hi .now) (c .before .before .before .before .before .before .before .before .before .before .before .args .level) (c .before .before .before .before .before .before .before .before .before .before .before .args .num) (c .before .before .before .before .before .before .before .before .before .before .before .pre .1) (shapeIs (c .before .before .before .before .before .before .before .before .before .before .before .args .sh)) (c .before .before .before .before .before .before .before .before .before .before .before .args .below .now) (c .before .before .before .before .before .before .before .before .before .before .before .args .after .now) (bufferIs (c .before .before .before .before .before .before .before .before .before .before .before .args .best)) (c .before .before .before .before .before .u16-at .result) (c .before .before .before .before .before .u16-at .ensures .0) (omega arith) (kids-none _ (step-bad-is _ _ _ _ (c .before .before .before .step .ensures) (c .before .enum-told .given .1) .1)) _ (c .seek-entries2 .ensures)
 
 seek-node-kid-of-requires : (t : ℕ) → seek-node-lts.Need-kid-of-requires (
   u16-at-reads.Asked,
@@ -850,7 +851,7 @@ seek-node-returns-3 : (t : ℕ) → seek-node-lts.Need-returns-3 (
 ) (seek-node-at t) seek-node.Post
 seek-node-returns-3 t c =
     let n = step-read-is _ _ _ _ (c .before .before .before .before .before .e .given .0 .0) (c .before .before .before .before .before .e .given .0 .1 .0) (c .before .before .before .before .before .before .before .step .ensures) (c .before .before .before .before .before .e .given .1) in
-    node-childless (c .before .before .before .before .before .before .before .before .before .before .before .before .before .before .before .args .store .now) (c .before .before .before .before .before .before .before .before .before .before .before .before .before .before .before .args .pre .now) (c .before .before .before .before .before .before .before .before .before .before .before .before .before .before .before .args .hi .now) (c .before .before .before .before .before .before .before .before .before .before .before .before .before .before .before .args .level) (c .before .before .before .before .before .before .before .before .before .before .before .before .before .before .before .args .num) (c .before .before .before .before .before .before .before .before .before .before .before .before .before .before .before .pre .1) (c .before .before .before .before .before .before .before .before .before .before .before .before .before .before .before .args .below .now) (c .before .before .before .before .before .before .before .before .before .before .before .before .before .before .before .args .after .now) (bufferIs (c .before .before .before .before .before .before .before .before .before .before .before .before .before .before .before .args .best)) (c .before .before .before .before .before .before .before .before .before .u16-at .result) (c .before .before .before .before .before .before .before .before .before .u16-at .ensures .0) (omega arith) (kids-other (c .before .before .before .before .before .e .given .0 .0) (c .before .before .before .before .before .before .before .before .before .before .before .before .before .before .before .args .store .now) _ _ (n .lists) (sym (c .before .before .before .kid-of .ensures) ∙ c .before .enum-told2 .given .1)) _ (c .seek-entries3 .ensures)
+    node-childless (c .before .before .before .before .before .before .before .before .before .before .before .before .before .before .before .args .store .now) (c .before .before .before .before .before .before .before .before .before .before .before .before .before .before .before .args .pre .now) (c .before .before .before .before .before .before .before .before .before .before .before .before .before .before .before .args .hi .now) (c .before .before .before .before .before .before .before .before .before .before .before .before .before .before .before .args .level) (c .before .before .before .before .before .before .before .before .before .before .before .before .before .before .before .args .num) (c .before .before .before .before .before .before .before .before .before .before .before .before .before .before .before .pre .1) (shapeIs (c .before .before .before .before .before .before .before .before .before .before .before .before .before .before .before .args .sh)) (c .before .before .before .before .before .before .before .before .before .before .before .before .before .before .before .args .below .now) (c .before .before .before .before .before .before .before .before .before .before .before .before .before .before .before .args .after .now) (bufferIs (c .before .before .before .before .before .before .before .before .before .before .before .before .before .before .before .args .best)) (c .before .before .before .before .before .before .before .before .before .u16-at .result) (c .before .before .before .before .before .before .before .before .before .u16-at .ensures .0) (omega arith) (kids-other (c .before .before .before .before .before .e .given .0 .0) (c .before .before .before .before .before .before .before .before .before .before .before .before .before .before .before .args .store .now) _ _ (n .lists) (sym (c .before .before .before .kid-of .ensures) ∙ c .before .enum-told2 .given .1)) _ (c .seek-entries3 .ensures)
 
 seek-node-sub-seek-children : (t : ℕ) → seek-node-lts.Need-sub-seek-children (
   u16-at-reads.Asked,
@@ -882,7 +883,7 @@ seek-node-seek-children-requires t c κs =
     let w = node-inside (c .before .before .before .before .before .before .before .before .before .before .before .before .before .before .before .args .store .now) (c .before .before .before .before .before .before .before .before .before .before .before .before .before .before .before .args .num) (c .before .before .before .before .before .before .before .before .before .before .before .before .before .before .before .args .level) (c .before .before .before .before .before .before .before .before .before .before .before .before .before .before .before .pre .1 .usable) in
     let n = step-read-is _ _ _ _ (c .before .before .before .before .before .e .given .0 .0) (c .before .before .before .before .before .e .given .0 .1 .0) (c .before .before .before .before .before .before .before .step .ensures) (c .before .before .before .before .before .e .given .1) in
     let p = kid-place _ _ (c .before .before .before .before .before .e .given .0 .0) (c .before .k .given .0 .0) (c .before .k .given .0 .1 .0) (sym (c .before .before .before .kid-of .ensures) ∙ c .before .k .given .1) (n .reachable) in
-    (omega arith, (omega arith, record { low = omega arith; rises = omega arith; high = omega arith }, node-ready (c .before .before .before .before .before .before .before .before .before .before .before .before .before .before .before .args .store .now) (c .before .before .before .before .before .before .before .before .before .before .before .before .before .before .before .args .pre .now) (c .before .before .before .before .before .before .before .before .before .before .before .before .before .before .before .args .hi .now) (c .before .before .before .before .before .before .before .before .before .before .before .before .before .before .before .args .level) (c .before .before .before .before .before .before .before .before .before .before .before .before .before .before .before .args .num) (c .before .before .before .before .before .before .before .before .before .before .before .before .before .before .before .pre .1) (c .before .before .before .before .before .before .before .before .before .before .before .before .before .before .before .args .below .now) (c .before .before .before .before .before .before .before .before .before .before .before .before .before .before .before .args .after .now) (bufferIs (c .before .before .before .before .before .before .before .before .before .before .before .before .before .before .before .args .best)) (c .before .before .before .before .before .before .before .before .before .u16-at .result) (c .before .before .before .before .before .before .before .before .before .u16-at .ensures .0) (omega arith) (c .before .before .before .before .before .e .given .0 .0) (c .before .k .given .0 .0) (c .before .k .given .0 .1 .0) (listed (c .before .before .before .before .before .before .before .before .before .before .before .before .before .before .before .args .store .now) (c .before .before .before .before .before .e .given .0 .1 .0 .at) (c .before .before .before .before .before .e .given .0 .1 .0 .end)) (n .lists) (sym (c .before .before .before .kid-of .ensures) ∙ c .before .k .given .1)))
+    (omega arith, (omega arith, record { low = omega arith; rises = omega arith; high = omega arith }, node-ready (c .before .before .before .before .before .before .before .before .before .before .before .before .before .before .before .args .store .now) (c .before .before .before .before .before .before .before .before .before .before .before .before .before .before .before .args .pre .now) (c .before .before .before .before .before .before .before .before .before .before .before .before .before .before .before .args .hi .now) (c .before .before .before .before .before .before .before .before .before .before .before .before .before .before .before .args .level) (c .before .before .before .before .before .before .before .before .before .before .before .before .before .before .before .args .num) (c .before .before .before .before .before .before .before .before .before .before .before .before .before .before .before .pre .1) (shapeIs (c .before .before .before .before .before .before .before .before .before .before .before .before .before .before .before .args .sh)) (c .before .before .before .before .before .before .before .before .before .before .before .before .before .before .before .args .below .now) (c .before .before .before .before .before .before .before .before .before .before .before .before .before .before .before .args .after .now) (bufferIs (c .before .before .before .before .before .before .before .before .before .before .before .before .before .before .before .args .best)) (c .before .before .before .before .before .before .before .before .before .u16-at .result) (c .before .before .before .before .before .before .before .before .before .u16-at .ensures .0) (omega arith) (c .before .before .before .before .before .e .given .0 .0) (c .before .k .given .0 .0) (c .before .k .given .0 .1 .0) (listed (c .before .before .before .before .before .before .before .before .before .before .before .before .before .before .before .args .store .now) (c .before .before .before .before .before .e .given .0 .1 .0 .at) (c .before .before .before .before .before .e .given .0 .1 .0 .end)) (n .lists) (sym (c .before .before .before .kid-of .ensures) ∙ c .before .k .given .1)))
 
 seek-node-returns-4 : (t : ℕ) → seek-node-lts.Need-returns-4 (
   u16-at-reads.Asked,
@@ -898,7 +899,7 @@ seek-node-returns-4 : (t : ℕ) → seek-node-lts.Need-returns-4 (
 ) (seek-node-at t) seek-node.Post
 seek-node-returns-4 t c =
     let n = step-read-is _ _ _ _ (c .before .before .before .before .before .before .e .given .0 .0) (c .before .before .before .before .before .before .e .given .0 .1 .0) (c .before .before .before .before .before .before .before .before .step .ensures) (c .before .before .before .before .before .before .e .given .1) in
-    node-children (c .before .before .before .before .before .before .before .before .before .before .before .before .before .before .before .before .args .store .now) (c .before .before .before .before .before .before .before .before .before .before .before .before .before .before .before .before .args .pre .now) (c .before .before .before .before .before .before .before .before .before .before .before .before .before .before .before .before .args .hi .now) (c .before .before .before .before .before .before .before .before .before .before .before .before .before .before .before .before .args .level) (c .before .before .before .before .before .before .before .before .before .before .before .before .before .before .before .before .args .num) (c .before .before .before .before .before .before .before .before .before .before .before .before .before .before .before .before .pre .1) (c .before .before .before .before .before .before .before .before .before .before .before .before .before .before .before .before .args .below .now) (c .before .before .before .before .before .before .before .before .before .before .before .before .before .before .before .before .args .after .now) (bufferIs (c .before .before .before .before .before .before .before .before .before .before .before .before .before .before .before .before .args .best)) (c .before .before .before .before .before .before .before .before .before .before .u16-at .result) (c .before .before .before .before .before .before .before .before .before .before .u16-at .ensures .0) (omega arith) (c .before .before .before .before .before .before .e .given .0 .0) (c .before .before .k .given .0 .0) (c .before .before .k .given .0 .1 .0) (listed (c .before .before .before .before .before .before .before .before .before .before .before .before .before .before .before .before .args .store .now) (c .before .before .before .before .before .before .e .given .0 .1 .0 .at) (c .before .before .before .before .before .before .e .given .0 .1 .0 .end)) (n .lists) (sym (c .before .before .before .before .kid-of .ensures) ∙ c .before .before .k .given .1) _ (c .seek-children .ensures)
+    node-children (c .before .before .before .before .before .before .before .before .before .before .before .before .before .before .before .before .args .store .now) (c .before .before .before .before .before .before .before .before .before .before .before .before .before .before .before .before .args .pre .now) (c .before .before .before .before .before .before .before .before .before .before .before .before .before .before .before .before .args .hi .now) (c .before .before .before .before .before .before .before .before .before .before .before .before .before .before .before .before .args .level) (c .before .before .before .before .before .before .before .before .before .before .before .before .before .before .before .before .args .num) (c .before .before .before .before .before .before .before .before .before .before .before .before .before .before .before .before .pre .1) (shapeIs (c .before .before .before .before .before .before .before .before .before .before .before .before .before .before .before .before .args .sh)) (c .before .before .before .before .before .before .before .before .before .before .before .before .before .before .before .before .args .below .now) (c .before .before .before .before .before .before .before .before .before .before .before .before .before .before .before .before .args .after .now) (bufferIs (c .before .before .before .before .before .before .before .before .before .before .before .before .before .before .before .before .args .best)) (c .before .before .before .before .before .before .before .before .before .before .u16-at .result) (c .before .before .before .before .before .before .before .before .before .before .u16-at .ensures .0) (omega arith) (c .before .before .before .before .before .before .e .given .0 .0) (c .before .before .k .given .0 .0) (c .before .before .k .given .0 .1 .0) (listed (c .before .before .before .before .before .before .before .before .before .before .before .before .before .before .before .before .args .store .now) (c .before .before .before .before .before .before .e .given .0 .1 .0 .at) (c .before .before .before .before .before .before .e .given .0 .1 .0 .end)) (n .lists) (sym (c .before .before .before .before .kid-of .ensures) ∙ c .before .before .k .given .1) _ (c .seek-children .ensures)
 
 pub +seek-child+seek-children+seek-last+seek-node-spec : {M : Type 1} → statement M
 +seek-child+seek-children+seek-last+seek-node-spec =

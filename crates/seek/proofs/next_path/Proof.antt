@@ -1,46 +1,14 @@
--- `seek::next_path` meets the contract: the root is ready, and the walk over all its paths is the least one
--- (specs/Present, specs/NodeSteps).
-use Rattle.seek.specs.NodeSteps.{root-next}
-use Rattle.seek.specs.Present.{root-ready}
-use Rattle.lookup.specs.Root.{long-enough}
-use native.Mathlib.Omega.{arith}
+-- `seek::next_path` meets the contract: every path is unfit for the dead shape (specs/NodeSteps).
+use Rattle.seek.specs.NodeSteps.{next-any}
 use borrow.Author.Needs.{needs}
 use Rattle.seek.proofs.next_path.Statement.{statement}
 use Rattle.seek.proofs.next_path.Tie as tie
 
-u16-at-requires : tie.Need-u16-at-requires
-u16-at-requires c κs = let l = long-enough (c .before .before .before .args .store .now) (c .before .before .before .pre) in omega arith
-
-u16-at-requires-2 : tie.Need-u16-at-requires-2
-u16-at-requires-2 c κs = let l = long-enough (c .before .before .before .before .args .store .now) (c .before .before .before .before .pre) in omega arith
-
-sub-seek-node : tie.Need-sub-seek-node
-sub-seek-node c = search needs
-
-part-seek-node-start : tie.Need-part-seek-node-start
-part-seek-node-start c = search needs
-
-part-seek-node-end : tie.Need-part-seek-node-end
-part-seek-node-end c = search needs
-
-slice-aggregate-seek-node : tie.Need-slice-aggregate-seek-node
-slice-aggregate-seek-node c = search needs
-
-seek-node-requires : tie.Need-seek-node-requires
-seek-node-requires c κs = root-ready (c .before .before .before .before .before .before .before .args .store .now) _ _ (c .before .before .before .before .before .before .before .pre) (c .before .before .before .u16-at .ensures .0) (c .before .before .u16-at2 .ensures .0)
+next-unfit-requires : tie.Need-next-unfit-requires
+next-unfit-requires c κs = search needs
 
 returns : tie.Need-returns
-returns c = root-next (c .before .before .before .before .before .before .before .before .args .store .now) _ _ (c .before .before .before .before .before .before .before .before .pre) (c .before .before .before .before .u16-at .ensures .0) (c .before .before .before .u16-at2 .ensures .0) _ _ _ (omega arith) _ (c .seek-node .ensures)
+returns c = next-any _ _ _ _ (c .next-unfit .ensures)
 
 pub next-path-spec : {M : Type 1} → statement M
-next-path-spec =
-    tie.close
-    (tie.spec
-    u16-at-requires
-    u16-at-requires-2
-    sub-seek-node
-    part-seek-node-start
-    part-seek-node-end
-    slice-aggregate-seek-node
-    seek-node-requires
-    returns)
+next-path-spec = tie.close (tie.spec next-unfit-requires returns)

@@ -26,7 +26,7 @@ enum-told : tie.Need-enum-told
 enum-told c = search needs
 
 returns : tie.Need-returns
-returns c = entry-other _ _ _ _ _ _ (sym (c .before .before .suffix-of .ensures) ∙ c .enum-told .given .1)
+returns c = entry-other _ _ _ _ _ _ _ (sym (c .before .before .suffix-of .ensures) ∙ c .enum-told .given .1)
 
 sub-try-path : tie.Need-sub-try-path
 sub-try-path c = let w = place-in c in omega arith
@@ -41,7 +41,7 @@ try-path-requires : tie.Need-try-path-requires
 try-path-requires c κs = search needs
 
 returns-2 : tie.Need-returns-2
-returns-2 c = entry-tried _ _ _ _ _ _ (c .before .before .before .p .given .0 .0) _ (suffix-is (c .before .before)) (c .try-path .ensures)
+returns-2 c = entry-tried _ _ _ _ _ _ _ (c .before .before .before .p .given .0 .0) _ (suffix-is (c .before .before)) (c .try-path .ensures)
 
 pub try-entry-spec : {M : Type 1} → statement M
 try-entry-spec =

@@ -1,6 +1,6 @@
--- `seek::try_path` meets the contract: the cheap tests, the length, the lookup (specs/Steps); a path that is
+-- `seek::try_path` meets the contract: the cheap tests, the shape of the rest, the length, the lookup (specs/Steps); a path that is
 -- too long is not present, since present paths are well formed (specs/Present).
-use Rattle.seek.specs.Steps.{try-unwanted, try-long, try-absent, try-found}
+use Rattle.seek.specs.Steps.{wanted-long, try-unwanted, try-fit, try-long, try-absent, try-found}
 use lib.ListN.{length}
 use mathlib.Core.Path.{_≡_}
 use native.Mathlib.Omega.{arith}
@@ -12,13 +12,19 @@ is-wanted-requires : tie.Need-is-wanted-requires
 is-wanted-requires c κs = search needs
 
 returns : tie.Need-returns
-returns c = try-unwanted _ _ _ _ _ _ (c .before .is-wanted .ensures) (c .if1 .taken)
+returns c = search (needs, try-unwanted)
+
+is-unfit-requires : tie.Need-is-unfit-requires
+is-unfit-requires c κs = search (needs, wanted-long)
+
+returns-2 : tie.Need-returns-2
+returns-2 c = search (needs, try-fit)
 
 join-requires : tie.Need-join-requires
 join-requires c κs = search needs
 
-returns-2 : tie.Need-returns-2
-returns-2 c = try-long _ _ _ _ _ _ (c .before .before .before .is-wanted .ensures) (c .before .before .before .before .before .before .before .before .before .pre) (c .before .before .if1 .left) (c .before .join .result) (c .before .join .ensures) (omega arith)
+returns-3 : tie.Need-returns-3
+returns-3 c = search (needs, try-long)
 
 sub-value-of : tie.Need-sub-value-of
 sub-value-of c = search needs
@@ -38,11 +44,11 @@ enum-told c = search needs
 enum-told-2 : tie.Need-enum-told-2
 enum-told-2 c = search needs
 
-returns-3 : tie.Need-returns-3
-returns-3 c = try-absent _ _ _ _ _ _ (c .before .before .before .before .before .before .before .before .before .is-wanted .ensures) (c .before .before .before .before .before .before .before .before .before .before .before .before .before .before .before .pre) (c .before .before .before .before .before .before .before .before .if1 .left) (c .before .before .before .before .before .before .before .join .result) (c .before .before .before .before .before .before .before .join .ensures) (omega arith) _ (c .before .before .value-of .ensures) (c .enum-told2 .given .1)
-
 returns-4 : tie.Need-returns-4
-returns-4 c = try-found _ _ _ _ _ _ (c .before .before .before .before .before .before .before .before .before .is-wanted .ensures) (c .before .before .before .before .before .before .before .before .before .before .before .before .before .before .before .pre) (c .before .before .before .before .before .before .before .before .if1 .left) (c .before .before .before .before .before .before .before .join .result) (c .before .before .before .before .before .before .before .join .ensures) (omega arith) _ (c .before .before .value-of .ensures) _ (c .enum-told .given .1)
+returns-4 c = search (needs, try-absent)
+
+returns-5 : tie.Need-returns-5
+returns-5 c = search (needs, try-found)
 
 pub try-path-spec : {M : Type 1} → statement M
 try-path-spec =
@@ -50,13 +56,15 @@ try-path-spec =
     (tie.spec
     is-wanted-requires
     returns
-    join-requires
+    is-unfit-requires
     returns-2
+    join-requires
+    returns-3
     sub-value-of
     part-value-of-start
     part-value-of-end
     value-of-requires
     enum-told
     enum-told-2
-    returns-3
-    returns-4)
+    returns-4
+    returns-5)

@@ -104,6 +104,98 @@ static inline uint32_t splicelog_step(const uint8_t *store, size_t store_len, co
     return splicelog_number(answer);
 }
 
+/* A batch: a list of calls as one call. The image is judged once, and then call after call is made, each on the store as the last one left
+ * it, with the same answers as the calls would give one by one. `calls` are pieces one after another and `answers` gets the answers one after
+ * another, in the layout of docs/FORMAT.md: the helpers below write the one and read the other. A call that is refused is answered, and the
+ * batch goes on. It stops when the calls end, in front of bytes that do not read as a call, or in front of a call whose answer might not fit
+ * in what is left of `answers` (4 bytes a call, 36 a get, 68 a next; at most 2^28 - 1 bytes of it are used): go on from there with the calls
+ * that are left. `work` is as for the calls that change a store. Refuses by 1, 2, before any call is made. */
+uint64_t splicelog_batch(uint8_t *store, size_t store_len, uint8_t *work, size_t work_len, const uint8_t *calls, size_t calls_len,
+                         uint8_t *answers, size_t answers_len);
+
+/* What a batch answers: its number (0, 1 or 2), how many calls were made, how many bytes of answers were written. */
+static inline uint32_t splicelog_batch_number(uint64_t answer) { return (uint32_t)(answer & 0xFF); }
+static inline size_t splicelog_batch_done(uint64_t answer) { return (size_t)(answer >> 8 & 0xFFFFFFF); }
+static inline size_t splicelog_batch_written(uint64_t answer) { return (size_t)(answer >> 36); }
+
+/* Calls for a batch, in an array of the caller's: `length` of `room` bytes are used. Begin with a length of 0. */
+struct splicelog_calls {
+    uint8_t *bytes;
+    size_t room;
+    size_t length;
+};
+
+/* The kinds of calls in a batch. */
+enum splicelog_kind {
+    SPLICELOG_PUT = 0x20,
+    SPLICELOG_DROP = 0x21,
+    SPLICELOG_CLEAR = 0x22,
+    SPLICELOG_MOVE = 0x23,
+    SPLICELOG_GET = 0x30,
+    SPLICELOG_NEXT = 0x31,
+    SPLICELOG_SETTLE = 0x40,
+    SPLICELOG_TIDY = 0x41,
+    SPLICELOG_FLUSH = 0x42,
+    SPLICELOG_HEAL = 0x43
+};
+
+/* A call behind those that are there already. Put takes a path and its value; move both paths; next the path and the one after which to
+ * look, which may be empty; drop, clear and get a path; settle and tidy nothing: what a call does not take has length 0. Gives 1, or 0 where
+ * there is no room for it, and then nothing is added. */
+static inline int splicelog_add(struct splicelog_calls *calls, enum splicelog_kind kind, const uint8_t *first, size_t first_len,
+                                const uint8_t *second, size_t second_len) {
+    const int both = kind == SPLICELOG_PUT || kind == SPLICELOG_MOVE || kind == SPLICELOG_NEXT;
+    const size_t head = both ? 6 : 4;
+    uint8_t *at = calls->bytes + calls->length;
+    if (first_len > 0x7000 || second_len > 0x7000 || calls->room - calls->length < head + first_len + second_len)
+        return 0;
+    const size_t numbers[3] = {head - 4 + first_len + second_len, (size_t)kind, first_len};
+    for (size_t i = 0; i < head / 2; i++) {
+        *at++ = (uint8_t)(numbers[i] & 0xFF);
+        *at++ = (uint8_t)(numbers[i] >> 8);
+    }
+    for (size_t i = 0; i < first_len; i++)
+        *at++ = first[i];
+    for (size_t i = 0; i < second_len; i++)
+        *at++ = second[i];
+    calls->length += head + first_len + second_len;
+    return 1;
+}
+
+/* The same for a flush or a heal of a node: a number of 65,536 or more is no node's, and is not added. */
+static inline int splicelog_add_node(struct splicelog_calls *calls, enum splicelog_kind kind, size_t node) {
+    const uint8_t number[2] = {(uint8_t)(node & 0xFF), (uint8_t)(node >> 8 & 0xFF)};
+    return node > 0xFFFF ? 0 : splicelog_add(calls, kind, number, sizeof number, 0, 0);
+}
+
+/* One answer of a batch: its number, and what a get or a next found, which stands in the array of the answers. */
+struct splicelog_answer {
+    uint32_t number;
+    const uint8_t *bytes;
+    size_t length;
+};
+
+/* The answer at a place among the bytes written, and the place moved on behind it; gives 0 where there is none.
+ *
+ *   size_t place = 0;
+ *   struct splicelog_answer answer;
+ *   while (splicelog_read_answer(answers, splicelog_batch_written(done), &place, &answer))
+ *       use(answer.number, answer.bytes, answer.length);
+ */
+static inline int splicelog_read_answer(const uint8_t *answers, size_t written, size_t *place, struct splicelog_answer *answer) {
+    if (written < *place || written - *place < 4)
+        return 0;
+    const uint8_t *const at = answers + *place;
+    const size_t length = at[0] + 256 * (size_t)at[1];
+    if (written - *place - 4 < length)
+        return 0;
+    answer->number = at[2] + 256 * (uint32_t)at[3];
+    answer->bytes = at + 4;
+    answer->length = length;
+    *place += 4 + length;
+    return 1;
+}
+
 #ifdef __cplusplus
 }
 #endif

@@ -1,8 +1,9 @@
 // Prints how long get, next and a whole listing take on full stores, beside the second program on the same images, how deep a stack the
-// calls use, and what writing and moving cost. Times are in passes: one pass is a 64-bit FNV-1a, byte by byte, over the reachable nodes of
+// calls use, and what writing, moving and lists of calls cost. Times are in passes: one pass is a 64-bit FNV-1a, byte by byte, over the reachable nodes of
 // the same image.
 #![deny(warnings)]
 
+mod batches;
 mod moves;
 mod writes;
 
@@ -45,6 +46,7 @@ fn main() {
         writes::print(n, &images::settled(n));
     }
     moves::print();
+    batches::print(&images::settled(1024));
 }
 
 /// The least of many runs: other work on the machine only adds.

@@ -1,5 +1,5 @@
 /* Calls the store as firmware does, through include/splicelog.h: `test IMAGE TABLE`. It makes stores, causes each refusal that a caller can
- * cause, writes to a store, moves, heals and reads it back, and reads IMAGE, whose paths and values TABLE lists (both written by the second
+ * cause, writes to a store, moves, heals and reads it back, makes a list of calls as one, and reads IMAGE, whose paths and values TABLE lists (both written by the second
  * program), by get, by next and by the listing. Every call is made on arrays of exactly the lengths that it is told, from malloc, so that
  * valgrind sees a read or a write outside.
  */
@@ -406,6 +406,53 @@ static void test_null(void) {
     free(store.at), free(work.at), free(of.at), free(buffer.at);
 }
 
+/* A list of calls as one: its answers are read back in order, the store is as the calls leave it, and the work area is zero. */
+static void test_batch(void) {
+    bytes store = filled(NODES * NODE, 1), work = filled(NODES * 128 + 3, LATER), room = filled(400, 0), answers = filled(300, LATER);
+    bytes tray = path("r1/c7/t1"), from = path("r1/c7"), to = path("r1/c9"), there = path("r1/c9/t1"), top = path("r1");
+    struct splicelog_calls calls = {room.at, room.len, 0};
+    struct splicelog_answer answer;
+    size_t place = 0;
+    CHECK(splicelog_make(store.at, store.len) == 0);
+    CHECK(splicelog_add(&calls, SPLICELOG_PUT, tray.at, tray.len, (const uint8_t *)"\x0a", 1));
+    CHECK(splicelog_add(&calls, SPLICELOG_MOVE, from.at, from.len, to.at, to.len));
+    CHECK(splicelog_add(&calls, SPLICELOG_GET, tray.at, tray.len, 0, 0));
+    CHECK(splicelog_add(&calls, SPLICELOG_GET, there.at, there.len, 0, 0));
+    CHECK(splicelog_add(&calls, SPLICELOG_NEXT, top.at, top.len, 0, 0));
+    CHECK(splicelog_add_node(&calls, SPLICELOG_FLUSH, 31));
+    CHECK(!splicelog_add_node(&calls, SPLICELOG_FLUSH, 65536 + 1));
+    CHECK(splicelog_add(&calls, SPLICELOG_SETTLE, 0, 0, 0, 0));
+    CHECK(splicelog_add(&calls, SPLICELOG_DROP, there.at, there.len, 0, 0));
+    CHECK(splicelog_add(&calls, SPLICELOG_GET, there.at, there.len, 0, 0));
+    bytes exactly = copy(room.at, calls.length);
+    uint64_t done = splicelog_batch(store.at, store.len, work.at, work.len, exactly.at, exactly.len, answers.at, answers.len);
+    CHECK(splicelog_batch_number(done) == 0 && splicelog_batch_done(done) == 9);
+    static const uint32_t numbers[9] = {0, 0, 8, 0, 0, 6, 0, 0, 8};
+    for (size_t i = 0; i < 9; i++) {
+        CHECK(splicelog_read_answer(answers.at, splicelog_batch_written(done), &place, &answer));
+        CHECK(answer.number == numbers[i]);
+        CHECK(answer.length == (i == 3 ? 1 : i == 4 ? there.len : 0));
+        CHECK(i != 3 || answer.bytes[0] == 0x0a);
+        CHECK(i != 4 || memcmp(answer.bytes, there.at, there.len) == 0);
+    }
+    CHECK(!splicelog_read_answer(answers.at, splicelog_batch_written(done), &place, &answer));
+    for (size_t i = place; i < answers.len; i++)
+        CHECK(answers.at[i] == LATER);
+    for (size_t i = 0; i < work.len; i++)
+        CHECK(work.at[i] == (i < NODES * 128 ? 0 : LATER));
+    /* No room for the first get's answer: the batch stops in front of it. */
+    done = splicelog_batch(store.at, store.len, work.at, work.len, exactly.at, exactly.len, answers.at, 8 + 35);
+    CHECK(splicelog_batch_number(done) == 0 && splicelog_batch_done(done) == 2 && splicelog_batch_written(done) == 8);
+    /* A work area that is too short, and a store that is not sound. */
+    done = splicelog_batch(store.at, store.len, work.at, NODES * 128 - 1, exactly.at, exactly.len, answers.at, answers.len);
+    CHECK(splicelog_batch_number(done) == 1 && splicelog_batch_done(done) == 0 && splicelog_batch_written(done) == 0);
+    store.at[0] ^= 1;
+    done = splicelog_batch(store.at, store.len, work.at, work.len, exactly.at, exactly.len, answers.at, answers.len);
+    CHECK(splicelog_batch_number(done) == 2);
+    free(store.at), free(work.at), free(room.at), free(answers.at), free(exactly.at);
+    free(tray.at), free(from.at), free(to.at), free(there.at), free(top.at);
+}
+
 int main(int count, char **words) {
     if (count != 3) {
         fprintf(stderr, "usage: test IMAGE TABLE\n");
@@ -418,6 +465,7 @@ int main(int count, char **words) {
     test_heal();
     test_listing();
     test_null();
+    test_batch();
     test_image(words[1], words[2]);
     printf("%s: %u checks passed\n", words[1], checks);
     return 0;

@@ -1,4 +1,4 @@
--- For those who call: from the code's equation to the record of what a message at the root leaves. Relies on append_laws.
+-- For those who call: from the code's equation to the record of what a message at the root leaves. Relies on append's Laws.
 use Prim.Native.Nat.{ℕ, _+_, _≤_, _<_}
 use mathlib.Core.Path.{_≡_, sym, subst}
 use mathlib.Core.List.{List}
@@ -10,10 +10,10 @@ use Rattle.image.specs.Entry.{Message, puts, drops, clears, message}
 use Rattle.image.specs.Image.{nodesOf, treeOf}
 use Rattle.image.specs.Sound.{soundMessage, numbers, isIn, lowest, highest}
 use Rattle.laws.specs.Encode.{bytesOf}
-use Rattle.upkeep.specs.Size.{put-size, drop-size, clear-size}
+use Rattle.laws.specs.Upkeep.Size.{put-size, drop-size, clear-size}
 use Rattle.laws.specs.ButLive.{soundButLive}
-use Rattle.append_laws.specs.Append.{roomAtRoot, appended, Appended, appended-is}
-use Rattle.append_laws.specs.Raise.{rootRaised, raised-is}
+use Rattle.append.specs.Laws.Append.{roomAtRoot, appended, Appended, appended-is}
+use Rattle.append.specs.Laws.Raise.{rootRaised, raised-is}
 
 module _ (s s′ : List ℕ) (e : soundButLive s ≡ true) where
   append-by : (m : Message) (size : ℕ) → length (bytesOf (message m)) ≡ size → roomAtRoot s size ≡ true → soundMessage lowest highest m ≡ true

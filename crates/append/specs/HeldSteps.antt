@@ -11,7 +11,7 @@ use Rattle.image.specs.Bytes.{u16}
 use Rattle.image.specs.Entry as defined
 use Rattle.image.specs.Image.{Tree, leaf, interior, Forest, Inside, nodesOf, headerOf, messageThen, messagesOf, noKids, kidThen, insideOf, forestOf, treeAt, treeOf}
 use Rattle.image.specs.Upkeep.{noMessage}
-use Rattle.reading.specs.Relative.{usable, sound-usable}
+use Rattle.laws.specs.Reading.Relative.{usable, sound-usable}
 use Rattle.image.specs.Sound.{lowest, highest}
 use Rattle.node.specs.Entries.{listed}
 use Rattle.node.specs.Places.{entryIn}
@@ -20,7 +20,7 @@ use Rattle.node.specs.declared.Place.{Place}
 use Rattle.node.specs.declared.Message.{Message}
 use Rattle.lookup.specs.Look.{InteriorAt, leaf-at, interior-at}
 use Rattle.laws.specs.ButLive.{soundButLive, SoundParts, parts-of}
-use Rattle.append_laws.specs.Append.{rootAt, header-root, header-levels}
+use Rattle.append.specs.Laws.Append.{rootAt, header-root, header-levels}
 use Rattle.append.specs.Held.{isMessage, anyMessage}
 
 -- THE LOOP

@@ -1,4 +1,4 @@
-pub mod Head
+pub mod Laws
 pub mod Held
 pub mod WriteSteps
 pub mod HeldSteps

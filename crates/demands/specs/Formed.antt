@@ -3,20 +3,20 @@
 use Prim.Native.Nat.{ℕ}
 use mathlib.Core.Path.{_≡_, refl, sym, _∙_}
 use mathlib.Core.List.{List, [], _∷_, _++_}
-use mathlib.Core.Bool.{Bool, true, false, _&&_}
+use mathlib.Core.Bool.{Bool, true, false}
 use mathlib.Core.Option.{none, some, Option·none-ne-some}
-use lib.ListN.{length}
 use Rattle.image.specs.Bytes.{begins, shared}
 use Rattle.image.specs.Path.{wellFormed}
 use Rattle.image.specs.Entry.{Message, puts, drops, clears}
 use Rattle.image.specs.Table.{Row, find, withoutBelow, underPrefix}
-use Rattle.image.specs.Image.{Tree, unread, leaf, interior, Forest, end, tree, nodesOf, headerOf, headerLaidOut, nodeBytes, treeOf}
+use Rattle.image.specs.Image.{Tree, unread, leaf, interior, Forest, end, tree, treeOf}
 use Rattle.image.specs.Meaning.{highOf, apply, applyAll, rows, rowsIn}
-use Rattle.image.specs.Sound.{soundMessage, soundMessages, soundTree, soundForest, soundHeader, soundRoot, sound, tableOf, lowest, highest}
+use Rattle.image.specs.Sound.{soundMessage, soundMessages, soundTree, soundForest, sound, tableOf, lowest, highest}
 use Rattle.octets.specs.Order.{and-left, and-right, not-so, same-false}
 use Rattle.laws.specs.Tables.{find-nil, find-with-other, find-without-other, find-cleared, find-spared, find-append-none, find-fails}
 use Rattle.laws.specs.LookupTable.{parts, inner}
 use Rattle.laws.specs.Filter.{leaf-rowed}
+use Rattle.laws.specs.ButLive.{sound-parts}
 
 module _ (q : List ℕ) (bad : wellFormed q ≡ false) where
   cleared-lacks : (p : List ℕ) (t : List Row) → find q t ≡ none → find q (withoutBelow p t) ≡ none
@@ -59,13 +59,11 @@ module _ (q : List ℕ) (bad : wellFormed q ≡ false) where
         ∙ forest-lacks f lifted lo hi (parts s t f lifted lo hi g .later)
 
 pub found-formed : (s p v : List ℕ) → sound s ≡ true → find p (tableOf s) ≡ some v → wellFormed p ≡ true
-unfolding tableOf sound soundRoot
+unfolding tableOf
 found-formed s p v g h = by-form (wellFormed p) refl
   where
     root : soundTree (treeOf s) lowest highest ≡ true
-    root =
-        and-left _ _ (and-left _ _ (and-left _ _
-        (and-right (headerLaidOut (nodeBytes s 0) && soundHeader (nodesOf (length s)) (headerOf s)) _ g)))
+    root = sound-parts s g .tree
 
     by-form : (x : Bool) → wellFormed p ≡ x → wellFormed p ≡ true
     by-form true e = e

@@ -5,3 +5,4 @@ pub mod Formed
 pub mod Demand
 pub mod Kept
 pub mod Brought
+pub mod Batches

@@ -15,14 +15,14 @@ use Rattle.octets.specs.Order.{and-left, and-right}
 use Rattle.laws.specs.Rising.{both}
 use Rattle.laws.specs.Shift.{under-append}
 use Rattle.laws.specs.Filter.{keep, keep-append}
-use Rattle.packed.specs.Leaves.{value-length}
+use Rattle.packed.specs.Form.Leaves.{value-length}
 use Rattle.node.specs.Places.{part, entryIn}
 use Rattle.node.specs.declared.Place.{Place}
 use Rattle.node.specs.declared.Message.{Message}
 use Rattle.node.specs.declared.Entry.{Entry}
-use Rattle.rows.specs.Area.{rowsOf, RowsFit}
-use Rattle.build.specs.Rows.{RowPut}
-use Rattle.notes.specs.Notes.{quiet}
+use Rattle.packed.specs.Rows.Area.{rowsOf, RowsFit}
+use Rattle.packed.specs.Build.Rows.{RowPut}
+use Rattle.live.specs.Notes.Notes.{quiet}
 use Rattle.live.specs.Live.{Shortens, short}
 use Rattle.live.specs.PathBuffers.{pathIn}
 use Rattle.live.specs.PathSteps.{path-length}
@@ -87,6 +87,9 @@ module _ (s : List ℕ) (p : PathBuffer) (t : Trail) (k : List ℕ) (b : Bool) (
       let c : length (pathIn p ++ k) ≡ p .len + length k = length-append (pathIn p) k ∙ ap (λ j. j + length k) (path-length p h) in
       omega arith
 
+  pub joined-short : length (take (p .len - 0) (drop 0 (p .bytes))) + length k ≤ 64
+  joined-short = let a = key-short in let c : length (take (p .len - 0) (drop 0 (p .bytes))) ≡ p .len = ap length (as-path p (p .len) (p .bytes) refl refl) ∙ path-length p h in omega arith
+
   pub full-short : (full : PathBuffer) → full .len ≡ p .len + length k → full .len ≤ 64
   full-short full f = let a = key-short in omega arith
 
@@ -113,10 +116,10 @@ module _ (s : List ℕ) (p : PathBuffer) (t : Trail) (k v : Place) (area : List 
     pub pair-room : m * 128 + 128 ≤ length area
     pair-room = let r = room .room in let l : length (keep (passing s t) (rowIn s p k v ∷ [])) ≡ 1 = ap length kept in omega arith
 
-    pub pair-added : (full : PathBuffer) (area′ : List ℕ) → pathIn full ≡ pathIn p ++ part s k → length area′ ≡ length area
-        → RowPut m area area′ (take (full .len - 0) (drop 0 (full .bytes))) (part s v) → Added m area area′ (m + 1) (keep (passing s t) (rowIn s p k v ∷ []))
-    pair-added full area′ f l put =
-        let key : take (full .len - 0) (drop 0 (full .bytes)) ≡ pathIn p ++ part s k = as-path full (full .len) (full .bytes) refl refl ∙ f in
+    pub pair-added : (area′ : List ℕ) → length area′ ≡ length area
+        → RowPut m area area′ (take (p .len - 0) (drop 0 (p .bytes)) ++ part s k) (part s v) → Added m area area′ (m + 1) (keep (passing s t) (rowIn s p k v ∷ []))
+    pair-added area′ l put =
+        let key : take (p .len - 0) (drop 0 (p .bytes)) ++ part s k ≡ pathIn p ++ part s k = ap (λ q. q ++ part s k) (as-path p (p .len) (p .bytes) refl refl) in
         record {
           fit = put .fit;
           rows = put .rows ∙ ap (λ q. rowsOf m area 0 ++ (record { key = q; value = part s v } ∷ [])) key ∙ ap (λ w. rowsOf m area 0 ++ w) (sym kept);

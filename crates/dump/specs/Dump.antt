@@ -13,9 +13,9 @@ use Rattle.image.specs.Sound.{soundForest, tableOf}
 use Rattle.node.specs.Places.{part}
 use Rattle.node.specs.declared.Place.{Place}
 use Rattle.node.specs.declared.Cursor.{Cursor}
-use Rattle.search.specs.Hear.{newestE}
-use Rattle.rows.specs.Area.{rowsOf, RowsFit}
-use Rattle.notes.specs.Notes.{NotesFit, quiet}
+use Rattle.node.specs.Search.Hear.{newestE}
+use Rattle.packed.specs.Rows.Area.{rowsOf, RowsFit}
+use Rattle.live.specs.Notes.Notes.{NotesFit, quiet}
 use Rattle.live.specs.Live.{holdsNoMessage}
 use Rattle.live.specs.Noted as noted
 use Rattle.live.specs.PathBuffers.{pathIn}

@@ -21,11 +21,11 @@ use Rattle.node.specs.Places.{part, messageIn, entryIn}
 use Rattle.node.specs.declared.Place.{Place}
 use Rattle.node.specs.declared.Message.{Message}
 use Rattle.node.specs.declared.Entry.{Entry}
-use Rattle.search.specs.Hear.{saysE, newestE}
-use Rattle.rows.specs.Area.{rowsOf, RowsFit}
-use Rattle.rows.specs.Steps.{rows-length}
-use Rattle.insertion.specs.Insertion.{Inserted}
-use Rattle.insertion.specs.Slots.{rows-split}
+use Rattle.node.specs.Search.Hear.{saysE, newestE}
+use Rattle.packed.specs.Rows.Area.{rowsOf, RowsFit}
+use Rattle.packed.specs.Rows.Steps.{rows-length}
+use Rattle.dump.specs.Insertion.Insertion.{Inserted}
+use Rattle.dump.specs.Insertion.Slots.{rows-split}
 use Rattle.live.specs.Live.{holdsNoMessage}
 use Rattle.laws.specs.Filter.{every-with}
 use Rattle.live.specs.KeepLaws.{with-length, quiet-put}

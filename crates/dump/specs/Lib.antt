@@ -1,3 +1,4 @@
+pub mod Insertion
 pub mod Dump
 pub mod AppendSteps
 pub mod InsertSteps

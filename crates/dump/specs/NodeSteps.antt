@@ -15,18 +15,18 @@ use Rattle.image.specs.Sound.{soundTree, soundForest}
 use Rattle.octets.specs.Order.{shared-append}
 use Rattle.laws.specs.LookupTable.{parts}
 use Rattle.laws.specs.Filter.{keep, keep-append}
-use Rattle.reading.specs.Relative.{lifts}
-use Rattle.reading.specs.SeekHere.{high-split}
+use Rattle.laws.specs.Reading.Relative.{lifts}
+use Rattle.laws.specs.Reading.SeekHere.{high-split}
 use Rattle.node.specs.Places.{part}
 use Rattle.node.specs.Entries.{listed}
 use Rattle.node.specs.declared.Place.{Place}
 use Rattle.node.specs.declared.Cursor.{Cursor}
-use Rattle.search.specs.Hear.{newestE}
-use Rattle.search.specs.Own.{kid, kidsE}
+use Rattle.node.specs.Search.Hear.{newestE}
+use Rattle.node.specs.Search.Own.{kid, kidsE}
 use Rattle.lookup.specs.Look.{listing, part-rest}
-use Rattle.rows.specs.Area.{rowsOf}
-use Rattle.rows.specs.Steps.{rows-length}
-use Rattle.insertion.specs.Slots.{rows-split}
+use Rattle.packed.specs.Rows.Area.{rowsOf}
+use Rattle.packed.specs.Rows.Steps.{rows-length}
+use Rattle.dump.specs.Insertion.Slots.{rows-split}
 use Rattle.live.specs.Live.{holdsNoMessage}
 use Rattle.live.specs.PathBuffers.{pathIn}
 use Rattle.live.specs.PathSteps.{path-length}
@@ -34,11 +34,11 @@ use Rattle.live.specs.declared.path_buffer.PathBuffer.{PathBuffer}
 use Rattle.live.specs.declared.Trail.{Trail}
 use Rattle.live.specs.Walk.{passing, Deeper, NextChild, Ready}
 use Rattle.live.specs.Steps.{passes-short}
-use Rattle.live.specs.WalkLaws.{shared-take}
 use Rattle.dump.specs.Dump.{pairsE, valuesFitE, insertE, Untold, Room, Added, Open, Placed, SoundKids}
 use Rattle.dump.specs.AppendSteps.{added-none, added-as, added-more, room-first, room-rest}
 use Rattle.dump.specs.InsertSteps.{insert-grows, rows-parts}
 use Rattle.dump.specs.TreeLaws.{leaf-is, leaf-fits, kids-sound, interior-fits, has-kids, interior-is, interior-untold, long-none}
+use Rattle.octets.specs.Beginnings.{shared-take}
 
 -- A NODE: its pivots are lo and hi, the prefix and the trail are those of its parent's children.
 module _ (s : List ℕ) (level num : ℕ) (p : PathBuffer) (t : Trail) (ready : Ready s level num p t) (lo hi : List ℕ)

@@ -15,8 +15,8 @@ use Rattle.image.specs.Sound.{sound, soundTree, lowest, highest, tableOf}
 use Rattle.octets.specs.Order.{and-right}
 use Rattle.laws.specs.Filter.{keep, keep-all}
 use Rattle.laws.specs.ButLive.{soundButLive, sound-live, sound-but-live, parts-of}
-use Rattle.build.specs.BuiltLaws.{no-rows-fit}
-use Rattle.rows.specs.Area.{rowsOf}
+use Rattle.packed.specs.Build.BuiltLaws.{no-rows-fit}
+use Rattle.packed.specs.Rows.Area.{rowsOf}
 use Rattle.live.specs.Live.{short}
 use Rattle.live.specs.LiveLaws.{all-short}
 use Rattle.live.specs.PathBuffers.{pathIn}

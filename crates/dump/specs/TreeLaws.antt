@@ -12,7 +12,7 @@ use lib.Seq.{drop-append-seam}
 use Rattle.image.specs.Bytes.{begins, shared}
 use Rattle.image.specs.Path.{wellFormed, owns, valueFits}
 use Rattle.image.specs.Entry as defined
-use Rattle.image.specs.Table.{Row, underPrefix, everyKey, withRow, rising}
+use Rattle.image.specs.Table.{Row, underPrefix, everyKey, withRow}
 use Rattle.image.specs.Image.{Tree, leaf, interior, Forest, tree, Kid, Inside, nodesOf, pairThen, pairsOf, messageThen, messagesOf, noKids, kidThen, insideOf, forestOf, treeAt}
 use Rattle.image.specs.Meaning.{newest, applyAll, rows, rowsIn}
 use Rattle.image.specs.Sound.{soundTree, soundForest, soundMessage, soundMessages, firstPivot, valuesFit}
@@ -21,15 +21,16 @@ use Rattle.laws.specs.Rising.{both}
 use Rattle.laws.specs.RowsRising.{every-key, rows-rise-in}
 use Rattle.laws.specs.LookupTable.{inner, outside, outside-in}
 use Rattle.laws.specs.Filter.{keep, keep-none, keep-passes, keep-rises, every-imp, owned-begins}
-use Rattle.reading.specs.Relative.{usable}
-use Rattle.search.specs.Hear.{newestE}
-use Rattle.search.specs.Own.{kidsE}
+use Rattle.laws.specs.Reading.Relative.{usable}
+use Rattle.node.specs.Search.Hear.{newestE}
+use Rattle.node.specs.Search.Own.{kidsE}
 use Rattle.lookup.specs.Look.{listing, leaf-at, interior-at, inside-splits, messages-newest}
 use Rattle.live.specs.Live.{holdsNoMessage, Shortens}
 use Rattle.live.specs.KeepLaws.{added, insertPuts, messages-keep}
 use Rattle.live.specs.WalkLaws.{same-tests}
 use Rattle.live.specs.Walk.{decides}
 use Rattle.dump.specs.Dump.{pairsE, valueFitsE, valuesFitE, withEntry, insertE, Untold}
+use Rattle.laws.specs.ValuesFit.{leaf-values}
 
 -- A LEAF'S PAIRS
 pub record PairsAre (es : List defined.Entry) (rs : List Row) : Type 0 where
@@ -62,10 +63,6 @@ pairs-are (defined.pair k v ∷ es) rs h = go (pairsOf es) refl (pairs-are es)
 pairs-are (defined.child i k ∷ es) rs h = let q : none ≡ some rs = unfold pairThen in h in let z : _≡_ {A = ℕ} 0 1 = cc in absurd (omega arith)
 pairs-are (defined.message m ∷ es) rs h = let q : none ≡ some rs = unfold pairThen in h in let z : _≡_ {A = ℕ} 0 1 = cc in absurd (omega arith)
 
-fits-leaf : (i : ℕ) (rs : List Row) (lo hi : List ℕ) → soundTree (leaf i rs) lo hi ≡ true → valuesFit rs ≡ true
-unfolding soundTree
-fits-leaf i rs lo hi e = and-right (everyKey wellFormed (underPrefix (shared lo hi) rs) && everyKey (owns lo hi) (underPrefix (shared lo hi) rs) && rising rs) (valuesFit rs) e
-
 rows-leaf : (i : ℕ) (rs : List Row) (lo hi : List ℕ) → underPrefix (shared lo hi) rs ≡ rows (leaf i rs) lo hi
 unfolding rows
 rows-leaf i rs lo hi = refl
@@ -82,7 +79,7 @@ module _ (s : List ℕ) (i level : ℕ) (u : usable (nodesOf (length s)) (treeAt
   leaf-fits l =
       let n = leaf-at s i level l u in
       ap (λ es. valuesFitE es) (n .node .lists) ∙ pairs-are (n .es) (n .rs) (n .pairs) .fit
-      ∙ fits-leaf i (n .rs) lo hi (ap (λ t. soundTree t lo hi) (sym (n .tree)) ∙ sound)
+      ∙ leaf-values i (n .rs) lo hi (ap (λ t. soundTree t lo hi) (sym (n .tree)) ∙ sound)
 
 -- AN INTERIOR NODE'S MESSAGES
 -- what holds of entries that are the messages ms

@@ -1,6 +1,8 @@
 // Every row of a sound store's map, rising, in the rows of the work area, by one walk over the tree: a leaf's pairs are appended in their
 // order, and a waiting put is inserted among the rows of its node's children. Only what decides a path is written, so that there are never
-// more rows than live paths. Relies on the tests of `live`, on `notes`, `build` (one row) and `insertion`; the caller has checked the store.
+// more rows than live paths. Relies on the tests of `live` and its notes, `packed` (one row) and `insertion`; the caller has checked the store.
+pub mod insertion;
+
 use live::Pending;
 use live::Trail;
 use live::path_buffer;
@@ -24,8 +26,8 @@ ghost use Rattle.image.specs.Sound.{sound, soundTree};
 ghost use Rattle.laws.specs.Filter.{keep};
 ghost use Rattle.node.specs.Places.{Within, EntryWithin, MessageWithin, part, entryIn, messageIn};
 ghost use Rattle.node.specs.Entries.{listed};
-ghost use Rattle.search.specs.Own.{kid, kidsE};
-ghost use Rattle.rows.specs.Area.{rowsOf};
+ghost use Rattle.node.specs.Search.Own.{kid, kidsE};
+ghost use Rattle.packed.specs.Rows.Area.{rowsOf};
 ghost use Rattle.live.specs.PathBuffers.{pathIn};
 ghost use Rattle.live.specs.Noted.{Tells, LeafTold};
 ghost use Rattle.live.specs.Walk.{passing, decides, TrailIn, Ready, ReadyKids};
@@ -48,7 +50,7 @@ fn is_shown(
     if 64 < n {
         return live::is_live(store, prefix, trail, key);
     }
-    notes::is_quiet(store, notes, n, key)
+    live::notes::is_quiet(store, notes, n, key)
 }
 
 // A pair's row after the `m` rows of the area, if no message above says anything of its path.
@@ -77,12 +79,11 @@ fn append_pair(
     if !is_shown(store, prefix, trail, &store[a..b], notes, n) {
         return m;
     }
-    let full = path_buffer::extend(prefix, &store[a..b]);
-    let len = full.len;
-    let path = full.bytes;
+    let len = prefix.len;
+    let bytes = prefix.bytes;
     let x = value.start;
     let y = value.stop;
-    build::put_row(area, m, &path[0..len], &store[x..y]);
+    packed::put_joined(area, m, &bytes[0..len], &store[a..b], &store[x..y]);
     m + 1
 }
 

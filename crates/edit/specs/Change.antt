@@ -1,5 +1,5 @@
 -- A change of one path as a message at the root: the message, its size, and when the table has a place for it.
-use Prim.Native.Nat.{ℕ, suc, _+_, _≤_}
+use Prim.Native.Nat.{ℕ, _+_, _≤_}
 use mathlib.Core.Path.{_≡_, refl, sym, ap, _∙_}
 use mathlib.Core.List.{List, [], _∷_}
 use mathlib.Core.Bool.{Bool, true, false, _||_, cond, false≢true}
@@ -10,17 +10,18 @@ use lib.Dec.{ltb}
 use borrow.Author.Tests.{ltb-true}
 use Rattle.image.specs.Bytes.{same, before}
 use Rattle.image.specs.Path.{wellFormed, valueFits, below}
-use Rattle.image.specs.Entry.{Message, puts, drops, clears, message}
+use Rattle.image.specs.Entry.{Message, puts, drops, clears}
 use Rattle.image.specs.Table.{Row, find, isSome, withRow, without, withoutBelow, leads, rising}
 use Rattle.image.specs.Meaning.{apply}
 use Rattle.image.specs.Sound.{soundMessage, lowest, highest}
 use Rattle.octets.specs.Order.{and-right, before-not-same, before-total}
 use Rattle.laws.specs.Rising.{find-leads}
-use Rattle.laws.specs.Encode.{bytesOf}
-use Rattle.packed.specs.Leaves.{formed-length, value-length}
-use Rattle.upkeep.specs.Size as sizes
-use Rattle.append_laws.specs.RootMessage.{put-sound, drop-sound, clear-sound}
+use Rattle.packed.specs.Form.Leaves.{value-length}
+use Rattle.laws.specs.Upkeep.Size as sizes
+use Rattle.append.specs.Laws.RootMessage.{put-sound, drop-sound, clear-sound}
 use Rattle.edit.specs.declared.Change.{Change}
+use Rattle.laws.specs.Tables.{with-length}
+use Rattle.laws.specs.Follow.{formed-length}
 
 unfoldable pub messageOf : Change → List ℕ → List ℕ → Message
 messageOf Change.Put p v = puts p v
@@ -32,12 +33,6 @@ unfoldable pub sizeOf : Change → ℕ → ℕ → ℕ
 sizeOf Change.Put p v = 6 + p + v
 sizeOf Change.Drop p v = 4 + p
 sizeOf Change.Clear p v = 4 + p
-
-pub message-size : (c : Change) (p v : List ℕ) → length (bytesOf (message (messageOf c p v))) ≡ sizeOf c (length p) (length v)
-unfolding messageOf sizeOf
-message-size Change.Put p v = sizes.put-size p v
-message-size Change.Drop p v = sizes.drop-size p
-message-size Change.Clear p v = sizes.clear-size p
 
 -- what a call has asked before it changes the table t of a store of n nodes: questions 3, 4 and 10
 pub record Allowed (c : Change) (p v : List ℕ) (t : List Row) (n : ℕ) : Type 0 where
@@ -61,18 +56,6 @@ size-small c p v e f =
     by-change Change.Put = let a = formed-length p e in let b = value-length v f in unfold sizeOf in omega arith
     by-change Change.Drop = let a = formed-length p e in unfold sizeOf in omega arith
     by-change Change.Clear = let a = formed-length p e in unfold sizeOf in omega arith
-
--- a table that rises grows by at most one row, and by none where the path is present
-with-length : (p v : List ℕ) (t : List Row) → length (withRow p v t) ≤ suc (length t)
-unfolding withRow
-with-length p v [] = omega arith
-with-length p v (r ∷ t) = go (before (r .key) p) (same p (r .key)) (with-length p v t)
-  where
-    go : (x y : Bool) → length (withRow p v t) ≤ suc (length t)
-        → length (cond x (r ∷ withRow p v t) (cond y (record { key = p; value = v } ∷ t) (record { key = p; value = v } ∷ r ∷ t))) ≤ suc (length (r ∷ t))
-    go true y h = omega arith
-    go false true h = omega arith
-    go false false h = omega arith
 
 over-length : (p v : List ℕ) (t : List Row) → rising t ≡ true → isSome (find p t) ≡ true → length (withRow p v t) ≤ length t
 unfolding withRow find isSome rising leads

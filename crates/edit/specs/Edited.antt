@@ -3,9 +3,10 @@ use Prim.Native.Nat.{ℕ, _+_, _*_, _/_, _<_, _≤_}
 use mathlib.Core.Path.{_≡_, refl, sym, ap, subst, _∙_}
 use mathlib.Core.List.{List, [], _++_}
 use mathlib.Core.Bool.{Bool, true, false, _||_, false≢true}
+use mathlib.Core.Logic.{_⊎_}
 use mathlib.Core.Option.{none, some}
 use native.Mathlib.Omega.{arith}
-use lib.ListN.{length, drop, replicate}
+use lib.ListN.{length, drop}
 use lib.Dec.{ltb, eqb}
 use borrow.Author.Tests.{le-leb, lt-leb, eqb-true}
 use Rattle.image.specs.Bytes.{u16}
@@ -17,8 +18,8 @@ use Rattle.image.specs.Meaning.{apply}
 use Rattle.image.specs.Sound.{sound, valueIn, tableOf}
 use Rattle.image.specs.Calls as calls
 use Rattle.image.specs.Calls.{acts, Act, firstNo, workPerNode, questions, actQuestions, tableAfter, actTable}
-use Rattle.image.specs.Contract.{nodeQuestions, firstNoOn, Besides, Meets}
-use Rattle.image.specs.Answers.{refusalNumber, outcomeAnswer}
+use Rattle.image.specs.Contract.{nodeQuestions, firstNoOn, Besides}
+use Rattle.image.specs.Answers.{refusalNumber}
 use Rattle.image.specs.declared.Refusal.{Refusal}
 use Rattle.image.specs.declared.Outcome.{Outcome}
 use Rattle.octets.specs.Order.{and-right}
@@ -27,17 +28,21 @@ use Rattle.laws.specs.LookupTable.{means-table}
 use Rattle.node.specs.Whole.{Whole, whole-parts}
 use Rattle.node.specs.declared.Place.{Place}
 use Rattle.node.specs.Places.{part}
-use Rattle.search.specs.declared.Found.{Found}
-use Rattle.search.specs.Pairs.{Finds, foundIn}
+use Rattle.node.specs.declared.search.Found.{Found}
+use Rattle.node.specs.Search.Pairs.{Finds, foundIn}
 use Rattle.soundness.specs.Judged.{told-live}
-use Rattle.append_laws.specs.Append.{roomAtRoot, appended, Appended}
-use Rattle.append_laws.specs.Raise.{rootRaised}
+use Rattle.append.specs.Laws.Append.{roomAtRoot, appended, Appended}
+use Rattle.append.specs.Laws.Raise.{rootRaised}
 use Rattle.append.specs.Callers as code
 use Rattle.laws.specs.Follow.{table-rises}
 use Rattle.dump.specs.RootSteps.{table-few}
 use Rattle.rebuild.specs.Rebuild.{cleared}
-use Rattle.finish.specs.Finished.{Finished}
-use Rattle.rebuild.specs.Callers.{to-act, laterNo, later-number, act-meets, act-refused}
+use Rattle.finish.specs.Finished.{Finished, finish-done, known-cap}
+use Rattle.packed.specs.Form.Tidy.{zerosOf}
+use Rattle.append.specs.Laws.SetLive.{withLive}
+use Rattle.octets.specs.Cap.{cap}
+use Rattle.questions.specs.Callers.{to-act, laterNo, later-number}
+use Rattle.questions.specs.Acted.{Acted, acted-done, acted-refused}
 use Rattle.edit.specs.declared.Change.{Change}
 use Rattle.edit.specs.declared.Spot.{Spot}
 use Rattle.edit.specs.Change.{messageOf, sizeOf, Allowed, message-sound, size-small, few-after}
@@ -120,15 +125,32 @@ pub spot-above : (s : List ℕ) (size : ℕ) (r : Spot) (i : ℕ) → SpotFits s
 unfolding SpotFits
 spot-above s size r i f e = subst (SpotFits s size) e f
 
+-- the live count right
+pub record Counted (s s′ : List ℕ) : Type 0 where
+  pub is-sound : sound s′ ≡ true
+  pub table : tableOf s′ ≡ tableOf s
+  pub size : length s′ ≡ length s
+
+-- the live count as it was counted, and as it was known
+module _ (s s′ : List ℕ) (whole : wholeNodes (length s) ≡ true) (e : soundButLive s ≡ true) (few : length (tableOf s) ≤ nodesOf (length s)) where
+  pub counted-anew : (live : ℕ) → live ≡ cap (length (tableOf s)) → s′ ≡ withLive s live → Counted s s′
+  counted-anew live l q =
+      let f : Finished s s′ [] (zerosOf (128 * (length s / 1024)) ++ drop (128 * (length s / 1024)) []) =
+      finish-done s s′ [] (zerosOf (128 * (length s / 1024)) ++ drop (128 * (length s / 1024)) []) live (128 * (length s / 1024)) whole e few l q refl refl in
+      record { is-sound = f .is-sound; table = f .table; size = f .size }
+
+  pub counted-known : (known : ℕ) → known ≤ 65535 → (known ≤ 65535 → known ≡ length (tableOf s)) → s′ ≡ withLive s known → Counted s s′
+  counted-known known h f q = counted-anew known (known-cap (length (tableOf s)) known h f) q
+
 -- a whole change
 pub record Edited (s s′ w w′ : List ℕ) (m : Message) : Type 0 where
   pub is-sound : sound s′ ≡ true
   pub table : tableOf s′ ≡ apply [] m (tableOf s)
   pub size : length s′ ≡ length s
-  pub work : w′ ≡ cleared (nodesOf (length s)) w
+  pub area : (w′ ≡ w) ⊎ (w′ ≡ cleared (nodesOf (length s)) w)
 
-module _ (s s₁ s₂ s₃ w w₁ w₃ p v : List ℕ) (c : Change) (size : ℕ) (spot : Spot) (whole : wholeNodes (length s) ≡ true) (ok : sound s ≡ true)
-    (long : workPerNode * nodesOf (length s) ≤ length w) (allowed : Allowed c p v (tableOf s) (nodesOf (length s)))
+module _ (s s₁ s₂ s₃ w w₁ p v : List ℕ) (c : Change) (size : ℕ) (spot : Spot) (whole : wholeNodes (length s) ≡ true) (ok : sound s ≡ true)
+    (allowed : Allowed c p v (tableOf s) (nodesOf (length s)))
     (roomy : Roomy s s₁ w w₁ size spot) (appended : Appended s₁ (messageOf c p v) s₂) where
   same-nodes : nodesOf (length s₂) ≡ nodesOf (length s)
   same-nodes = ap nodesOf (appended .size ∙ roomy .length-same)
@@ -144,16 +166,13 @@ module _ (s s₁ s₂ s₃ w w₁ w₃ p v : List ℕ) (c : Change) (size : ℕ)
   pub still-whole : wholeNodes (length s₂) ≡ true
   still-whole = ap wholeNodes (appended .size ∙ roomy .length-same) ∙ whole
 
-  pub still-long : workPerNode * nodesOf (length s₂) ≤ length w₁
-  still-long = let a = same-nodes in let b = roomy .work-length in subst (λ k. workPerNode * k ≤ length w₁) (sym same-nodes) (subst (λ k. workPerNode * nodesOf (length s) ≤ k) (sym (roomy .work-length)) long)
-
-  pub edited : Finished s₂ s₃ w₁ w₃ → Edited s s₃ w w₃ (messageOf c p v)
+  pub edited : Counted s₂ s₃ → Edited s s₃ w w₁ (messageOf c p v)
   edited f =
       record {
         is-sound = f .is-sound;
         table = f .table ∙ new-table;
         size = f .size ∙ appended .size ∙ roomy .length-same;
-        work = f .work ∙ ap (λ n. cleared n w₁) same-nodes ∙ ap (λ l. replicate (workPerNode * nodesOf (length s)) 0 ++ l) (roomy .work-later);
+        area = roomy .area;
       }
 
 -- THE CALLS
@@ -179,42 +198,42 @@ module _ (s w : List ℕ) (whole : wholeNodes (length s) ≡ true) (ok : sound s
   number-by a = later-number s to-act whole long ok
 
   module _ (p : List ℕ) (x : Bool) (x-is : x ≡ wellFormed p) where
-    pub put-malformed : (v : List ℕ) → x ≡ false → Meets s (acts (calls.put p v) w) (outcomeAnswer (Outcome.Refused Refusal.Malformed)) s w
+    pub put-malformed : (v : List ℕ) → x ≡ false → Acted s (acts (calls.put p v) w) (Outcome.Refused Refusal.Malformed) s w w
     unfolding actQuestions firstNo refusalNumber
-    put-malformed v f = act-refused s Refusal.Malformed to-act (number-by (calls.put p v) ∙ rw (sym x-is ∙ f) refl)
+    put-malformed v f = acted-refused s Refusal.Malformed to-act (number-by (calls.put p v) ∙ rw (sym x-is ∙ f) refl)
 
-    pub drop-malformed : x ≡ false → Meets s (acts (calls.drops p) w) (outcomeAnswer (Outcome.Refused Refusal.Malformed)) s w
+    pub drop-malformed : x ≡ false → Acted s (acts (calls.drops p) w) (Outcome.Refused Refusal.Malformed) s w w
     unfolding actQuestions firstNo refusalNumber
-    drop-malformed f = act-refused s Refusal.Malformed to-act (number-by (calls.drops p) ∙ rw (sym x-is ∙ f) refl)
+    drop-malformed f = acted-refused s Refusal.Malformed to-act (number-by (calls.drops p) ∙ rw (sym x-is ∙ f) refl)
 
-    pub clear-malformed : x ≡ false → Meets s (acts (calls.clear p) w) (outcomeAnswer (Outcome.Refused Refusal.Malformed)) s w
+    pub clear-malformed : x ≡ false → Acted s (acts (calls.clear p) w) (Outcome.Refused Refusal.Malformed) s w w
     unfolding actQuestions firstNo refusalNumber
-    clear-malformed f = act-refused s Refusal.Malformed to-act (number-by (calls.clear p) ∙ rw (sym x-is ∙ f) refl)
+    clear-malformed f = acted-refused s Refusal.Malformed to-act (number-by (calls.clear p) ∙ rw (sym x-is ∙ f) refl)
 
     module _ (x-yes : x ≡ true) where
-      pub drop-done : (v s′ w′ : List ℕ) → Edited s s′ w w′ (messageOf Change.Drop p v) → Meets s (acts (calls.drops p) w) (outcomeAnswer Outcome.Done) s′ w′
+      pub drop-done : (v s′ w′ : List ℕ) → Edited s s′ w w′ (messageOf Change.Drop p v) → Acted s (acts (calls.drops p) w) Outcome.Done s′ w w′
       unfolding actQuestions firstNo messageOf apply tableAfter actTable Besides
       drop-done v s′ w′ e =
-          act-meets s s′ w′ to-act (number-by (calls.drops p) ∙ rw (sym x-is ∙ x-yes) refl) (e .is-sound) (e .table) (e .size) (e .work) tt
+          acted-done s s′ w′ to-act (number-by (calls.drops p) ∙ rw (sym x-is ∙ x-yes) refl) (e .is-sound) (e .table) (e .size) (e .area) tt
 
-      pub clear-done : (v s′ w′ : List ℕ) → Edited s s′ w w′ (messageOf Change.Clear p v) → Meets s (acts (calls.clear p) w) (outcomeAnswer Outcome.Done) s′ w′
+      pub clear-done : (v s′ w′ : List ℕ) → Edited s s′ w w′ (messageOf Change.Clear p v) → Acted s (acts (calls.clear p) w) Outcome.Done s′ w w′
       unfolding actQuestions firstNo messageOf apply tableAfter actTable Besides
       clear-done v s′ w′ e =
-          act-meets s s′ w′ to-act (number-by (calls.clear p) ∙ rw (sym x-is ∙ x-yes) refl) (e .is-sound) (e .table) (e .size) (e .work) tt
+          acted-done s s′ w′ to-act (number-by (calls.clear p) ∙ rw (sym x-is ∙ x-yes) refl) (e .is-sound) (e .table) (e .size) (e .area) tt
 
-      pub put-long : (v : List ℕ) → 32 < length v → Meets s (acts (calls.put p v) w) (outcomeAnswer (Outcome.Refused Refusal.LongValue)) s w
+      pub put-long : (v : List ℕ) → 32 < length v → Acted s (acts (calls.put p v) w) (Outcome.Refused Refusal.LongValue) s w w
       unfolding actQuestions firstNo refusalNumber valueFits valueLimit
-      put-long v h = act-refused s Refusal.LongValue to-act (number-by (calls.put p v) ∙ rw (sym x-is ∙ x-yes, lt-leb (length v) 32 h) refl)
+      put-long v h = acted-refused s Refusal.LongValue to-act (number-by (calls.put p v) ∙ rw (sym x-is ∙ x-yes, lt-leb (length v) 32 h) refl)
 
       module _ (v : List ℕ) (short : length v ≤ 32) (y : Bool) (y-is : y ≡ isSome (find p (tableOf s)) || ltb (length (tableOf s)) (nodesOf (length s))) where
-        pub put-full : y ≡ false → Meets s (acts (calls.put p v) w) (outcomeAnswer (Outcome.Refused Refusal.Full)) s w
+        pub put-full : y ≡ false → Acted s (acts (calls.put p v) w) (Outcome.Refused Refusal.Full) s w w
         unfolding actQuestions firstNo refusalNumber valueFits valueLimit
-        put-full f = act-refused s Refusal.Full to-act (number-by (calls.put p v) ∙ rw (sym x-is ∙ x-yes, le-leb (length v) 32 short, sym y-is ∙ f) refl)
+        put-full f = acted-refused s Refusal.Full to-act (number-by (calls.put p v) ∙ rw (sym x-is ∙ x-yes, le-leb (length v) 32 short, sym y-is ∙ f) refl)
 
-        pub put-done : (s′ w′ : List ℕ) → y ≡ true → Edited s s′ w w′ (messageOf Change.Put p v) → Meets s (acts (calls.put p v) w) (outcomeAnswer Outcome.Done) s′ w′
+        pub put-done : (s′ w′ : List ℕ) → y ≡ true → Edited s s′ w w′ (messageOf Change.Put p v) → Acted s (acts (calls.put p v) w) Outcome.Done s′ w w′
         unfolding actQuestions firstNo messageOf apply tableAfter actTable Besides valueFits valueLimit
         put-done s′ w′ f e =
-            act-meets s s′ w′ to-act (number-by (calls.put p v) ∙ rw (sym x-is ∙ x-yes, le-leb (length v) 32 short, sym y-is ∙ f) refl) (e .is-sound) (e .table) (e .size) (e .work) tt
+            acted-done s s′ w′ to-act (number-by (calls.put p v) ∙ rw (sym x-is ∙ x-yes, le-leb (length v) 32 short, sym y-is ∙ f) refl) (e .is-sound) (e .table) (e .size) (e .area) tt
 
         pub put-allowed : y ≡ true → Allowed Change.Put p v (tableOf s) (nodesOf (length s))
         unfolding valueFits valueLimit

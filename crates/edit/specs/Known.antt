@@ -22,8 +22,8 @@ use Rattle.laws.specs.Follow.{table-rises}
 use Rattle.node.specs.Whole.{Whole, whole-parts}
 use Rattle.node.specs.Places.{part}
 use Rattle.node.specs.declared.Place.{Place}
-use Rattle.search.specs.declared.Found.{Found}
-use Rattle.search.specs.Pairs.{Finds, foundIn}
+use Rattle.node.specs.declared.search.Found.{Found}
+use Rattle.node.specs.Search.Pairs.{Finds, foundIn}
 use Rattle.live.specs.KeepLaws.{with-length}
 use Rattle.soundness.specs.Judged.{told-live}
 use Rattle.edit.specs.declared.Change.{Change}

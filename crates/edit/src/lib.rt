@@ -1,31 +1,31 @@
 // put, drop and clear: each becomes one message at the root. Where the root has no room, a new root is put above an old one that holds no
 // message; where that cannot be, the store is rebuilt first, and then one of the two always can. The live count follows by one lookup; after
-// a clear it is counted anew. Relies on: append (the message), rebuild, finish (the live count), and the marks of tree_check for a free node.
+// a clear it is counted anew. Each call is questions 1 and 2, its part on a store that is fit (put_fit, drop_fit, clear_fit), which uses the work
+// area for a rebuild alone and leaves it zero then, and the area zeroed. Relies on: ready, append (the message), rebuild, live (the count).
 use image::Outcome;
 use image::Refusal;
-use ready::Ready;
-use search::Found;
-use tree_check::Checked;
+use node::search::Found;
+use questions::Ready;
 ghost use mathlib.Core.Path.{_≡_};
 ghost use mathlib.Core.Bool.{true, _||_};
-ghost use Prim.Native.Nat.{_*_, _≤_};
+ghost use Prim.Native.Nat.{_*_, _/_, _≤_};
 ghost use lib.ListN.{length};
 ghost use lib.Dec.{ltb};
 ghost use Rattle.image.specs.Path.{wellFormed, valueFits};
 ghost use Rattle.image.specs.Table.{find, isSome};
 ghost use Rattle.image.specs.Image.{nodesOf, wholeNodes};
 ghost use Rattle.image.specs.Sound.{sound, tableOf};
-ghost use Rattle.image.specs.Calls.{workPerNode};
 ghost use Rattle.laws.specs.ButLive.{soundButLive};
 ghost use Rattle.edit.specs.Free.{FirstFree};
 ghost use Rattle.image.specs.Calls.{acts, put, drops, clear};
 ghost use Rattle.image.specs.Contract.{Meets};
 ghost use Rattle.image.specs.Answers.{outcomeAnswer};
-ghost use Rattle.append_laws.specs.Append.{roomAtRoot, Appended};
+ghost use Rattle.questions.specs.Acted.{Passed, Acted};
+ghost use Rattle.append.specs.Laws.Append.{roomAtRoot, Appended};
 ghost use Rattle.edit.specs.Change.{messageOf, sizeOf, Allowed};
 ghost use Rattle.edit.specs.Known.{Known};
 ghost use Rattle.edit.specs.Room.{Marks, Above, Free, SpotFits, Roomy};
-ghost use Rattle.edit.specs.Edited.{Edited};
+ghost use Rattle.edit.specs.Edited.{Counted, Edited};
 
 // What is done to a path.
 pub enum Change {
@@ -71,26 +71,28 @@ fn free_above(store: &[u8], seen: &[u8; 1024]) -> usize
     first_free(seen, store.len() / image::NODE_SIZE)
 }
 
-// The same in a store whose nodes are not marked.
-fn free_unmarked(store: &[u8]) -> usize
-    requires { ⌜ (wholeNodes (length (now store)) ≡ true) × (sound (now store) ≡ true) ⌝ }
-    ensures { λ r. ⌜ Above (now (store .entry)) r ⌝ }
+// The first node that a rebuild is sure to leave free: a packed tree takes none from a quarter of them on.
+fn upper_node(store: &[u8]) -> usize
+    ensures { λ r. ⌜ r ≡ length (now (store .entry)) / 1024 / 4 ⌝ }
 {
-    let mut seen = [0u8; 1024];
-    let c = tree_check::check_tree(store, &mut seen);
-    let Checked::Sound(_) = c else {
-        return 0;
-    };
-    free_above(store, &seen)
+    store.len() / image::NODE_SIZE / 4
+}
+
+// Room for a message of this size in a store that is rebuilt for it.
+fn room_rebuilt(store: &mut [u8], work: &mut [u8], size: usize) -> Spot
+    requires { ⌜ Passed (now store) (now work) × (size ≤ 1010) ⌝ }
+    ensures { λ r. ⌜ Roomy (now (store .entry)) (now (store .exit)) (now (work .entry)) (now (work .exit)) size r ⌝ }
+{
+    rebuild::rebuild(store, work);
+    if append::fits_at_root(store, size) {
+        return Spot::AtRoot;
+    }
+    Spot::Above(upper_node(store))
 }
 
 // Makes room for a message of this size, and tells where. The marks are those of the store as it is given.
 fn make_room(store: &mut [u8], work: &mut [u8], size: usize, seen: &[u8; 1024]) -> Spot
-    requires { ⌜ (wholeNodes (length (now store)) ≡ true)
-        × (sound (now store) ≡ true)
-        × (workPerNode * nodesOf (length (now store)) ≤ length (now work))
-        × (size ≤ 1010)
-        × Marks (now store) (now seen) ⌝ }
+    requires { ⌜ Passed (now store) (now work) × (size ≤ 1010) × Marks (now store) (now seen) ⌝ }
     ensures { λ r. ⌜ Roomy (now (store .entry)) (now (store .exit)) (now (work .entry)) (now (work .exit)) size r ⌝ }
 {
     if append::fits_at_root(store, size) {
@@ -100,11 +102,41 @@ fn make_room(store: &mut [u8], work: &mut [u8], size: usize, seen: &[u8; 1024]) 
     if free != 0 {
         return Spot::Above(free);
     }
-    rebuild::rebuild(store, work);
+    room_rebuilt(store, work, size)
+}
+
+// The same in a store whose nodes are not marked, by marks of its own.
+fn room_anew(store: &mut [u8], work: &mut [u8], size: usize) -> Spot
+    requires { ⌜ Passed (now store) (now work) × (size ≤ 1010) ⌝ }
+    ensures { λ r. ⌜ Roomy (now (store .entry)) (now (store .exit)) (now (work .entry)) (now (work .exit)) size r ⌝ }
+{
+    let mut seen = [0u8; 1024];
+    questions::mark(store, &mut seen);
+    make_room(store, work, size, &seen)
+}
+
+// Room for a message of this size: by the marks of the store where it is marked. Else its nodes are marked only where a free node is asked
+// for; a root that is full and holds messages needs none, since the store is rebuilt.
+fn find_room(
+    store: &mut [u8],
+    work: &mut [u8],
+    seen: &[u8; 1024],
+    marked: bool,
+    size: usize,
+) -> Spot
+    requires { ⌜ Passed (now store) (now work) × (marked ≡ true → Marks (now store) (now seen)) × (size ≤ 1010) ⌝ }
+    ensures { λ r. ⌜ Roomy (now (store .entry)) (now (store .exit)) (now (work .entry)) (now (work .exit)) size r ⌝ }
+{
+    if marked {
+        return make_room(store, work, size, seen);
+    }
     if append::fits_at_root(store, size) {
         return Spot::AtRoot;
     }
-    Spot::Above(free_unmarked(store))
+    if append::has_messages_at_root(store) {
+        return room_rebuilt(store, work, size);
+    }
+    room_anew(store, work, size)
 }
 
 // How many bytes the entry of a change has.
@@ -186,27 +218,42 @@ fn count_after(store: &[u8], change: Change, path: &[u8]) -> usize
     }
 }
 
+// The live count written: counted anew where 65,536 says that it is not known.
+fn write_count(store: &mut [u8], known: usize)
+    requires { ⌜ (wholeNodes (length (now store)) ≡ true)
+        × (soundButLive (now store) ≡ true)
+        × (length (tableOf (now store)) ≤ nodesOf (length (now store)))
+        × (known ≤ 65535 → known ≡ length (tableOf (now store))) ⌝ }
+    ensures { λ _. ⌜ Counted (now (store .entry)) (now (store .exit)) ⌝ }
+{
+    if 65535 < known {
+        let live = live::live_count(store);
+        append::set_live(store, live);
+        return;
+    }
+    append::set_live(store, known);
+}
+
 // A change that the questions allow.
 fn apply_change(
     store: &mut [u8],
     work: &mut [u8],
     seen: &[u8; 1024],
+    marked: bool,
     change: Change,
     path: &[u8],
     value: &[u8],
 )
-    requires { ⌜ (wholeNodes (length (now store)) ≡ true)
-        × (sound (now store) ≡ true)
-        × (workPerNode * nodesOf (length (now store)) ≤ length (now work))
-        × Allowed change (now path) (now value) (tableOf (now store)) (nodesOf (length (now store)))
-        × Marks (now store) (now seen) ⌝ }
+    requires { ⌜ Passed (now store) (now work)
+        × (marked ≡ true → Marks (now store) (now seen))
+        × Allowed change (now path) (now value) (tableOf (now store)) (nodesOf (length (now store))) ⌝ }
     ensures { λ _. ⌜ Edited (now (store .entry)) (now (store .exit)) (now (work .entry)) (now (work .exit)) (messageOf change (now (path .entry)) (now (value .entry))) ⌝ }
 {
     let known = count_after(store, change, path);
     let size = entry_size(change, path.len(), value.len());
-    let spot = make_room(store, work, size, seen);
+    let spot = find_room(store, work, seen, marked, size);
     add(store, spot, change, path, value);
-    finish::finish_known(store, work, known);
+    write_count(store, known);
 }
 
 // Question 10: is the path present, or are fewer than n paths?
@@ -222,16 +269,17 @@ fn has_place(store: &[u8], path: &[u8]) -> bool
     live < store.len() / image::NODE_SIZE
 }
 
-// put, on a store and a work area that are fit.
-fn put_fit(
+// put, on a store and a work area that are fit; `seen` has the marks of the check where the store is marked.
+pub fn put_fit(
     store: &mut [u8],
     work: &mut [u8],
     seen: &[u8; 1024],
+    marked: bool,
     path: &[u8],
     value: &[u8],
 ) -> Outcome
-    requires { ⌜ (wholeNodes (length (now store)) ≡ true) × (sound (now store) ≡ true) × (workPerNode * nodesOf (length (now store)) ≤ length (now work)) × Marks (now store) (now seen) ⌝ }
-    ensures { λ r. ⌜ Meets (now (store .entry)) (acts (put (now (path .entry)) (now (value .entry))) (now (work .entry))) (outcomeAnswer r) (now (store .exit)) (now (work .exit)) ⌝ }
+    requires { ⌜ Passed (now store) (now work) × (marked ≡ true → Marks (now store) (now seen)) ⌝ }
+    ensures { λ r. ⌜ Acted (now (store .entry)) (acts (put (now (path .entry)) (now (value .entry))) (now (work .entry))) r (now (store .exit)) (now (work .entry)) (now (work .exit)) ⌝ }
 {
     if !path::is_path(path) {
         return Outcome::Refused(Refusal::Malformed);
@@ -242,7 +290,7 @@ fn put_fit(
     if !has_place(store, path) {
         return Outcome::Refused(Refusal::Full);
     }
-    apply_change(store, work, seen, Change::Put, path, value);
+    apply_change(store, work, seen, marked, Change::Put, path, value);
     Outcome::Done
 }
 
@@ -251,22 +299,32 @@ pub fn put(store: &mut [u8], work: &mut [u8], path: &[u8], value: &[u8]) -> Outc
     ensures { λ r. ⌜ Meets (now (store .entry)) (acts (put (now (path .entry)) (now (value .entry))) (now (work .entry))) (outcomeAnswer r) (now (store .exit)) (now (work .exit)) ⌝ }
 {
     let mut seen = [0u8; 1024];
-    let asked = ready::ask(store, work, &mut seen);
+    let asked = questions::ask(store, work, &mut seen);
     match asked {
         Ready::Refused(refusal) => Outcome::Refused(refusal),
-        Ready::Fit(_) => put_fit(store, work, &seen, path, value),
+        Ready::Fit(_) => {
+            let outcome = put_fit(store, work, &seen, true, path, value);
+            questions::zero_area(outcome, work, store.len() / image::NODE_SIZE);
+            outcome
+        }
     }
 }
 
-// drop, on a store and a work area that are fit.
-fn drop_fit(store: &mut [u8], work: &mut [u8], seen: &[u8; 1024], path: &[u8]) -> Outcome
-    requires { ⌜ (wholeNodes (length (now store)) ≡ true) × (sound (now store) ≡ true) × (workPerNode * nodesOf (length (now store)) ≤ length (now work)) × Marks (now store) (now seen) ⌝ }
-    ensures { λ r. ⌜ Meets (now (store .entry)) (acts (drops (now (path .entry))) (now (work .entry))) (outcomeAnswer r) (now (store .exit)) (now (work .exit)) ⌝ }
+// drop, likewise.
+pub fn drop_fit(
+    store: &mut [u8],
+    work: &mut [u8],
+    seen: &[u8; 1024],
+    marked: bool,
+    path: &[u8],
+) -> Outcome
+    requires { ⌜ Passed (now store) (now work) × (marked ≡ true → Marks (now store) (now seen)) ⌝ }
+    ensures { λ r. ⌜ Acted (now (store .entry)) (acts (drops (now (path .entry))) (now (work .entry))) r (now (store .exit)) (now (work .entry)) (now (work .exit)) ⌝ }
 {
     if !path::is_path(path) {
         return Outcome::Refused(Refusal::Malformed);
     }
-    apply_change(store, work, seen, Change::Drop, path, &path[0..0]);
+    apply_change(store, work, seen, marked, Change::Drop, path, &path[0..0]);
     Outcome::Done
 }
 
@@ -275,22 +333,32 @@ pub fn drop(store: &mut [u8], work: &mut [u8], path: &[u8]) -> Outcome
     ensures { λ r. ⌜ Meets (now (store .entry)) (acts (drops (now (path .entry))) (now (work .entry))) (outcomeAnswer r) (now (store .exit)) (now (work .exit)) ⌝ }
 {
     let mut seen = [0u8; 1024];
-    let asked = ready::ask(store, work, &mut seen);
+    let asked = questions::ask(store, work, &mut seen);
     match asked {
         Ready::Refused(refusal) => Outcome::Refused(refusal),
-        Ready::Fit(_) => drop_fit(store, work, &seen, path),
+        Ready::Fit(_) => {
+            let outcome = drop_fit(store, work, &seen, true, path);
+            questions::zero_area(outcome, work, store.len() / image::NODE_SIZE);
+            outcome
+        }
     }
 }
 
-// clear, on a store and a work area that are fit.
-fn clear_fit(store: &mut [u8], work: &mut [u8], seen: &[u8; 1024], path: &[u8]) -> Outcome
-    requires { ⌜ (wholeNodes (length (now store)) ≡ true) × (sound (now store) ≡ true) × (workPerNode * nodesOf (length (now store)) ≤ length (now work)) × Marks (now store) (now seen) ⌝ }
-    ensures { λ r. ⌜ Meets (now (store .entry)) (acts (clear (now (path .entry))) (now (work .entry))) (outcomeAnswer r) (now (store .exit)) (now (work .exit)) ⌝ }
+// clear, likewise.
+pub fn clear_fit(
+    store: &mut [u8],
+    work: &mut [u8],
+    seen: &[u8; 1024],
+    marked: bool,
+    path: &[u8],
+) -> Outcome
+    requires { ⌜ Passed (now store) (now work) × (marked ≡ true → Marks (now store) (now seen)) ⌝ }
+    ensures { λ r. ⌜ Acted (now (store .entry)) (acts (clear (now (path .entry))) (now (work .entry))) r (now (store .exit)) (now (work .entry)) (now (work .exit)) ⌝ }
 {
     if !path::is_path(path) {
         return Outcome::Refused(Refusal::Malformed);
     }
-    apply_change(store, work, seen, Change::Clear, path, &path[0..0]);
+    apply_change(store, work, seen, marked, Change::Clear, path, &path[0..0]);
     Outcome::Done
 }
 
@@ -299,9 +367,13 @@ pub fn clear(store: &mut [u8], work: &mut [u8], path: &[u8]) -> Outcome
     ensures { λ r. ⌜ Meets (now (store .entry)) (acts (clear (now (path .entry))) (now (work .entry))) (outcomeAnswer r) (now (store .exit)) (now (work .exit)) ⌝ }
 {
     let mut seen = [0u8; 1024];
-    let asked = ready::ask(store, work, &mut seen);
+    let asked = questions::ask(store, work, &mut seen);
     match asked {
         Ready::Refused(refusal) => Outcome::Refused(refusal),
-        Ready::Fit(_) => clear_fit(store, work, &seen, path),
+        Ready::Fit(_) => {
+            let outcome = clear_fit(store, work, &seen, true, path);
+            questions::zero_area(outcome, work, store.len() / image::NODE_SIZE);
+            outcome
+        }
     }
 }

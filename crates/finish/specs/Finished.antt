@@ -1,5 +1,5 @@
 -- The live count right and the work area zeroed: what the end of a call leaves.
--- Relies on append_laws (the live count written) and on what counting promises.
+-- Relies on append's Laws (the live count written) and on what counting promises.
 use Prim.Native.Nat.{ℕ, _*_, _/_, _<_, _≤_}
 use mathlib.Core.Path.{_≡_, refl, sym, ap, subst, _∙_}
 use mathlib.Core.List.{List, _++_}
@@ -12,9 +12,9 @@ use Rattle.image.specs.Sound.{sound, tableOf}
 use Rattle.image.specs.Calls.{workPerNode}
 use Rattle.octets.specs.Cap.{cap, cap-small}
 use Rattle.laws.specs.ButLive.{soundButLive}
-use Rattle.packed.specs.Tidy.{zerosOf}
+use Rattle.packed.specs.Form.Tidy.{zerosOf}
 use Rattle.node.specs.Whole.{Whole, whole-parts}
-use Rattle.append_laws.specs.SetLive.{withLive, live-right, live-length, live-table}
+use Rattle.append.specs.Laws.SetLive.{withLive, live-right, live-length, live-table}
 use Rattle.rebuild.specs.Rebuild.{cleared}
 
 -- the live count right and the work area zeroed

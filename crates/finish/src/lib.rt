@@ -1,5 +1,5 @@
 // The end of every call that changes the map: the live count is written, counted anew where it is not known, and the work area zeroed.
-// Relies on live (the count), append (the count written) and build (the area zeroed).
+// Relies on live (the count), append (the count written) and packed (the area zeroed).
 ghost use mathlib.Core.Path.{_≡_};
 ghost use mathlib.Core.Bool.{true};
 ghost use Prim.Native.Nat.{_*_, _≤_};
@@ -22,7 +22,7 @@ fn conclude(store: &mut [u8], work: &mut [u8], live: usize)
 {
     append::set_live(store, live);
     let k = image::WORK_PER_NODE * (store.len() / image::NODE_SIZE);
-    build::clear_area(work, k);
+    packed::clear_area(work, k);
 }
 
 // The live count made right, and the work area zeroed.

@@ -9,9 +9,11 @@ pub mod Upkeep
 pub mod Calls
 pub mod PlainMap
 pub mod Contract
+pub mod Batch
 pub mod Listing
 pub mod Answers
 pub mod Cases
 pub mod Examples
+pub mod BatchExamples
 pub mod Program
 pub mod ProgramExamples

@@ -2,10 +2,10 @@
 -- Relies on: the plain map's questions, answers and tables. Text is a list of ASCII codes.
 use Prim.Native.Nat.{ℕ, zero, suc, _+_, _*_, _-_, _/_, _%_}
 use mathlib.Core.List.{List, [], _∷_, _++_}
-use mathlib.Core.Bool.{Bool, true, false, _||_, cond}
+use mathlib.Core.Bool.{Bool, false, _||_, cond}
 use mathlib.Core.Option.{Option, none, some}
 use lib.ListN.{length, take, replicate}
-use lib.Dec.{ltb, leb, eqb}
+use lib.Dec.{ltb, eqb}
 use Rattle.image.specs.Bytes.{same}
 use Rattle.image.specs.Path.{wellFormed, valueLimit}
 use Rattle.image.specs.Table.{Row, rowsBelow}

@@ -44,6 +44,20 @@ pub const PUT: usize = 0x0020;
 pub const DROP: usize = 0x0021;
 
 pub const CLEAR: usize = 0x0022;
+// Kinds of the further pieces of a batch, specs/Batch.antt.
+pub const MOVE: usize = 0x0023;
+
+pub const GET: usize = 0x0030;
+
+pub const NEXT: usize = 0x0031;
+
+pub const SETTLE: usize = 0x0040;
+
+pub const TIDY: usize = 0x0041;
+
+pub const FLUSH: usize = 0x0042;
+
+pub const HEAL: usize = 0x0043;
 
 // Which question got a no. The comment is the question; specs/Answers.antt has its number.
 pub enum Refusal {

@@ -40,7 +40,7 @@ sound-but-live image e = and-left (soundButLive image) (eqb (headerOf image .liv
 pub live-sound : (image : List ℕ) → soundButLive image ≡ true → headerOf image .live ≡ length (tableOf image) → sound image ≡ true
 live-sound image e h = sound-live image ∙ both e (eq-eqb (headerOf image .live) (length (tableOf image)) h)
 
--- the same as facts
+-- the same as facts: what a proof takes a sound image apart by
 pub record SoundParts (image : List ℕ) : Type 0 where
   pub laid : headerLaidOut (nodeBytes image 0) ≡ true
   pub count : headerOf image .count ≡ nodesOf (length image)
@@ -96,3 +96,11 @@ of-parts image p =
     (le-leb (h .levels) 8 (p .levelsHigh)))
     (le-leb (h .live) n (p .liveHigh))))
     (both (both (p .tree) (p .once)) (p .range))
+
+pub sound-parts : (image : List ℕ) → sound image ≡ true → SoundParts image
+sound-parts image e = parts-of image (sound-but-live image e)
+
+pub live-is : (image : List ℕ) → sound image ≡ true → headerOf image .live ≡ length (tableOf image)
+live-is image e =
+    eqb-true (headerOf image .live) (length (tableOf image))
+    (and-right (soundButLive image) (eqb (headerOf image .live) (length (tableOf image))) (sym (sound-live image) ∙ e))

@@ -11,7 +11,7 @@ use Rattle.image.specs.Image.{leaf}
 use Rattle.image.specs.Meaning.{rows}
 use Rattle.image.specs.Sound.{soundTree, valuesFit}
 use Rattle.octets.specs.Order.{and-left, and-right, not-so, not-true, not-false, before-append, before-trans, begins-split, between-begins}
-use Rattle.laws.specs.Rising.{both}
+use Rattle.laws.specs.Rising.{both, leads-trans, row-path}
 use Rattle.laws.specs.LookupTable.{not-low, under-high, does-own}
 
 unfoldable pub keep : (List ℕ → Bool) → List Row → List Row
@@ -82,11 +82,6 @@ keep-fit test (r ∷ t) e = go (test (r .key)) refl (keep-fit test t (and-right 
     go true f ih = rw f (both (and-left (valueFits (r .value)) _ e) ih)
     go false f ih = rw f ih
 
-leads-trans : (k m : List ℕ) (t : List Row) → before k m ≡ true → leads m t ≡ true → leads k t ≡ true
-unfolding leads
-leads-trans k m [] e f = refl
-leads-trans k m (r ∷ t) e f = before-trans k m (r .key) e f
-
 leads-keep : (k : List ℕ) (test : List ℕ → Bool) (t : List Row) → rising t ≡ true → leads k t ≡ true → leads k (keep test t) ≡ true
 unfolding leads keep rising
 leads-keep k test [] e f = refl
@@ -136,9 +131,6 @@ cut-whole k (r ∷ t) e = go (before (r .key) k) refl (cut-whole k t (and-right 
 unfoldable pub lowerRows : List ℕ → List Row → List Row
 lowerRows l [] = []
 lowerRows l (r ∷ t) = record { key = drop (length l) (r .key); value = r .value } ∷ lowerRows l t
-
-row-path : (r q : Row) → r .key ≡ q .key → r .value ≡ q .value → r ≡ q
-row-path r q a b = λ i. record { key = a i; value = b i }
 
 pub under-lower : (l : List ℕ) (t : List Row) → everyKey (λ q. begins l q) t ≡ true → underPrefix l (lowerRows l t) ≡ t
 unfolding underPrefix lowerRows everyKey
@@ -220,3 +212,15 @@ rowed-high lo k hi t r =
       rises = keep-rises (since k) t (r .rises);
       fit = keep-fit (since k) t (r .fit);
     }
+
+pub rises-all : (k : List ℕ) (t : List Row) → leads k t ≡ true → rising t ≡ true → everyKey (λ q. before k q) t ≡ true
+unfolding leads rising everyKey
+rises-all k [] a b = refl
+rises-all k (r ∷ t) a b =
+    both a (every-imp (λ q. before (r .key) q) (λ q. before k q) t (λ q h. before-trans k (r .key) q a h)
+    (rises-all (r .key) t (and-left _ _ b) (and-right (leads (r .key) t) _ b)))
+
+pub every-append : (a : List ℕ → Bool) (t u : List Row) → everyKey a t ≡ true → everyKey a u ≡ true → everyKey a (t ++ u) ≡ true
+unfolding everyKey
+every-append a [] u e f = f
+every-append a (r ∷ t) u e f = both (and-left (a (r .key)) _ e) (every-append a t u (and-right (a (r .key)) _ e) f)

@@ -1,18 +1,20 @@
 -- What follows a path in a rising table: next from the empty beginning is the first of the rows greater than a path, and once that row is
 -- passed, the rows greater than it are the later ones. For the calls that walk a whole store by next.
-use Prim.Native.Nat.{ℕ}
+use borrow.Author.Tests.{leb-true}
+use Prim.Native.Nat.{ℕ, _≤_}
 use mathlib.Core.Path.{_≡_, refl, sym, ap, _∙_}
 use mathlib.Core.List.{List, [], _∷_}
-use mathlib.Core.Bool.{Bool, true, false, _&&_, false≢true}
+use mathlib.Core.Bool.{Bool, true, false, false≢true}
 use native.Mathlib.Omega.{arith}
 use lib.ListN.{length}
 use Rattle.image.specs.Bytes.{before, begins}
 use Rattle.image.specs.Path.{wellFormed, readsOn, below, pathLimit}
 use Rattle.image.specs.Table.{Row, rowsBelow, rowsAfter, firstKey, leastAfter, leads, rising}
-use Rattle.image.specs.Image.{treeOf, nodesOf, headerOf, headerLaidOut, nodeBytes}
-use Rattle.image.specs.Sound.{sound, soundHeader, soundRoot, tableOf, lowest, highest}
+use Rattle.image.specs.Image.{treeOf}
+use Rattle.image.specs.Sound.{sound, tableOf, lowest, highest}
 use Rattle.octets.specs.Order.{and-left, and-right, not-so, before-irrefl, before-trans}
 use Rattle.laws.specs.RowsRising.{rows-rise}
+use Rattle.laws.specs.ButLive.{sound-parts}
 
 -- no path is empty
 pub formed-some : (k : List ℕ) → wellFormed k ≡ true → before [] k ≡ true
@@ -101,8 +103,9 @@ after-step q (x ∷ t) r u f e = go (before q (x .key)) refl (after-step q t r u
 
 -- the table of a sound image rises
 pub table-rises : (s : List ℕ) → sound s ≡ true → rising (tableOf s) ≡ true
-unfolding tableOf sound soundRoot
-table-rises s e =
-    rows-rise (treeOf s) lowest highest
-    (and-left _ _ (and-left _ _ (and-left _ _
-    (and-right (headerLaidOut (nodeBytes s 0) && soundHeader (nodesOf (length s)) (headerOf s)) _ e))))
+unfolding tableOf
+table-rises s e = rows-rise (treeOf s) lowest highest (sound-parts s e .tree)
+
+pub formed-length : (p : List ℕ) → wellFormed p ≡ true → length p ≤ 64
+unfolding wellFormed pathLimit
+formed-length p h = leb-true (length p) 64 (and-left _ _ h)

@@ -16,3 +16,5 @@ pub mod LiveCount
 pub mod ValuesFit
 pub mod ButLive
 pub mod Page
+pub mod Reading
+pub mod Upkeep

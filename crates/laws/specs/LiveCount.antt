@@ -3,6 +3,9 @@ use Prim.Native.Nat.{ℕ, suc, _+_, _-_}
 use mathlib.Core.Path.{_≡_, refl, ap, ap₂, _∙_}
 use mathlib.Core.List.{List, [], _∷_, _++_}
 use mathlib.Core.Bool.{Bool, true, false≢true}
+use native.Mathlib.Omega.{arith}
+use lib.Dec.{eqb}
+use borrow.Author.Tests.{eqb-true}
 use lib.ListN.{length, length-append}
 use Rattle.image.specs.Bytes.{shared}
 use Rattle.image.specs.Table.{Row, underPrefix}
@@ -62,3 +65,29 @@ mutual
   still-quiet-in (tree s t f) l lifted hi q =
       every-both holdsNoMessage (reachable t l (lifted ++ s) (highOf lifted hi f)) (reachableIn f l lifted hi) (still-quiet t l (lifted ++ s) (highOf lifted hi f) (and-left _ _ q))
       (still-quiet-in f l lifted hi (and-right (still t) _ q))
+
+-- and the other way
+every-parts : (test : Reachable → Bool) (xs ys : List Reachable) → every test (xs ++ ys) ≡ true → (every test xs ≡ true) × (every test ys ≡ true)
+unfolding every
+every-parts test [] ys e = (refl, e)
+every-parts test (x ∷ xs) ys e =
+    let z : (every test xs ≡ true) × (every test ys ≡ true) = every-parts test xs ys (and-right (test x) _ e) in
+    (both (and-left (test x) _ e) (z .0), z .1)
+
+mutual
+  unfolding reachable reachableIn every holdsNoMessage still stillIn
+
+  pub quiet-still : (t : Tree) (l : ℕ) (lo hi : List ℕ) → every holdsNoMessage (reachable t l lo hi) ≡ true → still t ≡ true
+  quiet-still (unread i) l lo hi e = refl
+  quiet-still (leaf i rs) l lo hi e = refl
+  quiet-still (interior i f []) l lo hi e = quiet-still-in f (l - 1) (shared lo hi) hi e
+  quiet-still (interior i f (m ∷ ms)) l lo hi e = absurd (never (length ms) (and-left _ _ e))
+    where
+      never : (n : ℕ) → eqb (suc n) 0 ≡ true → ⊥
+      never n q = let z : suc n ≡ 0 = eqb-true (suc n) 0 q in omega arith
+
+  pub quiet-still-in : (f : Forest) (l : ℕ) (lifted hi : List ℕ) → every holdsNoMessage (reachableIn f l lifted hi) ≡ true → stillIn f ≡ true
+  quiet-still-in end l lifted hi e = refl
+  quiet-still-in (tree s t f) l lifted hi e =
+      both (quiet-still t l (lifted ++ s) (highOf lifted hi f) (every-parts holdsNoMessage (reachable t l (lifted ++ s) (highOf lifted hi f)) (reachableIn f l lifted hi) e .0))
+      (quiet-still-in f l lifted hi (every-parts holdsNoMessage (reachable t l (lifted ++ s) (highOf lifted hi f)) (reachableIn f l lifted hi) e .1))

@@ -2,18 +2,19 @@
 use Prim.Native.Nat.{ℕ}
 use mathlib.Core.Path.{_≡_, refl, sym, ap, _∙_}
 use mathlib.Core.List.{List, [], _∷_, _++_}
-use mathlib.Core.Bool.{Bool, true, false, _&&_, not}
+use mathlib.Core.Bool.{Bool, true, false, _&&_, not, false≢true}
 use mathlib.Core.Option.{Option, none}
 use lib.ListN.{length, drop}
 use Rattle.image.specs.Bytes.{same, before, begins, shared}
 use Rattle.image.specs.Path.{wellFormed, owns}
 use Rattle.image.specs.Entry.{Message, puts, drops, clears}
 use Rattle.image.specs.Table.{Row, find, withRow, without, withoutBelow, underPrefix, everyKey}
-use Rattle.image.specs.Image.{Tree, unread, leaf, interior, Forest, end, tree, headerOf, headerLaidOut, nodeBytes, nodesOf, treeOf}
+use Rattle.image.specs.Image.{Tree, unread, leaf, interior, Forest, end, tree, treeOf}
 use Rattle.image.specs.Meaning.{Said, nothing, says, saysOf, newer, newest, decide, highOf, lookup, lookupIn, apply, applyAll, rows, rowsIn}
-use Rattle.image.specs.Sound.{soundMessage, soundMessages, soundTree, soundForest, firstPivot, highest, soundHeader, soundRoot, sound, valueIn, tableOf}
+use Rattle.image.specs.Sound.{soundMessage, soundMessages, soundTree, soundForest, firstPivot, highest, sound, valueIn, tableOf}
 use Rattle.octets.specs.Order.{and-left, and-right, not-so, not-true, same-eq, same-false, same-turn, before-le, before-trans, between-begins, begins-split, same-append, begins-append}
 use Rattle.laws.specs.Tables.{find-nil, find-with, find-with-other, find-without, find-without-other, find-cleared, find-spared, find-append-none, find-append-some, find-under, find-fails}
+use Rattle.laws.specs.ButLive.{sound-parts}
 
 -- one message: what is found in the table after it
 apply-find : (l q : List ℕ) (m : Message) (t : List Row) → find (l ++ q) (apply l m t) ≡ decide (saysOf m q) (find (l ++ q) t)
@@ -38,16 +39,6 @@ decide-newer : (old new : Said) (d : Option (List ℕ)) → decide new (decide o
 unfolding decide newer
 decide-newer old nothing d = refl
 decide-newer old (says v) d = refl
-
--- the same told oldest first, each message on what stands below it: the form that still holds when a message alters a value in place
-unfoldable pub after : List Message → List ℕ → Option (List ℕ) → Option (List ℕ)
-after [] rest d = d
-after (m ∷ ms) rest d = after ms rest (decide (saysOf m rest) d)
-
-pub newest-after : (ms : List Message) (rest : List ℕ) (d : Option (List ℕ)) → decide (newest ms rest) d ≡ after ms rest d
-unfolding newest after decide
-newest-after [] rest d = refl
-newest-after (m ∷ ms) rest d = sym (decide-newer (saysOf m rest) (newest ms rest) d) ∙ newest-after ms rest (decide (saysOf m rest) d)
 
 -- all of a node's messages, oldest first
 pub all-find : (l q : List ℕ) (ms : List Message) (t : List Row) → find (l ++ q) (applyAll l ms t) ≡ decide (newest ms q) (find (l ++ q) t)
@@ -266,8 +257,9 @@ root-find t hi p e = lookup-find t [] hi p e refl
 
 -- a sound image means its table
 pub means-table : (image : List ℕ) → sound image ≡ true → (p : List ℕ) → valueIn image p ≡ find p (tableOf image)
-unfolding valueIn tableOf sound soundRoot
-means-table image e p =
-    root-find (treeOf image) highest p
-    (and-left _ _ (and-left _ _ (and-left _ _
-    (and-right (headerLaidOut (nodeBytes image 0) && soundHeader (nodesOf (length image)) (headerOf image)) _ e))))
+unfolding valueIn tableOf
+means-table image e p = root-find (treeOf image) highest p (sound-parts image e .tree)
+
+pub not-unread : (i : ℕ) (lo hi : List ℕ) → soundTree (unread i) lo hi ≡ true → ⊥
+unfolding soundTree
+not-unread i lo hi e = false≢true e

@@ -7,7 +7,6 @@ use native.Mathlib.Omega.{arith}
 use lib.ListN.{length, replicate, length-append, length-replicate}
 use borrow.Author.Tests.{lt-ltb, le-leb, eq-eqb}
 use Rattle.image.specs.Bytes.{shared, zeros, u16}
-use Rattle.image.specs.Path.{}
 use Rattle.image.specs.Entry.{readAll, entriesOf}
 use Rattle.image.specs.Table.{everyKey, underPrefix, rising}
 use Rattle.image.specs.Image.{leaf, header, nodeBytes, nodesOf, wholeNodes, headerOf, headerLaidOut, laidOut, entryBytes, nodeEntries, pairsOf, leafOf, orNone, treeAt, treeOf}

@@ -1,10 +1,10 @@
 -- The 1,024 bytes of a node with given entries, and that they read back: what joins a written image to its tree, for the packed form, the
 -- slices and the upkeep alike. Relies on Encode (entries as bytes).
-use Prim.Native.Nat.{ℕ, zero, suc, _+_, _-_, _/_, _%_, _≤_}
+use Prim.Native.Nat.{ℕ, zero, suc, _+_, _-_, _/_, _%_, _≤_, _*_}
 use mathlib.Core.Path.{_≡_, refl, _∙_}
 use mathlib.Core.List.{List, [], _∷_, _++_}
 use mathlib.Core.Bool.{true}
-use mathlib.Core.Option.{some}
+use mathlib.Core.Option.{some, Option, none}
 use native.Mathlib.Omega.{arith}
 use lib.ListN.{length, drop, replicate, length-append, length-replicate}
 use lib.Seq.{drop-append-add, take-append-seam, drop-append-seam}
@@ -12,7 +12,7 @@ use borrow.Author.Tests.{le-leb, eq-eqb}
 use Rattle.image.specs.Bytes.{u16, zeros, u16Bytes}
 use Rattle.image.specs.Entry.{Entry, pair, child, entriesOf}
 use Rattle.image.specs.Table.{Row}
-use Rattle.image.specs.Image.{Tree, unread, leaf, interior, Forest, end, tree, Kid, laidOut, entryBytes, nodeEntries, pairThen, pairsOf, kidThen, insideOf}
+use Rattle.image.specs.Image.{Tree, unread, leaf, interior, Forest, end, tree, Kid, laidOut, entryBytes, nodeEntries, pairThen, pairsOf, kidThen, insideOf, treeAt, nodeBytes, leafOf, interiorOf, Inside, orNone, header, headerLaidOut}
 use Rattle.laws.specs.Encode.{bytesOfAll, allowed, allAllowed, all-back}
 
 -- a node: u16 length of the entries, kind, level, zero, the entries, zeros
@@ -115,3 +115,39 @@ pub kids-back : (f : Forest) → insideOf (childEntries f) ≡ some (record { ki
 unfolding insideOf childEntries kidThen kidsOf
 kids-back end = refl
 kids-back (tree s t f) = rw (kids-back f)
+
+-- the children of a node that is read are read
+pub number-read : (l : ℕ) (s : List ℕ) (i : ℕ) → numberOf (treeAt l s i) ≡ i
+unfolding treeAt numberOf
+number-read zero s i = refl
+number-read (suc zero) s i = go (orNone pairsOf (nodeEntries 0x0001 1 (nodeBytes s i)))
+  where
+    go : (o : Option (List Row)) → numberOf (leafOf i o) ≡ i
+    go none = unfold leafOf in refl
+    go (some rs) = unfold leafOf in refl
+number-read (suc (suc l)) s i = go (orNone insideOf (nodeEntries 0x0002 (suc (suc l)) (nodeBytes s i)))
+  where
+    go : (o : Option Inside) → numberOf (interiorOf (λ j. treeAt (suc l) s j) i o) ≡ i
+    go none = unfold interiorOf in refl
+    go (some x) = unfold interiorOf in refl
+
+-- node 0
+unfoldable pub headPage : ℕ → ℕ → ℕ → ℕ → List ℕ
+headPage n root levels live = 8 ∷ 0 ∷ 0 ∷ 1 ∷ (u16Bytes n ++ (u16Bytes root ++ (u16Bytes levels ++ (u16Bytes live ++ replicate 1012 0))))
+
+pub head-header : (n root levels live : ℕ) → header (headPage n root levels live) ≡ record { count = n; root = root; levels = levels; live = live }
+unfolding header u16 headPage
+head-header n root levels live =
+    let a : n % 256 + 256 * (n / 256) ≡ n = omega arith in
+    let b : root % 256 + 256 * (root / 256) ≡ root = omega arith in
+    let c : levels % 256 + 256 * (levels / 256) ≡ levels = omega arith in
+    let d : live % 256 + 256 * (live / 256) ≡ live = omega arith in
+    λ i. record { count = a i; root = b i; levels = c i; live = d i }
+
+pub head-laid : (n root levels live : ℕ) → headerLaidOut (headPage n root levels live) ≡ true
+unfolding headerLaidOut u16 headPage
+head-laid n root levels live = zeros-replicate 1012
+
+pub head-length : (n root levels live : ℕ) → length (headPage n root levels live) ≡ 1024
+unfolding headPage
+head-length n root levels live = refl

@@ -182,7 +182,7 @@ unfolding firstPivot raise
 first-raise l lo end = refl
 first-raise l lo (tree s t f) = refl
 
-messages-none : (lo hi : List ℕ) → soundMessages lo hi [] ≡ true
+pub messages-none : (lo hi : List ℕ) → soundMessages lo hi [] ≡ true
 unfolding soundMessages
 messages-none lo hi = refl
 

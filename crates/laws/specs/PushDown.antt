@@ -10,9 +10,9 @@ use Rattle.image.specs.Entry.{Message, puts, drops, clears}
 use Rattle.image.specs.Table.{Row, withRow, without, withoutBelow, everyKey, underPrefix}
 use Rattle.image.specs.Image.{Tree, unread, leaf, interior, Forest, end, tree}
 use Rattle.image.specs.Meaning.{highOf, apply, applyAll, rows, rowsIn}
-use Rattle.image.specs.Sound.{soundTree, soundForest, soundMessage, soundMessages, firstPivot}
+use Rattle.image.specs.Sound.{soundTree, soundForest, soundMessage, firstPivot}
 use Rattle.octets.specs.Order.{and-left, and-right, not-so, not-true, not-false, same-eq, same-false, same-turn, before-le, before-not-same, begins-split, before-asym, before-trans, begins-trans, begins-either, drop-beyond}
-use Rattle.laws.specs.LookupTable.{parts, inner, outside, later-none, not-low, under-high, does-own, too-low}
+use Rattle.laws.specs.LookupTable.{parts, outside, later-none, not-low, under-high, does-own, too-low}
 use Rattle.laws.specs.RowsRising.{every-key, not-before}
 use Rattle.laws.specs.Rising.{one-key}
 use Rattle.laws.specs.Shift.{under-apply}
@@ -278,11 +278,3 @@ push-apply (puts s v) f lo hi a e w =
     (first-low f lo hi (shared lo hi ++ s) a (not-low lo hi (shared lo hi ++ s) (put-owned s v lo hi w)))
 push-apply (drops s) f lo hi a e w = pushed-drop (shared lo hi ++ s) f (shared lo hi) lo hi e
 push-apply (clears s) f lo hi a e w = pushed-clear (shared lo hi ++ s) f (shared lo hi) lo hi e
-
--- Pushing the oldest message of a sound node to its children leaves its table.
-pub push-oldest : (i : ℕ) (f : Forest) (m : Message) (ms : List Message) (lo hi : List ℕ) → soundTree (interior i f (m ∷ ms)) lo hi ≡ true
-    → rows (interior i (pushed (raised (shared lo hi) m) f (shared lo hi) hi) ms) lo hi ≡ rows (interior i f (m ∷ ms)) lo hi
-unfolding rows applyAll soundTree soundMessages
-push-oldest i f m ms lo hi e =
-    ap (λ t. applyAll (shared lo hi) ms t)
-    (push-apply m f lo hi (and-left _ _ (and-left _ _ e)) (inner i f (m ∷ ms) lo hi e .kids) (and-left _ _ (inner i f (m ∷ ms) lo hi e .wait)))

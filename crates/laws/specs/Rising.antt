@@ -3,7 +3,7 @@ use Prim.Native.Nat.{ℕ}
 use mathlib.Core.Path.{_≡_, refl, sym, ap₂, _∙_}
 use mathlib.Core.List.{List, [], _∷_}
 use mathlib.Core.Bool.{Bool, true, false, _&&_}
-use mathlib.Core.Option.{Option, none, Option·some-injective, Option·none-ne-some}
+use mathlib.Core.Option.{none, Option·some-injective, Option·none-ne-some}
 use Rattle.image.specs.Bytes.{same, before}
 use Rattle.image.specs.Path.{below}
 use Rattle.image.specs.Table.{Row, find, withRow, without, withoutBelow, leads, rising}
@@ -13,7 +13,7 @@ use Rattle.laws.specs.Tables.{find-nil, find-yes, find-no}
 pub both : {a b : Bool} → a ≡ true → b ≡ true → a && b ≡ true
 both p q = rw (p, q)
 
-leads-trans : (k m : List ℕ) (t : List Row) → before k m ≡ true → leads m t ≡ true → leads k t ≡ true
+pub leads-trans : (k m : List ℕ) (t : List Row) → before k m ≡ true → leads m t ≡ true → leads k t ≡ true
 unfolding leads
 leads-trans k m [] e f = refl
 leads-trans k m (r ∷ t) e f = before-trans k m (r .key) e f

@@ -3,7 +3,7 @@ use Prim.Native.Nat.{ℕ}
 use mathlib.Core.Path.{_≡_, refl, sym, _∙_}
 use mathlib.Core.List.{List, [], _∷_, _++_}
 use mathlib.Core.Bool.{Bool, true, false, _&&_, not}
-use mathlib.Core.Option.{Option, none, Option·none-ne-some}
+use mathlib.Core.Option.{none, Option·none-ne-some}
 use Rattle.image.specs.Bytes.{same, before, shared}
 use Rattle.image.specs.Path.{owns, wellFormed}
 use Rattle.image.specs.Entry.{Message, puts, drops, clears}

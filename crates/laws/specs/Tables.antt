@@ -1,8 +1,9 @@
 -- Laws of a table: what is found after each change of it.
-use Prim.Native.Nat.{ℕ}
+use lib.ListN.{length}
+use Prim.Native.Nat.{ℕ, suc, _≤_}
 use mathlib.Core.Path.{_≡_, refl, sym, _∙_}
 use mathlib.Core.List.{List, [], _∷_, _++_}
-use mathlib.Core.Bool.{Bool, true, false}
+use mathlib.Core.Bool.{Bool, true, false, cond}
 use mathlib.Core.Option.{none, some}
 use Rattle.image.specs.Bytes.{same, before, begins}
 use Rattle.image.specs.Path.{below}
@@ -119,3 +120,15 @@ unfolding everyKey find
 find-fails test q [] e f = refl
 find-fails test q (r ∷ t) e f =
     find-no q r t (same-false q (r .key) (λ z. not-so (rw z (and-left _ _ e)) f)) ∙ find-fails test q t (and-right (test (r .key)) _ e) f
+
+-- a move makes no new rows
+pub with-length : (p v : List ℕ) (t : List Row) → length (withRow p v t) ≤ suc (length t)
+unfolding withRow
+with-length p v [] = omega arith
+with-length p v (r ∷ t) = go (before (r .key) p) (same p (r .key)) (with-length p v t)
+  where
+    go : (x y : Bool) → length (withRow p v t) ≤ suc (length t)
+        → length (cond x (r ∷ withRow p v t) (cond y (record { key = p; value = v } ∷ t) (record { key = p; value = v } ∷ r ∷ t))) ≤ suc (suc (length t))
+    go true y ih = omega arith
+    go false true ih = omega arith
+    go false false ih = omega arith

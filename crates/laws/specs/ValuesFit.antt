@@ -12,15 +12,16 @@ use Rattle.image.specs.Bytes.{same, before, shared}
 use Rattle.image.specs.Path.{wellFormed, below, owns, valueLimit, valueFits}
 use Rattle.image.specs.Entry.{Message, puts, drops, clears}
 use Rattle.image.specs.Table.{Row, find, withRow, without, withoutBelow, everyKey, rising, underPrefix}
-use Rattle.image.specs.Image.{Tree, unread, leaf, interior, Forest, end, tree, treeOf, nodesOf, headerOf, headerLaidOut, nodeBytes}
+use Rattle.image.specs.Image.{Tree, unread, leaf, interior, Forest, end, tree, treeOf}
 use Rattle.image.specs.Meaning.{highOf, apply, applyAll, rows, rowsIn}
-use Rattle.image.specs.Sound.{valuesFit, soundMessage, soundMessages, soundTree, soundForest, soundHeader, soundRoot, sound, tableOf, lowest, highest, numbers, once, inRange}
+use Rattle.image.specs.Sound.{valuesFit, soundMessage, soundMessages, soundTree, soundForest, sound, tableOf, lowest, highest}
 use Rattle.octets.specs.Order.{and-left, and-right}
 use Rattle.laws.specs.Rising.{both}
 use Rattle.laws.specs.Filter.{fit-under}
 use Rattle.laws.specs.LookupTable.{parts, inner}
+use Rattle.laws.specs.ButLive.{sound-parts}
 
-fit-append : (t u : List Row) → valuesFit t ≡ true → valuesFit u ≡ true → valuesFit (t ++ u) ≡ true
+pub fit-append : (t u : List Row) → valuesFit t ≡ true → valuesFit u ≡ true → valuesFit (t ++ u) ≡ true
 unfolding valuesFit
 fit-append [] u e f = f
 fit-append (r ∷ t) u e f = both (and-left (valueFits (r .value)) _ e) (fit-append t u (and-right (valueFits (r .value)) _ e) f)
@@ -96,10 +97,10 @@ found-fits p v (r ∷ t) e h = go (same p (r .key)) refl (found-fits p v t (and-
 
 -- what a sound image holds
 pub table-fits : (s : List ℕ) → sound s ≡ true → valuesFit (tableOf s) ≡ true
-unfolding tableOf sound soundRoot
-table-fits s e =
-    let root : soundRoot (nodesOf (length s)) (headerOf s .live) (treeOf s) ≡ true
-    = and-right (headerLaidOut (nodeBytes s 0) && soundHeader (nodesOf (length s)) (headerOf s)) _ e in
-    let tree : soundTree (treeOf s) lowest highest ≡ true
-    = and-left (soundTree (treeOf s) lowest highest) _ (and-left (soundTree (treeOf s) lowest highest && once (numbers (treeOf s))) _ (and-left (soundTree (treeOf s) lowest highest && once (numbers (treeOf s)) && inRange (nodesOf (length s)) (numbers (treeOf s))) _ root)) in
-    rows-fit (treeOf s) lowest highest tree
+unfolding tableOf
+table-fits s e = rows-fit (treeOf s) lowest highest (sound-parts s e .tree)
+
+pub leaf-values : (i : ℕ) (rs : List Row) (lo hi : List ℕ) → soundTree (leaf i rs) lo hi ≡ true → valuesFit rs ≡ true
+unfolding soundTree
+leaf-values i rs lo hi e =
+    and-right (everyKey wellFormed (underPrefix (shared lo hi) rs) && everyKey (owns lo hi) (underPrefix (shared lo hi) rs) && rising rs) _ e

@@ -1,18 +1,24 @@
 -- One node of an image written anew.
-use Prim.Native.Nat.{ℕ, _+_, _*_, _-_, _≤_, _<_}
+use Prim.Native.Nat.{ℕ, _+_, _*_, _-_, _/_, _≤_, _<_}
 use mathlib.Core.Path.{_≡_, refl, sym, ap, _∙_}
 use mathlib.Core.List.{List, _++_, append-assoc}
 use mathlib.Core.Bool.{Bool, true, false}
 use native.Mathlib.Omega.{arith}
+use native.Mathlib.Nat.{mul-div-le}
 use native.Mathlib.Numerals.{lt-of-le-of-ne}
 use lib.Dec.{ltb}
 use borrow.Author.Tests.{ltb-true, ltb-false}
 use lib.ListN.{length, take, drop, length-append, length-drop, take-append-drop}
 use lib.Seq.{take-append-le, drop-append-le, take-at, drop-at, drop-append-add, length-take-le}
-use Rattle.image.specs.Image.{nodeBytes}
+use Rattle.image.specs.Image.{nodeBytes, nodesOf}
 
 unfoldable pub writeNode : List ℕ → ℕ → List ℕ → List ℕ
 writeNode image i bytes = take (1024 * i) image ++ (bytes ++ drop (1024 * i + 1024) image)
+
+-- a node of a store lies inside it
+pub in-store : (len i : ℕ) → i < nodesOf len → i * 1024 + 1024 ≤ len
+unfolding nodesOf
+in-store len i h = let b : 1024 * (len / 1024) ≤ len = mul-div-le len 1024 in omega arith
 
 -- a node that lies in the first part
 front : (t u : List ℕ) (j : ℕ) → 1024 * j + 1024 ≤ length t → nodeBytes (t ++ u) j ≡ nodeBytes t j

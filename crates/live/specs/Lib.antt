@@ -1,3 +1,4 @@
+pub mod Notes
 pub mod Live
 pub mod KeepLaws
 pub mod LiveLaws
@@ -10,3 +11,4 @@ pub mod RootSteps
 pub mod PathSteps
 pub mod Noted
 pub mod NotedSteps
+pub mod SilentSteps

@@ -12,7 +12,7 @@ use Rattle.image.specs.Entry.{Message, puts, drops, clears}
 use Rattle.image.specs.Table.{Row}
 use Rattle.image.specs.Image.{Tree, unread, leaf, interior, Forest, end, tree}
 use Rattle.image.specs.Meaning.{Said, nothing, says, newest, highOf}
-use Rattle.reading.specs.Relative.{lifts}
+use Rattle.laws.specs.Reading.Relative.{lifts}
 
 -- the messages say nothing
 unfoldable pub holdsNoMessage : Said → Bool

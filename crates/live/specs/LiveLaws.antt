@@ -20,9 +20,9 @@ use Rattle.laws.specs.Tables.{find-fails}
 use Rattle.laws.specs.RowsRising.{every-key, rising-apply, rows-rise-in}
 use Rattle.laws.specs.LookupTable.{parts, inner, outside-in}
 use Rattle.laws.specs.Filter.{keep, keep-append, keep-all, keep-passes}
-use Rattle.reading.specs.Relative.{lifts}
-use Rattle.reading.specs.SeekHere.{high-split, high-under}
-use Rattle.reading.specs.Seek.{every, holds, keys, keys-hold, isKey, present, stands}
+use Rattle.laws.specs.Reading.Relative.{lifts}
+use Rattle.laws.specs.Reading.SeekHere.{high-split, high-under}
+use Rattle.laws.specs.Reading.Seek.{every, holds, keys, keys-hold, isKey, present, stands}
 use Rattle.live.specs.Live.{holdsNoMessage, one, short, Shortens, countRows, countPuts, liveHere, liveKids}
 use Rattle.live.specs.KeepLaws.{keep-ext, with-length, added, quiet-put, quiet-newer, message-keep, owned-apply, all-begin}
 
@@ -33,10 +33,6 @@ keep-length test r t = go (test (r .key)) refl
     go : (x : Bool) → test (r .key) ≡ x → length (cond (test (r .key)) (r ∷ keep test t) (keep test t)) ≡ one (test (r .key)) + length (keep test t)
     go true e = rw e (omega arith)
     go false e = rw e (omega arith)
-
-none-one : one false ≡ 0
-unfolding one
-none-one = refl
 
 nothing-kept : (ok : List ℕ → Bool) → 0 ≡ length (keep ok [])
 unfolding keep

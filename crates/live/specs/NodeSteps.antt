@@ -9,13 +9,13 @@ use lib.ListN.{length, take, drop, length-append}
 use Rattle.image.specs.Bytes.{u16, shared}
 use Rattle.image.specs.Image.{Tree, Kid, nodesOf, forestOf, treeAt}
 use Rattle.octets.specs.Cap.{cap, cap-small, cap-add}
-use Rattle.reading.specs.Relative.{lifts, usable, usableIn}
+use Rattle.laws.specs.Reading.Relative.{lifts, usable, usableIn}
 use Rattle.node.specs.Places.{part}
 use Rattle.node.specs.Entries.{listed}
 use Rattle.node.specs.declared.Place.{Place}
 use Rattle.node.specs.declared.Cursor.{Cursor}
-use Rattle.search.specs.Hear.{newestE}
-use Rattle.search.specs.Own.{kid, kidsE}
+use Rattle.node.specs.Search.Hear.{newestE}
+use Rattle.node.specs.Search.Own.{kid, kidsE}
 use Rattle.lookup.specs.Look.{listing, node-inside, part-rest}
 use Rattle.live.specs.Live.{holdsNoMessage, liveHere, liveKids}
 use Rattle.live.specs.LiveLaws.{too-long}
@@ -25,7 +25,8 @@ use Rattle.live.specs.declared.path_buffer.PathBuffer.{PathBuffer}
 use Rattle.live.specs.declared.Trail.{Trail}
 use Rattle.live.specs.Walk.{passing, TrailIn, Above, Deeper, countE, NextChild, Ready, ReadyKids}
 use Rattle.live.specs.Steps.{passes-short}
-use Rattle.live.specs.WalkLaws.{leaf-counts, kids-usable, interior-counts, first-usable, shared-take}
+use Rattle.live.specs.WalkLaws.{leaf-counts, kids-usable, interior-counts, first-usable}
+use Rattle.octets.specs.Beginnings.{shared-take}
 
 no-kids : (under : ℕ → Tree) (ok : List ℕ → Bool) (X hi : List ℕ) → liveKids (forestOf under []) ok X hi ≡ 0
 unfolding liveKids forestOf

@@ -13,9 +13,9 @@ use Rattle.node.specs.Places.{part}
 use Rattle.node.specs.Entries.{listed}
 use Rattle.node.specs.declared.Place.{Place}
 use Rattle.node.specs.declared.Cursor.{Cursor}
-use Rattle.search.specs.Own.{kid, kidsE}
+use Rattle.node.specs.Search.Own.{kid, kidsE}
 use Rattle.lookup.specs.Look.{listing}
-use Rattle.notes.specs.Notes.{NotesFit, quiet, areSilent}
+use Rattle.live.specs.Notes.Notes.{NotesFit, quiet, areSilent}
 use Rattle.live.specs.Live.{short}
 use Rattle.live.specs.Walk.{passing}
 use Rattle.live.specs.PathBuffers.{pathIn}

@@ -15,28 +15,27 @@ use Rattle.image.specs.Table.{Row, everyKey, underPrefix}
 use Rattle.image.specs.Image.{Tree, leaf, interior, Forest, tree, Kid, nodesOf, pairThen, pairsOf, forestOf, treeAt, treeOf}
 use Rattle.image.specs.Meaning.{Said, nothing, says, newer, highOf}
 use Rattle.image.specs.Sound.{soundTree, soundForest, lowest, highest}
-use Rattle.octets.specs.Beginnings.{shared-left, shared-right}
-use Rattle.octets.specs.Order.{and-left, and-right, before-append, shared-append, begins-split}
+use Rattle.octets.specs.Beginnings.{shared-left, shared-right, shared-take}
+use Rattle.octets.specs.Order.{and-left, and-right, before-append, shared-append, begins-split, and-assoc}
 use Rattle.laws.specs.Rising.{both}
 use Rattle.laws.specs.LookupTable.{parts, inner, inside-not, not-low, high-under}
 use Rattle.laws.specs.Filter.{leaf-rowed}
-use Rattle.reading.specs.Relative.{lifts, usable}
+use Rattle.laws.specs.Reading.Relative.{lifts, usable}
 use Rattle.node.specs.Cut.{cut-drop}
 use Rattle.node.specs.Places.{part}
 use Rattle.node.specs.Entries.{listed}
 use Rattle.node.specs.declared.Place.{Place}
 use Rattle.node.specs.declared.Cursor.{Cursor}
-use Rattle.search.specs.Hear.{newestE, saysE, speaks}
-use Rattle.search.specs.Own.{kid, kidsE}
+use Rattle.node.specs.Search.Hear.{newestE, saysE, speaks}
+use Rattle.node.specs.Search.Own.{kid, kidsE}
 use Rattle.lookup.specs.Look.{listing, leaf-at, interior-at, inside-splits, part-rest}
-use Rattle.notes.specs.Notes as notes
+use Rattle.live.specs.Notes.Notes as notes
 use Rattle.live.specs.Live.{holdsNoMessage, one, short}
 use Rattle.live.specs.Walk.{passes, passing, TrailIn, Deeper, decides, countE, NextChild}
 use Rattle.live.specs.Noted.{quietAbove, quietTrail, keyed, Tells, Handed, Joined, LeafTold, SoundNode, SoundKids}
 use Rattle.live.specs.PathSteps.{path-length}
 use Rattle.live.specs.Steps.{as-path}
 use Rattle.live.specs.PathBuffers.{pathIn}
-use Rattle.live.specs.WalkLaws.{shared-take}
 use Rattle.live.specs.declared.path_buffer.PathBuffer.{PathBuffer}
 use Rattle.live.specs.declared.Trail.{Trail}
 
@@ -69,10 +68,6 @@ module _ (es : List defined.Entry) (r : List ℕ) (X : Bool) (inv : notes.areSil
 
     pub silent-on : b ≡ false → notes.areSilent ts r ≡ X
     silent-on g = rw (sym f ∙ g) at here-silent
-
-and-assoc : (a b c : Bool) → (a && b) && c ≡ a && (b && c)
-and-assoc true b c = refl
-and-assoc false b c = refl
 
 -- a path under the prefix passes the trail if it is short and nothing above is on its key
 pub passes-quiet : (s nodes ls X : List ℕ) (d : ℕ) (k : List ℕ) → ((i : ℕ) → i < d → getD ls i 0 ≤ length X)

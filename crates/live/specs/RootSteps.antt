@@ -11,7 +11,7 @@ use Rattle.image.specs.Image.{Tree, nodesOf, header, headerOf, treeAt, treeOf}
 use Rattle.image.specs.Sound.{lowest, highest, tableOf}
 use Rattle.laws.specs.ButLive.{soundButLive, parts-of}
 use Rattle.octets.specs.Cap.{cap}
-use Rattle.reading.specs.Relative.{lifts, usable, sound-usable}
+use Rattle.laws.specs.Reading.Relative.{lifts, usable, sound-usable}
 use Rattle.lookup.specs.Look.{node-inside}
 use Rattle.lookup.specs.Root.{first-u16}
 use Rattle.live.specs.Live.{short, liveHere}

@@ -20,9 +20,9 @@ use Rattle.node.specs.Entries.{listed}
 use Rattle.node.specs.declared.Place.{Place}
 use Rattle.node.specs.declared.Message.{Message}
 use Rattle.node.specs.declared.Entry.{Entry}
-use Rattle.search.specs.declared.Kid.{Kid}
-use Rattle.search.specs.Own.{kidIs, kidsE, kid-place, kids-none, kids-other, kids-more}
-use Rattle.search.specs.Hear.{saysE, newestE, newer-nothing}
+use Rattle.node.specs.declared.search.Kid.{Kid}
+use Rattle.node.specs.Search.Own.{kidIs, kidsE, kid-place, kids-none, kids-other, kids-more}
+use Rattle.node.specs.Search.Hear.{saysE, newestE, newer-nothing}
 use Rattle.lookup.specs.Look.{listing, part-rest}
 use Rattle.live.specs.Live.{holdsNoMessage, one, short, Shortens}
 use Rattle.live.specs.PathBuffers.{pathIn}

@@ -8,13 +8,13 @@ use Rattle.image.specs.Bytes.{u16}
 use Rattle.image.specs.Entry as defined
 use Rattle.image.specs.Image.{headerOf, treeOf, treeAt, nodesOf, forestOf}
 use Rattle.image.specs.Sound.{soundTree, inRange, numbers, lowest, highest}
-use Rattle.reading.specs.Relative.{usable, usableIn}
+use Rattle.laws.specs.Reading.Relative.{usable, usableIn}
 use Rattle.node.specs.Places.{part, Within}
 use Rattle.node.specs.Entries.{listed}
 use Rattle.node.specs.declared.Place.{Place}
 use Rattle.node.specs.declared.Cursor.{Cursor}
-use Rattle.search.specs.Hear.{newestE}
-use Rattle.search.specs.Own.{kid, kidsE}
+use Rattle.node.specs.Search.Hear.{newestE}
+use Rattle.node.specs.Search.Own.{kid, kidsE}
 use Rattle.lookup.specs.Look.{listing}
 use Rattle.live.specs.Live.{holdsNoMessage, one, short}
 use Rattle.live.specs.declared.path_buffer.PathBuffer.{PathBuffer}

@@ -6,8 +6,7 @@ use mathlib.Core.List.{List, [], _∷_, _++_}
 use mathlib.Core.Bool.{Bool, true, false, _&&_, and-comm}
 use mathlib.Core.Option.{Option, none, some}
 use native.Mathlib.Omega.{arith}
-use lib.ListN.{length, take, drop}
-use lib.Dec.{eqb}
+use lib.ListN.{length, drop}
 use Rattle.image.specs.Bytes.{shared}
 use Rattle.image.specs.Entry as defined
 use Rattle.image.specs.Table.{Row}
@@ -15,9 +14,9 @@ use Rattle.image.specs.Image.{Tree, leaf, interior, Forest, tree, Kid, Inside, 
 use Rattle.image.specs.Meaning.{newest, highOf}
 use Rattle.octets.specs.Cap.{cap, cap-add, cap-front}
 use Rattle.octets.specs.Order.{and-left, and-right}
-use Rattle.reading.specs.Relative.{lifts, usable, usableIn}
-use Rattle.search.specs.Hear.{newestE}
-use Rattle.search.specs.Own.{kid, kidsE}
+use Rattle.laws.specs.Reading.Relative.{lifts, usable, usableIn}
+use Rattle.node.specs.Search.Hear.{newestE}
+use Rattle.node.specs.Search.Own.{kid, kidsE}
 use Rattle.lookup.specs.Look.{listing, leaf-at, interior-at, inside-splits, messages-newest}
 use Rattle.live.specs.Live.{holdsNoMessage, one, countRows, countPuts, liveHere, liveKids}
 use Rattle.live.specs.Walk.{decides, countE}
@@ -180,14 +179,3 @@ later-usable n under k ks us e u = ap (λ l. usableIn n (forestOf under l)) (sym
 
 pub walk-start : (N : ℕ) → cap (0 + N) ≡ cap N
 walk-start N = let e : 0 + N ≡ N = omega arith in ap cap e
-
--- what a node lifts is a beginning of its low pivot
-pub shared-take : (lo hi : List ℕ) → take (length (shared lo hi)) lo ≡ shared lo hi
-unfolding shared
-shared-take [] hi = refl
-shared-take (a ∷ lo) [] = refl
-shared-take (a ∷ lo) (b ∷ hi) = go (eqb a b) refl (shared-take lo hi)
-  where
-    go : (x : Bool) → eqb a b ≡ x → take (length (shared lo hi)) lo ≡ shared lo hi → take (length (shared (a ∷ lo) (b ∷ hi))) (a ∷ lo) ≡ shared (a ∷ lo) (b ∷ hi)
-    go true e ih = rw e (ap (λ l. a ∷ l) ih)
-    go false e ih = rw e

@@ -1,14 +1,16 @@
 // The number of paths present in an image that may have waiting messages, counted in one walk over its nodes: each entry that decides
-// its path counts once. Relies on the readers of nodes (node, search) and on `usable` (reading); specs/Live says what is counted.
+// its path counts once. Relies on the readers of nodes (node) and on `usable` (laws/Reading); specs/Live says what is counted.
+pub mod notes;
 pub mod path_buffer;
 
 use node::Cursor;
 use node::Entry;
 use node::Message;
 use node::Place;
+use node::Split;
 use node::Step;
+use node::search::Kid;
 use path_buffer::PathBuffer;
-use search::Kid;
 ghost use mathlib.Core.Path.{_≡_};
 ghost use mathlib.Core.Bool.{true};
 ghost use mathlib.Core.List.{List, _++_, _∷_};
@@ -19,16 +21,17 @@ ghost use Rattle.image.specs.Entry.{message};
 ghost use Rattle.image.specs.Image.{treeAt, forestOf};
 ghost use Rattle.image.specs.Sound.{tableOf};
 ghost use Rattle.octets.specs.Cap.{cap};
-ghost use Rattle.reading.specs.Relative.{lifts};
+ghost use Rattle.laws.specs.Reading.Relative.{lifts};
 ghost use Rattle.node.specs.Places.{EntryWithin, MessageWithin, part, entryIn, messageIn};
 ghost use Rattle.node.specs.Entries.{listed};
-ghost use Rattle.search.specs.Hear.{newestE};
-ghost use Rattle.search.specs.Own.{kid, kidsE};
+ghost use Rattle.node.specs.Search.Hear.{newestE};
+ghost use Rattle.node.specs.Search.Own.{kid, kidsE};
 ghost use Rattle.lookup.specs.Look.{listing};
-ghost use Rattle.notes.specs.Notes.{NotesFit, Gathered};
+ghost use Rattle.live.specs.Notes.Notes.{NotesFit, Gathered};
 ghost use Rattle.live.specs.Noted.{quietTrail, Tells, Handed, Joined, LeafTold, SoundNode, SoundKids};
 ghost use Rattle.live.specs.Live.{holdsNoMessage, one, liveHere, liveKids};
 ghost use Rattle.live.specs.PathBuffers.{pathIn};
+ghost use Rattle.live.specs.SilentSteps.{Passed, Passing};
 ghost use Rattle.live.specs.Walk.{passing, TrailIn, Above, decides, countE, isMessage, hasMessage, Pends, Deeper, pushed, Ready, ReadyKids, Countable};
 
 // The nodes above that hold messages, from the root down: each with how many bytes it lifts.
@@ -44,20 +47,74 @@ pub enum Pending {
     End,
 }
 
+// The place behind the put at a place, where the numbers in front of it show one, and it is not on a rest; 0 for all else.
+fn pass_put(s: &[u8], at: usize, end: usize, rest: &[u8]) -> usize
+    requires { ⌜ end ≤ length (now s) ⌝ }
+    ensures { λ r. ⌜ ((r ≡ 0 → ⊥) → Passed (now (s .entry)) at end (now (rest .entry)) r) ⌝ }
+{
+    if end <= at {
+        return 0;
+    }
+    if end - at < 4 {
+        return 0;
+    }
+    let len = octets::u16_at(s, at);
+    if octets::u16_at(s, at + 2) != image::PUT {
+        return 0;
+    }
+    let start = at + 4;
+    if end - start < len {
+        return 0;
+    }
+    let stop = start + len;
+    let Split::At(m) = node::parted(s, start, stop) else {
+        return 0;
+    };
+    let a = start + 2;
+    if octets::equal(&s[a..m], rest) {
+        return 0;
+    }
+    stop
+}
+
+// The same by way of any entry: the place behind it, `end` where none reads; 0 where it is on the rest.
+fn pass_any(s: &[u8], at: usize, end: usize, rest: &[u8]) -> usize
+    requires { ⌜ (at < end) × (end ≤ length (now s)) ⌝ }
+    ensures { λ r. ⌜ Passing (now (s .entry)) at end (now (rest .entry)) r ⌝ }
+{
+    let c = Cursor { at, end };
+    let Step::Read(e, next) = c.step(s) else {
+        return end;
+    };
+    if node::search::entry_speaks(s, e, rest) {
+        return 0;
+    }
+    next.at
+}
+
+// Past the entry at a place: a put, of which the most are, is told by its own numbers.
+fn pass_entry(s: &[u8], at: usize, end: usize, rest: &[u8]) -> usize
+    requires { ⌜ (at < end) × (end ≤ length (now s)) ⌝ }
+    ensures { λ r. ⌜ Passing (now (s .entry)) at end (now (rest .entry)) r ⌝ }
+{
+    let next = pass_put(s, at, end, rest);
+    if next != 0 {
+        return next;
+    }
+    pass_any(s, at, end, rest)
+}
+
 // Whether the entries from a place up to another say nothing of a rest.
 pub fn is_silent(store: &[u8], from: usize, end: usize, rest: &[u8]) -> bool
     requires { ⌜ end ≤ length (now store) ⌝ }
     ensures { λ r. ⌜ r ≡ holdsNoMessage (newestE (listed (now (store .entry)) from end) (now (rest .entry))) ⌝ }
 {
-    let mut c = Cursor { at: from, end };
-    while c.at < end {
-        let Step::Read(e, next) = c.step(store) else {
-            return true;
-        };
-        if search::entry_speaks(store, e, rest) {
+    let mut at = from;
+    while at < end {
+        at = pass_entry(store, at, end, rest);
+        if at == 0 {
             return false;
         }
-        c = next;
     }
     true
 }
@@ -345,7 +402,7 @@ pub fn read_child(store: &[u8], c: Cursor) -> Pending
     let Step::Read(e, next) = c.step(store) else {
         return Pending::End;
     };
-    let Kid::Of(k, p) = search::kid_of(e) else {
+    let Kid::Of(k, p) = node::search::kid_of(e) else {
         return Pending::End;
     };
     Pending::Child(k, p, next)

@@ -18,17 +18,17 @@ use Rattle.image.specs.Image.{Tree, unread, leaf, interior, Forest, tree, Kid, 
 use Rattle.image.specs.Meaning.{Said, nothing, says, newer, newest, decide}
 use Rattle.octets.specs.Order.{and-left, and-right}
 use Rattle.laws.specs.LookupTable.{split}
-use Rattle.reading.specs.Relative.{lifts, fromHere, fromKids, kidHigh, high-at, usable, usableIn}
+use Rattle.laws.specs.Reading.Relative.{lifts, fromHere, fromKids, kidHigh, high-at, usable, usableIn}
 use Rattle.node.specs.Cut.{cut, cut-drop, cut-take, cut-u16}
 use Rattle.node.specs.Entries.{listed, listOf, all-listed}
 use Rattle.node.specs.Places.{part, Within}
 use Rattle.node.specs.declared.Place.{Place}
-use Rattle.search.specs.declared.Heard.{Heard}
-use Rattle.search.specs.declared.Found.{Found}
-use Rattle.search.specs.declared.Owner.{Owner}
-use Rattle.search.specs.Hear.{heardIn, HeardFits, saysE, newestE, Hears}
-use Rattle.search.specs.Pairs.{foundIn, FoundFits, findE, Finds, nothing-is}
-use Rattle.search.specs.Own.{kid, kidsE, Range, range, ownerOf, ownerIn, OwnerFits, Owned}
+use Rattle.node.specs.declared.search.Heard.{Heard}
+use Rattle.node.specs.declared.search.Found.{Found}
+use Rattle.node.specs.declared.search.Owner.{Owner}
+use Rattle.node.specs.Search.Hear.{heardIn, HeardFits, saysE, newestE, Hears}
+use Rattle.node.specs.Search.Pairs.{foundIn, FoundFits, findE, Finds, nothing-is}
+use Rattle.node.specs.Search.Own.{kid, kidsE, Range, range, ownerOf, ownerIn, OwnerFits, Owned}
 
 -- a node's bytes in the store
 module _ (s : List ℕ) (i : ℕ) (inside : i * 1024 + 1024 ≤ length s) where

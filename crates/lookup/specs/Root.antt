@@ -1,19 +1,20 @@
 -- The lookup from the root of a sound image.
+use borrow.Author.Tests.{lt-ltb}
 use Prim.Native.Nat.{ℕ, _+_, _*_, _<_, _≤_}
 use mathlib.Core.Path.{_≡_, refl, sym, ap, ap₂, _∙_}
 use mathlib.Core.List.{List, []}
-use mathlib.Core.Bool.{true, _&&_}
+use mathlib.Core.Bool.{true}
 use native.Mathlib.Omega.{arith}
 use lib.ListN.{length}
-use lib.Dec.{ltb, leb, eqb}
+use lib.Dec.{ltb}
 use Rattle.image.specs.Bytes.{u16, shared}
-use Rattle.image.specs.Image.{Tree, nodeBytes, nodesOf, Header, header, headerOf, headerLaidOut, treeAt, treeOf}
+use Rattle.image.specs.Image.{Tree, nodeBytes, nodesOf, header, headerOf, treeAt, treeOf}
 use Rattle.image.specs.Meaning.{lookup}
-use Rattle.image.specs.Sound.{sound, soundTree, soundHeader, soundRoot, once, inRange, numbers, valueIn, lowest, highest}
-use Rattle.octets.specs.Order.{and-left, and-right}
-use Rattle.reading.specs.Relative.{lifts, fromHere, relative, usable, sound-usable}
+use Rattle.image.specs.Sound.{sound, soundTree, inRange, numbers, valueIn, lowest, highest}
+use Rattle.laws.specs.Reading.Relative.{lifts, fromHere, relative, usable, sound-usable}
 use Rattle.node.specs.Cut.{cut-u16}
 use Rattle.lookup.specs.Look.{below-length, node-is}
+use Rattle.laws.specs.ButLive.{sound-parts}
 
 -- the parts of a sound image that a reader starts from
 pub record Starts (s : List ℕ) : Type 0 where
@@ -21,22 +22,10 @@ pub record Starts (s : List ℕ) : Type 0 where
   pub tree : soundTree (treeOf s) lowest highest ≡ true
   pub range : inRange (nodesOf (length s)) (numbers (treeOf s)) ≡ true
 
-root-in : (n : ℕ) (h : Header) → soundHeader n h ≡ true → ltb (h .root) n ≡ true
-unfolding soundHeader
-root-in n h e = and-right (eqb (h .count) n && leb 1 (h .root)) _ (and-left _ _ (and-left _ _ (and-left _ _ e)))
-
-tree-in : (n live : ℕ) (t : Tree) → soundRoot n live t ≡ true → (soundTree t lowest highest ≡ true) × (inRange n (numbers t) ≡ true)
-unfolding soundRoot
-tree-in n live t e =
-    let a : soundTree t lowest highest && once (numbers t) && inRange n (numbers t) ≡ true = and-left _ _ e in
-    (and-left _ _ (and-left (soundTree t lowest highest && once (numbers t)) (inRange n (numbers t)) a), and-right (soundTree t lowest highest && once (numbers t)) _ a)
-
 pub starts : (s : List ℕ) → sound s ≡ true → Starts s
-unfolding sound
 starts s e =
-    let a : headerLaidOut (nodeBytes s 0) && soundHeader (nodesOf (length s)) (headerOf s) ≡ true = and-left _ _ e in
-    let t = tree-in (nodesOf (length s)) (headerOf s .live) (treeOf s) (and-right (headerLaidOut (nodeBytes s 0) && soundHeader (nodesOf (length s)) (headerOf s)) _ e) in
-    record { root = root-in (nodesOf (length s)) (headerOf s) (and-right (headerLaidOut (nodeBytes s 0)) _ a); tree = t .0; range = t .1 }
+    let w = sound-parts s e in
+    record { root = lt-ltb (headerOf s .root) (nodesOf (length s)) (w .rootHigh); tree = w .tree; range = w .range }
 
 pub long-enough : (s : List ℕ) → sound s ≡ true → 1024 ≤ length s
 long-enough s e = let h = below-length s (headerOf s .root) (starts s e .root) in omega arith

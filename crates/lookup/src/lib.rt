@@ -1,15 +1,16 @@
-// The value of a path, looked up one level at a time.
+// The value of a path, looked up one level at a time: a node's newest message on it decides, else the child that owns it answers for the rest.
+// Relies on node's search; the caller knows that the store is sound.
 use node::Place;
-use search::Found;
-use search::Heard;
-use search::Owner;
+use node::search::Found;
+use node::search::Heard;
+use node::search::Owner;
 ghost use mathlib.Core.Path.{_≡_};
 ghost use mathlib.Core.Bool.{true};
 ghost use lib.ListN.{length};
 ghost use Rattle.image.specs.Image.{treeAt, nodesOf};
 ghost use Rattle.image.specs.Sound.{sound, valueIn};
-ghost use Rattle.reading.specs.Relative.{usable, fromHere};
-ghost use Rattle.search.specs.Pairs.{Finds};
+ghost use Rattle.laws.specs.Reading.Relative.{usable, fromHere};
+ghost use Rattle.node.specs.Search.Pairs.{Finds};
 
 // The place of the value that the node `num` of this level has for a rest. Its high pivot and the rest are without what it lifts.
 pub fn lookup(store: &[u8], num: usize, level: usize, hi: &[u8], rest: &[u8]) -> Found
@@ -21,14 +22,14 @@ pub fn lookup(store: &[u8], num: usize, level: usize, hi: &[u8], rest: &[u8]) ->
     let from = at + image::ENTRIES_AT;
     let end = from + len;
     if level <= 1 {
-        return search::find(store, from, end, rest);
+        return node::search::find(store, from, end, rest);
     }
-    let m = search::newest(store, from, end, rest);
+    let m = node::search::newest(store, from, end, rest);
     match m {
         Heard::Value(p) => Found::Value(p),
         Heard::Gone => Found::Nothing,
         Heard::Silent => {
-            let o = search::owner_of(store, from, end, hi, rest);
+            let o = node::search::owner_of(store, from, end, hi, rest);
             match o {
                 Owner::Inner(child, low, high) => {
                     let a = low.start;

@@ -1,5 +1,5 @@
 -- Question 6 by the bytes: a number is that of a reachable interior node exactly where the check has marked it and its node's kind is 2.
--- Relies on upkeep's Bridge (a reachable node is found by its number) and on the layout that `treeAt` asks for.
+-- Relies on laws/Upkeep's Bridge (a reachable node is found by its number) and on the layout that `treeAt` asks for.
 use Prim.Native.Nat.{ℕ, zero, suc, _+_, _*_, _-_, _/_, _<_, _≤_}
 use mathlib.Core.Path.{_≡_, refl, sym, ap, _∙_}
 use mathlib.Core.List.{List, [], _∷_, _++_}
@@ -24,11 +24,12 @@ use Rattle.node.specs.Cut.{cut-u16}
 use Rattle.node.specs.Whole.{whole-parts}
 use Rattle.lookup.specs.Look.{node-is, read-of}
 use Rattle.lookup.specs.Root.{starts}
-use Rattle.upkeep.specs.Kept.{numbersOf, numbers-places}
-use Rattle.upkeep.specs.Healed.{every-places, place-number, place-test}
-use Rattle.upkeep.specs.Bridge.{found-in, not-found}
-use Rattle.upkeep.specs.HealWrite.{range-of}
+use Rattle.laws.specs.Upkeep.Kept.{numbersOf, numbers-places}
+use Rattle.laws.specs.Upkeep.Healed.{place-number, place-test}
+use Rattle.laws.specs.Upkeep.Bridge.{found-in, not-found}
+use Rattle.laws.specs.Upkeep.HealWrite.{range-of}
 use Rattle.maintain.specs.Upkept.{Reached}
+use Rattle.laws.specs.LiveCount.{every-both}
 
 -- THE KIND OF A REACHABLE NODE
 -- the node's kind tells whether it has children
@@ -75,7 +76,7 @@ module _ (s : List ℕ) where
   forest-tells under m law [] lifted lo hi e = refl
   forest-tells under m law (k ∷ ks) lifted lo hi e =
       let p = parts (k .pivot) (under (k .number)) (forestOf under ks) lifted lo hi e in
-      every-places (kindTells s) (reachable (under (k .number)) m (lifted ++ k .pivot) (highOf lifted hi (forestOf under ks))) (reachableIn (forestOf under ks) m lifted hi)
+      every-both (kindTells s) (reachable (under (k .number)) m (lifted ++ k .pivot) (highOf lifted hi (forestOf under ks))) (reachableIn (forestOf under ks) m lifted hi)
       (law (k .number) (lifted ++ k .pivot) (highOf lifted hi (forestOf under ks)) (p .first)) (forest-tells under m law ks lifted lo hi (p .later))
 
   inner-tells : (under : ℕ → Tree) (l i m : ℕ) (lo hi : List ℕ)

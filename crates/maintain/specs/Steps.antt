@@ -1,5 +1,5 @@
 -- The steps of settle, tidy, flush and heal: one law for each way out of the code.
--- Relies on ready (questions 1 and 2), on rebuild's Callers (the contract from what was done) and on tree_check's tally of messages.
+-- Relies on questions (questions 1 and 2), on questions' Callers (the contract from what was done) and on tree_check's tally of messages.
 use Prim.Native.Nat.{ℕ, suc, _*_, _/_, _≤_}
 use mathlib.Core.Path.{_≡_, refl, sym, ap, subst, _∙_}
 use mathlib.Core.List.{List, [], _∷_, _++_}
@@ -21,24 +21,29 @@ use Rattle.image.specs.declared.Outcome.{Outcome}
 use Rattle.octets.specs.Order.{and-left, and-right}
 use Rattle.laws.specs.Rising.{both}
 use Rattle.laws.specs.Frame.{or-right}
-use Rattle.packed.specs.Tidy.{zerosOf}
-use Rattle.upkeep.specs.Kept.{gains-none-empty}
-use Rattle.upkeep.specs.Healed.{place-test}
+use Rattle.packed.specs.Form.Tidy.{zerosOf}
+use Rattle.laws.specs.Upkeep.Kept.{gains-none-empty}
+use Rattle.laws.specs.Upkeep.Healed.{place-test}
 use Rattle.tree_check.specs.declared.Tally.{Tally}
-use Rattle.tree_check.specs.Callers.{messages-settled}
+use Rattle.tree_check.specs.Callers.{Holds, messages-settled}
 use Rattle.rebuild.specs.Rebuild.{Rebuilt, cleared}
-use Rattle.rebuild.specs.Callers.{to-act, to-keep, laterNo, act-meets, act-refused, plain-settle, plain-number, settle-meets, tidy-meets}
-use Rattle.ready.specs.Asked.{Fit, fit-number}
-use Rattle.push_laws.specs.PushedDown.{PushedDown}
-use Rattle.mend_laws.specs.Mended.{HealedNode}
-use Rattle.maintain.specs.Upkept.{Passed, Reached, Stayed, Upkept, Upheld}
+use Rattle.questions.specs.Callers.{to-act, to-keep, laterNo, later-number, act-meets, act-refused, plain-settle, plain-number, settle-meets, tidy-meets}
+use Rattle.questions.specs.Asked.{Fit}
+use Rattle.push.specs.Laws.PushedDown.{PushedDown}
+use Rattle.merge.specs.Laws.Mended.{HealedNode}
+use Rattle.questions.specs.Acted.{Passed}
+use Rattle.maintain.specs.Upkept.{Reached, Stayed, Upkept, Upheld}
 
--- what questions 1 and 2 leave
-pub passed : (s w seen : List ℕ) (t : Tally) → Fit s w t seen → Passed s w
-passed s w seen t f = record { whole = f .whole; long = f .long; is-sound = f .is-sound }
-
+-- the marks that questions 1 and 2 leave
 pub reached : (s w seen : List ℕ) (t : Tally) → Fit s w t seen → Reached s seen
 reached s w seen t f = record { whole = f .whole; is-sound = f .is-sound; marks = f .holds .reached }
+
+pub reached-by : (s seen : List ℕ) (t : Tally) → wholeNodes (length s) ≡ true → sound s ≡ true → Holds s t seen → Reached s seen
+reached-by s seen t whole ok h = record { whole = whole; is-sound = ok; marks = h .reached }
+
+-- whether no message waits, by the tally of the check
+pub quiet : (s seen : List ℕ) (t : Tally) → Holds s t seen → eqb (t .messages) 0 ≡ settled s
+quiet s seen t h = messages-settled s t seen h
 
 -- REBUILD, OR NOT
 pub stayed : (done : Bool) (s w w′ : List ℕ) (len : ℕ) → done ≡ true → len ≡ 128 * (length s / 1024) → w′ ≡ zerosOf len ++ drop len w → Upkept done s s w w′
@@ -52,19 +57,16 @@ rebuilt true s s′ w w′ d r = absurd (true≢false d)
 rebuilt false s s′ w w′ d r = r
 
 -- SETTLE AND TIDY
-module _ (s s′ w w′ seen : List ℕ) (t : Tally) (f : Fit s w t seen) where
+module _ (s s′ w w′ : List ℕ) (f : Passed s w) where
   settle-stays : settled s ≡ true → Stayed s s′ w w′ → Meets s (acts settle w) (outcomeAnswer Outcome.Done) s′ w′
   unfolding Besides tableAfter
   settle-stays e l =
       act-meets s s′ w′ to-act (plain-number s s′ w w′ (f .whole) (f .long) (f .is-sound) settle plain-settle) (ap sound (l .same) ∙ f .is-sound)
       (ap tableOf (l .same) ∙ sym (plain-settle .same-table (tableOf s))) (ap length (l .same)) (l .work) (ap settled (l .same) ∙ e)
 
-  pub settled-done : Upkept (eqb (t .messages) 0) s s′ w w′ → Meets s (acts settle w) (outcomeAnswer Outcome.Done) s′ w′
-  settled-done u = go (eqb (t .messages) 0) refl u
-    where
-      go : (b : Bool) → eqb (t .messages) 0 ≡ b → Upkept b s s′ w w′ → Meets s (acts settle w) (outcomeAnswer Outcome.Done) s′ w′
-      go true e l = settle-stays (sym (messages-settled s t seen (f .holds)) ∙ e) (unfold Upkept in l)
-      go false e r = settle-meets s s′ w w′ (f .whole) (f .long) (f .is-sound) (unfold Upkept in r)
+  pub settled-done : (done : Bool) → done ≡ settled s → Upkept done s s′ w w′ → Meets s (acts settle w) (outcomeAnswer Outcome.Done) s′ w′
+  settled-done true e l = settle-stays (sym e) (unfold Upkept in l)
+  settled-done false e r = settle-meets s s′ w w′ (f .whole) (f .long) (f .is-sound) (unfold Upkept in r)
 
   pub tidied-done : Upkept false s s′ w w′ → Meets s (acts tidy w) (outcomeAnswer Outcome.Done) s′ w′
   unfolding Upkept
@@ -129,19 +131,19 @@ flushes node s s′ w w′ r =
       rule = settled-rule (reachableAt node (reachableNodes s)) (reachableNodes s) s′ (r .is-settled);
     }
 
-module _ (u : Upkeep) (s w seen : List ℕ) (t : Tally) (f : Fit s w t seen) (node : ℕ) (b : Bool) (b-is : b ≡ isInterior (reachableAt node (reachableNodes s))) where
+module _ (u : Upkeep) (s w : List ℕ) (f : Passed s w) (node : ℕ) (b : Bool) (b-is : b ≡ isInterior (reachableAt node (reachableNodes s))) where
   later-is : laterNo s (keeps u node w) ≡ firstNo (nodeQuestions (keeps u node w) s)
   unfolding laterNo nodeQuestions questions
   later-is = refl
 
   pub not-interior : b ≡ false → Meets s (keeps u node w) (outcomeAnswer (Outcome.Refused Refusal.NotInterior)) s w
   unfolding nodeQuestions firstNo refusalNumber
-  not-interior e = act-refused s Refusal.NotInterior to-keep (fit-number s w seen t f (keeps u node w) to-keep ∙ later-is ∙ rw (sym b-is ∙ e) refl)
+  not-interior e = act-refused s Refusal.NotInterior to-keep (later-number s to-keep (f .whole) (f .long) (f .is-sound) ∙ later-is ∙ rw (sym b-is ∙ e) refl)
 
   pub upheld-done : b ≡ true → (s′ w′ : List ℕ) → Upheld u node s s′ w w′ → Meets s (keeps u node w) (outcomeAnswer Outcome.Done) s′ w′
   unfolding nodeQuestions firstNo tableAfter Besides
   upheld-done e s′ w′ r =
-      act-meets s s′ w′ to-keep (fit-number s w seen t f (keeps u node w) to-keep ∙ later-is ∙ rw (sym b-is ∙ e) refl)
+      act-meets s s′ w′ to-keep (later-number s to-keep (f .whole) (f .long) (f .is-sound) ∙ later-is ∙ rw (sym b-is ∙ e) refl)
       (r .is-sound) (r .table) (r .size) (r .work) (r .rule)
 
 -- A PUSH OR A HEAL BEFORE THE REST

@@ -1,6 +1,6 @@
 -- What the upkeep calls ask of a store that passed questions 1 and 2, and what their parts leave.
 -- Relies on the paper's definitions, on tree_check's Holds (the marks of the check) and on what a rebuild promises.
-use Prim.Native.Nat.{ℕ, _*_, _<_, _≤_}
+use Prim.Native.Nat.{ℕ, _<_}
 use mathlib.Core.Path.{_≡_}
 use mathlib.Core.List.{List}
 use mathlib.Core.Bool.{Bool, true, false, cond}
@@ -8,15 +8,9 @@ use lib.ListN.{length, getD}
 use Rattle.image.specs.Image.{nodesOf, wholeNodes, treeOf}
 use Rattle.image.specs.Sound.{sound, tableOf, isIn, numbers}
 use Rattle.image.specs.Upkeep.{reachableNodes, reachableAt}
-use Rattle.image.specs.Calls.{workPerNode, Upkeep}
+use Rattle.image.specs.Calls.{Upkeep}
 use Rattle.image.specs.Contract.{upkeepRule}
 use Rattle.rebuild.specs.Rebuild.{Rebuilt, cleared}
-
--- questions 1 and 2 are a yes
-pub record Passed (s w : List ℕ) : Type 0 where
-  pub whole : wholeNodes (length s) ≡ true
-  pub long : workPerNode * nodesOf (length s) ≤ length w
-  pub is-sound : sound s ≡ true
 
 -- the marks of the nodes that are reached
 pub record Reached (s seen : List ℕ) : Type 0 where

@@ -1,17 +1,20 @@
 // settle, tidy, flush and heal: the public upkeep calls. Each asks the paper's questions in order and refuses at the first no; a refusal
-// changes no byte, and an accepted call leaves the first 128 bytes for each node of the work area zero.
-// Relies on ready (questions 1 and 2), on rebuild, which leaves the same map in packed form, with no message anywhere, on push and on mend.
+// changes no byte, and an accepted call leaves the first 128 bytes for each node of the work area zero. settle_fit, tidy_fit, flush_fit and
+// heal_fit are the parts after questions 1 and 2.
+// Relies on questions (questions 1 and 2), on rebuild, which leaves the same map in packed form, with no message anywhere, on push and on merge.
 use image::Outcome;
 use image::Refusal;
 use push::Pushed;
-use ready::Ready;
+use questions::Ready;
 ghost use mathlib.Core.Path.{_≡_};
 ghost use mathlib.Core.Bool.{true};
 ghost use Rattle.image.specs.Upkeep.{reachableNodes, reachableAt};
 ghost use Rattle.image.specs.Calls.{acts, settle, tidy, keeps, flush, heal};
 ghost use Rattle.image.specs.Contract.{isInterior, Meets};
 ghost use Rattle.image.specs.Answers.{outcomeAnswer};
-ghost use Rattle.maintain.specs.Upkept.{Passed, Reached, Upkept, Upheld};
+ghost use Rattle.image.specs.Upkeep.{settled};
+ghost use Rattle.questions.specs.Acted.{Passed};
+ghost use Rattle.maintain.specs.Upkept.{Reached, Upkept, Upheld};
 
 // Ends an accepted call. Where the store already is as the call asks, only the work area is cleared; else the store is rebuilt.
 fn rebuild_unless(done: bool, store: &mut [u8], work: &mut [u8])
@@ -20,10 +23,19 @@ fn rebuild_unless(done: bool, store: &mut [u8], work: &mut [u8])
 {
     if done {
         let len = image::WORK_PER_NODE * (store.len() / image::NODE_SIZE);
-        build::clear_area(work, len);
+        packed::clear_area(work, len);
         return;
     }
     rebuild::rebuild(store, work);
+}
+
+// settle, on a store and a work area that are fit; `done` tells whether no message waits.
+pub fn settle_fit(store: &mut [u8], work: &mut [u8], done: bool) -> Outcome
+    requires { ⌜ Passed (now store) (now work) × (done ≡ settled (now store)) ⌝ }
+    ensures { λ r. ⌜ Meets (now (store .entry)) (acts settle (now (work .entry))) (outcomeAnswer r) (now (store .exit)) (now (work .exit)) ⌝ }
+{
+    rebuild_unless(done, store, work);
+    Outcome::Done
 }
 
 // Leaves no message in any node; where none waits, the store stays as it is.
@@ -31,15 +43,20 @@ pub fn settle(store: &mut [u8], work: &mut [u8]) -> Outcome
     ensures { λ r. ⌜ Meets (now (store .entry)) (acts settle (now (work .entry))) (outcomeAnswer r) (now (store .exit)) (now (work .exit)) ⌝ }
 {
     let mut seen = [0u8; 1024];
-    let ready = ready::ask(store, work, &mut seen);
+    let ready = questions::ask(store, work, &mut seen);
     match ready {
         Ready::Refused(refusal) => Outcome::Refused(refusal),
-        Ready::Fit(tally) => {
-            let is_settled = tally.messages == 0;
-            rebuild_unless(is_settled, store, work);
-            Outcome::Done
-        }
+        Ready::Fit(tally) => settle_fit(store, work, tally.messages == 0),
     }
+}
+
+// tidy, on a store and a work area that are fit.
+pub fn tidy_fit(store: &mut [u8], work: &mut [u8]) -> Outcome
+    requires { ⌜ Passed (now store) (now work) ⌝ }
+    ensures { λ r. ⌜ Meets (now (store .entry)) (acts tidy (now (work .entry))) (outcomeAnswer r) (now (store .exit)) (now (work .exit)) ⌝ }
+{
+    rebuild_unless(false, store, work);
+    Outcome::Done
 }
 
 // Leaves no message in any node, and at most a quarter of the nodes in use.
@@ -47,13 +64,10 @@ pub fn tidy(store: &mut [u8], work: &mut [u8]) -> Outcome
     ensures { λ r. ⌜ Meets (now (store .entry)) (acts tidy (now (work .entry))) (outcomeAnswer r) (now (store .exit)) (now (work .exit)) ⌝ }
 {
     let mut seen = [0u8; 1024];
-    let ready = ready::ask(store, work, &mut seen);
+    let ready = questions::ask(store, work, &mut seen);
     match ready {
         Ready::Refused(refusal) => Outcome::Refused(refusal),
-        Ready::Fit(_) => {
-            rebuild_unless(false, store, work);
-            Outcome::Done
-        }
+        Ready::Fit(_) => tidy_fit(store, work),
     }
 }
 
@@ -84,21 +98,27 @@ fn act_flush(store: &mut [u8], work: &mut [u8], node: usize)
     }
 }
 
+// flush, on a store and a work area that are fit; `seen` has the marks of the check.
+pub fn flush_fit(store: &mut [u8], work: &mut [u8], seen: &[u8; 1024], node: usize) -> Outcome
+    requires { ⌜ Passed (now store) (now work) × Reached (now store) (now seen) ⌝ }
+    ensures { λ r. ⌜ Meets (now (store .entry)) (keeps flush node (now (work .entry))) (outcomeAnswer r) (now (store .exit)) (now (work .exit)) ⌝ }
+{
+    if !is_interior(store, seen, node) {
+        return Outcome::Refused(Refusal::NotInterior);
+    }
+    act_flush(store, work, node);
+    Outcome::Done
+}
+
 // Leaves no message in the nodes of this node's level that own any of what it owned.
 pub fn flush(store: &mut [u8], work: &mut [u8], node: usize) -> Outcome
     ensures { λ r. ⌜ Meets (now (store .entry)) (keeps flush node (now (work .entry))) (outcomeAnswer r) (now (store .exit)) (now (work .exit)) ⌝ }
 {
     let mut seen = [0u8; 1024];
-    let ready = ready::ask(store, work, &mut seen);
+    let ready = questions::ask(store, work, &mut seen);
     match ready {
         Ready::Refused(refusal) => Outcome::Refused(refusal),
-        Ready::Fit(_) => {
-            if !is_interior(store, &seen, node) {
-                return Outcome::Refused(Refusal::NotInterior);
-            }
-            act_flush(store, work, node);
-            Outcome::Done
-        }
+        Ready::Fit(_) => flush_fit(store, work, &seen, node),
     }
 }
 
@@ -107,8 +127,20 @@ fn act_heal(store: &mut [u8], work: &mut [u8], node: usize)
     requires { ⌜ Passed (now store) (now work) × (isInterior (reachableAt node (reachableNodes (now store))) ≡ true) ⌝ }
     ensures { λ _. ⌜ Upheld heal node (now (store .entry)) (now (store .exit)) (now (work .entry)) (now (work .exit)) ⌝ }
 {
-    mend::mend_children(store, node);
+    merge::mend_children(store, node);
     rebuild_unless(true, store, work);
+}
+
+// heal, on a store and a work area that are fit; `seen` has the marks of the check.
+pub fn heal_fit(store: &mut [u8], work: &mut [u8], seen: &[u8; 1024], node: usize) -> Outcome
+    requires { ⌜ Passed (now store) (now work) × Reached (now store) (now seen) ⌝ }
+    ensures { λ r. ⌜ Meets (now (store .entry)) (keeps heal node (now (work .entry))) (outcomeAnswer r) (now (store .exit)) (now (work .exit)) ⌝ }
+{
+    if !is_interior(store, seen, node) {
+        return Outcome::Refused(Refusal::NotInterior);
+    }
+    act_heal(store, work, node);
+    Outcome::Done
 }
 
 // Leaves the node with its range, no node with a message more, and no two neighbouring children of it that would fit in one node.
@@ -116,15 +148,9 @@ pub fn heal(store: &mut [u8], work: &mut [u8], node: usize) -> Outcome
     ensures { λ r. ⌜ Meets (now (store .entry)) (keeps heal node (now (work .entry))) (outcomeAnswer r) (now (store .exit)) (now (work .exit)) ⌝ }
 {
     let mut seen = [0u8; 1024];
-    let ready = ready::ask(store, work, &mut seen);
+    let ready = questions::ask(store, work, &mut seen);
     match ready {
         Ready::Refused(refusal) => Outcome::Refused(refusal),
-        Ready::Fit(_) => {
-            if !is_interior(store, &seen, node) {
-                return Outcome::Refused(Refusal::NotInterior);
-            }
-            act_heal(store, work, node);
-            Outcome::Done
-        }
+        Ready::Fit(_) => heal_fit(store, work, &seen, node),
     }
 }

@@ -21,8 +21,8 @@ fn write_empty(store: &mut [u8], n: usize)
     octets::put_u16(store, image::ROOT_AT, 1);
     octets::put_u16(store, image::LEVELS_AT, 1);
     // node 1: a leaf, of level 1, with no entry
-    octets::put_u16(store, 1026, 1);
-    octets::put_u16(store, 1028, 1);
+    octets::put_u16(store, image::NODE_SIZE + image::KIND_AT, image::LEAF);
+    octets::put_u16(store, image::NODE_SIZE + image::LEVEL_AT, 1);
 }
 
 pub fn make(store: &mut [u8]) -> Outcome

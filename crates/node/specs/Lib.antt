@@ -2,3 +2,5 @@ pub mod Cut
 pub mod Entries
 pub mod Places
 pub mod Whole
+pub mod Writer
+pub mod Search

@@ -1,5 +1,8 @@
-// The nodes of a store: how many there are, and the entries of a node, read one by one by a cursor.
+// The nodes of a store: how many there are, the entries of a node, read one by one by a cursor, and (module writer) how they are written.
 // Every reader answers places in the slice that it was lent, and promises that they lie inside it.
+pub mod search;
+pub mod writer;
+
 ghost use mathlib.Core.Path.{_≡_};
 ghost use Prim.Native.Nat.{_≤_};
 ghost use lib.ListN.{length};

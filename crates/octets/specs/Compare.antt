@@ -1,5 +1,5 @@
 -- What two lists share tells every test on them.
-use Prim.Native.Nat.{ℕ, suc, _<_, _≤_}
+use Prim.Native.Nat.{ℕ, zero, suc, _-_, _<_, _≤_}
 use mathlib.Core.Path.{_≡_, refl, sym, ap, _∙_}
 use mathlib.Core.List.{List, [], _∷_}
 use mathlib.Core.Bool.{Bool, true, false, _&&_}
@@ -64,6 +64,39 @@ not-equal [] [] h = absurd (h refl)
 not-equal [] (y ∷ b) h = refl
 not-equal (x ∷ a) [] h = refl
 not-equal (x ∷ a) (y ∷ b) h = go (eqb x y) (not-equal a b (λ e. h (ap suc e)))
+  where
+    go : (t : Bool) → false ≡ same a b → false ≡ t && same a b
+    go true ih = ih
+    go false ih = refl
+
+-- the loop of equal, from the end: what is past both ends is the same, one byte more in front of the same is the same, and a byte that
+-- differs decides
+pub same-past : (a b : List ℕ) → length a ≡ length b → same (drop (length a) a) (drop (length a) b) ≡ true
+unfolding same
+same-past a b h =
+    let f : length a ≤ length a = omega arith in
+    let g : length b ≤ length a = omega arith in
+    rw (drop-of-length-le a f, drop-of-length-le b g)
+
+pub same-whole : (a b : List ℕ) (i : ℕ) → i ≤ 0 → same (drop i a) (drop i b) ≡ true → true ≡ same a b
+same-whole a b zero h s = sym s
+same-whole a b (suc i) h s = absurd (omega arith)
+
+pub same-longer : (a b : List ℕ) (i : ℕ) → 0 < i → i ≤ length a → i ≤ length b → getD a (i - 1) 0 ≡ getD b (i - 1) 0
+    → same (drop i a) (drop i b) ≡ true → same (drop (i - 1) a) (drop (i - 1) b) ≡ true
+unfolding same
+same-longer a b zero p h k e s = absurd (omega arith)
+same-longer a b (suc i) p h k e s =
+    let q : suc i - 1 ≡ i = omega arith in
+    let f : getD a i 0 ≡ getD b i 0 = rw q at e in
+    rw (q, drop-cons a i 0 (omega arith), drop-cons b i 0 (omega arith), eq-eqb (getD a i 0) (getD b i 0) f) s
+
+pub same-differs : (a b : List ℕ) (i : ℕ) → i < length a → i < length b → (getD a i 0 ≡ getD b i 0 → ⊥) → false ≡ same a b
+unfolding same
+same-differs [] b i h k e = absurd (omega arith)
+same-differs (x ∷ a) [] i h k e = refl
+same-differs (x ∷ a) (y ∷ b) zero h k e = rw (ne-eqb x y e)
+same-differs (x ∷ a) (y ∷ b) (suc i) h k e = go (eqb x y) (same-differs a b i (omega arith) (omega arith) e)
   where
     go : (t : Bool) → false ≡ same a b → false ≡ t && same a b
     go true ih = ih

@@ -1,12 +1,11 @@
 -- Laws of the byte order, of beginnings and of the common beginning.
-use Prim.Native.Nat.{ℕ, suc, _<_, _≤_}
+use Prim.Native.Nat.{ℕ, _<_, _≤_}
 use mathlib.Core.Path.{_≡_, refl, sym, ap, subst, _∙_}
 use mathlib.Core.Logic.{_⊎_, inl, inr}
 use mathlib.Core.List.{List, [], _∷_, _++_}
 use mathlib.Core.Bool.{Bool, true, false, _&&_, _||_, not, true≢false, false≢true}
 use native.Mathlib.Omega.{arith}
-use lib.ListN.{length, drop, getD, drop-of-length-le}
-use lib.Seq.{drop-cons}
+use lib.ListN.{length, drop}
 use lib.Dec.{ltb, eqb}
 use borrow.Author.Tests.{ltb-true, ltb-false, eqb-true, lt-ltb, le-ltb, eq-eqb, ne-eqb}
 use Rattle.image.specs.Bytes.{same, before, begins, shared}
@@ -202,26 +201,6 @@ unfolding shared
 shared-append [] s t = refl
 shared-append (a ∷ l) s t = rw (eq-eqb a a refl) (ap (λ r. a ∷ r) (shared-append l s t))
 
--- the step of a loop that compares from the front
-pub begins-step : (s t : List ℕ) (i : ℕ) → i < length s → i < length t → getD s i 0 ≡ getD t i 0
-    → begins (drop i s) (drop i t) ≡ begins (drop (suc i) s) (drop (suc i) t)
-unfolding begins
-begins-step s t i h k e = rw (drop-cons s i 0 h, drop-cons t i 0 k, eq-eqb (getD s i 0) (getD t i 0) e)
-
-pub begins-stop : (s t : List ℕ) (i : ℕ) → i < length s → i < length t → (getD s i 0 ≡ getD t i 0 → ⊥) → begins (drop i s) (drop i t) ≡ false
-unfolding begins
-begins-stop s t i h k n = rw (drop-cons s i 0 h, drop-cons t i 0 k, ne-eqb (getD s i 0) (getD t i 0) n)
-
-pub begins-short : (s t : List ℕ) → length t < length s → begins s t ≡ false
-unfolding begins
-begins-short [] t h = absurd (omega arith)
-begins-short (a ∷ s) [] h = refl
-begins-short (a ∷ s) (b ∷ t) h = rw (begins-short s t (omega arith)) (and-false (eqb a b))
-
-pub begins-all : (s t : List ℕ) (i : ℕ) → length s ≤ i → begins (drop i s) (drop i t) ≡ true
-unfolding begins
-begins-all s t i h = rw (drop-of-length-le s h)
-
 -- neither same nor after: before
 pub before-total : (p k : List ℕ) → same p k ≡ false → before k p ≡ false → before p k ≡ true
 unfolding before same
@@ -270,3 +249,7 @@ drop-beyond [] [] e = refl
 drop-beyond [] (b ∷ l) e = refl
 drop-beyond (a ∷ p) [] e = absurd (false≢true e)
 drop-beyond (a ∷ p) (b ∷ l) e = drop-beyond p l (and-right (eqb a b) _ e)
+
+pub and-assoc : (a b c : Bool) → (a && b) && c ≡ a && (b && c)
+and-assoc true b c = refl
+and-assoc false b c = refl

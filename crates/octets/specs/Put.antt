@@ -1,11 +1,11 @@
 -- Bytes put into a page at a place: what every writer of bytes leaves, and its laws (one put after another is one put).
-use Prim.Native.Nat.{ℕ, zero, suc, _+_, _/_, _%_, _≤_, _<_}
+use Prim.Native.Nat.{ℕ, zero, suc, _+_, _/_, _%_, _≤_, _<_, _-_}
 use mathlib.Core.Path.{_≡_, refl, sym, ap, ap₂, _∙_}
 use mathlib.Core.List.{List, [], _∷_, _++_, append-assoc}
 use native.Mathlib.Omega.{arith}
-use lib.ListN.{length, take, drop, getD, set, length-append, length-drop, take-append-drop, replicate, length-replicate}
-use lib.Seq.{set-split, take-suc, length-take-le, drop-drop, drop-append-add, take-at}
-use Rattle.image.specs.Bytes.{u16Bytes}
+use lib.ListN.{length, take, drop, getD, set, length-append, length-drop, take-append-drop, replicate, length-replicate, List·getD-append}
+use lib.Seq.{set-split, take-suc, length-take-le, drop-drop, drop-append-add, take-at, getD-append-add}
+use Rattle.image.specs.Bytes.{u16Bytes, u16}
 
 -- the bytes bs in place of as many bytes of the page, from `at` on
 unfoldable pub put : List ℕ → ℕ → List ℕ → List ℕ
@@ -99,3 +99,28 @@ module _ (page now : List ℕ) (at count v i : ℕ) (filled : now ≡ put page a
 
   pub fill-done : i ≤ count → count ≤ i → now ≡ put page at (replicate count v)
   fill-done h k = let z : i ≡ count = omega arith in filled ∙ ap (λ q. put page at (replicate q v)) z
+
+pub get-there : (page : List ℕ) (at : ℕ) (bs : List ℕ) (j : ℕ) → at ≤ length page → j < length bs → getD (put page at bs) (at + j) 0 ≡ getD bs j 0
+unfolding put
+get-there page at bs j h k =
+    let q = length-take-le at page h in
+    let z : at + j ≡ length (take at page) + j = omega arith in
+    ap (λ n. getD (take at page ++ (bs ++ drop (at + length bs) page)) n 0) z
+    ∙ getD-append-add (take at page) (bs ++ drop (at + length bs) page) j 0
+    ∙ List·getD-append bs (drop (at + length bs) page) 0 j k
+
+pub u16-there : (page : List ℕ) (at v : ℕ) → at ≤ length page → u16 (put page at (u16Bytes v)) at ≡ v
+unfolding u16
+u16-there page at v h =
+    let z : at + 0 ≡ at = omega arith in
+    let a : getD (put page at (u16Bytes v)) at 0 ≡ v % 256 = ap (λ n. getD (put page at (u16Bytes v)) n 0) (sym z) ∙ get-there page at (u16Bytes v) 0 h (omega arith) in
+    let b : getD (put page at (u16Bytes v)) (at + 1) 0 ≡ v / 256 = get-there page at (u16Bytes v) 1 h (omega arith) in
+    omega arith
+
+-- a part from the start on, as it is made
+pub front-is : (n : ℕ) (l : List ℕ) → take (n - 0) (drop 0 l) ≡ take n l
+front-is n l = let e : n - 0 ≡ n = omega arith in rw e
+
+-- the part that is lent of a buffer's bytes
+pub taken-size : (n : ℕ) (bytes : List ℕ) → n ≤ length bytes → length (take (n - 0) (drop 0 bytes)) ≡ n
+taken-size n bytes h = length-take-le (n - 0) bytes (omega arith) ∙ omega arith

@@ -1,5 +1,5 @@
 // Strings of bytes and the numbers in them: what every other crate reads, compares and writes bytes with.
-// One loop compares, `common_length`; the tests follow from it by laws.
+// One loop compares from the front, `common_length`, and the orders follow from it by laws; `equal` compares from the end.
 ghost use mathlib.Core.Path.{_≡_};
 ghost use Prim.Native.Nat.{_+_, _<_, _≤_};
 ghost use lib.ListN.{length};
@@ -62,14 +62,21 @@ pub fn begins_with(a: &[u8], b: &[u8]) -> bool
     common_length(a, b) == a.len()
 }
 
-// Whether a and b are the same bytes.
+// Whether a and b are the same bytes. From the end: paths share long beginnings, and those that differ mostly do so near their ends.
 pub fn equal(a: &[u8], b: &[u8]) -> bool
     ensures { λ r. ⌜ r ≡ same (now (a .entry)) (now (b .entry)) ⌝ }
 {
     if a.len() != b.len() {
         return false;
     }
-    common_length(a, b) == a.len()
+    let mut i = a.len();
+    while 0 < i {
+        i -= 1;
+        if a[i] != b[i] {
+            return false;
+        }
+    }
+    true
 }
 
 // Whether a comes before b.

@@ -2,7 +2,7 @@
 use Prim.Native.Nat.{ℕ}
 use mathlib.Core.Path.{_≡_, subst}
 use mathlib.Core.List.{List}
-use Rattle.push_laws.specs.PushedDown.{PushedDown}
+use Rattle.push.specs.Laws.PushedDown.{PushedDown}
 use Rattle.push.specs.declared.Pushed.{Pushed}
 use Rattle.push.specs.Outcome.{Outcome}
 

@@ -1,5 +1,5 @@
 -- Step lemmas of the loop over the children: the child in hand takes its messages, and those that follow have room still.
--- Relies on push_laws' Only.
+-- Relies on Laws/Only.
 use Prim.Native.Nat.{ℕ}
 use mathlib.Core.Path.{_≡_, sym, ap, _∙_}
 use mathlib.Core.List.{List, [], _∷_}
@@ -7,11 +7,11 @@ use mathlib.Core.Bool.{true}
 use Rattle.image.specs.Entry.{Entry}
 use Rattle.image.specs.Image.{Kid}
 use Rattle.image.specs.Sound.{once}
-use Rattle.reading.specs.Relative.{kidHigh}
-use Rattle.search.specs.Own.{kid}
-use Rattle.push_laws.specs.Written.{childTakes, eachTakes, hasRoom, allHaveRoom, kidNumbers}
-use Rattle.push_laws.specs.Only.{room-first, once-first}
-use Rattle.push_laws.specs.LeafRoom.{rooms-on}
+use Rattle.laws.specs.Reading.Relative.{kidHigh}
+use Rattle.node.specs.Search.Own.{kid}
+use Rattle.push.specs.Laws.Written.{childTakes, eachTakes, hasRoom, allHaveRoom, kidNumbers}
+use Rattle.push.specs.Laws.Only.{room-first, once-first}
+use Rattle.push.specs.Laws.LeafRoom.{rooms-on}
 
 pub takes-none : (es : List Entry) (ks : List Kid) (hi s : List ℕ) → ks ≡ [] → s ≡ eachTakes (childTakes es) ks hi s
 unfolding eachTakes

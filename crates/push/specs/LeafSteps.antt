@@ -1,5 +1,5 @@
 -- Step lemmas of a leaf that takes messages: the pairs that stay, put into a page, and the page written.
--- Relies on push_laws' Leaves and LeafRoom.
+-- Relies on Laws/Leaves and LeafRoom.
 use Prim.Native.Nat.{ℕ, _+_, _-_, _*_, _≤_}
 use mathlib.Core.Path.{_≡_, refl, sym, ap, ap₂, _∙_}
 use mathlib.Core.List.{List, [], _∷_, _++_, append-assoc, append-nil}
@@ -11,14 +11,14 @@ use Rattle.image.specs.Bytes.{u16, u16Bytes, same, before, begins, shared}
 use Rattle.image.specs.Entry as defined
 use Rattle.octets.specs.Order.{not-true}
 use Rattle.octets.specs.Put.{put, put-put}
-use Rattle.laws.specs.Encode.{restOf, kindOf, bytesOf, bytesOfAll}
+use Rattle.laws.specs.Encode.{bytesOf, bytesOfAll, keyedEntry, keyed-length, pair-entry}
 use Rattle.laws.specs.PushDown.{touches}
 use Rattle.laws.specs.RowsRising.{is-true}
 use Rattle.laws.specs.WriteNode.{writeNode}
 use Rattle.laws.specs.Page.{page, page-length}
-use Rattle.packed.specs.Tidy.{zerosOf}
-use Rattle.pages.specs.Nodes.{page-is, node-written}
-use Rattle.upkeep.specs.Size.{bytes-append}
+use Rattle.packed.specs.Form.Tidy.{zerosOf}
+use Rattle.packed.specs.Pages.Nodes.{page-is, node-written}
+use Rattle.laws.specs.Upkeep.Size.{bytes-append}
 use Rattle.node.specs.Cut.{cut}
 use Rattle.node.specs.Places.{part, messageIn, entryIn}
 use Rattle.node.specs.Entries.{listed}
@@ -26,13 +26,11 @@ use Rattle.node.specs.declared.Place.{Place}
 use Rattle.node.specs.declared.Message.{Message}
 use Rattle.node.specs.declared.Entry.{Entry}
 use Rattle.lookup.specs.Look.{listing}
-use Rattle.push_laws.specs.Arriving.{loweredBy, brought, broughtAll}
-use Rattle.push_laws.specs.Leaves.{kept, pairsAfter, applied, leafTakesOne, leafTakes}
-use Rattle.push_laws.specs.Written.{childTakes, interiorTakes, hasRoom}
-use Rattle.push_laws.specs.Only.{room-inside, room-fits}
-use Rattle.push_laws.specs.LeafRoom.{after-fits, one-taken}
-use Rattle.push.specs.Kinds.{keyedEntry}
-use Rattle.push.specs.WriteSteps.{keyed-length}
+use Rattle.push.specs.Laws.Arriving.{loweredBy, brought, broughtAll}
+use Rattle.push.specs.Laws.Leaves.{kept, pairsAfter, applied, leafTakesOne, leafTakes}
+use Rattle.push.specs.Laws.Written.{childTakes, interiorTakes, hasRoom}
+use Rattle.push.specs.Laws.Only.{room-inside, room-fits}
+use Rattle.push.specs.Laws.LeafRoom.{after-fits, one-taken}
 use Rattle.push.specs.Sides.{staysOn, keptBytes}
 use Rattle.push.specs.declared.leaf.Side.{Side}
 
@@ -55,12 +53,6 @@ module _ (side : Side) (key own : List ℕ) (b : Bool) where
   stays-outside e h = ap not h ∙ ap (λ z. staysOn z key own) (sym e)
 
 -- ONE ENTRY OF THE LEAF
-pair-entry : (a v : List ℕ) → bytesOf (defined.pair a v) ≡ keyedEntry 1 a v
-unfolding bytesOf restOf kindOf keyedEntry
-pair-entry a v =
-    let z : length (u16Bytes (length a) ++ (a ++ v)) ≡ 2 + length a + length v = let n = length-append a v in omega arith in
-    ap (λ n. u16Bytes n ++ (u16Bytes 1 ++ (u16Bytes (length a) ++ (a ++ v)))) z
-
 module _ (s : List ℕ) (side : Side) (key : List ℕ) (e : Entry) where
   pub kept-child : (i : ℕ) (p : Place) → e ≡ Entry.Child i p → keptBytes side key (entryIn s e ∷ []) ≡ []
   unfolding keptBytes kept bytesOfAll

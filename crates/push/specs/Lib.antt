@@ -1,4 +1,5 @@
-pub mod Kinds
+pub mod Laws
+pub mod High
 pub mod Outcome
 pub mod Sides
 pub mod ReadSteps

@@ -1,5 +1,5 @@
 -- Step lemmas of the flush of a node: the copy of its page lists its entries, and each exit keeps the promise.
--- Relies on push_laws' PushedDown.
+-- Relies on Laws/PushedDown.
 use Prim.Native.Nat.{ℕ, suc, _+_, _*_, _-_, _≤_}
 use mathlib.Core.Path.{_≡_, refl, sym, ap, ap₂, subst, _∙_}
 use mathlib.Core.List.{List, [], _∷_, _++_, append-nil}
@@ -17,21 +17,21 @@ use Rattle.octets.specs.Order.{not-true}
 use Rattle.octets.specs.Put.{put}
 use Rattle.laws.specs.RowsRising.{is-true}
 use Rattle.laws.specs.Page.{page, page-length}
-use Rattle.packed.specs.Tidy.{zerosOf, drop-zeros}
-use Rattle.pages.specs.Nodes.{page-is, node-written}
+use Rattle.packed.specs.Form.Tidy.{zerosOf, drop-zeros}
+use Rattle.packed.specs.Pages.Nodes.{page-is, node-written}
 use Rattle.node.specs.Cut.{cut, cut-drop, cut-take, cut-length}
 use Rattle.node.specs.Entries.{listed, listOf}
-use Rattle.search.specs.Own.{kidsE}
+use Rattle.node.specs.Search.Own.{kidsE}
 use Rattle.lookup.specs.Look.{listing}
 use Rattle.live.specs.Walk.{isMessage, hasMessage}
-use Rattle.push_laws.specs.Arriving.{waiting}
-use Rattle.push_laws.specs.High.{highHere}
-use Rattle.push_laws.specs.Written.{childTakes, eachTakes, allHaveRoom, kidNumbers, smallNumbers, childBytes, emptied}
-use Rattle.push_laws.specs.TakesLaws.{each-size}
-use Rattle.push_laws.specs.PushedDown.{PushedDown, interior-place, two-levels, inside, short, stored-level, kids-once, children-fit, small-kids, few-nodes, nothing-waits, pushed-down}
-use Rattle.node_high.specs.Sought.{Seen}
-use Rattle.node_high.specs.Steps.{found-is}
-use Rattle.node_high.specs.declared.Sought.{Sought}
+use Rattle.push.specs.Laws.Arriving.{waiting}
+use Rattle.push.specs.Laws.High.{highHere}
+use Rattle.push.specs.Laws.Written.{childTakes, eachTakes, allHaveRoom, kidNumbers, smallNumbers, childBytes, emptied}
+use Rattle.push.specs.Laws.TakesLaws.{each-size}
+use Rattle.push.specs.Laws.PushedDown.{PushedDown, interior-place, two-levels, inside, short, stored-level, kids-once, children-fit, small-kids, few-nodes, nothing-waits, pushed-down}
+use Rattle.push.specs.High.Sought.{Seen}
+use Rattle.push.specs.High.Steps.{found-is}
+use Rattle.push.specs.declared.high.Sought.{Sought}
 use Rattle.push.specs.declared.Pushed.{Pushed}
 use Rattle.push.specs.Outcome.{Outcome, Pushable}
 

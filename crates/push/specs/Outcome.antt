@@ -9,8 +9,8 @@ use Rattle.image.specs.Image.{wholeNodes, treeOf}
 use Rattle.image.specs.Sound.{sound, highest}
 use Rattle.image.specs.Upkeep.{reachableAt, reachableNodes}
 use Rattle.image.specs.Contract.{isInterior}
-use Rattle.push_laws.specs.High.{highHere}
-use Rattle.push_laws.specs.PushedDown.{PushedDown}
+use Rattle.push.specs.Laws.High.{highHere}
+use Rattle.push.specs.Laws.PushedDown.{PushedDown}
 use Rattle.push.specs.declared.Pushed.{Pushed}
 
 -- done: the image is sound, its table the same, and no node of the level holds a message in the node's range; no room: no byte is changed

@@ -1,5 +1,5 @@
 -- Step lemmas of the tests and sizes: which messages touch a child, and how many bytes they bring.
--- Relies on push_laws' Arriving and on the places that node's readers promise.
+-- Relies on Laws/Arriving and on the places that node's readers promise.
 use Prim.Native.Nat.{ℕ, _+_, _-_, _*_, _<_, _≤_}
 use mathlib.Core.Path.{_≡_, refl, sym, ap, _∙_}
 use mathlib.Core.List.{List, [], _∷_}
@@ -16,17 +16,17 @@ use Rattle.octets.specs.Order.{not-true}
 use Rattle.laws.specs.Encode.{bytesOf}
 use Rattle.laws.specs.RowsRising.{is-true}
 use Rattle.laws.specs.PushDown.{touches}
-use Rattle.upkeep.specs.Size.{put-size, drop-size, clear-size}
-use Rattle.reading.specs.Relative.{kidHigh}
+use Rattle.laws.specs.Upkeep.Size.{put-size, drop-size, clear-size}
+use Rattle.laws.specs.Reading.Relative.{kidHigh}
 use Rattle.node.specs.Cut.{cut, cut-drop, cut-length, cut-nil}
 use Rattle.node.specs.Places.{part, messageIn, entryIn, Within}
 use Rattle.node.specs.declared.Place.{Place}
 use Rattle.node.specs.declared.Message.{Message}
 use Rattle.node.specs.declared.Entry.{Entry}
-use Rattle.search.specs.Own.{kid}
-use Rattle.live.specs.WalkLaws.{shared-take}
-use Rattle.push_laws.specs.Arriving.{loweredBy, brought, broughtAll}
-use Rattle.push_laws.specs.Written.{hasRoom, allHaveRoom}
+use Rattle.node.specs.Search.Own.{kid}
+use Rattle.push.specs.Laws.Arriving.{loweredBy, brought, broughtAll}
+use Rattle.push.specs.Laws.Written.{hasRoom, allHaveRoom}
+use Rattle.octets.specs.Beginnings.{shared-take}
 
 -- A PART WITHOUT ITS FIRST BYTES
 pub past-end : (p : Place) (k : ℕ) → p .start ≤ p .stop → p .stop - p .start < k → (s : List ℕ) → cut s (p .stop) (p .stop) ≡ drop k (cut s (p .start) (p .stop))

@@ -5,7 +5,7 @@ use mathlib.Core.Bool.{Bool, not}
 use Rattle.image.specs.Bytes.{same, before, begins}
 use Rattle.image.specs.Entry as defined
 use Rattle.laws.specs.Encode.{bytesOfAll}
-use Rattle.push_laws.specs.Leaves.{kept}
+use Rattle.push.specs.Laws.Leaves.{kept}
 use Rattle.push.specs.declared.leaf.Side.{Side}
 
 unfoldable pub staysOn : Side → List ℕ → List ℕ → Bool

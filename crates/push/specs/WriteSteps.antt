@@ -1,8 +1,8 @@
 -- Step lemmas of the writers: entries put into a page one after the other, and a page written as a node.
--- Relies on octets' `put` and its laws, and on push_laws' Written.
+-- Relies on octets' `put` and its laws, and on Laws/Written.
 use Prim.Native.Nat.{ℕ, _+_, _-_, _*_, _<_, _≤_}
 use mathlib.Core.Path.{_≡_, refl, sym, ap, ap₂, _∙_}
-use mathlib.Core.List.{List, [], _∷_, _++_, append-assoc}
+use mathlib.Core.List.{List, [], _∷_, _++_}
 use mathlib.Core.Bool.{true}
 use native.Mathlib.Omega.{arith}
 use lib.ListN.{length, drop, length-append}
@@ -11,7 +11,7 @@ use borrow.Author.Tests.{ltb-true}
 use Rattle.image.specs.Bytes.{u16, u16Bytes}
 use Rattle.image.specs.Entry as defined
 use Rattle.octets.specs.Put.{put, put-put, put-nil}
-use Rattle.laws.specs.Encode.{restOf, kindOf, bytesOf}
+use Rattle.laws.specs.Encode.{bytesOf, keyedEntry, shortEntry, put-entry, drop-entry, clear-entry, child-size}
 use Rattle.node.specs.Cut.{cut, cut-length}
 use Rattle.node.specs.Places.{part, messageIn}
 use Rattle.node.specs.declared.Place.{Place}
@@ -20,61 +20,14 @@ use Rattle.image.specs.Image.{Kid}
 use Rattle.octets.specs.Order.{and-left, and-right}
 use Rattle.laws.specs.WriteNode.{writeNode}
 use Rattle.laws.specs.Page.{page, page-length}
-use Rattle.packed.specs.Tidy.{zerosOf}
-use Rattle.upkeep.specs.Size as size
-use Rattle.pages.specs.Nodes.{page-is, node-written}
-use Rattle.push_laws.specs.Arriving.{loweredBy, brought, broughtAll}
-use Rattle.push_laws.specs.Written.{bodyOf, lengthened, interiorTakes, hasRoom, childBytes, smallNumbers}
-use Rattle.push_laws.specs.Only.{room-inside, room-fits}
-use Rattle.push.specs.Kinds.{keyedEntry, shortEntry}
-
--- ONE ENTRY
-pub keyed-length : (kind : ℕ) (key value : List ℕ) → length (keyedEntry kind key value) ≡ 6 + length key + length value
-unfolding keyedEntry
-keyed-length kind key value = let a = length-append key value in omega arith
-
-pub short-length : (kind : ℕ) (key : List ℕ) → length (shortEntry kind key) ≡ 4 + length key
-unfolding shortEntry
-short-length kind key = omega arith
-
-pub keyed-put : (p p₁ p₂ p₃ p₄ p₅ : List ℕ) (at kind : ℕ) (key value : List ℕ) → at + (6 + length key + length value) ≤ length p
-    → p₁ ≡ put p at (u16Bytes (2 + length key + length value)) → p₂ ≡ put p₁ (at + 2) (u16Bytes kind) → p₃ ≡ put p₂ (at + 4) (u16Bytes (length key))
-    → p₄ ≡ put p₃ (at + 6) key → p₅ ≡ put p₄ (at + 6 + length key) value → p₅ ≡ put p at (keyedEntry kind key value)
-unfolding keyedEntry
-keyed-put p p₁ p₂ p₃ p₄ p₅ at kind key value h a b c d e =
-    let A : List ℕ = u16Bytes (2 + length key + length value) in
-    let B : List ℕ = A ++ u16Bytes kind in
-    let C : List ℕ = B ++ u16Bytes (length key) in
-    let t₂ : p₂ ≡ put p at B = b ∙ ap (λ x. put x (at + 2) (u16Bytes kind)) a ∙ put-put p at A (u16Bytes kind) (omega arith) in
-    let t₃ : p₃ ≡ put p at C = c ∙ ap (λ x. put x (at + 4) (u16Bytes (length key))) t₂ ∙ put-put p at B (u16Bytes (length key)) (omega arith) in
-    let t₄ : p₄ ≡ put p at (C ++ key) = d ∙ ap (λ x. put x (at + 6) key) t₃ ∙ put-put p at C key (omega arith) in
-    let n : length (C ++ key) ≡ 6 + length key = length-append C key in
-    let z : at + 6 + length key ≡ at + length (C ++ key) = omega arith in
-    e ∙ ap₂ (λ x y. put x y value) t₄ z ∙ put-put p at (C ++ key) value (omega arith) ∙ ap (put p at) (append-assoc C key value)
-
-pub short-put : (p p₁ p₂ p₃ : List ℕ) (at kind : ℕ) (key : List ℕ) → at + (4 + length key) ≤ length p
-    → p₁ ≡ put p at (u16Bytes (length key)) → p₂ ≡ put p₁ (at + 2) (u16Bytes kind) → p₃ ≡ put p₂ (at + 4) key → p₃ ≡ put p at (shortEntry kind key)
-unfolding shortEntry
-short-put p p₁ p₂ p₃ at kind key h a b c =
-    c ∙ ap (λ x. put x (at + 4) key) (b ∙ ap (λ x. put x (at + 2) (u16Bytes kind)) a ∙ put-put p at (u16Bytes (length key)) (u16Bytes kind) (omega arith))
-    ∙ put-put p at (u16Bytes (length key) ++ u16Bytes kind) key (omega arith)
+use Rattle.packed.specs.Form.Tidy.{zerosOf}
+use Rattle.packed.specs.Pages.Nodes.{page-is, node-written}
+use Rattle.push.specs.Laws.Arriving.{loweredBy, brought, broughtAll}
+use Rattle.push.specs.Laws.Written.{bodyOf, lengthened, interiorTakes, hasRoom, childBytes, smallNumbers}
+use Rattle.push.specs.Laws.Only.{room-inside, room-fits}
 
 -- A MESSAGE IN THE CHILD'S FORM
 module _ (s : List ℕ) (m : Message) (p : Place) (k x : ℕ) (past : (t : List ℕ) → cut t x (p .stop) ≡ drop k (cut t (p .start) (p .stop))) where
-  put-entry : (a v : List ℕ) → bytesOf (defined.message (defined.puts a v)) ≡ keyedEntry 32 a v
-  unfolding bytesOf restOf kindOf keyedEntry
-  put-entry a v =
-      let z : length (u16Bytes (length a) ++ (a ++ v)) ≡ 2 + length a + length v = let n = length-append a v in omega arith in
-      ap (λ n. u16Bytes n ++ (u16Bytes 32 ++ (u16Bytes (length a) ++ (a ++ v)))) z
-
-  drop-entry : (a : List ℕ) → bytesOf (defined.message (defined.drops a)) ≡ shortEntry 33 a
-  unfolding bytesOf restOf kindOf shortEntry
-  drop-entry a = refl
-
-  clear-entry : (a : List ℕ) → bytesOf (defined.message (defined.clears a)) ≡ shortEntry 34 a
-  unfolding bytesOf restOf kindOf shortEntry
-  clear-entry a = refl
-
   pub put-bytes : (v : Place) → m ≡ Message.Put p v → keyedEntry 32 (cut s x (p .stop)) (cut s (v .start) (v .stop)) ≡ bytesOf (defined.message (loweredBy k (messageIn s m)))
   unfolding loweredBy
   put-bytes v e =
@@ -140,16 +93,7 @@ pub brought-none : (lo hi : List ℕ) (es : List defined.Entry) → es ≡ [] �
 unfolding broughtAll
 brought-none lo hi es q = ap (λ l. broughtAll l lo hi) q
 
--- A PAGE WITH ITS FIRST BYTES
-pub page-put : (page p₁ p₂ p₃ store store′ : List ℕ) (num kind level size : ℕ) → p₁ ≡ put page 0 (u16Bytes size) → p₂ ≡ put p₁ 2 (u16Bytes kind) → p₃ ≡ put p₂ 4 (u16Bytes level)
-    → store′ ≡ put store (num * 1024) p₃ → store′ ≡ put store (num * 1024) (put (put (put page 0 (u16Bytes size)) 2 (u16Bytes kind)) 4 (u16Bytes level))
-page-put page p₁ p₂ p₃ store store′ num kind level size a b c d =
-    d ∙ ap (put store (num * 1024)) (c ∙ ap (λ x. put x 4 (u16Bytes level)) (b ∙ ap (λ x. put x 2 (u16Bytes kind)) a))
-
--- THE CHILD ENTRIES
-pub child-length : (i : ℕ) (s : List ℕ) → length (bytesOf (defined.child i s)) ≡ 6 + length s
-child-length i s = size.child-size i s
-
+-- THE ENTRIES OF CHILDREN
 pub children-cons : (ks us : List Kid) (k : Kid) → ks ≡ k ∷ us → childBytes ks ≡ bytesOf (defined.child (k .number) (k .pivot)) ++ childBytes us
 unfolding childBytes
 children-cons ks us k q = ap childBytes q
@@ -167,7 +111,7 @@ unfolding smallNumbers
 small-later ks us k q e = and-right (ltb (k .number) 65536) _ (ap smallNumbers (sym q) ∙ e)
 
 pub as-child : (i : ℕ) (s : List ℕ) (to r : ℕ) → r ≡ to + (6 + length s) → r ≡ to + length (bytesOf (defined.child i s))
-as-child i s to r e = let z = child-length i s in omega arith
+as-child i s to r e = let z = child-size i s in omega arith
 
 -- AN INTERIOR CHILD, WRITTEN
 module _ (es : List defined.Entry) (i : ℕ) (lo hi s : List ℕ) (room : hasRoom es i lo hi s ≡ true) where

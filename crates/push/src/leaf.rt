@@ -1,11 +1,11 @@
 // What a leaf takes: each message that touches it, oldest first, is applied to its pairs, and the pairs that stay are written anew.
-// Relies on room and message, and on node and octets; specs/Sides says which pairs stay.
-use crate::message;
+// Relies on room, and on node's cursor and writer; specs/Sides says which pairs stay.
 use crate::room;
 use node::Cursor;
 use node::Entry;
 use node::Message;
 use node::Step;
+use node::writer;
 ghost use mathlib.Core.Path.{_≡_};
 ghost use mathlib.Core.List.{_∷_, []};
 ghost use mathlib.Core.Bool.{true};
@@ -17,9 +17,9 @@ ghost use Rattle.laws.specs.Encode.{bytesOf, bytesOfAll};
 ghost use Rattle.octets.specs.Put.{put};
 ghost use Rattle.node.specs.Places.{EntryWithin, MessageWithin, entryIn, messageIn};
 ghost use Rattle.node.specs.Entries.{listed};
-ghost use Rattle.push_laws.specs.Arriving.{loweredBy, brought};
-ghost use Rattle.push_laws.specs.Leaves.{pairsAfter, applied, leafTakesOne, leafTakes};
-ghost use Rattle.push_laws.specs.Written.{hasRoom};
+ghost use Rattle.push.specs.Laws.Arriving.{loweredBy, brought};
+ghost use Rattle.push.specs.Laws.Leaves.{pairsAfter, applied, leafTakesOne, leafTakes};
+ghost use Rattle.push.specs.Laws.Written.{hasRoom};
 ghost use Rattle.push.specs.Sides.{staysOn, keptBytes};
 
 // Which pairs of a leaf stay, by a key: those before it, those after it, all but its own, or all that do not begin with it.
@@ -57,7 +57,7 @@ fn emit_kept(page: &mut [u8], at: usize, leaf: &[u8], e: Entry, key: &[u8], side
             }
             let x = v.start;
             let y = v.stop;
-            message::emit_keyed(page, at, 1, &leaf[a..b], &leaf[x..y])
+            writer::write_keyed(page, at, image::PAIR, &leaf[a..b], &leaf[x..y])
         }
         Entry::Child(_, _) => at,
         Entry::Message(_) => at,
@@ -104,8 +104,8 @@ fn emit_with(
         ≡ put (now (page .entry)) 8 (bytesOfAll (pairsAfter (puts (now (key .entry)) (now (value .entry))) (listed (now (leaf .entry)) from end))))
         × (r ≡ 8 + length (bytesOfAll (pairsAfter (puts (now (key .entry)) (now (value .entry))) (listed (now (leaf .entry)) from end)))) ⌝ }
 {
-    let to = emit_pairs(page, 8, leaf, from, end, key, Side::Before);
-    let behind = message::emit_keyed(page, to, 1, key, value);
+    let to = emit_pairs(page, image::ENTRIES_AT, leaf, from, end, key, Side::Before);
+    let behind = writer::write_keyed(page, to, image::PAIR, key, value);
     emit_pairs(page, behind, leaf, from, end, key, Side::After)
 }
 
@@ -139,12 +139,28 @@ fn emit_leaf(
         Message::Drop(p) => {
             let x = room::start_past(p, k);
             let y = p.stop;
-            emit_pairs(page, 8, leaf, from, end, &node[x..y], Side::Other)
+            emit_pairs(
+                page,
+                image::ENTRIES_AT,
+                leaf,
+                from,
+                end,
+                &node[x..y],
+                Side::Other,
+            )
         }
         Message::Clear(p) => {
             let x = room::start_past(p, k);
             let y = p.stop;
-            emit_pairs(page, 8, leaf, from, end, &node[x..y], Side::Outside)
+            emit_pairs(
+                page,
+                image::ENTRIES_AT,
+                leaf,
+                from,
+                end,
+                &node[x..y],
+                Side::Outside,
+            )
         }
     }
 }
@@ -161,7 +177,14 @@ fn apply_message(store: &mut [u8], num: usize, node: &[u8], m: Message, k: usize
     let from = at + image::ENTRIES_AT;
     let mut page = [0u8; 1024];
     let end = emit_leaf(&mut page, store, from, from + len, node, m, k);
-    message::write_page(store, num, &mut page, 1, 1, end - 8);
+    writer::write_page(
+        store,
+        num,
+        &mut page,
+        image::LEAF,
+        1,
+        end - image::ENTRIES_AT,
+    );
 }
 
 // A leaf with these pivots takes what an entry of the node brings.
@@ -187,7 +210,10 @@ pub fn push_leaf(store: &mut [u8], num: usize, node: &[u8], stop: usize, lo: &[u
     requires { ⌜ (stop ≤ length (now node)) × (hasRoom (listed (now node) 8 stop) num (now lo) (now hi) (now store) ≡ true) ⌝ }
     ensures { λ _. ⌜ now (store .exit) ≡ leafTakes (listed (now (node .entry)) 8 stop) num (now (lo .entry)) (now (hi .entry)) (now (store .entry)) ⌝ }
 {
-    let mut c = Cursor { at: 8, end: stop };
+    let mut c = Cursor {
+        at: image::ENTRIES_AT,
+        end: stop,
+    };
     while c.at < stop {
         let Step::Read(e, next) = c.step(node) else {
             return;

@@ -1,13 +1,15 @@
 // A flush by one level: all messages of an interior node go, oldest first, to the children that they touch, if all these have room.
-// Everything is told from inside the node: suffixes and pivots are without what the node lifts. Relies on push_laws and node_high; room
+// Everything is told from inside the node: suffixes and pivots are without what the node lifts. Relies on specs/Laws and high; room
 // says whether the children have room, message and leaf what an interior child and a leaf take.
+pub mod high;
 mod leaf;
 pub mod message;
 pub mod room;
 
+use high::Sought;
 use live::Pending;
 use node::Cursor;
-use node_high::Sought;
+use node::writer;
 ghost use mathlib.Core.Path.{_≡_};
 ghost use mathlib.Core.Bool.{true};
 ghost use Prim.Native.Nat.{_+_, _*_, _<_, _≤_};
@@ -15,8 +17,8 @@ ghost use lib.ListN.{length};
 ghost use Rattle.image.specs.Sound.{once, sound};
 ghost use Rattle.octets.specs.Put.{put};
 ghost use Rattle.node.specs.Entries.{listed};
-ghost use Rattle.search.specs.Own.{kidsE};
-ghost use Rattle.push_laws.specs.Written.{childTakes, eachTakes, hasRoom, allHaveRoom, kidNumbers, childBytes, smallNumbers, emptied};
+ghost use Rattle.node.specs.Search.Own.{kidsE};
+ghost use Rattle.push.specs.Laws.Written.{childTakes, eachTakes, hasRoom, allHaveRoom, kidNumbers, childBytes, smallNumbers, emptied};
 ghost use Rattle.push.specs.Outcome.{Pushable, Outcome};
 ghost use Rattle.image.specs.Image.{wholeNodes};
 ghost use Rattle.image.specs.Upkeep.{reachableAt, reachableNodes};
@@ -49,8 +51,13 @@ fn push_children(store: &mut [u8], node: &[u8], stop: usize, hi: &[u8])
         × (once (kidNumbers (kidsE (listed (now node) 8 stop))) ≡ true) ⌝ }
     ensures { λ _. ⌜ now (store .exit) ≡ eachTakes (childTakes (listed (now (node .entry)) 8 stop)) (kidsE (listed (now (node .entry)) 8 stop)) (now (hi .entry)) (now (store .entry)) ⌝ }
 {
-    let Pending::Child(first, pivot, start) = live::read_child(node, Cursor { at: 8, end: stop })
-    else {
+    let Pending::Child(first, pivot, start) = live::read_child(
+        node,
+        Cursor {
+            at: image::ENTRIES_AT,
+            end: stop,
+        },
+    ) else {
         return;
     };
     let mut c = start;
@@ -81,7 +88,10 @@ fn emit_children(page: &mut [u8], at: usize, node: &[u8], stop: usize) -> usize
     ensures { λ r. ⌜ (now (page .exit) ≡ put (now (page .entry)) at (childBytes (kidsE (listed (now (node .entry)) 8 stop))))
         × (r ≡ at + length (childBytes (kidsE (listed (now (node .entry)) 8 stop)))) ⌝ }
 {
-    let mut c = Cursor { at: 8, end: stop };
+    let mut c = Cursor {
+        at: image::ENTRIES_AT,
+        end: stop,
+    };
     let mut to = at;
     loop {
         let Pending::Child(k, p, next) = live::read_child(node, c) else {
@@ -89,7 +99,7 @@ fn emit_children(page: &mut [u8], at: usize, node: &[u8], stop: usize) -> usize
         };
         let a = p.start;
         let b = p.stop;
-        to = pages::emit_child(page, to, k, &node[a..b]);
+        to = writer::write_child(page, to, k, &node[a..b]);
         c = next;
     }
 }
@@ -104,8 +114,15 @@ fn clear_messages(store: &mut [u8], num: usize, node: &[u8], stop: usize, level:
     ensures { λ _. ⌜ now (store .exit) ≡ emptied (now (store .entry)) num level (kidsE (listed (now (node .entry)) 8 stop)) ⌝ }
 {
     let mut page = [0u8; 1024];
-    let end = emit_children(&mut page, 8, node, stop);
-    message::write_page(store, num, &mut page, 2, level, end - 8);
+    let end = emit_children(&mut page, image::ENTRIES_AT, node, stop);
+    writer::write_page(
+        store,
+        num,
+        &mut page,
+        image::INTERIOR,
+        level,
+        end - image::ENTRIES_AT,
+    );
 }
 
 // The flush of a node whose high pivot, without what the node lifts, is hi. The test that all fits comes before the first write.
@@ -115,12 +132,12 @@ fn push_node(store: &mut [u8], num: usize, hi: &[u8]) -> Pushed
 {
     let at = num * image::NODE_SIZE;
     let len = octets::u16_at(store, at);
-    let level = octets::u16_at(store, at + 4);
-    let stop = 8 + len;
+    let level = octets::u16_at(store, at + image::LEVEL_AT);
+    let stop = image::ENTRIES_AT + len;
     let end = at + image::NODE_SIZE;
     let mut node = [0u8; 1024];
     octets::copy_at(&mut node, 0, &store[at..end]);
-    if !live::has_messages(&node, 8, stop) {
+    if !live::has_messages(&node, image::ENTRIES_AT, stop) {
         return Pushed::Done;
     }
     if !room::all_fit(store, &node, stop, hi) {
@@ -138,7 +155,7 @@ pub fn push_down(store: &mut [u8], num: usize) -> Pushed
     ensures { λ r. ⌜ Outcome (now (store .entry)) num r (now (store .exit)) ⌝ }
 {
     let mut high = [0u8; 1024];
-    let Sought::Found(n) = node_high::find_high(store, num, &mut high) else {
+    let Sought::Found(n) = high::find_high(store, num, &mut high) else {
         return Pushed::NoRoom;
     };
     if 1024 < n {

@@ -1,51 +1,22 @@
-// What an interior child takes: the messages that touch it, without what it lifts, behind its own entries. How an entry and a page are
-// written stands here too. Relies on room, which says what touches a child, and on node and octets; specs/Kinds has an entry's bytes.
+// What an interior child takes: the messages that touch it, without what it lifts, behind its own entries.
+// Relies on room, which says what touches a child, and on node's cursor and writer.
 use crate::room;
 use node::Cursor;
 use node::Entry;
 use node::Message;
 use node::Step;
+use node::writer;
 ghost use mathlib.Core.Path.{_≡_};
 ghost use mathlib.Core.Bool.{true};
-ghost use Prim.Native.Nat.{_+_, _*_, _<_, _≤_};
+ghost use Prim.Native.Nat.{_+_, _≤_};
 ghost use lib.ListN.{length};
-ghost use Rattle.image.specs.Bytes.{u16Bytes};
 ghost use Rattle.image.specs.Entry.{message};
 ghost use Rattle.laws.specs.Encode.{bytesOf};
 ghost use Rattle.octets.specs.Put.{put};
 ghost use Rattle.node.specs.Places.{EntryWithin, MessageWithin, entryIn, messageIn};
 ghost use Rattle.node.specs.Entries.{listed};
-ghost use Rattle.push_laws.specs.Arriving.{loweredBy, brought, broughtAll};
-ghost use Rattle.push_laws.specs.Written.{interiorTakes, hasRoom};
-ghost use Rattle.push.specs.Kinds.{keyedEntry, shortEntry};
-
-// An entry of a suffix and a value. Gives the place behind it.
-pub fn emit_keyed(page: &mut [u8], at: usize, kind: usize, key: &[u8], value: &[u8]) -> usize
-    requires { ⌜ (at + (6 + length (now key) + length (now value)) ≤ length (now page)) × (length (now page) ≤ 1024) × (kind < 65536) ⌝ }
-    ensures { λ r. ⌜ (now (page .exit) ≡ put (now (page .entry)) at (keyedEntry kind (now (key .entry)) (now (value .entry))))
-        × (r ≡ at + (6 + length (now (key .entry)) + length (now (value .entry)))) ⌝ }
-{
-    let n = key.len();
-    let k = value.len();
-    octets::put_u16(page, at, 2 + n + k);
-    octets::put_u16(page, at + 2, kind);
-    octets::put_u16(page, at + 4, n);
-    octets::copy_at(page, at + 6, key);
-    octets::copy_at(page, at + 6 + n, value);
-    at + (6 + n + k)
-}
-
-// An entry of a suffix alone. Gives the place behind it.
-fn emit_short(page: &mut [u8], at: usize, kind: usize, key: &[u8]) -> usize
-    requires { ⌜ (at + (4 + length (now key)) ≤ length (now page)) × (length (now page) ≤ 1024) × (kind < 65536) ⌝ }
-    ensures { λ r. ⌜ (now (page .exit) ≡ put (now (page .entry)) at (shortEntry kind (now (key .entry)))) × (r ≡ at + (4 + length (now (key .entry)))) ⌝ }
-{
-    let n = key.len();
-    octets::put_u16(page, at, n);
-    octets::put_u16(page, at + 2, kind);
-    octets::copy_at(page, at + 4, key);
-    at + (4 + n)
-}
+ghost use Rattle.push.specs.Laws.Arriving.{loweredBy, brought, broughtAll};
+ghost use Rattle.push.specs.Laws.Written.{interiorTakes, hasRoom};
 
 // A message's entry for a child that lifts k bytes more. Gives the place behind it.
 pub fn emit_message(page: &mut [u8], at: usize, node: &[u8], m: Message, k: usize) -> usize
@@ -59,17 +30,17 @@ pub fn emit_message(page: &mut [u8], at: usize, node: &[u8], m: Message, k: usiz
             let y = p.stop;
             let a = v.start;
             let b = v.stop;
-            emit_keyed(page, at, image::PUT, &node[x..y], &node[a..b])
+            writer::write_keyed(page, at, image::PUT, &node[x..y], &node[a..b])
         }
         Message::Drop(p) => {
             let x = room::start_past(p, k);
             let y = p.stop;
-            emit_short(page, at, image::DROP, &node[x..y])
+            writer::write_short(page, at, image::DROP, &node[x..y])
         }
         Message::Clear(p) => {
             let x = room::start_past(p, k);
             let y = p.stop;
-            emit_short(page, at, image::CLEAR, &node[x..y])
+            writer::write_short(page, at, image::CLEAR, &node[x..y])
         }
     }
 }
@@ -106,7 +77,10 @@ fn emit_messages(
     ensures { λ r. ⌜ (now (page .exit) ≡ put (now (page .entry)) at (broughtAll (listed (now (node .entry)) 8 stop) (now (lo .entry)) (now (hi .entry))))
         × (r ≡ at + length (broughtAll (listed (now (node .entry)) 8 stop) (now (lo .entry)) (now (hi .entry)))) ⌝ }
 {
-    let mut c = Cursor { at: 8, end: stop };
+    let mut c = Cursor {
+        at: image::ENTRIES_AT,
+        end: stop,
+    };
     let mut to = at;
     while c.at < stop {
         let Step::Read(e, next) = c.step(node) else {
@@ -118,24 +92,6 @@ fn emit_messages(
     to
 }
 
-// A page with its first bytes, as a node of the store: the size of its entries, its kind and its level.
-pub fn write_page(
-    store: &mut [u8],
-    num: usize,
-    page: &mut [u8],
-    kind: usize,
-    level: usize,
-    size: usize,
-)
-    requires { ⌜ (num * 1024 + 1024 ≤ length (now store)) × (length (now page) ≡ 1024) × (kind < 65536) × (level < 65536) × (size < 65536) ⌝ }
-    ensures { λ _. ⌜ now (store .exit) ≡ put (now (store .entry)) (num * 1024) (put (put (put (now (page .entry)) 0 (u16Bytes size)) 2 (u16Bytes kind)) 4 (u16Bytes level)) ⌝ }
-{
-    octets::put_u16(page, 0, size);
-    octets::put_u16(page, image::KIND_AT, kind);
-    octets::put_u16(page, image::LEVEL_AT, level);
-    octets::copy_at(store, num * image::NODE_SIZE, page);
-}
-
 // An interior child with these pivots takes what the entries of the node bring.
 pub fn push_interior(store: &mut [u8], num: usize, node: &[u8], stop: usize, lo: &[u8], hi: &[u8])
     requires { ⌜ (stop ≤ length (now node)) × (length (now node) ≤ 1024) × (hasRoom (listed (now node) 8 stop) num (now lo) (now hi) (now store) ≡ true) ⌝ }
@@ -143,11 +99,18 @@ pub fn push_interior(store: &mut [u8], num: usize, node: &[u8], stop: usize, lo:
 {
     let at = num * image::NODE_SIZE;
     let len = octets::u16_at(store, at);
-    let level = octets::u16_at(store, at + 4);
+    let level = octets::u16_at(store, at + image::LEVEL_AT);
     let from = at + image::ENTRIES_AT;
     let to = from + len;
     let mut page = [0u8; 1024];
-    octets::copy_at(&mut page, 8, &store[from..to]);
-    let end = emit_messages(&mut page, 8 + len, node, stop, lo, hi);
-    write_page(store, num, &mut page, 2, level, end - 8);
+    octets::copy_at(&mut page, image::ENTRIES_AT, &store[from..to]);
+    let end = emit_messages(&mut page, image::ENTRIES_AT + len, node, stop, lo, hi);
+    writer::write_page(
+        store,
+        num,
+        &mut page,
+        image::INTERIOR,
+        level,
+        end - image::ENTRIES_AT,
+    );
 }

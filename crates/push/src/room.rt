@@ -1,5 +1,5 @@
 // Whether all children of an interior node have room for its messages: which of them touch a child, and how many bytes they take there.
-// Only reads. Relies on the readers of nodes (node, live) and on octets; push_laws says what a message brings and what room is.
+// Only reads. Relies on the readers of nodes (node, live) and on octets; specs/Laws says what a message brings and what room is.
 use live::Pending;
 use node::Cursor;
 use node::Entry;
@@ -17,9 +17,9 @@ ghost use Rattle.laws.specs.PushDown.{touches};
 ghost use Rattle.node.specs.Cut.{cut};
 ghost use Rattle.node.specs.Places.{EntryWithin, MessageWithin, entryIn, messageIn};
 ghost use Rattle.node.specs.Entries.{listed};
-ghost use Rattle.search.specs.Own.{kidsE};
-ghost use Rattle.push_laws.specs.Arriving.{loweredBy, brought, broughtAll};
-ghost use Rattle.push_laws.specs.Written.{hasRoom, allHaveRoom};
+ghost use Rattle.node.specs.Search.Own.{kidsE};
+ghost use Rattle.push.specs.Laws.Arriving.{loweredBy, brought, broughtAll};
+ghost use Rattle.push.specs.Laws.Written.{hasRoom, allHaveRoom};
 
 // Whether a message touches a child with these pivots: the child owns its path, or a clear and what the child lifts begin alike.
 pub fn touches_child(node: &[u8], m: Message, lo: &[u8], hi: &[u8]) -> bool
@@ -133,7 +133,7 @@ fn child_fits(store: &[u8], num: usize, node: &[u8], stop: usize, lo: &[u8], hi:
         return false;
     }
     let used = octets::u16_at(store, num * image::NODE_SIZE);
-    messages_fit(node, 8, stop, lo, hi, used)
+    messages_fit(node, image::ENTRIES_AT, stop, lo, hi, used)
 }
 
 // Whether each child does.
@@ -141,8 +141,13 @@ pub fn all_fit(store: &[u8], node: &[u8], stop: usize, hi: &[u8]) -> bool
     requires { ⌜ (stop ≤ length (now node)) × (length (now node) ≤ 1024) ⌝ }
     ensures { λ r. ⌜ r ≡ allHaveRoom (listed (now (node .entry)) 8 stop) (kidsE (listed (now (node .entry)) 8 stop)) (now (hi .entry)) (now (store .entry)) ⌝ }
 {
-    let Pending::Child(first, pivot, start) = live::read_child(node, Cursor { at: 8, end: stop })
-    else {
+    let Pending::Child(first, pivot, start) = live::read_child(
+        node,
+        Cursor {
+            at: image::ENTRIES_AT,
+            end: stop,
+        },
+    ) else {
         return true;
     };
     let mut c = start;

@@ -126,10 +126,10 @@ unfoldable pub foundLength : Found → ℕ
 foundLength (Found.Length n) = n
 foundLength (Found.Refused r) = 0
 
-pub refused-short : (r : Refusal) → foundLength (Found.Refused r) ≤ 64
+pub refused-short : (r : Refusal) (most : ℕ) → foundLength (Found.Refused r) ≤ most
 unfolding foundLength
-refused-short r = omega arith
+refused-short r most = omega arith
 
-pub found-short : (n : ℕ) → n ≤ 64 → foundLength (Found.Length n) ≤ 64
+pub found-short : (n most : ℕ) → n ≤ most → foundLength (Found.Length n) ≤ most
 unfolding foundLength
-found-short n h = h
+found-short n most h = h

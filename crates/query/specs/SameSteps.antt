@@ -25,10 +25,10 @@ use Rattle.laws.specs.Follow.{formed-some, least-first, after-all, after-step, 
 use Rattle.seek.specs.declared.PathBuffer.{PathBuffer}
 use Rattle.seek.specs.Buffer.{bufferIs}
 use Rattle.seek.specs.BufferSteps.{held, empty-handed}
-use Rattle.seek.specs.Steps.{front-is}
 use Rattle.seek.specs.Walk.{isPresent}
 use Rattle.seek.specs.Present.{present-formed}
 use Rattle.query.specs.SamePaths.{sameHeld}
+use Rattle.octets.specs.Put.{front-is}
 
 -- ONE COMPARISON
 module _ (p q : PathBuffer) where

@@ -16,8 +16,8 @@ use Rattle.laws.specs.LookupTable.{means-table}
 use Rattle.laws.specs.ValuesFit.{table-fits, found-fits}
 use Rattle.node.specs.declared.Place.{Place}
 use Rattle.node.specs.Places.{Within, part}
-use Rattle.search.specs.declared.Found.{Found}
-use Rattle.search.specs.Pairs.{Finds, foundIn, FoundFits}
+use Rattle.node.specs.declared.search.Found.{Found}
+use Rattle.node.specs.Search.Pairs.{Finds, foundIn, FoundFits}
 use Rattle.seek.specs.declared.PathBuffer.{PathBuffer}
 use Rattle.seek.specs.Buffer.{bufferIs}
 use Rattle.seek.specs.Callers.{next-none, next-some}
@@ -95,7 +95,3 @@ unfolding foundBy
 path-there s p q r e h =
     let z : r .len ≡ r .len - 0 = omega arith in
     next-some s p q r e h ∙ ap (λ k. some (take k (r .bytes))) z
-
--- the part that is lent of a buffer's bytes
-pub taken-size : (n : ℕ) (bytes : List ℕ) → n ≤ length bytes → length (take (n - 0) (drop 0 bytes)) ≡ n
-taken-size n bytes h = length-take-le (n - 0) bytes (omega arith) ∙ omega arith

@@ -1,5 +1,6 @@
 // get, next and same: the calls that read a store. Each asks the paper's questions in order and refuses at the first no; a refusal changes
-// no byte. Relies on: soundness (question 2), path (question 3), lookup and seek for what is found.
+// no byte. get_fit and next_fit are the parts from question 3 on, for a store that is known to be sound.
+// Relies on: soundness (question 2), path (question 3), lookup and seek for what is found.
 use image::Found;
 use image::Refusal;
 use image::Sameness;
@@ -8,6 +9,8 @@ ghost use mathlib.Core.Path.{_≡_};
 ghost use mathlib.Core.Bool.{true};
 ghost use mathlib.Core.List.{[]};
 ghost use Prim.Native.Nat.{_≤_};
+ghost use lib.ListN.{length};
+ghost use Rattle.image.specs.Image.{wholeNodes};
 ghost use Rattle.image.specs.Calls.{asks, get, next};
 ghost use Rattle.image.specs.Sound.{sound, tableOf};
 ghost use Rattle.image.specs.Contract.{Meets, sameKeys, SameMeets};
@@ -15,6 +18,28 @@ ghost use Rattle.image.specs.Answers.{foundAnswer, samenessNumber, samenessVerd
 ghost use Rattle.seek.specs.Buffer.{bufferIs};
 ghost use Rattle.query.specs.Asked.{pathsFit, foundLength};
 ghost use Rattle.query.specs.SamePaths.{sameHeld};
+
+// get, on a store that is fit.
+pub fn get_fit(store: &[u8], path: &[u8], buffer: &mut [u8]) -> Found
+    requires { ⌜ (wholeNodes (length (now store)) ≡ true) × (sound (now store) ≡ true) ⌝ }
+    ensures { λ r. ⌜ Meets (now (store .entry)) (asks (get (now (path .entry))) (now (buffer .entry))) (foundAnswer r (now (buffer .exit))) (now (store .entry)) [] ⌝ }
+    ensures short { λ r. ⌜ foundLength r ≤ 32 ⌝ }
+{
+    if !path::is_path(path) {
+        return Found::Refused(Refusal::Malformed);
+    }
+    if buffer.len() < image::VALUE_LIMIT {
+        return Found::Refused(Refusal::ShortBuffer);
+    }
+    let found = lookup::value_of(store, path);
+    let node::search::Found::Value(value) = found else {
+        return Found::Refused(Refusal::Absent); // the path has no value
+    };
+    let start = value.start;
+    let stop = value.stop;
+    octets::copy_at(buffer, 0, &store[start..stop]);
+    Found::Length(stop - start)
+}
 
 // The value of a path, at the front of the buffer.
 pub fn get(store: &[u8], path: &[u8], buffer: &mut [u8]) -> Found
@@ -27,20 +52,7 @@ pub fn get(store: &[u8], path: &[u8], buffer: &mut [u8]) -> Found
     if !soundness::is_sound(store) {
         return Found::Refused(Refusal::Unsound);
     }
-    if !path::is_path(path) {
-        return Found::Refused(Refusal::Malformed);
-    }
-    if buffer.len() < image::VALUE_LIMIT {
-        return Found::Refused(Refusal::ShortBuffer);
-    }
-    let found = lookup::value_of(store, path);
-    let search::Found::Value(value) = found else {
-        return Found::Refused(Refusal::Absent); // the path has no value
-    };
-    let start = value.start;
-    let stop = value.stop;
-    octets::copy_at(buffer, 0, &store[start..stop]);
-    Found::Length(stop - start)
+    get_fit(store, path, buffer)
 }
 
 // Whether next's paths are well formed; the second may be empty.
@@ -56,17 +68,12 @@ fn paths_fit(path: &[u8], after: &[u8]) -> bool
     path::is_path(after)
 }
 
-// The least path below the first and greater than the second, at the front of the buffer.
-pub fn next(store: &[u8], path: &[u8], after: &[u8], buffer: &mut [u8]) -> Found
+// next, on a store that is fit.
+pub fn next_fit(store: &[u8], path: &[u8], after: &[u8], buffer: &mut [u8]) -> Found
+    requires { ⌜ (wholeNodes (length (now store)) ≡ true) × (sound (now store) ≡ true) ⌝ }
     ensures { λ r. ⌜ Meets (now (store .entry)) (asks (next (now (path .entry)) (now (after .entry))) (now (buffer .entry))) (foundAnswer r (now (buffer .exit))) (now (store .entry)) [] ⌝ }
     ensures short { λ r. ⌜ foundLength r ≤ 64 ⌝ }
 {
-    if !node::whole_nodes(store.len()) {
-        return Found::Refused(Refusal::Length);
-    }
-    if !soundness::is_sound(store) {
-        return Found::Refused(Refusal::Unsound);
-    }
     if !paths_fit(path, after) {
         return Found::Refused(Refusal::Malformed);
     }
@@ -81,6 +88,20 @@ pub fn next(store: &[u8], path: &[u8], after: &[u8], buffer: &mut [u8]) -> Found
     let bytes = found.bytes;
     octets::copy_at(buffer, 0, &bytes[0..len]);
     Found::Length(len)
+}
+
+// The least path below the first and greater than the second, at the front of the buffer.
+pub fn next(store: &[u8], path: &[u8], after: &[u8], buffer: &mut [u8]) -> Found
+    ensures { λ r. ⌜ Meets (now (store .entry)) (asks (next (now (path .entry)) (now (after .entry))) (now (buffer .entry))) (foundAnswer r (now (buffer .exit))) (now (store .entry)) [] ⌝ }
+    ensures short { λ r. ⌜ foundLength r ≤ 64 ⌝ }
+{
+    if !node::whole_nodes(store.len()) {
+        return Found::Refused(Refusal::Length);
+    }
+    if !soundness::is_sound(store) {
+        return Found::Refused(Refusal::Unsound);
+    }
+    next_fit(store, path, after, buffer)
 }
 
 // Whether two buffers hold the same path, or neither holds one.

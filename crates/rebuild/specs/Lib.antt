@@ -1,4 +1,3 @@
 pub mod StoreTable
 pub mod Rebuild
 pub mod RebuildSteps
-pub mod Callers

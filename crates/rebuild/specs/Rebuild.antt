@@ -1,20 +1,20 @@
 -- What a rebuild promises: the same map in packed form, and the work area as an accepted call must leave it.
 -- Relies on the paper's definitions only.
-use Prim.Native.Nat.{ℕ, _+_, _*_, _-_, _≤_}
+use Prim.Native.Nat.{ℕ, _+_, _*_, _-_, _/_, _≤_}
 use mathlib.Core.Path.{_≡_}
 use mathlib.Core.List.{List, _++_}
-use mathlib.Core.Bool.{true}
+use mathlib.Core.Bool.{true, false}
 use lib.ListN.{length, drop, replicate}
 use Rattle.image.specs.Table.{Row}
-use Rattle.image.specs.Image.{nodesOf, wholeNodes, headerOf}
-use Rattle.image.specs.Sound.{sound, tableOf}
-use Rattle.image.specs.Upkeep.{settled, tidied, freeNodes}
+use Rattle.image.specs.Image.{nodesOf, wholeNodes, headerOf, treeOf}
+use Rattle.image.specs.Sound.{sound, tableOf, isIn, numbers}
+use Rattle.image.specs.Upkeep.{settled, tidied}
 use Rattle.image.specs.Calls.{workPerNode}
-use Rattle.packed.specs.Tidy.{Table}
-use Rattle.rows.specs.Area.{rowsOf}
+use Rattle.packed.specs.Form.Tidy.{Table}
+use Rattle.packed.specs.Rows.Area.{rowsOf}
 
--- the store holds the table t in packed form; three levels at most, so that a new root can be put above, and as many free nodes as a move
--- asks for
+-- the store holds the table t in packed form; three levels at most, so that a new root can be put above; all nodes from a quarter of them
+-- on are free, and as many as a move asks for
 pub record Repacked (s s′ : List ℕ) (t : List Row) : Type 0 where
   pub is-sound : sound s′ ≡ true
   pub table : tableOf s′ ≡ t
@@ -22,14 +22,15 @@ pub record Repacked (s s′ : List ℕ) (t : List Row) : Type 0 where
   pub is-settled : settled s′ ≡ true
   pub size : length s′ ≡ length s
   pub levels : headerOf s′ .levels ≤ 3
-  pub roomy : 10 * headerOf s′ .levels + 1 ≤ freeNodes s′
+  pub roomy : 10 * headerOf s′ .levels + 1 ≤ nodesOf (length s) - nodesOf (length s) / 4
+  pub unused : (j : ℕ) → nodesOf (length s) / 4 ≤ j → isIn j (numbers (treeOf s′)) ≡ false
 
--- what the packing of the first m rows of an area asks; the numbers have room for every node but node 0
+-- what the packing of the first m rows of an area asks; the numbers have room for every node below a quarter but node 0
 pub record Packable (s area : List ℕ) (m : ℕ) (given : List ℕ) : Type 0 where
   pub whole : wholeNodes (length s) ≡ true
   pub room : 128 * m ≤ length area
   pub table : Table (nodesOf (length s)) (rowsOf m area 0)
-  pub numbers : length given ≡ 2 * (nodesOf (length s) - 1)
+  pub numbers : length given ≡ 2 * (nodesOf (length s) / 4 - 1)
 
 -- the work area after an accepted call on a store of n nodes
 abbrev pub cleared : ℕ → List ℕ → List ℕ
@@ -43,4 +44,5 @@ pub record Rebuilt (s s′ w w′ : List ℕ) : Type 0 where
   pub size : length s′ ≡ length s
   pub work : w′ ≡ cleared (nodesOf (length s)) w
   pub levels : headerOf s′ .levels ≤ 3
-  pub roomy : 10 * headerOf s′ .levels + 1 ≤ freeNodes s′
+  pub roomy : 10 * headerOf s′ .levels + 1 ≤ nodesOf (length s) - nodesOf (length s) / 4
+  pub unused : (j : ℕ) → nodesOf (length s) / 4 ≤ j → isIn j (numbers (treeOf s′)) ≡ false

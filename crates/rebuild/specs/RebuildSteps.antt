@@ -1,30 +1,30 @@
 -- The steps of the rebuild: what build asks and gives, and how the parts of the work area come back.
 -- Relies on build/specs/BuiltLaws and on packed/specs (the packed image has at most three levels).
-use Prim.Native.Nat.{ℕ, _+_, _*_, _-_, _/_, _≤_}
+use Prim.Native.Nat.{ℕ, zero, suc, _+_, _*_, _-_, _/_, _≤_}
 use mathlib.Core.Path.{_≡_, refl, sym, ap, ap₂, subst, _∙_}
 use mathlib.Core.List.{List, _++_, append-nil}
-use mathlib.Core.Bool.{true}
+use mathlib.Core.Bool.{true, false}
 use native.Mathlib.Omega.{arith}
 use lib.ListN.{length, take, drop, replicate, length-replicate, drop-of-length-le}
 use lib.Dec.{leb}
-use borrow.Author.Tests.{leb-true}
-use lib.Seq.{length-take-le}
+use borrow.Author.Tests.{ne-eqb}
 use Rattle.image.specs.Image.{nodesOf, wholeNodes, headerOf}
-use Rattle.image.specs.Sound.{sound, tableOf}
-use Rattle.image.specs.Upkeep.{settled, tidied, used, freeNodes}
-use Rattle.octets.specs.Order.{and-left, and-right}
+use Rattle.image.specs.Sound.{sound, tableOf, isIn}
+use Rattle.image.specs.Upkeep.{settled, tidied, used}
+use Rattle.octets.specs.Order.{and-left}
 use Rattle.node.specs.Whole.{whole-parts}
-use Rattle.packed.specs.Packed.{packed, numbersFrom}
-use Rattle.packed.specs.Stored.{held-header}
-use Rattle.packed.specs.Tidy.{imageOf, built-packs, built-holds, zerosOf}
-use Rattle.rows.specs.Area.{rowsOf}
-use Rattle.rows.specs.Steps.{rows-length}
-use Rattle.build.specs.Handed.{handed}
-use Rattle.build.specs.Built.{Asks, builtImage}
-use Rattle.build.specs.BuiltLaws.{built, counted-numbers}
+use Rattle.packed.specs.Form.Packed.{packed, numbersFrom}
+use Rattle.packed.specs.Form.Stored.{held-header}
+use Rattle.packed.specs.Form.Tidy.{imageOf, built-packs, built-holds, zerosOf}
+use Rattle.packed.specs.Rows.Area.{rowsOf}
+use Rattle.packed.specs.Rows.Steps.{rows-length}
+use Rattle.packed.specs.Build.Handed.{handed}
+use Rattle.packed.specs.Build.Built.{Asks, builtImage}
+use Rattle.packed.specs.Build.BuiltLaws.{built, counted-numbers}
 use Rattle.rebuild.specs.StoreTable.{store-table}
 use Rattle.dump.specs.Dump.{Dumped}
 use Rattle.rebuild.specs.Rebuild.{Repacked, Packable, Rebuilt}
+use Rattle.octets.specs.Put.{taken-size}
 
 pub tidied-settled : (s : List ℕ) → tidied s ≡ true → settled s ≡ true
 unfolding tidied
@@ -34,20 +34,18 @@ tidied-settled s e = and-left (settled s) (leb (used s) (nodesOf (length s) / 4)
 abbrev Levels : ℕ → ℕ → Type 0
 Levels n levels = (levels ≤ 3) × (10 * levels + 1 ≤ n - n / 4)
 
-tidied-roomy : (s s′ : List ℕ) → length s′ ≡ length s → tidied s′ ≡ true → 10 * headerOf s′ .levels + 1 ≤ nodesOf (length s) - nodesOf (length s) / 4
-    → 10 * headerOf s′ .levels + 1 ≤ freeNodes s′
-unfolding tidied freeNodes
-tidied-roomy s s′ size e h =
-    let u : used s′ ≤ nodesOf (length s′) / 4 = leb-true (used s′) (nodesOf (length s′) / 4) (and-right (settled s′) _ e) in
-    let z : nodesOf (length s′) ≡ nodesOf (length s) = ap nodesOf size in
-    omega arith
+-- a number past the last of a row of numbers is not among them
+not-past : (j i k : ℕ) → i + k ≤ j → isIn j (numbersFrom i k) ≡ false
+unfolding isIn numbersFrom
+not-past j i zero h = refl
+not-past j i (suc k) h = rw (ne-eqb j i (λ q. omega arith)) (not-past j (suc i) k (omega arith))
 
 -- THE PACKING
 module _ (s area : List ℕ) (m : ℕ) (given given′ : List ℕ) (p : Packable s area m given) (e : handed given′ ≡ numbersFrom 1 (length given / 2)) where
   pub pack-asks : Asks s area m given′
   pack-asks =
       let w = whole-parts (length s) (p .whole) in
-      let n : length given / 2 ≡ nodesOf (length s) - 1 = let q = p .numbers in omega arith in
+      let n : length given / 2 ≡ nodesOf (length s) / 4 - 1 = let q = p .numbers in omega arith in
       let least = w .enough in
       let c = counted-numbers given′ (nodesOf (length s)) (length given / 2) e (omega arith) (omega arith) in
       record {
@@ -74,6 +72,13 @@ module _ (s area : List ℕ) (m : ℕ) (given given′ : List ℕ) (p : Packable
       (rw (held-header (imageOf s (nodesOf (length s)) (length (rowsOf m area 0)) (packed (handed given′) (rowsOf m area 0))) (nodesOf (length s)) (length (rowsOf m area 0))
       (packed (handed given′) (rowsOf m area 0)) h) (k .levels-most, k .roomy))
 
+  past : (j : ℕ) → nodesOf (length s) / 4 ≤ j → isIn j (numbersFrom 1 (length given / 2)) ≡ false
+  past j h =
+      let w = whole-parts (length s) (p .whole) in
+      let q = p .numbers in
+      let least = w .enough in
+      not-past j 1 (length given / 2) (omega arith)
+
   pub pack-done : (s′ : List ℕ) → s′ ≡ builtImage s area m given′ → Repacked s s′ (rowsOf m area 0)
   pack-done s′ f =
       let b = built s s′ area m given′ pack-asks f in
@@ -84,7 +89,8 @@ module _ (s area : List ℕ) (m : ℕ) (given given′ : List ℕ) (p : Packable
         is-settled = tidied-settled s′ (b .is-tidied);
         size = b .same-size;
         levels = rw f (levels-few .0);
-        roomy = tidied-roomy s s′ (b .same-size) (b .is-tidied) (rw f (levels-few .1));
+        roomy = rw f (levels-few .1);
+        unused = λ j h. b .unused j (ap (isIn j) e ∙ past j h);
       }
 
 -- the number of nodes as the code counts them
@@ -94,29 +100,25 @@ node-count len e = let w = whole-parts len e in (refl, w .enough, w .few)
 
 -- THE WORK AREA
 pub dumped-packable : (s area area′ given : List ℕ) (m : ℕ) → wholeNodes (length s) ≡ true → sound s ≡ true → Dumped s area area′ m
-    → length given ≡ 2 * (nodesOf (length s) - 1) → Packable s area′ m given
+    → length given ≡ 2 * (nodesOf (length s) / 4 - 1) → Packable s area′ m given
 dumped-packable s area area′ given m w h d n =
     record { whole = w; room = d .fit .room; table = rw (d .table) (store-table s h); numbers = n }
 
 pub repacked-table : (s s′ area area′ : List ℕ) (m : ℕ) → Dumped s area area′ m → Repacked s s′ (rowsOf m area′ 0) → Repacked s s′ (tableOf s)
 repacked-table s s′ area area′ m d p = subst (λ t. Repacked s s′ t) (d .table) p
 
--- the first bytes of a slice, lent as a part
-part-length : (k : ℕ) (l : List ℕ) → k ≤ length l → length (take (k - 0) (drop 0 l)) ≡ k
-part-length k l h = let e : k - 0 ≡ k = omega arith in rw e (length-take-le k l h)
-
--- the room for numbers: 2,048 bytes are enough for a store of 1,024 nodes
-pub numbers-room : (s : List ℕ) (e : ℕ) → wholeNodes (length s) ≡ true → e ≡ 2 * (length s / 1024 - 1)
-    → length {A = ℕ} (take (e - 0) (drop 0 (replicate 2048 0))) ≡ 2 * (nodesOf (length s) - 1)
+-- the room for numbers: 512 bytes are enough for a store of 1,024 nodes
+pub numbers-room : (s : List ℕ) (e : ℕ) → wholeNodes (length s) ≡ true → e ≡ 2 * (length s / 1024 / 4 - 1)
+    → length {A = ℕ} (take (e - 0) (drop 0 (replicate 512 0))) ≡ 2 * (nodesOf (length s) / 4 - 1)
 numbers-room s e w q =
     let n = node-count (length s) w in
-    let l : length {A = ℕ} (replicate 2048 0) ≡ 2048 = length-replicate {A = ℕ} 2048 0 in
-    part-length e (replicate 2048 0) (omega arith) ∙ (omega arith)
+    let l : length {A = ℕ} (replicate 512 0) ≡ 512 = length-replicate {A = ℕ} 512 0 in
+    taken-size e (replicate 512 0) (omega arith) ∙ (omega arith)
 
 pub work-room : (s w : List ℕ) (k : ℕ) → wholeNodes (length s) ≡ true → k ≡ 128 * (length s / 1024) → 128 * nodesOf (length s) ≤ length w
     → length (take (k - 0) (drop 0 w)) ≡ 128 * nodesOf (length s)
 unfolding nodesOf
-work-room s w k e q h = part-length k w (omega arith) ∙ q
+work-room s w k e q h = taken-size k w (omega arith) ∙ q
 
 -- zeros in the whole of a part
 pub all-zeros : (area area′ : List ℕ) (len k : ℕ) → area′ ≡ zerosOf len ++ drop len area → length area ≡ len → len ≡ k → area′ ≡ replicate k 0
@@ -139,4 +141,5 @@ rebuilt s s′ w area′ k q p e =
       work = ap₂ (λ a j. a ++ drop j w) e z;
       levels = p .levels;
       roomy = p .roomy;
+      unused = p .unused;
     }

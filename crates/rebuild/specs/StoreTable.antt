@@ -15,7 +15,7 @@ use Rattle.laws.specs.LookupTable.{means-table}
 use Rattle.laws.specs.RowsRising.{every-key}
 use Rattle.laws.specs.Follow.{table-rises}
 use Rattle.laws.specs.ValuesFit.{table-fits}
-use Rattle.packed.specs.Tidy.{Table}
+use Rattle.packed.specs.Form.Tidy.{Table}
 use Rattle.dump.specs.RootSteps.{table-few}
 use Rattle.seek.specs.Walk.{isPresent}
 use Rattle.seek.specs.Present.{present-formed}

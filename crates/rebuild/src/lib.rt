@@ -1,5 +1,5 @@
 // The rebuild of a store in packed form: every row of the map is dumped, rising, into the work area, and the packed tree is built from
-// the rows over the same store. Relies on `dump` and `build`; the caller has checked that the store is sound.
+// the rows over the same store. Relies on `dump` and `packed`; the caller has checked that the store is sound.
 ghost use mathlib.Core.Path.{_≡_};
 ghost use mathlib.Core.Bool.{true};
 ghost use Prim.Native.Nat.{_*_, _≤_};
@@ -7,7 +7,7 @@ ghost use lib.ListN.{length, replicate};
 ghost use Rattle.image.specs.Image.{nodesOf, wholeNodes};
 ghost use Rattle.image.specs.Sound.{sound, tableOf};
 ghost use Rattle.image.specs.Calls.{workPerNode};
-ghost use Rattle.rows.specs.Area.{rowsOf};
+ghost use Rattle.packed.specs.Rows.Area.{rowsOf};
 ghost use Rattle.rebuild.specs.Rebuild.{Repacked, Packable, Rebuilt};
 
 // The packed form of the first `m` rows of the area over the store, its nodes numbered from 1; `numbers` is room for the numbers.
@@ -15,8 +15,8 @@ fn pack(store: &mut [u8], area: &mut [u8], m: usize, numbers: &mut [u8])
     requires { ⌜ Packable (now store) (now area) m (now numbers) ⌝ }
     ensures { λ _. ⌜ Repacked (now (store .entry)) (now (store .exit)) (rowsOf m (now (area .entry)) 0) ⌝ }
 {
-    build::count_numbers(numbers);
-    build::build(store, area, m, numbers);
+    packed::count_numbers(numbers, 1);
+    packed::build(store, area, m, numbers);
 }
 
 // The rebuild in a work area of exactly the size that it needs.
@@ -25,11 +25,12 @@ fn rebuild_in(store: &mut [u8], area: &mut [u8])
     ensures { λ _. ⌜ Repacked (now (store .entry)) (now (store .exit)) (tableOf (now (store .entry))) × (now (area .exit) ≡ replicate (128 * nodesOf (length (now (store .entry)))) 0) ⌝ }
 {
     let m = dump::dump(store, area);
-    let mut numbers = [0u8; 2048];
-    let e = 2 * (store.len() / image::NODE_SIZE - 1);
+    // A packed tree has fewer nodes than a quarter of the store, so that all from there on are free.
+    let mut numbers = [0u8; 512];
+    let e = 2 * (store.len() / image::NODE_SIZE / 4 - 1);
     pack(store, area, m, &mut numbers[0..e]);
     let len = area.len();
-    build::clear_area(area, len);
+    packed::clear_area(area, len);
 }
 
 // The same map in packed form: settled, and at most a quarter of the nodes in use.

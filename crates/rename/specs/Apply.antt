@@ -1,4 +1,4 @@
--- What the act of a move asks, and one law for each way out of the call. Relies on move_ready's Moved (the contract from the steps).
+-- What the act of a move asks, and one law for each way out of the call. Relies on prepare's Moved (the contract from the steps).
 use Prim.Native.Nat.{ℕ, _+_, _*_, _-_, _/_, _≤_}
 use mathlib.Core.Path.{_≡_, refl, sym, ap, subst, _∙_}
 use mathlib.Core.List.{List, _++_}
@@ -13,17 +13,17 @@ use Rattle.image.specs.Answers.{outcomeAnswer}
 use Rattle.image.specs.declared.Refusal.{Refusal}
 use Rattle.image.specs.declared.Outcome.{Outcome}
 use Rattle.laws.specs.ButLive.{soundButLive}
-use Rattle.packed.specs.Tidy.{zerosOf}
-use Rattle.build.specs.Handed.{handed}
+use Rattle.packed.specs.Form.Tidy.{zerosOf}
+use Rattle.packed.specs.Build.Handed.{handed}
 use Rattle.rebuild.specs.Rebuild.{cleared}
 use Rattle.tree_check.specs.declared.Tally.{Tally}
 use Rattle.finish.specs.Finished.{Finished}
 use Rattle.swing.specs.Head.{swungWith}
 use Rattle.swing.specs.Plan.{SwingAsks}
-use Rattle.move_ready.specs.Prepared.{Prepared}
-use Rattle.move_ready.specs.Moved.{list-end, swing-asks, stays-meets, live-few, whole-2, but-live-2, few-2, size-2, moved-meets}
-use Rattle.move_going.specs.declared.Going.{Going}
-use Rattle.move_going.specs.Going.{Accepted, AskedMove}
+use Rattle.rename.specs.Prepare.Prepared.{Prepared}
+use Rattle.rename.specs.Prepare.Moved.{list-end, swing-asks, stays-meets, live-few, whole-2, but-live-2, few-2, size-2, moved-meets}
+use Rattle.rename.specs.declared.going.Going.{Going}
+use Rattle.rename.specs.Going.Going.{Accepted, AskedMove}
 
 -- an accepted move of two paths that differ
 pub record Differ (s w from to seen : List ℕ) (t : Tally) : Type 0 where

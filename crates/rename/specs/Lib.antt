@@ -1,1 +1,4 @@
+pub mod Asks
+pub mod Prepare
+pub mod Going
 pub mod Apply

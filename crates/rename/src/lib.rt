@@ -1,14 +1,20 @@
 // move: what is below one path comes below another. The public call: the questions in order, and then the swing of a store made ready for it.
 // (Document 003 calls it a range rename.) A refusal changes no byte; an accepted move zeroes the first 128 bytes for each node of the work area.
-// Relies on move_going (the questions), move_ready (a settled store with free nodes), swing (the act) and finish (the live count).
+// Relies on questions (questions 1 and 2), going (the later ones), prepare (a settled store with free nodes), swing (the act) and finish (the live count).
+pub mod asks;
+pub mod going;
+pub mod prepare;
+
+use going::Going;
 use image::Outcome;
-use move_going::Going;
+use questions::Ready;
 use tree_check::Tally;
 ghost use mathlib.Core.Path.{_≡_};
 ghost use Rattle.image.specs.Calls.{acts, move};
 ghost use Rattle.image.specs.Contract.{Meets};
 ghost use Rattle.image.specs.Answers.{outcomeAnswer};
 ghost use Rattle.image.specs.declared.Outcome.{Outcome};
+ghost use Rattle.questions.specs.Asked.{Fit};
 ghost use Rattle.rename.specs.Apply.{Differ};
 
 // The act of an accepted move of two paths that differ.
@@ -24,10 +30,37 @@ fn apply_move(
     ensures { λ _. ⌜ Meets (now (store .entry)) (acts (move (now (from .entry)) (now (to .entry))) (now (work .entry))) (outcomeAnswer Outcome.Done) (now (store .exit)) (now (work .exit)) ⌝ }
 {
     let mut numbers = [0u8; 2048];
-    let count = move_ready::make_ready(store, work, tally, seen, &mut numbers);
+    let count = prepare::make_ready(store, work, tally, seen, &mut numbers);
     let end = count * 2;
     swing::swing(store, &numbers[0..end], from, to);
     finish::finish(store, work);
+}
+
+// move, on a store and a work area that are fit; with what the check of the image has counted, and its marks.
+pub fn move_fit(
+    store: &mut [u8],
+    work: &mut [u8],
+    tally: Tally,
+    seen: &[u8; 1024],
+    from: &[u8],
+    to: &[u8],
+) -> Outcome
+    requires { ⌜ Fit (now store) (now work) tally (now seen) ⌝ }
+    ensures { λ r. ⌜ Meets (now (store .entry)) (acts (move (now (from .entry)) (now (to .entry))) (now (work .entry))) (outcomeAnswer r) (now (store .exit)) (now (work .exit)) ⌝ }
+{
+    let asked = going::ask_later(store, from, to, tally);
+    match asked {
+        Going::Refused(refusal) => Outcome::Refused(refusal),
+        Going::Stays => {
+            let len = image::WORK_PER_NODE * (store.len() / image::NODE_SIZE);
+            packed::clear_area(work, len);
+            Outcome::Done
+        }
+        Going::Goes(counted) => {
+            apply_move(store, work, counted, seen, from, to);
+            Outcome::Done
+        }
+    }
 }
 
 // The path to + rest has what from + rest had; all else below `to`, and everything below `from`, is absent.
@@ -35,17 +68,9 @@ pub fn move_paths(store: &mut [u8], work: &mut [u8], from: &[u8], to: &[u8]) -> 
     ensures { λ r. ⌜ Meets (now (store .entry)) (acts (move (now (from .entry)) (now (to .entry))) (now (work .entry))) (outcomeAnswer r) (now (store .exit)) (now (work .exit)) ⌝ }
 {
     let mut seen = [0u8; 1024];
-    let asked = move_going::ask_move(store, work, from, to, &mut seen);
+    let asked = questions::ask(store, work, &mut seen);
     match asked {
-        Going::Refused(refusal) => Outcome::Refused(refusal),
-        Going::Stays => {
-            let len = image::WORK_PER_NODE * (store.len() / image::NODE_SIZE);
-            build::clear_area(work, len);
-            Outcome::Done
-        }
-        Going::Goes(tally) => {
-            apply_move(store, work, tally, &seen, from, to);
-            Outcome::Done
-        }
+        Ready::Refused(refusal) => Outcome::Refused(refusal),
+        Ready::Fit(tally) => move_fit(store, work, tally, &seen, from, to),
     }
 }

@@ -8,7 +8,7 @@ use Rattle.image.specs.Entry.{keyed, pointer, entryOf, entryThen, readAll, entr
 use Rattle.image.specs.Image.{nodesOf, nodeBytes, header, headerOf, headerLaidOut, laidOut, entryBytes, nodeEntries, pairThen, pairsOf, messageThen, messagesOf, noKids, kidThen, insideOf, forestOf, leafOf, interiorOf, orNone, treeAt, treeOf}
 use Rattle.image.specs.Meaning.{highOf}
 use Rattle.image.specs.Upkeep.{reachable, reachableIn, reachableNodes, reachableAt, holdsNoMessage, every, overlap, sameMessage, isSublist, gainsNoMessage, noneGains, fromLevel, emptied, noneWaits, flushed, pairBytes, childBytes, shortPivots, treeBytes, treeShort, noMessage, wouldFit, unmergeable, unmergeableAt, keepsRange, healed, changed}
-use Rattle.samples.specs.Verdict.{Kept, keptAt, keptOf, changesOf}
+use Rattle.samples.specs.Verdict.{keptAt, keptOf, changesOf}
 use Rattle.samples.specs.Data as outside
 
 pub record AsTold : Type 0 where

@@ -1,12 +1,12 @@
 -- What a call's contract says of the text of a line: the store's answers are the plain map's, where the store is sound and of 64 nodes.
 -- Relies on: the contract Meets, and the list of a query's questions (query).
-use Prim.Native.Nat.{ℕ, zero, suc, _+_, _*_, _-_, _<_, _≤_}
-use mathlib.Core.Path.{_≡_, refl, sym, ap, ap₂, subst, _∙_}
+use Prim.Native.Nat.{ℕ, zero, suc, _+_, _*_, _≤_}
+use mathlib.Core.Path.{_≡_, refl, sym, ap, subst, _∙_}
 use mathlib.Core.List.{List, [], _∷_, _++_}
-use mathlib.Core.Bool.{Bool, true, false, _&&_, cond}
+use mathlib.Core.Bool.{true, _&&_}
 use mathlib.Core.Option.{Option, none, some}
 use native.Mathlib.Omega.{arith}
-use lib.ListN.{length, take, drop, replicate, length-replicate}
+use lib.ListN.{length, take, drop, length-replicate}
 use lib.Seq.{take-at}
 use lib.Dec.{leb}
 use borrow.Author.Tests.{le-leb}
@@ -14,7 +14,7 @@ use Rattle.image.specs.Path.{valueLimit}
 use Rattle.image.specs.Table.{Row, find, isSome}
 use Rattle.image.specs.Image.{nodesOf, wholeNodes}
 use Rattle.image.specs.Sound.{sound, tableOf}
-use Rattle.image.specs.Calls.{Call, Act, acts, asks, Query, get, Answer, number, filled, Question, ask, firstNo, workLong, workPerNode, questions, answerAt, tableAt, tableAfter, accepted, refused, fill, foundBy}
+use Rattle.image.specs.Calls.{Call, Act, acts, asks, Query, get, Answer, filled, Question, ask, firstNo, workLong, workPerNode, questions, answerAt, tableAt, tableAfter, accepted, refused, fill, foundBy}
 use Rattle.image.specs.PlainMap.{plainFirstNo}
 use Rattle.image.specs.Contract.{nodeQuestions, firstNoOn, Meets}
 use Rattle.image.specs.Answers.{refusalNumber, outcomeNumber, outcomeAnswer, foundAnswer}
@@ -23,7 +23,7 @@ use Rattle.image.specs.declared.Outcome.{Outcome}
 use Rattle.image.specs.declared.Found.{Found}
 use Rattle.laws.specs.ValuesFit.{table-fits, found-fits}
 use Rattle.query.specs.Asked.{pathsFit, bufferLimit, number-is, foundLength}
-use Rattle.image.specs.Program.{Command, acting, getting, listing, bad, area, valueBuffer, badText, okText, refusedText, textAt, answerText, valueText, callText, commandText, commandTable, commandOf, said, afterLine, lineFeed, programNodes}
+use Rattle.image.specs.Program.{Command, acting, getting, bad, area, valueBuffer, badText, okText, refusedText, textAt, answerText, valueText, callText, commandText, commandTable, commandOf, said, afterLine, lineFeed, programNodes}
 use Rattle.script.specs.Writing.{Wrote, wrote-within}
 
 -- the store of the program, and a page for the longest text: 64 lines of at most 130 bytes, and the end

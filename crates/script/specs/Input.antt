@@ -1,24 +1,25 @@
 -- The input byte by byte: what each byte prints, and the theorem that all bytes print what the definition of the program says; the same for
 -- a list of lines. Relies on: Answered (what a line says).
-use Prim.Native.Nat.{ℕ, zero, suc, _+_, _-_, _<_, _≤_, min}
+use Prim.Native.Nat.{ℕ, zero, suc, _+_, _-_, _<_, _≤_}
 use mathlib.Core.Path.{_≡_, refl, sym, ap, ap₂, _∙_}
 use mathlib.Core.List.{List, [], _∷_, _++_, append-nil}
-use mathlib.Core.Bool.{Bool, true, false, _||_, cond}
+use mathlib.Core.Bool.{Bool, true, false, cond}
 use mathlib.Core.Logic.{_⊎_, inl, inr}
 use native.Mathlib.Omega.{arith}
-use lib.ListN.{length, take, drop, set, length-append, length-take}
+use lib.ListN.{length, take, drop, set, length-append}
 use lib.Seq.{take-all, take-append-le, take-at, length-take-le}
 use lib.Dec.{ltb, eqb}
-use borrow.Author.Tests.{lt-ltb, eq-eqb, ne-eqb, ltb-true, ltb-false}
+use borrow.Author.Tests.{eq-eqb, ne-eqb, ltb-true, ltb-false}
 use Rattle.image.specs.Table.{Row}
 use Rattle.image.specs.Image.{wholeNodes, nodesOf}
 use Rattle.image.specs.Sound.{sound, tableOf}
 use Rattle.image.specs.Calls.{firstNo}
 use Rattle.image.specs.Contract.{Made, MakeMeets, makeNo}
-use Rattle.image.specs.Program.{bad, lineFeed, lastLine, linesFrom, linesOf, commandOf, commandText, commandTable, said, afterLine, saidOn, programNodes, printedFor}
+use Rattle.image.specs.Program.{lineFeed, lastLine, linesFrom, linesOf, commandOf, commandText, commandTable, said, afterLine, saidOn, programNodes, printedFor}
 use Rattle.script.specs.Writing.{set-next}
 use Rattle.script.specs.Answered.{Held, Says}
 use Rattle.script.specs.Line.{line-long}
+use Rattle.octets.specs.Put.{front-is}
 
 -- ONE BYTE
 -- with the bytes p of the line so far: the text that the byte b prints, the table after it, and the bytes of the line after it
@@ -50,21 +51,17 @@ pub record Finishes (s line : List ℕ) (len count : ℕ) (out′ s′ : List �
   pub text : take count out′ ≡ lastText (take len line) (tableOf s)
   pub fits : count ≤ length out′
 
--- the ways out of feed
-part : (n : ℕ) (l : List ℕ) → take (n - 0) (drop 0 l) ≡ take n l
-part n l = let z : n - 0 ≡ n = omega arith in ap (λ k. take k l) z
-
 module _ (s out line : List ℕ) (len byte : ℕ) (h : Held s out) where
   pub fed-line : byte ≡ 10 → (count : ℕ) (out′ s′ : List ℕ) → Says s (take (len - 0) (drop 0 line)) count out′ s′ → Feeds s line len byte 0 count line out′ s′
   unfolding stepText stepTable stepLine
   fed-line e count out′ s′ a =
       let z : eqb byte lineFeed ≡ true = eq-eqb byte 10 e in
       record {
-        text = a .text ∙ ap (λ p. said programNodes p (tableOf s)) (part len line) ∙ rw z refl;
+        text = a .text ∙ ap (λ p. said programNodes p (tableOf s)) (front-is len line) ∙ rw z refl;
         fits = a .fits;
         begun = rw z refl;
         room = omega arith;
-        table = a .table ∙ ap (λ p. afterLine programNodes p (tableOf s)) (part len line) ∙ rw z refl;
+        table = a .table ∙ ap (λ p. afterLine programNodes p (tableOf s)) (front-is len line) ∙ rw z refl;
         still-sound = a .still-sound;
       }
 
@@ -110,7 +107,7 @@ nothing-left s line len out s′ e = record { text = rw e refl; fits = omega ari
 pub line-left : (s line : List ℕ) (len count : ℕ) (out′ s′ : List ℕ) → (len ≡ 0 → ⊥) → 256 ≤ length line → Says s (take (len - 0) (drop 0 line)) count out′ s′
     → Finishes s line len count out′ s′
 line-left s line len count out′ s′ n m a =
-    record { text = a .text ∙ ap (λ p. said programNodes p (tableOf s)) (part len line) ∙ sym (some-last len line n m); fits = a .fits }
+    record { text = a .text ∙ ap (λ p. said programNodes p (tableOf s)) (front-is len line) ∙ sym (some-last len line n m); fits = a .fits }
   where
     some-last : (len : ℕ) (line : List ℕ) → (len ≡ 0 → ⊥) → 256 ≤ length line → lastText (take len line) (tableOf s) ≡ said programNodes (take len line) (tableOf s)
     some-last zero line n m = absurd (n refl)

@@ -1,17 +1,15 @@
 -- A line by its fields, as the code takes it apart: the word, then the rest.
-use Prim.Native.Nat.{ℕ, zero, suc, _+_, _*_, _-_, _<_, _≤_}
+use Prim.Native.Nat.{ℕ, _+_, _-_, _<_, _≤_}
 use mathlib.Core.Path.{_≡_, refl, sym, ap, ap₂, _∙_}
-use mathlib.Core.List.{List, [], _∷_, _++_}
+use mathlib.Core.List.{List, [], _∷_}
 use mathlib.Core.Bool.{Bool, true, false, _||_, cond}
-use mathlib.Core.Option.{Option, none, some}
 use native.Mathlib.Omega.{arith}
 use lib.ListN.{length, take, drop, length-drop}
 use lib.Seq.{take-all}
-use lib.Dec.{ltb, eqb}
-use borrow.Author.Tests.{lt-ltb, le-ltb, eq-eqb, ne-eqb}
+use lib.Dec.{eqb}
+use borrow.Author.Tests.{lt-ltb, le-ltb, ne-eqb}
 use Rattle.image.specs.Bytes.{same}
-use Rattle.image.specs.Calls.{drops, clear, settle, tidy, put}
-use Rattle.image.specs.Program.{space, fieldsOf, withByte, someEmpty, Command, acting, getting, listing, bad, putting, pathOf, valueOf, wordAlone, wordAndPath, wordAndTwo, readFields, commandOf, lineLimit, putWord, dropWord, clearWord, getWord, listWord, moveWord, settleWord, tidyWord}
+use Rattle.image.specs.Program.{space, fieldsOf, withByte, someEmpty, Command, bad, wordAlone, wordAndPath, wordAndTwo, readFields, commandOf}
 use Rattle.script.specs.Find.{upTo, one-field, more-fields}
 
 -- a word with one field behind it, with two, and with what the rest of the line holds

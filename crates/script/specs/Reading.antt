@@ -1,19 +1,18 @@
 -- Paths and values read from text: what each way out of the code leaves at the front of its buffer.
-use Prim.Native.Nat.{ℕ, zero, suc, _+_, _*_, _-_, _<_, _≤_}
-use mathlib.Core.Path.{_≡_, refl, sym, ap, ap₂, _∙_}
+use Prim.Native.Nat.{ℕ, suc, _+_, _*_, _-_, _<_, _≤_}
+use mathlib.Core.Path.{_≡_, refl, sym, ap, _∙_}
 use mathlib.Core.List.{List, [], _∷_, _++_, append-assoc, append-nil}
-use mathlib.Core.Bool.{Bool, true, false, _||_, cond}
+use mathlib.Core.Bool.{Bool, true, false}
 use mathlib.Core.Option.{Option, none, some}
 use native.Mathlib.Omega.{arith}
 use lib.ListN.{length, take, drop, getD, set, drop-of-length-le, length-set}
 use lib.Seq.{drop-cons}
-use lib.Dec.{ltb}
 use borrow.Author.Tests.{lt-ltb, le-ltb}
 use Rattle.image.specs.Bytes.{same}
 use Rattle.image.specs.Sound.{isIn}
 use Rattle.image.specs.Program.{slash, exchanged, pathOf, digitOf, behind, bytesOf, valueOf, hyphen, hexText, valueText}
 use Rattle.script.specs.Find.{upTo, in-found, in-none}
-use Rattle.script.specs.Writing.{Wrote, set-next, wrote-within, hex-length, exchanged-length}
+use Rattle.script.specs.Writing.{Wrote, set-next, hex-length, exchanged-length}
 use Rattle.script.specs.declared.Value.{Value}
 
 -- the first r bytes of a buffer

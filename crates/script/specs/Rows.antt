@@ -1,38 +1,37 @@
 -- The rows below a path, one by one: next gives each path in turn, get its value, and the text of the rows follows.
 -- Relies on: Answered (what a query finds), laws/Follow (what follows a path in a rising table).
-use Prim.Native.Nat.{ℕ, zero, suc, _+_, _*_, _-_, _<_, _≤_}
+use Prim.Native.Nat.{ℕ, _+_, _*_, _-_, _<_, _≤_}
 use mathlib.Core.Path.{_≡_, refl, sym, ap, ap₂, subst, _∙_}
 use mathlib.Core.List.{List, [], _∷_, _++_, append-assoc}
-use mathlib.Core.Bool.{Bool, true, false, _&&_, _||_, cond, false≢true}
-use mathlib.Core.Option.{Option, none, some}
+use mathlib.Core.Bool.{Bool, true, false, _||_, cond, false≢true}
+use mathlib.Core.Option.{none, some}
 use native.Mathlib.Omega.{arith}
-use lib.ListN.{length, take, drop, replicate, length-append}
+use lib.ListN.{length, take, drop, length-append}
 use lib.Seq.{length-take-le}
-use lib.Dec.{leb, eqb}
-use borrow.Author.Tests.{leb-true, eqb-true}
 use Rattle.image.specs.Bytes.{same, before, begins}
 use Rattle.image.specs.Path.{wellFormed, readsOn, below, pathLimit, valueLimit}
 use Rattle.image.specs.Table.{Row, find, isSome, rowsBelow, rowsAfter, firstKey, leastAfter, leads, rising}
-use Rattle.image.specs.Image.{nodesOf, headerOf, headerLaidOut, nodeBytes, treeOf}
-use Rattle.image.specs.Sound.{sound, soundHeader, soundRoot, soundTree, tableOf, lowest, highest, numbers, once, inRange, levelsLimit}
-use Rattle.image.specs.Meaning.{rows}
+use Rattle.image.specs.Image.{nodesOf}
+use Rattle.image.specs.Sound.{sound, tableOf}
 use Rattle.image.specs.Calls.{asks, get, next, foundBy}
 use Rattle.image.specs.Contract.{Meets}
 use Rattle.image.specs.Answers.{foundAnswer}
 use Rattle.image.specs.declared.Refusal.{Refusal}
 use Rattle.image.specs.declared.Found.{Found}
-use Rattle.octets.specs.Order.{and-left, and-right, not-so, same-refl, same-eq, before-irrefl, before-trans}
+use Rattle.octets.specs.Order.{and-left, and-right, same-refl, same-eq}
 use Rattle.laws.specs.Tables.{find-yes, find-no}
 use Rattle.laws.specs.ValuesFit.{table-fits, found-fits}
 use Rattle.laws.specs.Rising.{find-leads}
-use Rattle.laws.specs.Follow.{formed-some, after-step, table-rises}
+use Rattle.laws.specs.Follow.{after-step, table-rises}
 use Rattle.laws.specs.Filter.{keep, keep-rises}
-use Rattle.seek.specs.Present.{Next, next-found, formed-short}
-use Rattle.query.specs.Asked.{pathsFit, bufferLimit}
+use Rattle.seek.specs.Present.{Next, next-found}
+use Rattle.query.specs.Asked.{pathsFit}
 use Rattle.image.specs.Program.{space, slash, lineFeed, exchanged, pathText, valueText, endText, refusedText, rowText, rowsText, listText, listing, commandText, commandTable}
-use Rattle.script.specs.Writing.{Wrote, wrote-on, wrote-within, exchanged-length}
+use Rattle.script.specs.Writing.{Wrote, wrote-within, exchanged-length}
 use Rattle.script.specs.Reading.{text-short}
 use Rattle.script.specs.Answered.{Held, Answered, took, left}
+use Rattle.query.specs.Steps.{get-room, next-room}
+use Rattle.laws.specs.ButLive.{sound-parts, live-is}
 
 -- THE TABLE
 -- the rows below a path are a filter of the table
@@ -111,15 +110,9 @@ keep-fewer test (r ∷ t) = go (test (r .key)) refl (keep-fewer test t)
     go false e ih = rw e (omega arith)
 
 few-rows : (s : List ℕ) → length s ≡ 65536 → sound s ≡ true → length (tableOf s) ≤ 64
-unfolding tableOf sound soundRoot soundHeader
 few-rows s n e =
-    let head : soundHeader (nodesOf (length s)) (headerOf s) ≡ true
-    = and-right (headerLaidOut (nodeBytes s 0)) _ (and-left (headerLaidOut (nodeBytes s 0) && soundHeader (nodesOf (length s)) (headerOf s)) _ e) in
-    let root : soundRoot (nodesOf (length s)) (headerOf s .live) (treeOf s) ≡ true
-    = and-right (headerLaidOut (nodeBytes s 0) && soundHeader (nodesOf (length s)) (headerOf s)) _ e in
-    let low : headerOf s .live ≤ nodesOf (length s) = leb-true _ _ (and-right (eqb (headerOf s .count) (nodesOf (length s)) && leb 1 (headerOf s .root) && _ && _ && leb (headerOf s .levels) levelsLimit) _ head) in
-    let same-count : headerOf s .live ≡ length (rows (treeOf s) lowest highest)
-    = eqb-true _ _ (and-right (soundTree (treeOf s) lowest highest && once (numbers (treeOf s)) && inRange (nodesOf (length s)) (numbers (treeOf s))) _ root) in
+    let low = sound-parts s e .liveHigh in
+    let same-count = live-is s e in
     let nodes : nodesOf (length s) ≡ 64 = ap nodesOf n ∙ (unfold nodesOf in refl) in
     omega arith
 
@@ -171,10 +164,6 @@ pub get-asked : (path : List ℕ) → wellFormed path ≡ true → pathsFit (get
 unfolding pathsFit
 get-asked path f = f
 
-pub get-room : (path buffer : List ℕ) → 32 ≤ length buffer → bufferLimit (get path) ≤ length buffer
-unfolding bufferLimit valueLimit
-get-room path buffer h = h
-
 -- THE WALK
 -- before each turn: the text so far and the text of the rows ahead are the whole text, for which there is room
 pub record Walk (s p q : List ℕ) (at : ℕ) (out : List ℕ) : Type 0 where
@@ -194,10 +183,6 @@ walk-starts s p out last h f =
 next-asked : (p q : List ℕ) → wellFormed p ≡ true → same q [] || wellFormed q ≡ true → pathsFit (next p q) ≡ true
 unfolding pathsFit
 next-asked p q f e = rw (f, e) refl
-
-next-room : (p q buffer : List ℕ) → 64 ≤ length buffer → bufferLimit (next p q) ≤ length buffer
-unfolding bufferLimit pathLimit
-next-room p q buffer h = h
 
 -- the row that comes next
 record Onward (rs : List Row) (k : List ℕ) : Type 0 where

@@ -1,18 +1,17 @@
 -- The steps of the writers and of the answers: one law for each way out of the code.
-use Prim.Native.Nat.{ℕ, zero, suc, _+_, _*_, _-_, _/_, _%_, _<_, _≤_}
-use mathlib.Core.Path.{_≡_, refl, sym, ap, ap₂, subst, _∙_}
-use mathlib.Core.List.{List, [], _∷_, _++_, append-assoc}
-use mathlib.Core.Bool.{Bool, true, false, not, cond}
+use Prim.Native.Nat.{ℕ, _+_, _-_, _/_, _%_, _<_, _≤_}
+use mathlib.Core.Path.{_≡_, sym, ap, ap₂, _∙_}
+use mathlib.Core.List.{List, [], _∷_, _++_}
+use mathlib.Core.Bool.{Bool, true, false, not}
 use mathlib.Core.Option.{Option, none, some}
 use native.Mathlib.Omega.{arith}
 use lib.ListN.{length, take, drop, length-take}
-use lib.Dec.{ltb, eqb}
 use borrow.Author.Tests.{lt-ltb, le-ltb, eq-eqb, ne-eqb, not-true, not-false}
 use Rattle.image.specs.Bytes.{same}
 use Rattle.image.specs.Path.{wellFormed}
-use Rattle.image.specs.Table.{find, rowsBelow}
+use Rattle.image.specs.Table.{rowsBelow}
 use Rattle.image.specs.Sound.{tableOf}
-use Rattle.image.specs.Calls.{Act, put, drops, clear, move, settle, tidy, acts, asks, get}
+use Rattle.image.specs.Calls.{put, drops, clear, move, settle, tidy, acts, asks, get}
 use Rattle.image.specs.Contract.{Meets}
 use Rattle.image.specs.Answers.{refusalNumber, outcomeAnswer, foundAnswer}
 use Rattle.image.specs.declared.Refusal.{Refusal}
@@ -20,11 +19,11 @@ use Rattle.image.specs.declared.Outcome.{Outcome}
 use Rattle.image.specs.declared.Found.{Found}
 use Rattle.query.specs.Asked.{foundLength}
 use Rattle.script.specs.declared.Value.{Value}
-use Rattle.image.specs.Program.{Command, acting, getting, listing, bad, putting, pathOf, valueOf, wordAlone, wordAndPath, wordAndTwo, badText, okText, decimal, refusedText, answerText, hexText, valueText, valueBuffer, exchanged, pathText, rowText, rowsText, slash, space, putWord, dropWord, clearWord, getWord, listWord, moveWord, settleWord, tidyWord}
+use Rattle.image.specs.Program.{acting, getting, listing, putting, pathOf, valueOf, wordAlone, wordAndPath, wordAndTwo, badText, okText, decimal, refusedText, answerText, hexText, valueText, valueBuffer, exchanged, pathText, rowText, rowsText, putWord, dropWord, clearWord, getWord, listWord, moveWord, settleWord, tidyWord}
 use Rattle.script.specs.Writing.{Wrote, wrote-on, wrote-as, exchanged-length}
 use Rattle.script.specs.Reading.{Front, Parsed, valueRead, readLength, empty-text, some-text, text-short}
 use Rattle.script.specs.Answered.{Held, Answered, answered-as, done-text, refusal-text, value-text, absent-text, act-answered, get-answered, bad-answered, get-short}
-use Rattle.script.specs.Rows.{Present, RowWrote, path-part, path-short, row-value, row-refused, list-answered, list-refused}
+use Rattle.script.specs.Rows.{Present, RowWrote, path-part, row-value, row-refused, list-answered, list-refused}
 use Rattle.script.specs.Line.{pathCommand, twoCommand}
 
 -- NUMBERS

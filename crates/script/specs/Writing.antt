@@ -1,8 +1,8 @@
 -- Text put into a buffer from a place on, and its laws: one text after another is one text. Relies on: octets' put.
-use Prim.Native.Nat.{ℕ, zero, suc, _+_, _*_, _/_, _%_, _<_, _≤_, min}
+use Prim.Native.Nat.{ℕ, suc, _+_, _*_, _/_, _%_, _<_, _≤_}
 use mathlib.Core.Path.{_≡_, refl, sym, ap, ap₂, _∙_}
 use mathlib.Core.List.{List, [], _∷_, _++_, append-assoc, append-nil}
-use mathlib.Core.Bool.{Bool, true, false, cond}
+use mathlib.Core.Bool.{cond}
 use native.Mathlib.Omega.{arith}
 use lib.ListN.{length, take, drop, getD, set, length-append, length-set, length-take}
 use lib.Seq.{take-suc, take-suc-set, take-at, length-take-le, take-all}
@@ -40,9 +40,6 @@ wrote-within out text r out′ w =
     let a : length (take r out′) ≡ length text = ap length (w .bytes) in
     let b = length-take r out′ in
     omega (arith, w .ends)
-
-pub wrote-text : (out text : List ℕ) (r : ℕ) (out′ : List ℕ) → Wrote out 0 text r out′ → take r out′ ≡ text
-wrote-text out text r out′ w = w .bytes
 
 pub wrote-as : (out : List ℕ) (at : ℕ) (a b : List ℕ) (r : ℕ) (out′ : List ℕ) → a ≡ b → Wrote out at a r out′ → Wrote out at b r out′
 wrote-as out at a b r out′ e w = rw (← e) w

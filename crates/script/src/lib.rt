@@ -1,5 +1,5 @@
 // The lines of the program: each is read, its call is made, and its text is put into a page that is lent. Relies on: edit, maintain and
-// query for the calls, octets for bytes, splicelog for the numbers of refusals. What a line says is defined in image, Program.
+// query for the calls, octets for bytes, pieces for the numbers of refusals. What a line says is defined in image, Program.
 use image::Found;
 use image::Outcome;
 ghost use Prim.Native.Nat.{_+_, _*_, _<_, _≤_};
@@ -224,7 +224,7 @@ fn put_outcome(outcome: Outcome, out: &mut [u8]) -> usize
 {
     match outcome {
         Outcome::Done => put_text(b"ok\n", out, 0),
-        Outcome::Refused(refusal) => put_refused(splicelog::refusal_number(refusal), out),
+        Outcome::Refused(refusal) => put_refused(requests::refusal_number(refusal), out),
     }
 }
 
@@ -238,7 +238,7 @@ fn put_found(found: Found, value: &[u8], out: &mut [u8]) -> usize
             let at = put_value(&value[0..n], out, 0);
             put_byte(10, out, at)
         }
-        Found::Refused(refusal) => put_refused(splicelog::refusal_number(refusal), out),
+        Found::Refused(refusal) => put_refused(requests::refusal_number(refusal), out),
     }
 }
 

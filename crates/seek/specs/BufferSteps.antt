@@ -38,30 +38,6 @@ append-some : (x s : List ℕ) → appended (some x) s ≡ fitted (x ++ s)
 unfolding appended
 append-some x s = refl
 
--- a buffer that holds a path: what a caller may copy
-pub record Holds (p : PathBuffer) (k : List ℕ) : Type 0 where
-  pub short : p .len ≤ 64
-  pub bytes : take (p .len) (p .bytes) ≡ k
-
-pub holds-path : (p : PathBuffer) (k : List ℕ) → bufferIs p ≡ some k → Holds p k
-unfolding bufferIs
-holds-path p k h = go (leb (p .len) 64) refl
-  where
-    go : (b : Bool) → leb (p .len) 64 ≡ b → Holds p k
-    go true e =
-        let q : some (take (p .len) (p .bytes)) ≡ some k = rw e at h in
-        let z : take (p .len) (p .bytes) ≡ k = cc in
-        record { short = leb-true (p .len) 64 e; bytes = z }
-    go false e = let q : none ≡ some k = rw e at h in let z : _≡_ {A = ℕ} 0 1 = cc in absurd (omega arith)
-
-pub holds-none : (p : PathBuffer) → bufferIs p ≡ none → 64 < p .len
-unfolding bufferIs
-holds-none p h = go (leb (p .len) 64) refl
-  where
-    go : (b : Bool) → leb (p .len) 64 ≡ b → 64 < p .len
-    go true e = let q : some (take (p .len) (p .bytes)) ≡ none = rw e at h in let z : _≡_ {A = ℕ} 0 1 = cc in absurd (omega arith)
-    go false e = leb-false (p .len) 64 e
-
 -- a buffer that holds what fits
 pub fitted-held : (p : PathBuffer) (x : List ℕ) → bufferIs p ≡ fitted x → p .len ≤ 64 → take (p .len) (p .bytes) ≡ x
 unfolding fitted

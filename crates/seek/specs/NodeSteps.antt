@@ -20,15 +20,15 @@ use Rattle.laws.specs.Filter.{keep}
 use Rattle.path.specs.Shape.{Shape}
 use Rattle.path.specs.Fed.{shapeIs}
 use Rattle.path.specs.declared.Shape as path
-use Rattle.reading.specs.Relative.{lifts, kidHigh}
-use Rattle.reading.specs.Far.{farFrom}
-use Rattle.reading.specs.SeekHere.{under, keysHere, keysKids}
+use Rattle.laws.specs.Reading.Relative.{lifts, kidHigh}
+use Rattle.laws.specs.Reading.Far.{farFrom}
+use Rattle.laws.specs.Reading.SeekHere.{under, keysHere, keysKids}
 use Rattle.node.specs.Places.{part, entryIn}
 use Rattle.node.specs.Entries.{listed}
 use Rattle.node.specs.declared.Place.{Place}
 use Rattle.node.specs.declared.Entry.{Entry}
-use Rattle.search.specs.declared.Kid.{Kid}
-use Rattle.search.specs.Own.{kid, kidIs, kidsE, kids-more}
+use Rattle.node.specs.declared.search.Kid.{Kid}
+use Rattle.node.specs.Search.Own.{kid, kidIs, kidsE, kids-more}
 use Rattle.lookup.specs.Look.{listing, part-rest}
 use Rattle.seek.specs.declared.PathBuffer.{PathBuffer}
 use Rattle.seek.specs.Buffer.{bufferIs, fitted}
@@ -36,7 +36,7 @@ use Rattle.seek.specs.BufferSteps.{empty-handed, fitted-held, fitted-not
 use Rattle.seek.specs.Present.{root-walk, dead-keeps}
 use Rattle.seek.specs.Walk.{unfit, walkIn, pathOf, pathsOf, childPaths, runPaths, ChildReady, NodeReady, KidsReady}
 use Rattle.seek.specs.WalkLaws.{walk-more, run-last, run-more, child-skipped, child-too-long, child-entered, child-ready, kids-first, kids-later, leaf-paths, interior-paths, kids-ready}
-use Rattle.seek.specs.Steps.{front-is}
+use Rattle.octets.specs.Put.{front-is}
 
 -- 1. A child.
 module _ (s X low high : List ℕ) (level num : ℕ) (c : ChildReady s X low high level num) (sh : Shape) (P Q : List ℕ) (best : Option (List ℕ)) where

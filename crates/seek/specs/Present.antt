@@ -8,9 +8,8 @@ use mathlib.Core.Bool.{Bool, true, false, _&&_, false≢true}
 use mathlib.Core.Option.{none, some}
 use native.Mathlib.Omega.{arith}
 use lib.ListN.{length, drop}
-use borrow.Author.Tests.{leb-true}
 use Rattle.image.specs.Bytes.{same, before, begins, shared, u16}
-use Rattle.image.specs.Path.{wellFormed, owns, pathLimit}
+use Rattle.image.specs.Path.{wellFormed, owns}
 use Rattle.image.specs.Table.{Row, isSome, leastAfter, leads, rising}
 use Rattle.image.specs.Image.{treeAt, treeOf}
 use Rattle.image.specs.Meaning.{rows}
@@ -21,10 +20,11 @@ use Rattle.laws.specs.RowsRising.{rows-rise}
 use Rattle.laws.specs.Next.{Fits, least-yes, least-far, least-early, later-fits, nil-none, first-present}
 use Rattle.laws.specs.Filter.{keep}
 use Rattle.path.specs.Shape.{Shape, dead, goesOn, feed-dead}
-use Rattle.reading.specs.Seek.{every, holds, isKey, present, keys, keys-hold, stands, walk, walk-same}
-use Rattle.reading.specs.SeekHere.{under, keysHere, next-here}
+use Rattle.laws.specs.Reading.Seek.{every, holds, isKey, present, keys, keys-hold, stands, walk, walk-same}
+use Rattle.laws.specs.Reading.SeekHere.{under, keysHere, next-here}
 use Rattle.lookup.specs.Root.{starts, root-is, root-usable}
-use Rattle.seek.specs.Walk.{isPresent, unfit, isSought, walkIn, NodeReady}
+use Rattle.seek.specs.Walk.{isPresent, walkIn, NodeReady, unfit, isSought}
+use Rattle.laws.specs.Follow.{formed-length}
 
 -- a path that stands among paths that all pass a test passes it
 key-passes : (test : List ℕ → Bool) (k : List ℕ) (ks : List (List ℕ)) → isKey k ks ≡ true → every test ks ≡ true → test k ≡ true
@@ -45,10 +45,6 @@ pub formed-of : (lo hi k : List ℕ) → holds lo hi k ≡ true → wellFormed k
 unfolding holds
 formed-of lo hi k h = and-left (wellFormed k) (owns lo hi k) h
 
-pub formed-short : (k : List ℕ) → wellFormed k ≡ true → length k ≤ 64
-unfolding wellFormed pathLimit
-formed-short k h = leb-true (length k) 64 (and-left _ _ h)
-
 pub present-formed : (s k : List ℕ) → sound s ≡ true → isPresent s k ≡ true → wellFormed k ≡ true
 unfolding tableOf
 present-formed s k e h =
@@ -57,7 +53,7 @@ present-formed s k e h =
     (key-passes (holds lowest highest) k (keys (treeOf s) lowest highest) (stands (treeOf s) lowest highest k (sym (present-is s e k) ∙ h)) (keys-hold (treeOf s) lowest highest t))
 
 pub present-short : (s k : List ℕ) → sound s ≡ true → isPresent s k ≡ true → length k ≤ 64
-present-short s k e h = formed-short k (present-formed s k e h)
+present-short s k e h = formed-length k (present-formed s k e h)
 
 pub too-long : (s k : List ℕ) → sound s ≡ true → 64 < length k → isPresent s k ≡ false
 too-long s k e l = go (isPresent s k) refl

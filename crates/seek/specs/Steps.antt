@@ -15,14 +15,14 @@ use Rattle.image.specs.Sound.{sound, valueIn}
 use Rattle.octets.specs.Order.{and-left, and-false}
 use Rattle.octets.specs.Beginnings.{begins-length}
 use Rattle.path.specs.Shape.{Shape}
-use Rattle.reading.specs.Seek.{better, wanted, try}
-use Rattle.reading.specs.SeekHere.{under}
+use Rattle.laws.specs.Reading.Seek.{better, wanted, try}
+use Rattle.laws.specs.Reading.SeekHere.{under}
 use Rattle.node.specs.Places.{part, entryIn, Within, EntryWithin}
 use Rattle.node.specs.declared.Place.{Place}
 use Rattle.node.specs.declared.Message.{Message}
 use Rattle.node.specs.declared.Entry.{Entry}
-use Rattle.search.specs.declared.Found.{Found}
-use Rattle.search.specs.Pairs.{foundIn, Finds}
+use Rattle.node.specs.declared.search.Found.{Found}
+use Rattle.node.specs.Search.Pairs.{foundIn, Finds}
 use Rattle.seek.specs.declared.PathBuffer.{PathBuffer}
 use Rattle.seek.specs.declared.Suffix.{Suffix}
 use Rattle.seek.specs.Buffer.{bufferIs, fitted}
@@ -31,10 +31,7 @@ use Rattle.seek.specs.Walk.{isPresent, unfit, isSought, tryIn, walkIn, p
 use Rattle.seek.specs.Suffixes.{putIs, suffixIs}
 use Rattle.seek.specs.Present.{too-long}
 use Rattle.seek.specs.WalkLaws.{walk-nothing, walk-one, walk-more}
-
--- a part from the start on, as it is made
-pub front-is : (n : ℕ) (l : List ℕ) → take (n - 0) (drop 0 l) ≡ take n l
-front-is n l = let e : n - 0 ≡ n = omega arith in rw e
+use Rattle.octets.specs.Put.{front-is}
 
 -- 1. One path.
 -- it begins with P, if it is wanted

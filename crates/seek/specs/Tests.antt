@@ -1,6 +1,6 @@
 -- The tests on a path or a range, one law for each return.
--- Relies on: better and wanted of reading/specs/Seek, farFrom of reading/specs/Far, the shape of a path fed in parts (path/specs/Shape).
-use Prim.Native.Nat.{ℕ, _+_, _-_, _<_, _≤_}
+-- Relies on: better and wanted of laws/specs/Reading/Seek, farFrom of laws/specs/Reading/Far, the shape of a path fed in parts (path/specs/Shape).
+use Prim.Native.Nat.{ℕ, _-_, _<_, _≤_, _+_}
 use mathlib.Core.Path.{_≡_, refl, sym, ap, _∙_}
 use mathlib.Core.List.{List, _++_}
 use mathlib.Core.Bool.{Bool, true, false, _&&_, _||_, not}
@@ -14,8 +14,8 @@ use Rattle.path.specs.Shape.{feed, closed, goesOn, feed-append}
 use Rattle.path.specs.Fed.{shapeIs}
 use Rattle.path.specs.Reads.{goes-dead}
 use Rattle.path.specs.declared.Shape.{Shape}
-use Rattle.reading.specs.Far.{farFrom}
-use Rattle.reading.specs.Seek.{better, wanted}
+use Rattle.laws.specs.Reading.Far.{farFrom}
+use Rattle.laws.specs.Reading.Seek.{better, wanted}
 use Rattle.seek.specs.declared.PathBuffer.{PathBuffer}
 use Rattle.lookup.specs.Look.{part-rest}
 use Rattle.seek.specs.Walk.{unfit}

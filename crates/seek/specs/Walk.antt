@@ -12,9 +12,9 @@ use Rattle.image.specs.Table.{isSome}
 use Rattle.image.specs.Image.{Kid, nodesOf, forestOf, treeAt}
 use Rattle.image.specs.Sound.{sound, soundTree, valueIn}
 use Rattle.path.specs.Shape.{Shape, goesOn}
-use Rattle.reading.specs.Relative.{lifts, kidHigh, usable}
-use Rattle.reading.specs.Seek.{try, walk}
-use Rattle.reading.specs.SeekHere.{under, keysHere, keysKids}
+use Rattle.laws.specs.Reading.Relative.{lifts, kidHigh, usable}
+use Rattle.laws.specs.Reading.Seek.{try, walk}
+use Rattle.laws.specs.Reading.SeekHere.{under, keysHere, keysKids}
 
 -- a path is present in the image
 unfoldable pub isPresent : List ℕ → List ℕ → Bool

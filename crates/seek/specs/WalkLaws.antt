@@ -3,11 +3,10 @@
 use Prim.Native.Nat.{ℕ, _-_, _<_, _≤_}
 use mathlib.Core.Path.{_≡_, refl, sym, ap, ap₂, subst, _∙_}
 use mathlib.Core.List.{List, [], _∷_, _++_, append-nil, append-assoc}
-use mathlib.Core.Bool.{Bool, true, false}
+use mathlib.Core.Bool.{true}
 use mathlib.Core.Option.{Option, none, some}
 use native.Mathlib.Omega.{arith}
 use lib.ListN.{length, drop, length-append}
-use lib.Dec.{eqb}
 use Rattle.image.specs.Bytes.{shared}
 use Rattle.image.specs.Entry as defined
 use Rattle.image.specs.Table.{Row}
@@ -15,18 +14,19 @@ use Rattle.image.specs.Image.{Tree, leaf, interior, Forest, tree, Kid, Inside, 
 use Rattle.image.specs.Meaning.{highOf}
 use Rattle.image.specs.Sound.{sound, soundTree, soundForest}
 use Rattle.octets.specs.Order.{and-left, and-right, begins-split, shared-append}
-use Rattle.octets.specs.Beginnings.{shared-left}
+use Rattle.octets.specs.Beginnings.{shared-left, strip-shared}
 use Rattle.laws.specs.LookupTable.{parts, inner}
 use Rattle.octets.specs.Beginnings.{shared-right}
 use Rattle.path.specs.Shape.{Shape}
-use Rattle.reading.specs.Relative.{lifts, kidHigh, usable, usableIn}
-use Rattle.reading.specs.Far.{farFrom}
-use Rattle.reading.specs.Seek.{walk, walk-append, every, holds, keys-hold, keysOf, putsOf}
-use Rattle.reading.specs.SeekHere.{under, keysHere, keysKids, under-append, under-under, child-under, keys-here, skip-here}
-use Rattle.search.specs.Own.{kidsE}
+use Rattle.laws.specs.Reading.Relative.{lifts, kidHigh, usable, usableIn}
+use Rattle.laws.specs.Reading.Far.{farFrom}
+use Rattle.laws.specs.Reading.Seek.{walk, walk-append, every, holds, keys-hold, keysOf, putsOf}
+use Rattle.laws.specs.Reading.SeekHere.{under, keysHere, keysKids, under-append, under-under, child-under, keys-here, skip-here}
+use Rattle.node.specs.Search.Own.{kidsE}
 use Rattle.lookup.specs.Look.{listing, leaf-at, interior-at, inside-splits}
-use Rattle.seek.specs.Walk.{isSought, tryIn, walkIn, pathOf, pathsOf, childPaths, runPaths, ChildReady, NodeReady, KidsReady}
-use Rattle.seek.specs.Present.{formed-of, formed-short}
+use Rattle.seek.specs.Walk.{tryIn, walkIn, pathOf, pathsOf, childPaths, runPaths, ChildReady, NodeReady, KidsReady, isSought}
+use Rattle.seek.specs.Present.{formed-of}
+use Rattle.laws.specs.Follow.{formed-length}
 
 -- 1. The walk over no path, one path, and two lists of paths.
 module _ (s : List ℕ) (sh : Shape) (P Q : List ℕ) (best : Option (List ℕ)) (X : List ℕ) where
@@ -56,19 +56,6 @@ module _ (level : ℕ) (s hi : List ℕ) (k : Kid) where
       append-assoc (under (shared (k .pivot) (m .pivot)) (keysHere (treeAt level s (k .number)) (drop (lifts (k .pivot) (m .pivot)) (m .pivot))))
       (keysKids (forestOf (λ j. treeAt level s j) (m ∷ ks)) hi) (pathsOf es)
 
--- 3. A child: it is skipped, or its lifted prefix is too long for a path, or it is entered.
--- what is left of two lists shares nothing
-nothing-shared : (a b : List ℕ) → shared (drop (length (shared a b)) a) (drop (length (shared a b)) b) ≡ []
-unfolding shared
-nothing-shared [] b = refl
-nothing-shared (x ∷ a) [] = refl
-nothing-shared (x ∷ a) (y ∷ b) = go (eqb x y) refl (nothing-shared a b)
-  where
-    go : (t : Bool) → eqb x y ≡ t → shared (drop (length (shared a b)) a) (drop (length (shared a b)) b) ≡ []
-        → shared (drop (length (shared (x ∷ a) (y ∷ b))) (x ∷ a)) (drop (length (shared (x ∷ a) (y ∷ b))) (y ∷ b)) ≡ []
-    go true e ih = rw e ih
-    go false e ih = rw (e, e)
-
 shared-rest : (a b : List ℕ) → shared a b ++ drop (length (shared a b)) a ≡ a
 shared-rest a b = begins-split (shared a b) a (shared-left a b)
 
@@ -81,7 +68,7 @@ module _ (s X low high : List ℕ) (level num : ℕ) (c : ChildReady s X low hig
   unfolding every under
   no-paths [] l h = refl
   no-paths (k ∷ ks) l h =
-      let f = formed-short ((X ++ shared low high) ++ k) (formed-of (X ++ low) (X ++ high) ((X ++ shared low high) ++ k) (and-left (holds (X ++ low) (X ++ high) ((X ++ shared low high) ++ k)) (every (holds (X ++ low) (X ++ high)) (under (X ++ shared low high) ks)) h)) in
+      let f = formed-length ((X ++ shared low high) ++ k) (formed-of (X ++ low) (X ++ high) ((X ++ shared low high) ++ k) (and-left (holds (X ++ low) (X ++ high) ((X ++ shared low high) ++ k)) (every (holds (X ++ low) (X ++ high)) (under (X ++ shared low high) ks)) h)) in
       let a = length-append (X ++ shared low high) k in
       absurd (omega arith)
 
@@ -107,7 +94,7 @@ module _ (s X low high : List ℕ) (level num : ℕ) (c : ChildReady s X low hig
         whole = c .whole;
         usable = c .usable;
         lo = drop (length (shared low high)) low;
-        apart = nothing-shared low high;
+        apart = strip-shared low high;
         tree =
             ap₂ (λ a b. soundTree (treeAt level s num) a b)
             (append-assoc X (shared low high) (drop (length (shared low high)) low) ∙ ap (λ l. X ++ l) (shared-rest low high))

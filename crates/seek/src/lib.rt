@@ -6,9 +6,9 @@ use node::Entry;
 use node::Message;
 use node::Place;
 use node::Step;
+use node::search::Found;
+use node::search::Kid;
 use path::Shape;
-use search::Found;
-use search::Kid;
 ghost use mathlib.Core.Path.{_≡_};
 ghost use mathlib.Core.Bool.{true};
 ghost use mathlib.Core.List.{[], _∷_, _++_};
@@ -19,13 +19,13 @@ ghost use Rattle.image.specs.Table.{leastAfter};
 ghost use Rattle.image.specs.Sound.{sound, tableOf};
 ghost use Rattle.path.specs.Fed.{shapeIs};
 ghost use Rattle.laws.specs.Filter.{keep};
-ghost use Rattle.reading.specs.Far.{farFrom};
-ghost use Rattle.reading.specs.Seek.{better, wanted};
-ghost use Rattle.reading.specs.SeekHere.{under, keysHere};
+ghost use Rattle.laws.specs.Reading.Far.{farFrom};
+ghost use Rattle.laws.specs.Reading.Seek.{better, wanted};
+ghost use Rattle.laws.specs.Reading.SeekHere.{under, keysHere};
 ghost use Rattle.image.specs.Image.{treeAt};
 ghost use Rattle.node.specs.Places.{EntryWithin, Within, part, entryIn};
 ghost use Rattle.node.specs.Entries.{listed};
-ghost use Rattle.search.specs.Own.{kid, kidsE};
+ghost use Rattle.node.specs.Search.Own.{kid, kidsE};
 ghost use Rattle.seek.specs.Buffer.{bufferIs, fitted, appended};
 ghost use Rattle.seek.specs.Walk.{unfit, tryIn, walkIn, pathOf, pathsOf, childPaths, runPaths, ChildReady, NodeReady, KidsReady};
 ghost use Rattle.seek.specs.Suffixes.{suffixIs, putIs};
@@ -391,7 +391,7 @@ pub fn seek_children(
         let Step::Read(e, next) = c.step(store) else {
             return seek_last(store, num, low, c, level, hi, pre, below, after, sh, best);
         };
-        let Kid::Of(k, p) = search::kid_of(e) else {
+        let Kid::Of(k, p) = node::search::kid_of(e) else {
             return seek_last(store, num, low, c, level, hi, pre, below, after, sh, best);
         };
         let a = low.start;
@@ -445,7 +445,7 @@ pub fn seek_node(
     let Step::Read(e, next) = c.step(store) else {
         return seek_entries(store, from, end, pre, below, after, sh, best);
     };
-    let Kid::Of(k, p) = search::kid_of(e) else {
+    let Kid::Of(k, p) = node::search::kid_of(e) else {
         return seek_entries(store, from, end, pre, below, after, sh, best);
     };
     seek_children(

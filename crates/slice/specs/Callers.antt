@@ -9,9 +9,9 @@ use Rattle.image.specs.Bytes.{before, begins, shared}
 use Rattle.image.specs.Entry.{pivotLimit}
 use Rattle.image.specs.Image.{nodesOf, treeAt}
 use Rattle.laws.specs.Pieces.{Good}
-use Rattle.reading.specs.Relative.{usable}
-use Rattle.slicing.specs.FromImage.{read-fits}
-use Rattle.slicing.specs.SliceFits.{cut-fits}
+use Rattle.laws.specs.Reading.Relative.{usable}
+use Rattle.slice.specs.Slicing.FromImage.{read-fits}
+use Rattle.slice.specs.Slicing.SliceFits.{cut-fits}
 use Rattle.slice.specs.Point.{freshIn}
 use Rattle.slice.specs.Left.{LeftAsks}
 use Rattle.slice.specs.Right.{RightAsks}

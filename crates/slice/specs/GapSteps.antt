@@ -8,15 +8,14 @@ use Rattle.image.specs.Bytes.{u16, u16Bytes, shared}
 use Rattle.image.specs.Entry as defined
 use Rattle.image.specs.Image.{end, tree}
 use Rattle.octets.specs.Put.{put, put-nil}
-use Rattle.laws.specs.Encode.{bytesOf, bytesOfAll}
+use Rattle.laws.specs.Encode.{bytesOf, bytesOfAll, child-size}
 use Rattle.laws.specs.Pieces.{lower, node}
 use Rattle.laws.specs.Page.{page, pairEntries, childEntries}
 use Rattle.laws.specs.WriteNode.{writeNode}
-use Rattle.packed.specs.Tidy.{zerosOf}
-use Rattle.slicing.specs.SliceWrite.{pageOf}
-use Rattle.slicing.specs.Tail.{gapOf}
-use Rattle.moving.specs.GapWrite.{gapWrite, gap-number}
-use Rattle.push.specs.WriteSteps.{child-length}
+use Rattle.packed.specs.Form.Tidy.{zerosOf}
+use Rattle.slice.specs.Slicing.SliceWrite.{pageOf}
+use Rattle.slice.specs.Slicing.Tail.{gapOf}
+use Rattle.slice.specs.Moving.GapWrite.{gapWrite, gap-number}
 use Rattle.slice.specs.Point.{freshIn}
 use Rattle.slice.specs.PairSteps.{page-written}
 
@@ -66,7 +65,7 @@ module _ (s : List ℕ) (level : ℕ) (lo hi : List ℕ) (at : ℕ) (free : List
           let z : at + 1 ≡ suc at = omega arith in
           let v : level - 1 ≡ suc (level - 2) = omega arith in
           let w : level ≡ suc (suc (level - 2)) = omega arith in
-          let l = child-length m (drop d lo) in
+          let l = child-size m (drop d lo) in
           let k = length-drop d lo in
           let f = pre .short in
           let child′ : m ≡ freshIn free (suc at) = em ∙ ap (λ n. u16 free (n * 2)) z ∙ later in

@@ -7,12 +7,11 @@ use lib.ListN.{length, drop, length-append}
 use Rattle.image.specs.Entry as defined
 use Rattle.image.specs.Image.{Kid}
 use Rattle.octets.specs.Put.{put, put-put}
-use Rattle.laws.specs.Encode.{bytesOf}
+use Rattle.laws.specs.Encode.{bytesOf, child-size}
 use Rattle.node.specs.Cut.{cut}
 use Rattle.node.specs.Places.{part}
 use Rattle.node.specs.declared.Place.{Place}
-use Rattle.search.specs.Own.{kid}
-use Rattle.push.specs.WriteSteps.{child-length}
+use Rattle.node.specs.Search.Own.{kid}
 use Rattle.slice.specs.declared.Cut.{Cut}
 use Rattle.slice.specs.Point.{pointIn, countOf, kidLine, cutLine, leftLine}
 
@@ -44,7 +43,7 @@ module _ (page p₁ A : List ℕ) (to num d : ℕ) (s : List ℕ) (low : Place) 
   as-cut = ap (λ l. bytesOf (defined.child num l)) (past s)
 
   sized : 6 + length (cut s x (low .stop)) ≡ length (bytesOf (defined.child num (drop d (part s low))))
-  sized = sym (child-length num (cut s x (low .stop))) ∙ ap length as-cut
+  sized = sym (child-size num (cut s x (low .stop))) ∙ ap length as-cut
 
   pub behind-fits : to + (6 + length (cut s x (low .stop))) ≤ length p₁
   behind-fits = let a = sized in let b = length-append A (bytesOf (defined.child num (drop d (part s low)))) in omega arith

@@ -6,9 +6,9 @@ use mathlib.Core.Bool.{true}
 use lib.ListN.{length}
 use Rattle.image.specs.Bytes.{before}
 use Rattle.image.specs.Image.{nodesOf, treeAt}
-use Rattle.reading.specs.Relative.{usable}
-use Rattle.slicing.specs.Slice.{leftOf}
-use Rattle.slicing.specs.SliceFits.{fits}
+use Rattle.laws.specs.Reading.Relative.{usable}
+use Rattle.slice.specs.Slicing.Slice.{leftOf}
+use Rattle.slice.specs.Slicing.SliceFits.{fits}
 use Rattle.slice.specs.Point.{Point, within, between, nowhere, freshIn}
 
 pub record LeftAsks (s : List ℕ) (num level : ℕ) (lo hi k : List ℕ) (at : ℕ) (free : List ℕ) : Type 0 where

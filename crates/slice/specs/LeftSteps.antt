@@ -1,56 +1,50 @@
 -- Step lemmas of the left part: what is composed of a leaf and of an interior node, what the child that holds the cut is asked, and that
 -- the pages written are those of `leftWrite`. Relies on PointLaws and on slicing's laws of stripped pivots.
-use Prim.Native.Nat.{ℕ, zero, suc, _+_, _*_, _-_, _<_, _≤_}
+use Prim.Native.Nat.{ℕ, zero, suc, _+_, _*_, _-_, _≤_}
 use mathlib.Core.Path.{_≡_, refl, sym, ap, ap₂, subst, _∙_}
 use mathlib.Core.List.{List, [], _∷_, _++_, append-nil}
 use mathlib.Core.Bool.{Bool, true, false, _&&_, false≢true}
 use native.Mathlib.Omega.{arith}
 use lib.ListN.{length, take, drop, length-append, drop-of-length-le}
 use lib.Dec.{leb}
-use borrow.Author.Tests.{leb-true, ltb-true, lt-ltb}
+use borrow.Author.Tests.{leb-true, lt-ltb}
 use Rattle.image.specs.Bytes.{u16, before, shared}
 use Rattle.image.specs.Entry as defined
 use Rattle.image.specs.Table.{Row}
-use Rattle.image.specs.Image.{Tree, unread, leaf, interior, Forest, tree, Kid, nodesOf, nodeBytes, entryBytes, treeAt, forestOf}
+use Rattle.image.specs.Image.{Tree, leaf, interior, Forest, tree, Kid, nodesOf, nodeBytes, entryBytes, treeAt, forestOf}
 use Rattle.octets.specs.Order.{and-left, and-right, before-append}
 use Rattle.octets.specs.Put.{put}
 use Rattle.laws.specs.Rising.{both}
 use Rattle.laws.specs.Encode.{bytesOfAll}
 use Rattle.laws.specs.Filter.{keep, upTo, lowerRows}
 use Rattle.laws.specs.Pieces.{lower, node}
-use Rattle.laws.specs.Page.{page, numberOf, pairEntries, childEntries}
+use Rattle.laws.specs.Page.{page, numberOf, pairEntries, childEntries, number-read}
 use Rattle.laws.specs.WriteNode.{writeNode}
-use Rattle.reading.specs.Relative.{kidHigh, high-at, usable, usableIn}
-use Rattle.slicing.specs.Slice.{leftOf, leftIn}
-use Rattle.slicing.specs.SliceFits.{pairsSize, kidsSize, shortIn, fits, fitsIn}
-use Rattle.slicing.specs.ReadBack.{pairs-size, kids-size}
-use Rattle.slicing.specs.SliceStrip.{split-low, split-high, split-cut, strip-shared, left-strip, left-leaf-bare, left-node-bare}
-use Rattle.slicing.specs.SliceWrite.{pageOf, number-read, leftWrite, leftWriteIn}
-use Rattle.slicing.specs.WriteStrip.{left-write-strip}
+use Rattle.laws.specs.Reading.Relative.{kidHigh, high-at, usable, usableIn, number-under}
+use Rattle.slice.specs.Slicing.Slice.{leftOf, leftIn}
+use Rattle.slice.specs.Slicing.SliceFits.{pairsSize, kidsSize, shortIn, fits, fitsIn}
+use Rattle.slice.specs.Slicing.ReadBack.{pairs-size, kids-size}
+use Rattle.slice.specs.Slicing.SliceStrip.{split-low, split-high, split-cut, left-strip, left-leaf-bare, left-node-bare}
+use Rattle.slice.specs.Slicing.SliceWrite.{pageOf, leftWrite, leftWriteIn}
+use Rattle.slice.specs.Slicing.WriteStrip.{left-write-strip}
 use Rattle.node.specs.Cut.{cut, cut-length}
 use Rattle.node.specs.Entries.{listed, listOf}
 use Rattle.node.specs.Places.{part, Within}
 use Rattle.node.specs.declared.Place.{Place}
-use Rattle.search.specs.Own.{kidsE}
+use Rattle.node.specs.Search.Own.{kidsE}
 use Rattle.lookup.specs.Look.{node-is, count-is, bytes-is, listing, LeafAt, InteriorAt, leaf-at, interior-at, node-inside, inside-splits}
-use Rattle.push_laws.specs.Written.{smallNumbers}
+use Rattle.push.specs.Laws.Written.{smallNumbers}
 use Rattle.slice.specs.declared.Cut.{Cut}
 use Rattle.slice.specs.Point.{Point, within, between, nowhere, freshIn, pointOf, countOf, wholes, pointIn, CutFits, CutAs, kidLine, cutLine, leftLine, leftAt, onSide, sideLine}
 use Rattle.slice.specs.PointLaws.{point-count, left-line, left-write, side-line}
 use Rattle.slice.specs.Left.{LeftAsks, PointAsks}
-
--- NUMBERS OF CHILDREN
-number-below : (n : ℕ) (t : Tree) → usable n t ≡ true → numberOf t < n
-unfolding usable numberOf
-number-below n (unread i) e = absurd (false≢true e)
-number-below n (leaf i rs) e = ltb-true i n e
-number-below n (interior i f ms) e = ltb-true i n (and-left _ _ e)
+use Rattle.octets.specs.Beginnings.{strip-shared}
 
 pub small-kids : (n : ℕ) (under : ℕ → Tree) (ks : List Kid) → n ≤ 1024 → ((j : ℕ) → numberOf (under j) ≡ j) → usableIn n (forestOf under ks) ≡ true → smallNumbers ks ≡ true
 unfolding usableIn forestOf smallNumbers
 small-kids n under [] h num e = refl
 small-kids n under (k ∷ ks) h num e =
-    let a = number-below n (under (k .number)) (and-left _ _ e) in
+    let a = number-under n (under (k .number)) (and-left _ _ e) in
     let b = num (k .number) in
     both (lt-ltb (k .number) 65536 (omega arith)) (small-kids n under ks h num (and-right (usable n (under (k .number))) _ e))
 
@@ -279,9 +273,6 @@ module _ (s : List ℕ) (i level : ℕ) (low high k : List ℕ) (at : ℕ) (free
 
   pub strip-short : j ≤ length k
   strip-short = let a = ap length within-k in let b = length-append (shared low high) (drop (length (shared low high)) k) in omega arith
-
-  pub strip-low : j ≤ length low
-  strip-low = let a = ap length (split-low low high) in let b = length-append (shared low high) (drop (length (shared low high)) low) in omega arith
 
   pub strip-high : j ≤ length high
   strip-high = let a = ap length (split-high low high) in let b = length-append (shared low high) (drop (length (shared low high)) high) in omega arith

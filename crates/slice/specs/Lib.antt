@@ -1,3 +1,5 @@
+pub mod Slicing
+pub mod Moving
 pub mod Point
 pub mod PointLaws
 pub mod PairSteps

@@ -4,23 +4,22 @@ use mathlib.Core.Path.{_≡_, refl, sym, ap, ap₂, _∙_}
 use mathlib.Core.List.{List, [], _∷_, _++_, append-nil}
 use mathlib.Core.Bool.{Bool, true, false, not, cond}
 use native.Mathlib.Omega.{arith}
-use lib.ListN.{length, drop, length-append}
+use lib.ListN.{length, drop}
 use Rattle.image.specs.Bytes.{u16Bytes, before}
 use Rattle.image.specs.Entry as defined
 use Rattle.octets.specs.Order.{not-true}
 use Rattle.octets.specs.Put.{put}
-use Rattle.laws.specs.Encode.{restOf, kindOf, bytesOf}
+use Rattle.laws.specs.Encode.{bytesOf, keyedEntry, pair-entry}
 use Rattle.laws.specs.RowsRising.{is-true}
 use Rattle.laws.specs.WriteNode.{writeNode}
 use Rattle.laws.specs.Page.{page, page-length}
-use Rattle.packed.specs.Tidy.{zerosOf}
-use Rattle.pages.specs.Nodes.{page-is, node-written}
+use Rattle.packed.specs.Form.Tidy.{zerosOf}
+use Rattle.packed.specs.Pages.Nodes.{page-is, node-written}
 use Rattle.node.specs.Cut.{cut}
 use Rattle.node.specs.Places.{part, entryIn}
 use Rattle.node.specs.declared.Place.{Place}
 use Rattle.node.specs.declared.Message.{Message}
 use Rattle.node.specs.declared.Entry.{Entry}
-use Rattle.push.specs.Kinds.{keyedEntry}
 use Rattle.slice.specs.Point.{onSide, sideLine}
 
 -- THE TEST
@@ -53,16 +52,10 @@ module _ (s k : List ℕ) (left : Bool) (d : ℕ) (e : Entry) where
     pub side-not : not b ≡ true → sideLine left k d (entryIn s e ∷ []) ≡ []
     side-not n = by-test false (sym t ∙ not-true b n)
 
-    keyed : (a u : List ℕ) → keyedEntry 1 a u ≡ bytesOf (defined.pair a u)
-    unfolding bytesOf restOf kindOf keyedEntry
-    keyed a u =
-        let z : 2 + length a + length u ≡ length (u16Bytes (length a) ++ (a ++ u)) = let n = length-append a u in omega arith in
-        ap (λ n. u16Bytes n ++ (u16Bytes 1 ++ (u16Bytes (length a) ++ (a ++ u)))) z
-
     pub side-yes : not b ≡ false → (x : ℕ) → ((u : List ℕ) → cut u x (p .stop) ≡ drop d (cut u (p .start) (p .stop)))
         → keyedEntry 1 (cut s x (p .stop)) (cut s (v .start) (v .stop)) ≡ sideLine left k d (entryIn s e ∷ [])
     side-yes n x past =
-        ap (λ l. keyedEntry 1 l (part s v)) (past s) ∙ keyed (drop d (part s p)) (part s v) ∙ sym (append-nil (bytesOf (defined.pair (drop d (part s p)) (part s v))))
+        ap (λ l. keyedEntry 1 l (part s v)) (past s) ∙ sym (pair-entry (drop d (part s p)) (part s v)) ∙ sym (append-nil (bytesOf (defined.pair (drop d (part s p)) (part s v))))
         ∙ sym (by-test true (sym t ∙ is-true b n))
 
 -- ALL ENTRIES

@@ -11,17 +11,16 @@ use borrow.Author.Tests.{eq-eqb, ne-eqb}
 use Rattle.image.specs.Bytes.{u16, shared}
 use Rattle.image.specs.Entry as defined
 use Rattle.image.specs.Image.{Kid}
-use Rattle.octets.specs.Put.{put, put-put, put-size}
-use Rattle.laws.specs.Encode.{bytesOf}
+use Rattle.octets.specs.Put.{put, put-put, put-size, front-is}
+use Rattle.laws.specs.Encode.{bytesOf, child-size}
 use Rattle.laws.specs.Page.{page}
 use Rattle.laws.specs.WriteNode.{writeNode}
 use Rattle.node.specs.Entries.{listed}
 use Rattle.node.specs.declared.Cursor.{Cursor}
 use Rattle.node.specs.declared.Place.{Place}
-use Rattle.search.specs.Own.{kid, kidsE}
+use Rattle.node.specs.Search.Own.{kid, kidsE}
 use Rattle.lookup.specs.Look.{part-rest}
-use Rattle.reading.specs.Relative.{kidHigh}
-use Rattle.push.specs.WriteSteps.{child-length}
+use Rattle.laws.specs.Reading.Relative.{kidHigh}
 use Rattle.slice.specs.declared.Cut.{Cut}
 use Rattle.slice.specs.declared.Parts.{Parts}
 use Rattle.slice.specs.Point.{freshIn, pointIn, kidLine}
@@ -35,17 +34,13 @@ piece-short pivot d h =
 
 module _ (num at : ℕ) (x y : List ℕ) (e : x ≡ y) (page : List ℕ) where
   pub piece-fits : at + length (bytesOf (defined.child num y)) ≤ length page → at + (6 + length x) ≤ length page
-  piece-fits h = let a = ap length e in let b = child-length num y in omega arith
+  piece-fits h = let a = ap length e in let b = child-size num y in omega arith
 
   pub piece-put : (p : List ℕ) → p ≡ put page at (bytesOf (defined.child num x)) → p ≡ put page at (bytesOf (defined.child num y))
   piece-put p h = h ∙ ap (λ l. put page at (bytesOf (defined.child num l))) e
 
   pub piece-ends : (r : ℕ) → r ≡ at + (6 + length x) → r ≡ at + length (bytesOf (defined.child num y))
-  piece-ends r h = let a = ap length e in let b = child-length num y in omega arith
-
--- THE PIECES, BY THE ANSWER
-whole : (n : ℕ) (out : List ℕ) → take (n - 0) (drop 0 out) ≡ take n out
-whole n out = let z : n - 0 ≡ n = omega arith in ap (λ i. take i out) z
+  piece-ends r h = let a = ap length e in let b = child-size num y in omega arith
 
 module _ (a b d : ℕ) (k out : List ℕ) (parts : Parts) where
   pub pieces-none : parts ≡ Parts.Nothing → allLine d (piecesIn a b k out parts) ≡ []
@@ -59,7 +54,7 @@ module _ (a b d : ℕ) (k out : List ℕ) (parts : Parts) where
   pub pieces-rest : (n : ℕ) → parts ≡ Parts.Rest n → bytesOf (defined.child b (drop d (take (n - 0) (drop 0 out)))) ≡ allLine d (piecesIn a b k out parts)
   unfolding piecesIn allLine
   pieces-rest n e =
-      ap (λ l. bytesOf (defined.child b (drop d l))) (whole n out) ∙ sym (append-nil (bytesOf (defined.child b (drop d (take n out)))))
+      ap (λ l. bytesOf (defined.child b (drop d l))) (front-is n out) ∙ sym (append-nil (bytesOf (defined.child b (drop d (take n out)))))
       ∙ ap (λ p. allLine d (piecesIn a b k out p)) (sym e)
 
   pub pieces-both : (n : ℕ) → parts ≡ Parts.Both n
@@ -67,7 +62,7 @@ module _ (a b d : ℕ) (k out : List ℕ) (parts : Parts) where
   unfolding piecesIn allLine
   pieces-both n e =
       ap (λ l. bytesOf (defined.child a (drop d k)) ++ l)
-      (ap (λ l. bytesOf (defined.child b (drop d l))) (whole n out) ∙ sym (append-nil (bytesOf (defined.child b (drop d (take n out))))))
+      (ap (λ l. bytesOf (defined.child b (drop d l))) (front-is n out) ∙ sym (append-nil (bytesOf (defined.child b (drop d (take n out))))))
       ∙ ap (λ p. allLine d (piecesIn a b k out p)) (sym e)
 
 pub rest-fits : (m n : ℕ) (parts : Parts) → parts ≡ Parts.Rest n → PartsFit m parts → n ≤ m

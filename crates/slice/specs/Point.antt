@@ -9,9 +9,9 @@ use Rattle.image.specs.Bytes.{before, u16}
 use Rattle.image.specs.Entry as defined
 use Rattle.image.specs.Image.{Tree, Kid}
 use Rattle.laws.specs.Encode.{bytesOf}
-use Rattle.reading.specs.Relative.{kidHigh}
+use Rattle.laws.specs.Reading.Relative.{kidHigh}
 use Rattle.node.specs.Places.{part, Within}
-use Rattle.slicing.specs.SliceWrite.{leftWrite}
+use Rattle.slice.specs.Slicing.SliceWrite.{leftWrite}
 use Rattle.slice.specs.declared.Cut.{Cut}
 
 -- the i-th number of a list of free nodes

@@ -15,9 +15,9 @@ use Rattle.laws.specs.Encode.{bytesOf, bytesOfAll}
 use Rattle.laws.specs.Filter.{keep, lowerRows}
 use Rattle.laws.specs.Pieces.{lower, node}
 use Rattle.laws.specs.Page.{numberOf, pairEntries, childEntries}
-use Rattle.reading.specs.Relative.{kidHigh, high-at, usable, usableIn}
-use Rattle.slicing.specs.Slice.{leftOf, leftIn}
-use Rattle.slicing.specs.SliceWrite.{leftWriteIn}
+use Rattle.laws.specs.Reading.Relative.{kidHigh, high-at, usable, usableIn}
+use Rattle.slice.specs.Slicing.Slice.{leftOf, leftIn}
+use Rattle.slice.specs.Slicing.SliceWrite.{leftWriteIn}
 use Rattle.slice.specs.Point.{within, between, pointOf, countOf, wholes, kidLine, cutLine, leftAt, onSide, sideLine}
 
 -- the count

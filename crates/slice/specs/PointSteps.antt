@@ -8,10 +8,10 @@ use Rattle.image.specs.Bytes.{before}
 use Rattle.image.specs.Image.{Kid}
 use Rattle.octets.specs.Order.{not-true}
 use Rattle.laws.specs.RowsRising.{is-true}
-use Rattle.reading.specs.Relative.{kidHigh}
+use Rattle.laws.specs.Reading.Relative.{kidHigh}
 use Rattle.node.specs.Places.{part, Within}
 use Rattle.node.specs.declared.Place.{Place}
-use Rattle.search.specs.Own.{kid}
+use Rattle.node.specs.Search.Own.{kid}
 use Rattle.slice.specs.declared.Cut.{Cut}
 use Rattle.slice.specs.Point.{Point, within, between, nowhere, pointOf, pointIn, CutFits, CutAs}
 

@@ -12,14 +12,14 @@ use Rattle.image.specs.Image.{Tree, Forest, end, Kid, nodesOf, treeAt}
 use Rattle.laws.specs.Encode.{bytesOf}
 use Rattle.laws.specs.Page.{page, kidsOf}
 use Rattle.laws.specs.WriteNode.{writeNode}
-use Rattle.reading.specs.Relative.{kidHigh, usable}
+use Rattle.laws.specs.Reading.Relative.{kidHigh, usable}
 use Rattle.node.specs.Entries.{listed}
 use Rattle.node.specs.declared.Cursor.{Cursor}
-use Rattle.search.specs.Own.{kid, kidsE}
-use Rattle.push_laws.specs.Written.{smallNumbers}
-use Rattle.slicing.specs.Slice.{rightOf}
-use Rattle.slicing.specs.SliceFits.{fitsIn}
-use Rattle.slicing.specs.RightWrite.{rightWrite}
+use Rattle.node.specs.Search.Own.{kid, kidsE}
+use Rattle.push.specs.Laws.Written.{smallNumbers}
+use Rattle.slice.specs.Slicing.Slice.{rightOf}
+use Rattle.slice.specs.Slicing.SliceFits.{fitsIn}
+use Rattle.slice.specs.Slicing.RightWrite.{rightWrite}
 use Rattle.slice.specs.declared.Parts.{Parts}
 use Rattle.slice.specs.Point.{Point, within, between, nowhere, freshIn}
 

@@ -11,21 +11,20 @@ use Rattle.image.specs.Bytes.{before, shared}
 use Rattle.image.specs.Entry as defined
 use Rattle.image.specs.Image.{Tree, Forest, end, tree, Kid, forestOf}
 use Rattle.octets.specs.Order.{and-left, and-right}
-use Rattle.laws.specs.Encode.{bytesOf, bytesOfAll}
+use Rattle.laws.specs.Encode.{bytesOf, bytesOfAll, child-size}
 use Rattle.laws.specs.Pieces.{joined, raise, lower, node, over}
 use Rattle.laws.specs.Page.{page, numberOf, childEntries, kidsOf}
 use Rattle.laws.specs.WriteNode.{writeNode}
-use Rattle.reading.specs.Relative.{kidHigh, high-at}
-use Rattle.slicing.specs.Slice.{restIn, edgeIn}
-use Rattle.slicing.specs.SliceFits.{kidsSize, shortIn, fits, fitsIn}
-use Rattle.slicing.specs.ReadBack.{kids-size}
-use Rattle.slicing.specs.SliceWrite.{pageOf}
-use Rattle.slicing.specs.RightWrite.{overWrite, rightWrite, edgeWrite}
-use Rattle.search.specs.Own.{kid}
-use Rattle.push.specs.WriteSteps.{child-length}
+use Rattle.laws.specs.Reading.Relative.{kidHigh, high-at}
+use Rattle.slice.specs.Slicing.Slice.{restIn, edgeIn}
+use Rattle.slice.specs.Slicing.SliceFits.{kidsSize, shortIn, fits, fitsIn}
+use Rattle.slice.specs.Slicing.ReadBack.{kids-size}
+use Rattle.slice.specs.Slicing.SliceWrite.{pageOf}
+use Rattle.slice.specs.Slicing.RightWrite.{overWrite, edgeWrite}
+use Rattle.node.specs.Search.Own.{kid}
 use Rattle.slice.specs.Point.{within, between, pointOf, kidLine}
 use Rattle.slice.specs.Right.{skipOf, restOf, edgeAt, rightAt, raiseKids, allLine, overBody}
-use Rattle.slicing.specs.SliceFits.{fits-lower}
+use Rattle.slice.specs.Slicing.SliceFits.{fits-lower}
 
 -- THE REST
 module _ (hi k : List ℕ) where
@@ -131,7 +130,7 @@ unfolding allLine
 all-long d [] = omega arith
 all-long d (c ∷ cs) =
     let a = length-append (bytesOf (defined.child (c .number) (drop d (c .pivot)))) (allLine d cs) in
-    let b = child-length (c .number) (drop d (c .pivot)) in
+    let b = child-size (c .number) (drop d (c .pivot)) in
     let e = all-long d cs in
     omega arith
 

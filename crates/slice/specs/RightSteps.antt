@@ -3,7 +3,7 @@
 use Prim.Native.Nat.{ℕ, zero, suc, _+_, _*_, _-_, _≤_}
 use mathlib.Core.Path.{_≡_, refl, sym, ap, ap₂, subst, _∙_}
 use mathlib.Core.List.{List, [], _∷_, _++_}
-use mathlib.Core.Bool.{Bool, true, false, _&&_, not}
+use mathlib.Core.Bool.{Bool, true, false, _&&_}
 use native.Mathlib.Omega.{arith}
 use lib.ListN.{length, take, drop, length-append}
 use lib.Seq.{take-append-seam}
@@ -17,33 +17,33 @@ use Rattle.octets.specs.Order.{and-left, and-right, before-append}
 use Rattle.laws.specs.Encode.{bytesOfAll}
 use Rattle.laws.specs.Filter.{keep, since, lowerRows}
 use Rattle.laws.specs.Pieces.{joined, raise, node, over}
-use Rattle.laws.specs.Page.{page, numberOf, pairEntries, kidsOf}
+use Rattle.laws.specs.Page.{page, numberOf, pairEntries, kidsOf, number-read}
 use Rattle.laws.specs.WriteNode.{writeNode}
-use Rattle.reading.specs.Relative.{kidHigh, high-at, usable, usableIn}
-use Rattle.slicing.specs.Slice.{restIn, packed, after, rightOf, edgeIn}
-use Rattle.slicing.specs.SliceFits.{pairsSize, fits, fitsIn}
-use Rattle.slicing.specs.ReadBack.{pairs-size}
-use Rattle.slicing.specs.SliceStrip.{split-low, split-high, split-cut, strip-shared, right-strip, right-leaf-bare, right-node-bare}
-use Rattle.slicing.specs.SliceWrite.{pageOf, number-read}
-use Rattle.slicing.specs.RightWrite.{overWrite, packedWrite, rightWrite, edgeWrite}
-use Rattle.slicing.specs.WriteStrip.{right-write-strip}
-use Rattle.node.specs.Cut.{cut}
+use Rattle.laws.specs.Reading.Relative.{kidHigh, high-at, usable, usableIn}
+use Rattle.slice.specs.Slicing.Slice.{restIn, packed, after, rightOf, edgeIn}
+use Rattle.slice.specs.Slicing.SliceFits.{pairsSize, fits, fitsIn}
+use Rattle.slice.specs.Slicing.ReadBack.{pairs-size}
+use Rattle.slice.specs.Slicing.SliceStrip.{split-low, split-high, split-cut, right-strip, right-leaf-bare, right-node-bare}
+use Rattle.slice.specs.Slicing.SliceWrite.{pageOf}
+use Rattle.slice.specs.Slicing.RightWrite.{overWrite, packedWrite, rightWrite, edgeWrite}
+use Rattle.slice.specs.Slicing.WriteStrip.{right-write-strip}
 use Rattle.node.specs.Entries.{listed}
 use Rattle.node.specs.Places.{part}
 use Rattle.node.specs.declared.Place.{Place}
 use Rattle.node.specs.declared.Cursor.{Cursor}
-use Rattle.search.specs.Own.{kidsE}
+use Rattle.node.specs.Search.Own.{kidsE}
 use Rattle.lookup.specs.Look.{listing, LeafAt, InteriorAt, leaf-at, interior-at, node-inside, inside-splits}
-use Rattle.push_laws.specs.Written.{smallNumbers}
+use Rattle.push.specs.Laws.Written.{smallNumbers}
 use Rattle.slice.specs.declared.Cut.{Cut}
 use Rattle.slice.specs.declared.Parts.{Parts}
 use Rattle.slice.specs.Point.{Point, within, between, nowhere, freshIn, pointOf, pointIn, CutAs, onSide, sideLine}
 use Rattle.slice.specs.PointLaws.{side-line}
 use Rattle.slice.specs.Right.{skipOf, restOf, edgeAt, rightAt, piecesIn, PartsFit, raiseKids, allLine, overBody, wideBody, oneNode, headKid, RightAsks, PointAsksRight, RightAs, EdgeAs, NarrowAsks, WideReady, WideAs}
 use Rattle.slice.specs.RightLaws.{rest-skip, rest-is, edge-is, edge-write, kids-raise, kids-joined, kids-forest, over-body, over-fits}
-use Rattle.slicing.specs.SliceFits.{fits-raise}
-use Rattle.slicing.specs.RightWrite.{fits-parts}
+use Rattle.slice.specs.Slicing.SliceFits.{fits-raise}
+use Rattle.slice.specs.Slicing.RightWrite.{fits-parts}
 use Rattle.slice.specs.LeftSteps.{small-kids, no-level, one-level, node-lists, node-short}
+use Rattle.octets.specs.Beginnings.{strip-shared}
 
 under-none : (t : List Row) → underPrefix [] t ≡ t
 unfolding underPrefix
@@ -323,9 +323,6 @@ module _ (w : Bool) (s : List ℕ) (num level : ℕ) (lo hi k : List ℕ) (at : 
             ans .written ∙ ap (rightAt (freshIn free) w under (level - 1) k a s) (as-cut .meant)
             ∙ ap (λ i. rightAt (freshIn free) w under (level - 1) k i s (pointOf 0 ks hi k)) (sym ea)
 
-        pub answer-fit : PartsFit (length out) below
-        answer-fit = ans .fit
-
         -- wide: two nodes
         module _ (ew : w ≡ true) (e2 : a ≡ at + 2) where
           next : a + 1 ≡ at + 3
@@ -448,9 +445,6 @@ module _ (w : Bool) (s : List ℕ) (i level : ℕ) (low high k : List ℕ) (at :
 
   pub strip-short : j ≤ length k
   strip-short = let a = ap length within-k in let b = length-append (shared low high) (drop (length (shared low high)) k) in omega arith
-
-  pub strip-low : j ≤ length low
-  strip-low = let a = ap length (split-low low high) in let b = length-append (shared low high) (drop (length (shared low high)) low) in omega arith
 
   pub strip-high : j ≤ length high
   strip-high = let a = ap length (split-high low high) in let b = length-append (shared low high) (drop (length (shared low high)) high) in omega arith

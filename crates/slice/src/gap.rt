@@ -1,7 +1,8 @@
 // The chain of empty nodes that stands where a range was cut out: one node a level, the deepest written first. The pivots are whole here:
-// each node of the chain has the same. Relies on moving's `gapWrite` and on the writers of entries and pages.
+// each node of the chain has the same. Relies on moving's `gapWrite` and on node's writer.
+use node::writer;
 ghost use mathlib.Core.Path.{_≡_};
-ghost use Rattle.moving.specs.GapWrite.{gapWrite};
+ghost use Rattle.slice.specs.Moving.GapWrite.{gapWrite};
 ghost use Rattle.slice.specs.Point.{freshIn};
 ghost use Rattle.slice.specs.GapSteps.{GapAsks};
 
@@ -12,12 +13,19 @@ pub fn write_gap(store: &mut [u8], level: usize, lo: &[u8], hi: &[u8], at: usize
     let new = octets::u16_at(free, at * 2);
     let mut page = [0u8; 1024];
     if level <= 1 {
-        push::message::write_page(store, new, &mut page, 1, 1, 0);
+        writer::write_page(store, new, &mut page, image::LEAF, 1, 0);
         return;
     }
     let child = octets::u16_at(free, (at + 1) * 2);
     let d = octets::common_length(lo, hi);
-    let end = pages::emit_child(&mut page, 8, child, &lo[d..]);
+    let end = writer::write_child(&mut page, image::ENTRIES_AT, child, &lo[d..]);
     write_gap(store, level - 1, lo, hi, at + 1, free);
-    push::message::write_page(store, new, &mut page, 2, level, end - 8);
+    writer::write_page(
+        store,
+        new,
+        &mut page,
+        image::INTERIOR,
+        level,
+        end - image::ENTRIES_AT,
+    );
 }

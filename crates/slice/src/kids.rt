@@ -1,9 +1,10 @@
 // The page of a part of an interior node: its children's entries, each pivot without its first bytes. Relies on live's reader of children
-// and on the writers of entries (pages, push); specs/Point says what stands in the page.
+// and on node's writer; specs/Point says what stands in the page.
 use crate::Cut;
 use live::Pending;
 use node::Cursor;
 use node::Place;
+use node::writer;
 ghost use mathlib.Core.Path.{_≡_};
 ghost use mathlib.Core.List.{[], _++_};
 ghost use mathlib.Core.Bool.{true};
@@ -14,8 +15,8 @@ ghost use Rattle.laws.specs.Encode.{bytesOf};
 ghost use Rattle.octets.specs.Put.{put};
 ghost use Rattle.node.specs.Places.{Within, part};
 ghost use Rattle.node.specs.Entries.{listed};
-ghost use Rattle.search.specs.Own.{kidsE};
-ghost use Rattle.push_laws.specs.Written.{smallNumbers};
+ghost use Rattle.node.specs.Search.Own.{kidsE};
+ghost use Rattle.push.specs.Laws.Written.{smallNumbers};
 ghost use Rattle.slice.specs.Point.{kidLine, leftLine, pointIn, CutFits};
 
 // The entries of the next n children. Gives the place behind them.
@@ -43,7 +44,7 @@ pub fn emit_kids(
         };
         let a = push::room::start_past(p, d);
         let b = p.stop;
-        to = pages::emit_child(page, to, num, &node[a..b]);
+        to = writer::write_child(page, to, num, &node[a..b]);
         c = next;
         left -= 1;
     }
@@ -71,10 +72,20 @@ fn emit_with(
         (kidLine d n (kidsE (listed (now (node .entry)) 8 stop)) ++ bytesOf (child num (drop d (part (now (node .entry)) low)))))
         × (r ≡ 8 + length (kidLine d n (kidsE (listed (now (node .entry)) 8 stop)) ++ bytesOf (child num (drop d (part (now (node .entry)) low))))) ⌝ }
 {
-    let to = emit_kids(page, 8, node, Cursor { at: 8, end: stop }, n, d);
+    let to = emit_kids(
+        page,
+        image::ENTRIES_AT,
+        node,
+        Cursor {
+            at: image::ENTRIES_AT,
+            end: stop,
+        },
+        n,
+        d,
+    );
     let a = push::room::start_past(low, d);
     let b = low.stop;
-    pages::emit_child(page, to, num, &node[a..b])
+    writer::write_child(page, to, num, &node[a..b])
 }
 
 // The entries of the part before the cut: the child that holds it is there under a new number. Gives the place behind them.
@@ -91,7 +102,27 @@ pub fn emit_left(page: &mut [u8], node: &[u8], stop: usize, cut: Cut, d: usize, 
     match cut {
         Cut::Inner(n, _, low, _) => emit_with(page, node, stop, n, low, d, num),
         Cut::Last(n, _, low) => emit_with(page, node, stop, n, low, d, num),
-        Cut::Between(n, _) => emit_kids(page, 8, node, Cursor { at: 8, end: stop }, n, d),
-        Cut::Nowhere(n) => emit_kids(page, 8, node, Cursor { at: 8, end: stop }, n, d),
+        Cut::Between(n, _) => emit_kids(
+            page,
+            image::ENTRIES_AT,
+            node,
+            Cursor {
+                at: image::ENTRIES_AT,
+                end: stop,
+            },
+            n,
+            d,
+        ),
+        Cut::Nowhere(n) => emit_kids(
+            page,
+            image::ENTRIES_AT,
+            node,
+            Cursor {
+                at: image::ENTRIES_AT,
+                end: stop,
+            },
+            n,
+            d,
+        ),
     }
 }

@@ -9,13 +9,14 @@ mod point;
 pub mod right;
 
 use node::Place;
+use node::writer;
 ghost use mathlib.Core.Path.{_≡_};
 ghost use mathlib.Core.List.{[]};
 ghost use Prim.Native.Nat.{_+_, _*_, _≤_};
 ghost use lib.ListN.{length};
 ghost use Rattle.image.specs.Bytes.{shared};
 ghost use Rattle.image.specs.Image.{treeAt, nodeBytes};
-ghost use Rattle.slicing.specs.SliceWrite.{leftWrite};
+ghost use Rattle.slice.specs.Slicing.SliceWrite.{leftWrite};
 ghost use Rattle.slice.specs.Point.{freshIn, pointIn, CutFits, leftAt};
 ghost use Rattle.slice.specs.Left.{LeftAsks, PointAsks};
 
@@ -68,15 +69,22 @@ pub fn slice_left(
     let new = octets::u16_at(free, at * 2);
     let d = octets::common_length(lo, k);
     if level <= 1 {
-        pairs::write_pairs(store, new, &node, 8 + len, true, k, d);
+        pairs::write_pairs(store, new, &node, image::ENTRIES_AT + len, true, k, d);
         return;
     }
-    let cut = point::find_point(&node, 8 + len, hi, k);
+    let cut = point::find_point(&node, image::ENTRIES_AT + len, hi, k);
     let child = octets::u16_at(free, (at + 1) * 2);
     let mut page = [0u8; 1024];
-    let end = kids::emit_left(&mut page, &node, 8 + len, cut, d, child);
+    let end = kids::emit_left(&mut page, &node, image::ENTRIES_AT + len, cut, d, child);
     slice_cut(store, &node, cut, level - 1, hi, k, at + 1, free);
-    push::message::write_page(store, new, &mut page, 2, level, end - 8);
+    writer::write_page(
+        store,
+        new,
+        &mut page,
+        image::INTERIOR,
+        level,
+        end - image::ENTRIES_AT,
+    );
 }
 
 // The part before the cut of the child that holds it, if there is one.

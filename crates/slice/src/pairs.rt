@@ -1,8 +1,9 @@
-// The part of a leaf on one side of a cut: its pairs there, each key without its first bytes. Relies on push's writers of entries and
-// pages; specs/Point says which pairs they are.
+// The part of a leaf on one side of a cut: its pairs there, each key without its first bytes. Relies on node's writer;
+// specs/Point says which pairs they are.
 use node::Cursor;
 use node::Entry;
 use node::Step;
+use node::writer;
 ghost use mathlib.Core.Path.{_≡_};
 ghost use mathlib.Core.List.{_∷_, []};
 ghost use Prim.Native.Nat.{_+_, _*_, _≤_};
@@ -48,7 +49,7 @@ fn emit_pair(
             let s = push::room::start_past(p, d);
             let x = v.start;
             let y = v.stop;
-            push::message::emit_keyed(page, at, 1, &node[s..b], &node[x..y])
+            writer::write_keyed(page, at, image::PAIR, &node[s..b], &node[x..y])
         }
         Entry::Child(_, _) => at,
         Entry::Message(_) => at,
@@ -69,7 +70,10 @@ fn emit_pairs(
     ensures { λ r. ⌜ (now (page .exit) ≡ put (now (page .entry)) at (sideLine left (now (k .entry)) d (listed (now (node .entry)) 8 stop)))
         × (r ≡ at + length (sideLine left (now (k .entry)) d (listed (now (node .entry)) 8 stop))) ⌝ }
 {
-    let mut c = Cursor { at: 8, end: stop };
+    let mut c = Cursor {
+        at: image::ENTRIES_AT,
+        end: stop,
+    };
     let mut to = at;
     while c.at < stop {
         let Step::Read(e, next) = c.step(node) else {
@@ -95,6 +99,13 @@ pub fn write_pairs(
     ensures { λ _. ⌜ now (store .exit) ≡ writeNode (now (store .entry)) num (page 1 1 (sideLine left (now (k .entry)) d (listed (now (node .entry)) 8 stop))) ⌝ }
 {
     let mut page = [0u8; 1024];
-    let end = emit_pairs(&mut page, 8, node, stop, left, k, d);
-    push::message::write_page(store, num, &mut page, 1, 1, end - 8);
+    let end = emit_pairs(&mut page, image::ENTRIES_AT, node, stop, left, k, d);
+    writer::write_page(
+        store,
+        num,
+        &mut page,
+        image::LEAF,
+        1,
+        end - image::ENTRIES_AT,
+    );
 }

@@ -1,10 +1,11 @@
-// The pages of a right part: the pieces of the child that held the cut, and the children after it. Relies on kids and on the writers of
-// entries and pages; specs/Right says what stands in the pages.
+// The pages of a right part: the pieces of the child that held the cut, and the children after it. Relies on kids and on node's
+// writer; specs/Right says what stands in the pages.
 use crate::Cut;
 use crate::Parts;
 use crate::kids;
 use live::Pending;
 use node::Cursor;
+use node::writer;
 ghost use mathlib.Core.Path.{_≡_};
 ghost use mathlib.Core.List.{[], _++_};
 ghost use mathlib.Core.Bool.{true, not};
@@ -15,8 +16,8 @@ ghost use Rattle.image.specs.Entry.{child};
 ghost use Rattle.laws.specs.Encode.{bytesOf};
 ghost use Rattle.octets.specs.Put.{put};
 ghost use Rattle.node.specs.Entries.{listed};
-ghost use Rattle.search.specs.Own.{kidsE};
-ghost use Rattle.push_laws.specs.Written.{smallNumbers};
+ghost use Rattle.node.specs.Search.Own.{kidsE};
+ghost use Rattle.push.specs.Laws.Written.{smallNumbers};
 ghost use Rattle.slice.specs.Point.{kidLine, pointIn};
 ghost use Rattle.slice.specs.Right.{skipOf, piecesIn, PartsFit, allLine, overBody};
 
@@ -27,9 +28,9 @@ fn emit_piece(page: &mut [u8], at: usize, num: usize, pivot: &[u8], d: usize) ->
 {
     let n = pivot.len();
     if n < d {
-        return pages::emit_child(page, at, num, &pivot[n..]);
+        return writer::write_child(page, at, num, &pivot[n..]);
     }
-    pages::emit_child(page, at, num, &pivot[d..])
+    writer::write_child(page, at, num, &pivot[d..])
 }
 
 // The entries of the pieces. Gives the place behind them.
@@ -93,12 +94,19 @@ pub fn write_over(
         (kidsE (listed (now (node .entry)) (start .at) (start .end))))) 0)) ⌝ }
 {
     let mut page = [0u8; 1024];
-    let to = emit_parts(&mut page, 8, parts, k, out, d, a, b);
+    let to = emit_parts(&mut page, image::ENTRIES_AT, parts, k, out, d, a, b);
     let end = kids::emit_kids(&mut page, to, node, start, count, d);
-    if end == 8 {
+    if end == image::ENTRIES_AT {
         return false;
     }
-    push::message::write_page(store, num, &mut page, 2, level, end - 8);
+    writer::write_page(
+        store,
+        num,
+        &mut page,
+        image::INTERIOR,
+        level,
+        end - image::ENTRIES_AT,
+    );
     true
 }
 
@@ -128,14 +136,42 @@ pub fn rest_start(node: &[u8], stop: usize, cut: Cut) -> Cursor
 {
     match cut {
         Cut::Inner(n, _, _, _) => {
-            let c = skip_kids(node, Cursor { at: 8, end: stop }, n);
+            let c = skip_kids(
+                node,
+                Cursor {
+                    at: image::ENTRIES_AT,
+                    end: stop,
+                },
+                n,
+            );
             skip_kids(node, c, 1)
         }
         Cut::Last(n, _, _) => {
-            let c = skip_kids(node, Cursor { at: 8, end: stop }, n);
+            let c = skip_kids(
+                node,
+                Cursor {
+                    at: image::ENTRIES_AT,
+                    end: stop,
+                },
+                n,
+            );
             skip_kids(node, c, 1)
         }
-        Cut::Between(n, _) => skip_kids(node, Cursor { at: 8, end: stop }, n),
-        Cut::Nowhere(n) => skip_kids(node, Cursor { at: 8, end: stop }, n),
+        Cut::Between(n, _) => skip_kids(
+            node,
+            Cursor {
+                at: image::ENTRIES_AT,
+                end: stop,
+            },
+            n,
+        ),
+        Cut::Nowhere(n) => skip_kids(
+            node,
+            Cursor {
+                at: image::ENTRIES_AT,
+                end: stop,
+            },
+            n,
+        ),
     }
 }

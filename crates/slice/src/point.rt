@@ -8,7 +8,7 @@ ghost use Prim.Native.Nat.{_≤_, _<_};
 ghost use lib.ListN.{length};
 ghost use Rattle.node.specs.Places.{Within, part};
 ghost use Rattle.node.specs.Entries.{listed};
-ghost use Rattle.search.specs.Own.{kid, kidsE};
+ghost use Rattle.node.specs.Search.Own.{kid, kidsE};
 ghost use Rattle.slice.specs.Point.{pointOf, CutAs};
 
 // The last child, which is the n-th.
@@ -32,8 +32,13 @@ pub fn find_point(node: &[u8], stop: usize, hi: &[u8], k: &[u8]) -> Cut
     requires { ⌜ (stop ≤ length (now node)) × (length (now node) ≤ 1024) ⌝ }
     ensures { λ r. ⌜ CutAs (now (node .entry)) (now (hi .entry)) (pointOf 0 (kidsE (listed (now (node .entry)) 8 stop)) (now (hi .entry)) (now (k .entry))) r ⌝ }
 {
-    let Pending::Child(first, pivot, start) = live::read_child(node, Cursor { at: 8, end: stop })
-    else {
+    let Pending::Child(first, pivot, start) = live::read_child(
+        node,
+        Cursor {
+            at: image::ENTRIES_AT,
+            end: stop,
+        },
+    ) else {
         return Cut::Nowhere(0);
     };
     let mut c = start;

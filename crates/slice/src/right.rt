@@ -14,7 +14,7 @@ ghost use lib.ListN.{length, take};
 ghost use Rattle.image.specs.Bytes.{shared};
 ghost use Rattle.image.specs.Image.{treeAt};
 ghost use Rattle.node.specs.Entries.{listed};
-ghost use Rattle.search.specs.Own.{kidsE};
+ghost use Rattle.node.specs.Search.Own.{kidsE};
 ghost use Rattle.slice.specs.Point.{freshIn, pointIn, CutFits};
 ghost use Rattle.slice.specs.Right.{RightAsks, RightAs, PointAsksRight, EdgeAs, WideAsks, NarrowAsks, piecesIn, wideBody, allLine, overBody, withRest, edgeOnly, oneNode, WideReady, WideAs};
 
@@ -194,11 +194,11 @@ pub fn slice_right(
     if level <= 1 {
         let new = octets::u16_at(free, at * 2);
         let d = octets::common_length(k, hi);
-        pairs::write_pairs(store, new, &node, 8 + len, false, k, d);
+        pairs::write_pairs(store, new, &node, image::ENTRIES_AT + len, false, k, d);
         return Parts::Edge;
     }
-    let cut = point::find_point(&node, 8 + len, hi, k);
-    let start = pieces::rest_start(&node, 8 + len, cut);
+    let cut = point::find_point(&node, image::ENTRIES_AT + len, hi, k);
+    let start = pieces::rest_start(&node, image::ENTRIES_AT + len, cut);
     if wide {
         let below = right_cut(store, &node, cut, level - 1, hi, k, two, free, wide, out);
         return finish_wide(

@@ -1,11 +1,11 @@
 -- An answer as one word of 64 bits: the number in the low 32 bits and what stands beside it in the high 32. One law for each arm of the
 -- code, and one that carries a contract from the enum to the word.
 use Prim.Native.Nat.{ℕ, _≤_, _*_, _/_, _%_}
-use mathlib.Core.Path.{_≡_, refl, sym, ap, ap₂, subst, _∙_}
+use mathlib.Core.Path.{_≡_, refl, sym, ap₂, subst, _∙_}
 use mathlib.Core.List.{List, []}
 use native.Mathlib.Omega.{arith}
 use Rattle.image.specs.Calls.{Call, filled, number}
-use Rattle.image.specs.Contract.{Meets, SameMeets}
+use Rattle.image.specs.Contract.{Meets}
 use Rattle.image.specs.Answers.{refusalNumber, outcomeNumber, outcomeAnswer, foundAnswer, samenessNumber, samenessVerdict}
 use Rattle.image.specs.declared.Refusal.{Refusal}
 use Rattle.image.specs.declared.Outcome.{Outcome}
@@ -17,19 +17,6 @@ use Rattle.query.specs.Asked.{foundLength}
 unfoldable pub foundNumber : Found → ℕ
 foundNumber (Found.Length n) = 0
 foundNumber (Found.Refused r) = refusalNumber r
-
--- the arms of refusal_number: the refusal is known to be y
-pub numbered : (x y : Refusal) (k : ℕ) → x ≡ y → k ≡ refusalNumber y → k ≡ refusalNumber x
-numbered x y k e f = f ∙ ap refusalNumber (sym e)
-
--- the arms of outcome_number
-pub done-number : (o : Outcome) → o ≡ Outcome.Done → 0 ≡ outcomeNumber o
-unfolding outcomeNumber
-done-number o e = rw e
-
-pub refused-number : (o : Outcome) (r : Refusal) (k : ℕ) → o ≡ Outcome.Refused r → k ≡ refusalNumber r → k ≡ outcomeNumber o
-unfolding outcomeNumber
-refused-number o r k e f = rw e f
 
 -- the arms of found_word
 pub length-bound : (f : Found) (n : ℕ) → f ≡ Found.Length n → foundLength f ≤ 64 → n ≤ 64
@@ -75,10 +62,6 @@ pub word-meets : (s : List ℕ) (c : Call) (f : Found) (buffer : List ℕ) (w : 
     → (w % 4294967296 ≡ foundNumber f) × (w / 4294967296 ≡ foundLength f) → Meets s c (filled (w % 4294967296) (w / 4294967296) buffer) s []
 word-meets s c f buffer w m e =
     subst (λ a. Meets s c a s []) (answer-is f buffer ∙ sym (ap₂ (λ k n. filled k n buffer) (e .0) (e .1))) m
-
-pub same-meets : (s t : List ℕ) (v : Sameness) (w : ℕ) → SameMeets s t (samenessNumber v) (samenessVerdict v)
-    → (w % 4294967296 ≡ samenessNumber v) × (w / 4294967296 ≡ samenessVerdict v) → SameMeets s t (w % 4294967296) (w / 4294967296)
-same-meets s t v w m e = record { answer = e .0 ∙ m .answer; beside = e .1 ∙ m .beside }
 
 -- an outcome as its number
 pub number-meets : (s : List ℕ) (c : Call) (o : Outcome) (k : ℕ) (s′ w′ : List ℕ) → Meets s c (outcomeAnswer o) s′ w′ → k ≡ outcomeNumber o → Meets s c (number k) s′ w′

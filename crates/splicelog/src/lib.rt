@@ -1,43 +1,18 @@
 // The calls for C, whose prototypes stand in include/splicelog.h. Each hands its slices to the call of the same name and turns the answer
-// into numbers. Relies on: make, query, edit, rename and maintain for the calls; image for the answers and their numbers.
+// into numbers. Relies on: make, query, edit, rename, maintain and batch for the calls; pieces for the numbers of answers.
+use batch::Batched;
 use image::Found;
-use image::Outcome;
-use image::Refusal;
 use image::Sameness;
 ghost use Prim.Native.Nat.{_≤_, _/_, _%_};
 ghost use mathlib.Core.Path.{_≡_};
 ghost use mathlib.Core.List.{[]};
-ghost use Rattle.image.specs.Answers.{refusalNumber, outcomeNumber, samenessNumber, samenessVerdict};
+ghost use Rattle.image.specs.Answers.{samenessNumber, samenessVerdict};
 ghost use Rattle.image.specs.Calls.{asks, get, next, filled, acts, keeps, put, drops, clear, move, settle, tidy, flush, heal, number};
 ghost use Rattle.image.specs.Contract.{Meets, MakeMeets, SameMeets};
+ghost use Rattle.image.specs.Batch.{BatchMeets};
 ghost use Rattle.query.specs.Asked.{foundLength};
 ghost use Rattle.splicelog.specs.Words.{foundNumber};
-
-pub fn refusal_number(refusal: Refusal) -> u32
-    ensures { λ r. ⌜ (r ≡ refusalNumber refusal) × (r ≤ 10) ⌝ }
-{
-    match refusal {
-        Refusal::Length => 1,
-        Refusal::Unsound => 2,
-        Refusal::Malformed => 3,
-        Refusal::LongValue => 4,
-        Refusal::ShortBuffer => 5,
-        Refusal::NotInterior => 6,
-        Refusal::Nested => 7,
-        Refusal::Absent => 8,
-        Refusal::BecomesMalformed => 9,
-        Refusal::Full => 10,
-    }
-}
-
-fn outcome_number(outcome: Outcome) -> u32
-    ensures { λ r. ⌜ r ≡ outcomeNumber outcome ⌝ }
-{
-    match outcome {
-        Outcome::Done => 0,
-        Outcome::Refused(refusal) => refusal_number(refusal),
-    }
-}
+ghost use Rattle.splicelog.specs.BatchWord.{answersRoom, answersUsed, answersLeft};
 
 // The number in the low 32 bits, the length in the high 32.
 fn found_word(found: Found) -> u64
@@ -46,7 +21,7 @@ fn found_word(found: Found) -> u64
 {
     match found {
         Found::Length(n) => (n as u64) * 4294967296,
-        Found::Refused(refusal) => refusal_number(refusal) as u64,
+        Found::Refused(refusal) => requests::refusal_number(refusal) as u64,
     }
 }
 
@@ -57,15 +32,35 @@ fn sameness_word(sameness: Sameness) -> u64
     match sameness {
         Sameness::Same => 4294967296,
         Sameness::Different => 0,
-        Sameness::Refused(refusal) => refusal_number(refusal) as u64,
+        Sameness::Refused(refusal) => requests::refusal_number(refusal) as u64,
     }
+}
+
+// How much of a buffer of this length a batch uses: what it answers then fits one word.
+fn answers_room(len: usize) -> usize
+    ensures { λ r. ⌜ r ≡ answersRoom len ⌝ }
+{
+    if len <= 268435455 {
+        return len;
+    }
+    268435455
+}
+
+// The number in the low 8 bits, the calls done in the next 28, the bytes written in the high 28.
+fn batch_word(batched: Batched) -> u64
+    requires { ⌜ (batched .number ≤ 10) × (batched .done ≤ 268435455) × (batched .written ≤ 268435455) ⌝ }
+    ensures { λ r. ⌜ (r % 256 ≡ batched .number) × (r / 256 % 268435456 ≡ batched .done) × (r / 68719476736 ≡ batched .written) ⌝ }
+{
+    let done = batched.done as u64;
+    let written = batched.written as u64;
+    batched.number as u64 + 256 * done + 68719476736 * written
 }
 
 #[no_mangle]
 pub extern "C" fn splicelog_make(store: &mut [u8]) -> u32
     ensures { λ r. ⌜ MakeMeets (now (store .entry)) r (now (store .exit)) ⌝ }
 {
-    outcome_number(make::make(store))
+    requests::outcome_number(make::make(store))
 }
 
 #[no_mangle]
@@ -94,54 +89,69 @@ pub extern "C" fn splicelog_same(store: &[u8], other: &[u8]) -> u64
 pub extern "C" fn splicelog_put(store: &mut [u8], work: &mut [u8], path: &[u8], value: &[u8]) -> u32
     ensures { λ r. ⌜ Meets (now (store .entry)) (acts (put (now (path .entry)) (now (value .entry))) (now (work .entry))) (number r) (now (store .exit)) (now (work .exit)) ⌝ }
 {
-    outcome_number(edit::put(store, work, path, value))
+    requests::outcome_number(edit::put(store, work, path, value))
 }
 
 #[no_mangle]
 pub extern "C" fn splicelog_drop(store: &mut [u8], work: &mut [u8], path: &[u8]) -> u32
     ensures { λ r. ⌜ Meets (now (store .entry)) (acts (drops (now (path .entry))) (now (work .entry))) (number r) (now (store .exit)) (now (work .exit)) ⌝ }
 {
-    outcome_number(edit::drop(store, work, path))
+    requests::outcome_number(edit::drop(store, work, path))
 }
 
 #[no_mangle]
 pub extern "C" fn splicelog_clear(store: &mut [u8], work: &mut [u8], path: &[u8]) -> u32
     ensures { λ r. ⌜ Meets (now (store .entry)) (acts (clear (now (path .entry))) (now (work .entry))) (number r) (now (store .exit)) (now (work .exit)) ⌝ }
 {
-    outcome_number(edit::clear(store, work, path))
+    requests::outcome_number(edit::clear(store, work, path))
 }
 
 #[no_mangle]
 pub extern "C" fn splicelog_move(store: &mut [u8], work: &mut [u8], from: &[u8], to: &[u8]) -> u32
     ensures { λ r. ⌜ Meets (now (store .entry)) (acts (move (now (from .entry)) (now (to .entry))) (now (work .entry))) (number r) (now (store .exit)) (now (work .exit)) ⌝ }
 {
-    outcome_number(rename::move_paths(store, work, from, to))
+    requests::outcome_number(rename::move_paths(store, work, from, to))
 }
 
 #[no_mangle]
 pub extern "C" fn splicelog_settle(store: &mut [u8], work: &mut [u8]) -> u32
     ensures { λ r. ⌜ Meets (now (store .entry)) (acts settle (now (work .entry))) (number r) (now (store .exit)) (now (work .exit)) ⌝ }
 {
-    outcome_number(maintain::settle(store, work))
+    requests::outcome_number(maintain::settle(store, work))
 }
 
 #[no_mangle]
 pub extern "C" fn splicelog_tidy(store: &mut [u8], work: &mut [u8]) -> u32
     ensures { λ r. ⌜ Meets (now (store .entry)) (acts tidy (now (work .entry))) (number r) (now (store .exit)) (now (work .exit)) ⌝ }
 {
-    outcome_number(maintain::tidy(store, work))
+    requests::outcome_number(maintain::tidy(store, work))
 }
 
 #[no_mangle]
 pub extern "C" fn splicelog_flush(store: &mut [u8], work: &mut [u8], node: usize) -> u32
     ensures { λ r. ⌜ Meets (now (store .entry)) (keeps flush node (now (work .entry))) (number r) (now (store .exit)) (now (work .exit)) ⌝ }
 {
-    outcome_number(maintain::flush(store, work, node))
+    requests::outcome_number(maintain::flush(store, work, node))
 }
 
 #[no_mangle]
 pub extern "C" fn splicelog_heal(store: &mut [u8], work: &mut [u8], node: usize) -> u32
     ensures { λ r. ⌜ Meets (now (store .entry)) (keeps heal node (now (work .entry))) (number r) (now (store .exit)) (now (work .exit)) ⌝ }
 {
-    outcome_number(maintain::heal(store, work, node))
+    requests::outcome_number(maintain::heal(store, work, node))
+}
+
+#[no_mangle]
+pub extern "C" fn splicelog_batch(
+    store: &mut [u8],
+    work: &mut [u8],
+    calls: &[u8],
+    answers: &mut [u8],
+) -> u64
+    ensures { λ r. ⌜ BatchMeets (now (store .entry)) (now (work .entry)) (now (calls .entry)) (answersUsed (now (answers .entry)))
+        (r % 256) (r / 256 % 268435456) (r / 68719476736) (now (store .exit)) (now (work .exit)) (answersUsed (now (answers .exit))) ⌝ }
+    ensures behind { λ _. ⌜ answersLeft (now (answers .exit)) ≡ answersLeft (now (answers .entry)) ⌝ }
+{
+    let room = answers_room(answers.len());
+    batch_word(batch::batch(store, work, calls, &mut answers[0..room]))
 }

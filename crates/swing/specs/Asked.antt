@@ -17,27 +17,28 @@ use Rattle.octets.specs.Beginnings.{begins-refl}
 use Rattle.octets.specs.Order.{and-left, and-right, not-so, same-false, before-total}
 use Rattle.octets.specs.Put.{put}
 use Rattle.laws.specs.Pieces.{levelled}
-use Rattle.build.specs.Handed.{listed, handedFrom, handed}
-use Rattle.build.specs.HandedLaws.{listed-length}
-use Rattle.slicing.specs.FromImage.{image-good, image-fits}
-use Rattle.slicing.specs.SliceNumbers.{hits, hits-met, met, spent}
-use Rattle.slicing.specs.SliceFits.{fits}
-use Rattle.slicing.specs.Range.{past, before-aside, formed-inside}
+use Rattle.packed.specs.Build.Handed.{listed, handedFrom, handed}
+use Rattle.packed.specs.Build.HandedLaws.{listed-length}
+use Rattle.slice.specs.Slicing.FromImage.{image-good, image-fits}
+use Rattle.slice.specs.Slicing.SliceNumbers.{hits, hits-met, met, spent}
+use Rattle.slice.specs.Slicing.SliceFits.{fits}
+use Rattle.slice.specs.Slicing.Range.{past, before-aside, formed-inside}
 use Rattle.laws.specs.WriteNode.{writeNode}
-use Rattle.moving.specs.Move.{rootOver, movedTree}
-use Rattle.moving.specs.MoveDone.{headPage, movedStore, get-past, get-range}
-use Rattle.moving.specs.MoveLaws.{Well, move-well, short-past}
-use Rattle.moving.specs.MoveImage.{from-list, roots, range-hit, hits-once, hit-in, spent-list}
-use Rattle.moving.specs.MoveWrite.{movedImage}
+use Rattle.slice.specs.Moving.Move.{rootOver, movedTree}
+use Rattle.slice.specs.Moving.MoveDone.{movedStore, get-past, get-range}
+use Rattle.slice.specs.Moving.MoveLaws.{Well, move-well, short-past}
+use Rattle.slice.specs.Moving.MoveImage.{from-list, roots, range-hit, hits-once, hit-in, spent-list}
+use Rattle.slice.specs.Moving.MoveWrite.{movedImage}
 use Rattle.slice.specs.Point.{freshIn}
 use Rattle.swing.specs.Cuts.{front}
-use Rattle.append_laws.specs.SetLive.{other-stays}
+use Rattle.append.specs.Laws.SetLive.{other-stays}
 use Rattle.laws.specs.ButLive.{sound-but-live}
-use Rattle.moving.specs.MoveBound.{Swung, swung-by as moved-swung}
-use Rattle.slicing.specs.SliceWrite.{in-hits}
+use Rattle.slice.specs.Moving.MoveBound.{Swung, swung-by as moved-swung}
+use Rattle.slice.specs.Slicing.SliceWrite.{in-hits}
 use Rattle.swing.specs.Head.{swungWith, swung-back}
 use Rattle.swing.specs.Steps.{past-length, front-past}
 use Rattle.swing.specs.Plan.{SwingAsks, Swings, underLow, underHigh, taken, takenPath, imageOver, swungOver, Plan, PastPlan}
+use Rattle.laws.specs.Page.{headPage}
 
 -- THE LIST OF FREE NODES, as the laws and as the code read it
 listed-get : (k : ℕ) (bytes : List ℕ) (i j : ℕ) → j < k → getD (listed k bytes i) j 0 ≡ u16 bytes ((i + j) * 2)
@@ -84,9 +85,6 @@ some-level (leaf i rs) zero e = absurd (false≢true e)
 some-level (interior i f ms) zero e = absurd (false≢true e)
 
 module _ (s free from to : List ℕ) (k : SwingAsks s free from to) where
-  abbrev X : ℕ → ℕ
-  X = from-list (handed free)
-
   fresh-eq : _≡_ {A = ℕ → ℕ} (from-list (handed free)) (freshIn free)
   fresh-eq = fresh-is free (k .even)
 

@@ -11,15 +11,13 @@ use borrow.Author.Tests.{leb-true, eqb-true}
 use Rattle.image.specs.Bytes.{u16}
 use Rattle.image.specs.Image.{nodesOf, wholeNodes, headerOf, treeOf}
 use Rattle.octets.specs.Order.{and-left, and-right}
-use Rattle.laws.specs.Page.{page, page-length, numberOf, kidsOf}
+use Rattle.laws.specs.Page.{page, page-length, numberOf, kidsOf, headPage}
 use Rattle.laws.specs.WriteNode.{writeNode, write-length}
-use Rattle.packed.specs.Stored as stored
-use Rattle.append_laws.specs.Append.{header-levels, header-live}
-use Rattle.slicing.specs.Range.{past}
-use Rattle.slicing.specs.SliceWrite.{pageOf}
-use Rattle.moving.specs.Move.{rightPastR, rightPastP, rootOver}
-use Rattle.moving.specs.MoveDone.{headPage}
-use Rattle.moving.specs.MoveWrite.{im8, im9}
+use Rattle.append.specs.Laws.Append.{header-levels, header-live}
+use Rattle.slice.specs.Slicing.Range.{past}
+use Rattle.slice.specs.Slicing.SliceWrite.{pageOf}
+use Rattle.slice.specs.Moving.Move.{rightPastR, rightPastP, rootOver}
+use Rattle.slice.specs.Moving.MoveWrite.{im8, im9}
 use Rattle.slice.specs.Point.{freshIn}
 use Rattle.slice.specs.Right.{piecesIn, raiseKids}
 use Rattle.swing.specs.declared.Cuts.{Cuts}
@@ -27,7 +25,6 @@ use Rattle.swing.specs.declared.root.Half.{Half}
 use Rattle.swing.specs.Cuts.{front, BothAsks, BothAs, takenOut, TakeAsks, lowPlace}
 use Rattle.swing.specs.Root.{halfIn, rootLine, RootAsks}
 use Rattle.swing.specs.RootLaws.{root-page, root-size}
-use Rattle.swing.specs.Head.{head-same}
 use Rattle.swing.specs.Plan.{underLow, underHigh, taken, takenPath, imageOver, swungOver, Plan, PastPlan}
 use Rattle.swing.specs.Steps.{past-length, front-past, both-asks, both-written, low-pieces, high-pieces, take-asks, taken-is, size-8, number-first, number-under-low, number-under-high}
 
@@ -139,12 +136,11 @@ module _ (s free p r : List ℕ) (up : Bool) (P : Plan s free p r up) where
             (page-length 2 (H + 1) (rootLine (F (7 * H)) (past p) lower low (past r) higher high) size-0)
             ∙ eight-size
 
-        done-0 : (s₁₀ : List ℕ) (num live : ℕ) → num ≡ F (10 * H) → live ≡ headerOf s .live → s₁₀ ≡ writeNode s₉ 0 (stored.headPage (length s₉ / 1024) num (H + 1) live)
+        done-0 : (s₁₀ : List ℕ) (num live : ℕ) → num ≡ F (10 * H) → live ≡ headerOf s .live → s₁₀ ≡ writeNode s₉ 0 (headPage (length s₉ / 1024) num (H + 1) live)
             → s₁₀ ≡ swungOver s free (past p) (past r) up
         unfolding swungOver nodesOf
         done-0 s₁₀ num live en el q =
-            q ∙ ap₂ (λ n k. writeNode s₉ 0 (stored.headPage n num k live)) (ap (λ l. l / 1024) nine-size) (next-level)
-            ∙ ap (writeNode s₉ 0) (head-same (length s / 1024) num (suc H) live)
+            q ∙ ap₂ (λ n k. writeNode s₉ 0 (headPage n num k live)) (ap (λ l. l / 1024) nine-size) (next-level)
             ∙ ap₂ (λ n l. writeNode s₉ 0 (headPage (length s / 1024) n (suc H) l)) en el
             ∙ ap (λ x. writeNode x 0 (headPage (length s / 1024) (F (10 * H)) (suc H) (headerOf s .live))) (nine ∙ sym (ap₂ (λ x y. imageOver F H (treeOf s) x y up s) (front-past p) (front-past r)))
           where
@@ -194,13 +190,13 @@ module _ (s free bound limit : List ℕ) (up : Bool) (B : PastPlan s free bound 
 
         pub swung-done : (s₉ s₁₀ : List ℕ) (num live : ℕ)
             → s₉ ≡ writeNode s₈ (freshIn free (10 * h)) (page 2 (h + 1) (rootLine (freshIn free (7 * h)) bound lower low limit higher high))
-            → num ≡ u16 free (10 * h * 2) → live ≡ u16 s 10 → s₁₀ ≡ writeNode s₉ 0 (stored.headPage (length s₉ / 1024) num (h + 1) live)
+            → num ≡ u16 free (10 * h * 2) → live ≡ u16 s 10 → s₁₀ ≡ writeNode s₉ 0 (headPage (length s₉ / 1024) num (h + 1) live)
             → s₁₀ ≡ swungOver s free bound limit up
         swung-done s₉ s₁₀ num live w en el q =
             told
             (λ k b l. BothAs s k b l free s₆ low high c → s₈ ≡ takenOut s₆ k b l free up → place ≡ lowPlace k up
             → s₉ ≡ writeNode s₈ (freshIn free (10 * k)) (page 2 (k + 1) (rootLine (freshIn free (7 * k)) b (halfIn free place (5 * k) (c .low)) low l (halfIn free (17 * k - place) k (c .high)) high))
-            → num ≡ freshIn free (10 * k) → s₁₀ ≡ writeNode s₉ 0 (stored.headPage (length s₉ / 1024) num (k + 1) live) → s₁₀ ≡ swungOver s free b l up)
+            → num ≡ freshIn free (10 * k) → s₁₀ ≡ writeNode s₉ 0 (headPage (length s₉ / 1024) num (k + 1) live) → s₁₀ ≡ swungOver s free b l up)
             (λ x y v w′ en′ q′. done-0 s free (front bound) (front limit) up (B .plan) s₆ low high c x s₈ y place v s₉ w′ s₁₀ num live en′ (el ∙ sym (header-live s)) q′)
             a e z
             (w ∙ ap₂ (λ x y. writeNode s₈ (freshIn free (10 * h)) (page 2 (h + 1) (rootLine (freshIn free (7 * h)) bound x low limit y high))) l-is h-is)

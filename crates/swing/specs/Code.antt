@@ -10,17 +10,16 @@ use Rattle.image.specs.Entry.{child}
 use Rattle.image.specs.Image.{headerOf, treeAt}
 use Rattle.image.specs.Sound.{highest}
 use Rattle.octets.specs.Put.{put, put-one, put-put, put-size}
-use Rattle.laws.specs.Encode.{bytesOf}
+use Rattle.laws.specs.Encode.{bytesOf, child-size}
 use Rattle.laws.specs.Page.{page, kidsOf}
-use Rattle.slicing.specs.Slice.{rightOf}
+use Rattle.slice.specs.Slicing.Slice.{rightOf}
 use Rattle.laws.specs.WriteNode.{writeNode}
-use Rattle.packed.specs.Tidy.{zerosOf}
-use Rattle.pages.specs.Entries.{child-size}
-use Rattle.append_laws.specs.Append.{header-root}
-use Rattle.slicing.specs.Range.{past}
-use Rattle.slicing.specs.SliceWrite.{leftWrite}
-use Rattle.slicing.specs.RightWrite.{rightWrite}
-use Rattle.moving.specs.GapWrite.{gapWrite}
+use Rattle.packed.specs.Form.Tidy.{zerosOf}
+use Rattle.append.specs.Laws.Append.{header-root}
+use Rattle.slice.specs.Slicing.Range.{past}
+use Rattle.slice.specs.Slicing.SliceWrite.{leftWrite}
+use Rattle.slice.specs.Slicing.RightWrite.{rightWrite}
+use Rattle.slice.specs.Moving.GapWrite.{gapWrite}
 use Rattle.slice.specs.declared.Parts.{Parts}
 use Rattle.slice.specs.Point.{freshIn}
 use Rattle.slice.specs.Left.{LeftAsks}
@@ -201,9 +200,6 @@ then-put pg pg₁ pg₂ a b at e f h q z r y = (
 )
 
 module _ (pg bound : List ℕ) (half : Half) (out : List ℕ) (at : ℕ) (room : at + length (halfLine bound half out) ≤ length pg) where
-  parts-line : List ℕ
-  parts-line = allLine 0 (piecesIn (half .edge) (half .rest) bound out (half .parts))
-
   line-size : length (halfLine bound half out) ≡ length (bytesOf (child (half .number) (front bound))) + length (allLine 0 (piecesIn (half .edge) (half .rest) bound out (half .parts)))
   unfolding halfLine
   line-size = length-append (bytesOf (child (half .number) (front bound))) (allLine 0 (piecesIn (half .edge) (half .rest) bound out (half .parts)))

@@ -8,10 +8,10 @@ use lib.ListN.{length, take}
 use Rattle.image.specs.Image.{headerOf, treeAt}
 use Rattle.image.specs.Sound.{highest}
 use Rattle.laws.specs.Page.{kidsOf}
-use Rattle.slicing.specs.Slice.{rightOf}
-use Rattle.slicing.specs.SliceWrite.{leftWrite}
-use Rattle.slicing.specs.RightWrite.{rightWrite}
-use Rattle.moving.specs.GapWrite.{gapWrite}
+use Rattle.slice.specs.Slicing.Slice.{rightOf}
+use Rattle.slice.specs.Slicing.SliceWrite.{leftWrite}
+use Rattle.slice.specs.Slicing.RightWrite.{rightWrite}
+use Rattle.slice.specs.Moving.GapWrite.{gapWrite}
 use Rattle.slice.specs.declared.Parts.{Parts}
 use Rattle.slice.specs.Point.{freshIn}
 use Rattle.slice.specs.Left.{LeftAsks}
@@ -51,9 +51,6 @@ pub record RangeAs (s : List ℕ) (num h : ℕ) (hi bound : List ℕ) (at : ℕ)
 -- BOTH RANGES, the higher one first
 unfoldable pub highIn : List ℕ → ℕ → List ℕ → List ℕ → List ℕ
 highIn s h limit free = rangeIn s (headerOf s .root) h highest limit 0 free
-
-unfoldable pub bothIn : List ℕ → ℕ → List ℕ → List ℕ → List ℕ → List ℕ
-bothIn s h bound limit free = rangeIn (highIn s h limit free) (freshIn free (3 * h)) h (front limit) bound (4 * h) free
 
 pub record BothAsks (s : List ℕ) (h : ℕ) (bound limit free : List ℕ) : Type 0 where
   pub big : 12 ≤ length s

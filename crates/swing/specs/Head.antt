@@ -1,5 +1,5 @@
 -- Node 0 after a move: written with the old live count, and then the count made right.
--- Relies on build's page of node 0 (packed/specs/Stored) and on append_laws (the live count written).
+-- Relies on laws' page of node 0 and on append's Laws (the live count written).
 use Prim.Native.Nat.{ℕ, suc, _*_}
 use mathlib.Core.Path.{_≡_, refl, sym}
 use mathlib.Core.List.{List}
@@ -9,16 +9,11 @@ use Rattle.image.specs.Image.{nodesOf, headerOf, treeOf}
 use Rattle.image.specs.Sound.{tableOf}
 use Rattle.octets.specs.Put.{put}
 use Rattle.laws.specs.WriteNode.{writeNode}
-use Rattle.packed.specs.Stored as stored
-use Rattle.append_laws.specs.SetLive.{withLive}
-use Rattle.moving.specs.MoveImage.{from-list}
-use Rattle.moving.specs.MoveWrite.{movedImage}
-use Rattle.moving.specs.MoveDone.{headPage, movedStore}
-
--- moving's page of node 0 is build's
-pub head-same : (n root levels live : ℕ) → stored.headPage n root levels live ≡ headPage n root levels live
-unfolding headPage stored.headPage
-head-same n root levels live = refl
+use Rattle.append.specs.Laws.SetLive.{withLive}
+use Rattle.slice.specs.Moving.MoveImage.{from-list}
+use Rattle.slice.specs.Moving.MoveWrite.{movedImage}
+use Rattle.slice.specs.Moving.MoveDone.{movedStore}
+use Rattle.laws.specs.Page.{headPage}
 
 pub head-live : (image : List ℕ) (n root levels a b : ℕ) → withLive (writeNode image 0 (headPage n root levels a)) b ≡ writeNode image 0 (headPage n root levels b)
 unfolding withLive writeNode headPage put

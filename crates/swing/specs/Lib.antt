@@ -1,3 +1,4 @@
+pub mod Spare
 pub mod Cuts
 pub mod Root
 pub mod RootLaws

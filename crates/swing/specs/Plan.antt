@@ -13,18 +13,18 @@ use Rattle.image.specs.Sound.{sound, tableOf, highest, numbers, isIn}
 use Rattle.image.specs.Upkeep.{settled}
 use Rattle.laws.specs.WriteNode.{writeNode}
 use Rattle.laws.specs.Pieces.{Good}
-use Rattle.build.specs.Handed.{handed}
-use Rattle.slicing.specs.SliceNumbers.{met, spent}
-use Rattle.slicing.specs.SliceFits.{fits}
-use Rattle.slicing.specs.Range.{past}
-use Rattle.slicing.specs.Tail.{gapOf}
-use Rattle.moving.specs.Move.{leftPastR, midR, leftPastP, midP, rootOver}
-use Rattle.moving.specs.MoveWrite.{im9}
-use Rattle.moving.specs.MoveImage.{Free}
-use Rattle.moving.specs.MoveDone.{headPage}
+use Rattle.packed.specs.Build.Handed.{handed}
+use Rattle.slice.specs.Slicing.SliceNumbers.{met, spent}
+use Rattle.slice.specs.Slicing.SliceFits.{fits}
+use Rattle.slice.specs.Slicing.Range.{past}
+use Rattle.slice.specs.Slicing.Tail.{gapOf}
+use Rattle.slice.specs.Moving.Move.{leftPastR, midR, leftPastP, midP, rootOver}
+use Rattle.slice.specs.Moving.MoveWrite.{im9}
+use Rattle.slice.specs.Moving.MoveImage.{Free}
 use Rattle.slice.specs.Point.{freshIn}
 use Rattle.swing.specs.Cuts.{front}
 use Rattle.swing.specs.Head.{swungWith}
+use Rattle.laws.specs.Page.{headPage}
 
 -- What the swing asks: a settled sound store with a level left, a list of free nodes, and the questions of a move of two paths that differ.
 pub record SwingAsks (s free from to : List ℕ) : Type 0 where

@@ -15,14 +15,14 @@ use Rattle.octets.specs.Order.{and-left}
 use Rattle.laws.specs.Encode.{bytesOf, bytesOfAll}
 use Rattle.laws.specs.Page.{page, numberOf, childEntries, kidsOf}
 use Rattle.laws.specs.Pieces.{joined, lower, node, over}
-use Rattle.upkeep.specs.Size.{bytes-append}
-use Rattle.slicing.specs.Slice.{rightOf, edgeIn, restIn, packed, after}
-use Rattle.slicing.specs.SliceFits.{kidsSize, fits}
-use Rattle.slicing.specs.ReadBack.{kids-size}
-use Rattle.slicing.specs.SliceWrite.{pageOf}
-use Rattle.slicing.specs.Tail.{firstOf, tailOf}
-use Rattle.slicing.specs.Range.{past}
-use Rattle.moving.specs.Move.{leftP, rightPastP, rightPastR, pieces, rootOver}
+use Rattle.laws.specs.Upkeep.Size.{bytes-append}
+use Rattle.slice.specs.Slicing.Slice.{rightOf, edgeIn, restIn, packed, after}
+use Rattle.slice.specs.Slicing.SliceFits.{kidsSize, fits}
+use Rattle.slice.specs.Slicing.ReadBack.{kids-size}
+use Rattle.slice.specs.Slicing.SliceWrite.{pageOf}
+use Rattle.slice.specs.Slicing.Tail.{firstOf, tailOf}
+use Rattle.slice.specs.Slicing.Range.{past}
+use Rattle.slice.specs.Moving.Move.{leftP, rightPastP, rightPastR, pieces, rootOver}
 use Rattle.slice.specs.Right.{piecesIn, allLine, raiseKids}
 use Rattle.swing.specs.declared.root.Half.{Half}
 use Rattle.swing.specs.Cuts.{front}

@@ -15,21 +15,21 @@ use Rattle.image.specs.Image.{Tree, nodesOf, wholeNodes, headerOf, treeAt, tree
 use Rattle.image.specs.Sound.{highest, numbers}
 use Rattle.octets.specs.Order.{and-right}
 use Rattle.laws.specs.Pieces.{Good}
-use Rattle.laws.specs.Page.{numberOf, kidsOf}
-use Rattle.reading.specs.Relative.{usable, sound-usable}
-use Rattle.slicing.specs.Slice.{rightOf}
-use Rattle.slicing.specs.SliceNumbers.{hits-met}
-use Rattle.slicing.specs.SliceWrite.{leftWrite, number-read}
-use Rattle.slicing.specs.RightWrite.{rightWrite}
-use Rattle.slicing.specs.Range.{past, before-past}
-use Rattle.moving.specs.GapWrite.{gapWrite, Within, within-self, within-later, gap-number-at}
-use Rattle.slicing.specs.SliceFits.{fits}
-use Rattle.slicing.specs.Tail.{tail-good}
-use Rattle.moving.specs.Move.{leftPastR, rightPastR, leftR, midR, leftPastP, rightPastP, leftP, midP}
-use Rattle.moving.specs.MoveLaws.{short-of, b-past-p, b-r, b-past-r}
+use Rattle.laws.specs.Page.{numberOf, kidsOf, number-read}
+use Rattle.laws.specs.Reading.Relative.{usable, sound-usable}
+use Rattle.slice.specs.Slicing.Slice.{rightOf}
+use Rattle.slice.specs.Slicing.SliceNumbers.{hits-met}
+use Rattle.slice.specs.Slicing.SliceWrite.{leftWrite}
+use Rattle.slice.specs.Slicing.RightWrite.{rightWrite}
+use Rattle.slice.specs.Slicing.Range.{past, before-past}
+use Rattle.slice.specs.Moving.GapWrite.{gapWrite, Within, within-self, within-later, gap-number-at}
+use Rattle.slice.specs.Slicing.SliceFits.{fits}
+use Rattle.slice.specs.Slicing.Tail.{tail-good}
+use Rattle.slice.specs.Moving.Move.{leftPastR, rightPastR, leftR, midR, leftPastP, rightPastP, leftP, midP}
+use Rattle.slice.specs.Moving.MoveLaws.{short-of, b-past-p, b-r, b-past-r}
 use Rattle.octets.specs.Beginnings.{begins-append as begins-past}
-use Rattle.moving.specs.MoveImage.{range-of}
-use Rattle.moving.specs.MoveWrite.{im1, im2, im3, im4, im5, im6, im7, im8, g1, g3, g4, f1, f4, w1, w3, w4, d1, t1, n1, l1-2, size2, d3, n3, l3-3, d4, l3-4, n4, l4-5, size5, size6, l1-6, l4-6, n6, o7, o08}
+use Rattle.slice.specs.Moving.MoveImage.{range-of}
+use Rattle.slice.specs.Moving.MoveWrite.{im1, im2, im3, im4, im5, im6, im7, im8, g1, g3, g4, f1, f4, w1, w3, w4, d1, t1, n1, l1-2, size2, d3, n3, l3-3, d4, l3-4, n4, l4-5, size5, size6, l1-6, l4-6, n6, o7, o08}
 use Rattle.slice.specs.declared.Parts.{Parts}
 use Rattle.slice.specs.Point.{freshIn}
 use Rattle.slice.specs.Left.{LeftAsks}

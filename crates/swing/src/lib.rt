@@ -1,14 +1,15 @@
 // The swing of a move on a settled store: its tree is cut at the ends of two ranges, the largest cut first, each next one on what lies left of
 // the last; the pieces go under a new root, those of `from` in the place of `to`; node 0 is written last. Every other node that is written
-// was free. Relies on slice (the cuts and the empty chain), on root (the new root's page) and on build (node 0).
+// was free. Relies on slice (the cuts and the empty chain), on root (the new root's page) and on packed (node 0).
 mod root;
+pub mod spare;
 
 use slice::Parts;
 ghost use mathlib.Core.Path.{_≡_};
 ghost use Prim.Native.Nat.{_*_, _≤_, _<_};
 ghost use lib.ListN.{length};
 ghost use Rattle.octets.specs.Put.{put};
-ghost use Rattle.slicing.specs.Range.{past};
+ghost use Rattle.slice.specs.Slicing.Range.{past};
 ghost use Rattle.swing.specs.Cuts.{RangeAsks, RangeAs, BothAsks, BothAs, OutAsks, outIn, TakeAsks, takenOut, lowPlace};
 ghost use Rattle.swing.specs.Plan.{SwingAsks, Swings, Plan, PastPlan, swungOver};
 
@@ -171,7 +172,7 @@ fn swing_between(store: &mut [u8], free: &[u8], bound: &[u8], limit: &[u8], up: 
     let lower = root::half_at(free, place, 5 * h, behind);
     let higher = root::half_at(free, 17 * h - place, h, last);
     root::write_root(store, h, bound, limit, free, lower, &low, higher, &high);
-    build::write_head(store, num, h + 1, live);
+    packed::write_head(store, num, h + 1, live);
 }
 
 // The same, told by the two paths, the lower one first.

@@ -1,5 +1,6 @@
 // The new root of a move: what lies left of both ranges, then for each range the node under its path and the pieces behind it. It knows ends of
-// ranges and numbers only: the same for a move up and a move down. Relies on slice (the pieces) and on pages and push (entry and page).
+// ranges and numbers only: the same for a move up and a move down. Relies on slice (the pieces) and on node's writer.
+use node::writer;
 use slice::Parts;
 ghost use mathlib.Core.Path.{_≡_};
 ghost use Prim.Native.Nat.{_+_, _*_, _<_, _≤_};
@@ -42,7 +43,7 @@ fn emit_half(page: &mut [u8], at: usize, bound: &[u8], half: Half, out: &[u8]) -
 {
     let n = bound.len() - 1;
     let parts = half.parts;
-    let behind = pages::emit_child(page, at, half.number, &bound[0..n]);
+    let behind = writer::write_child(page, at, half.number, &bound[0..n]);
     slice::pieces::emit_parts(page, behind, parts, bound, out, 0, half.edge, half.rest)
 }
 
@@ -68,8 +69,15 @@ pub fn write_root(
     let num = octets::u16_at(free, 10 * h * 2);
     let left = octets::u16_at(free, 7 * h * 2);
     let mut page = [0u8; 1024];
-    let a = pages::emit_child(&mut page, 8, left, &bound[0..0]);
+    let a = writer::write_child(&mut page, image::ENTRIES_AT, left, &bound[0..0]);
     let b = emit_half(&mut page, a, bound, low, behind);
     let end = emit_half(&mut page, b, limit, high, last);
-    push::message::write_page(store, num, &mut page, 2, h + 1, end - 8);
+    writer::write_page(
+        store,
+        num,
+        &mut page,
+        image::INTERIOR,
+        h + 1,
+        end - image::ENTRIES_AT,
+    );
 }

@@ -2,31 +2,30 @@
 -- Relies on guard's walk over an interior node's entries (Inside) and on Sequence.
 use Prim.Native.Nat.{ℕ, _-_, _<_, _≤_}
 use mathlib.Core.Path.{_≡_, refl, sym, ap, ap₂, _∙_}
-use mathlib.Core.List.{List, [], _∷_, _++_}
+use mathlib.Core.List.{List, [], _∷_}
 use mathlib.Core.Bool.{Bool, true, false, cond}
 use mathlib.Core.Option.{Option, none, some}
 use native.Mathlib.Omega.{arith}
 use lib.ListN.{length, take, drop}
-use lib.Seq.{take-at}
 use Rattle.image.specs.Bytes.{before, shared}
 use Rattle.image.specs.Path.{owns}
 use Rattle.image.specs.Entry as defined
 use Rattle.image.specs.Image.{nodesOf, treeAt}
-use Rattle.octets.specs.Order.{and-false, begins-split}
-use Rattle.reading.specs.Relative.{lifts}
+use Rattle.octets.specs.Order.{and-false}
+use Rattle.laws.specs.Reading.Relative.{lifts}
 use Rattle.path.specs.Shape.{Shape, feed}
-use Rattle.octets.specs.Beginnings.{shared-left}
-use Rattle.reading.specs.Visit.{onward, visit}
+use Rattle.octets.specs.Beginnings.{take-part}
+use Rattle.laws.specs.Reading.Visit.{onward, visit}
 use Rattle.node.specs.Entries.{entriesFrom, entries-end, listed, listed-end}
 use Rattle.node.specs.Places.{part, entryIn, Within, Next, Stepped, step-bad-is}
 use Rattle.node.specs.declared.Place.{Place}
 use Rattle.node.specs.declared.Cursor.{Cursor}
 use Rattle.node.specs.declared.Entry.{Entry}
 use Rattle.node.specs.declared.Step.{Step}
-use Rattle.search.specs.declared.Kid.{Kid}
-use Rattle.search.specs.Own.{kidIs, kid-place, child-entry}
+use Rattle.node.specs.declared.search.Kid.{Kid}
+use Rattle.node.specs.Search.Own.{kidIs, kid-place, child-entry}
 use Rattle.lookup.specs.Look.{part-rest}
-use Rattle.node_check.specs.Inside.{messagesRun, childRun, kidsList, kidsRun, kids-step, kids-end, onward-some}
+use Rattle.tree_check.specs.Node.Inside.{messagesRun, childRun, kidsList, kidsRun, kids-step, kids-end, onward-some}
 use Rattle.tree_check.specs.declared.Tally.{Tally}
 use Rattle.tree_check.specs.declared.Checked.{Checked}
 use Rattle.octets.specs.Cap.{cap}
@@ -45,12 +44,6 @@ module _ (b : Bool) (n : ℕ) where
       → Checks (cond b (some seen) none) (onlyMessages n) (Checked.Sound (record { pairs = 0; messages = k; nodes = 0 })) seen
   messages-sound e k ek seen =
       all-sound (cond b (some seen) none) (onlyMessages n) (record { pairs = 0; messages = k; nodes = 0 }) seen (rw e) (messages-capped k n ek)
-
--- what two pivots share, as a part of the low one
-shared-part : (low high : List ℕ) (k : ℕ) → k ≡ length (shared low high) → take k low ≡ shared low high
-shared-part low high k e =
-    let w : shared low high ++ drop (length (shared low high)) low ≡ low = begins-split (shared low high) low (shared-left low high) in
-    ap (λ l. take k l) (sym w) ∙ take-at (shared low high) (drop (length (shared low high)) low) k (sym e)
 
 none-onward : (o : Option (List ℕ)) → none ≡ onward o (λ after. none)
 unfolding onward
@@ -97,7 +90,7 @@ module _ (level : ℕ) (s : List ℕ) (sh : Shape) (lo hi : List ℕ) (i : ℕ) 
       checks-as (visit (treeAt level s i) (nodesOf (length s)) z (take (length low - k) (drop k low)) (take (length high - k) (drop k high)) seen)
       (childRun (nodeRun level s) sh lo hi i low high seen) (countOf (treeAt level s i)) (countOf (treeAt level s i)) r after
       (ap₂ (λ p q. visit (treeAt level s i) (nodesOf (length s)) z p q seen) (part-rest k low) (part-rest k high)
-      ∙ ap₂ (λ y n. visit (treeAt level s i) (nodesOf (length s)) y (drop n low) (drop n high) seen) (ez ∙ ap (λ p. feed sh p) (shared-part low high m (em ∙ ek))) (lifted k ek)
+      ∙ ap₂ (λ y n. visit (treeAt level s i) (nodesOf (length s)) y (drop n low) (drop n high) seen) (ez ∙ ap (λ p. feed sh p) (take-part low high m (em ∙ ek))) (lifted k ek)
       ∙ of-node (feed sh (shared low high)) (drop (lifts low high) low) (drop (lifts low high) high)
       ∙ by-node (sym ea ∙ fa) (sym eb ∙ fb))
       refl h

@@ -16,8 +16,8 @@ use Rattle.node.specs.declared.Place.{Place}
 use Rattle.node.specs.declared.Cursor.{Cursor}
 use Rattle.node.specs.declared.Entry.{Entry}
 use Rattle.node.specs.declared.Step.{Step}
-use Rattle.search.specs.declared.Kid.{Kid}
-use Rattle.search.specs.Own.{kidIs, kid-place, child-entry}
+use Rattle.node.specs.declared.search.Kid.{Kid}
+use Rattle.node.specs.Search.Own.{kidIs, kid-place, child-entry}
 use Rattle.tree_check.specs.declared.First.{First}
 use Rattle.tree_check.specs.Walk.{headed}
 use Rattle.tree_check.specs.Layout.{entries-at, entries-none, laid-few}

@@ -1,8 +1,8 @@
 -- The exits of the check of a list of children, which adds to a tally that it is lent.
 -- Relies on Held and on ChildSteps.
 use Prim.Native.Nat.{ℕ, _<_, _≤_}
-use mathlib.Core.Path.{_≡_, refl, sym, subst, _∙_}
-use mathlib.Core.List.{List, [], _∷_}
+use mathlib.Core.Path.{_≡_, refl, subst}
+use mathlib.Core.List.{List}
 use mathlib.Core.Bool.{Bool, true, false}
 use mathlib.Core.Option.{Option}
 use native.Mathlib.Omega.{arith}
@@ -14,15 +14,15 @@ use Rattle.node.specs.declared.Place.{Place}
 use Rattle.node.specs.declared.Cursor.{Cursor}
 use Rattle.node.specs.declared.Entry.{Entry}
 use Rattle.node.specs.declared.Step.{Step}
-use Rattle.search.specs.declared.Kid.{Kid}
-use Rattle.search.specs.Own.{kidIs}
-use Rattle.node_check.specs.Inside.{childRun, kidsRun}
+use Rattle.node.specs.declared.search.Kid.{Kid}
+use Rattle.node.specs.Search.Own.{kidIs}
+use Rattle.tree_check.specs.Node.Inside.{kidsRun}
 use Rattle.tree_check.specs.declared.Tally.{Tally}
 use Rattle.tree_check.specs.declared.Checked.{Checked}
 use Rattle.tree_check.specs.Count.{Count, lastCount, kidsCount, tallySum}
 use Rattle.tree_check.specs.Answer.{Checks, withRest}
 use Rattle.tree_check.specs.Walk.{nodeRun, lastRun}
-use Rattle.tree_check.specs.Sequence.{Passed, rest-stops, rest-done}
+use Rattle.tree_check.specs.Sequence.{rest-stops, rest-done}
 use Rattle.tree_check.specs.ChildSteps.{Child, kids-last, kids-messages, kids-unread, child-stops, child-passed}
 use Rattle.tree_check.specs.Held.{tallyIs, answerIs, Adds}
 

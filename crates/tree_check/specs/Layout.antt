@@ -10,17 +10,14 @@ use native.Mathlib.Numerals.{add-one}
 use lib.ListN.{length, take, drop, getD}
 use lib.Seq.{drop-cons}
 use lib.Dec.{leb, eqb}
-use borrow.Author.Tests.{lt-ltb, le-leb, lt-leb, eq-eqb, ne-eqb, eqb-true}
+use borrow.Author.Tests.{le-leb, lt-leb, eq-eqb, ne-eqb, eqb-true}
 use Rattle.image.specs.Bytes.{u16, zeros}
 use Rattle.image.specs.Entry as defined
 use Rattle.image.specs.Image.{nodeBytes, nodesOf, laidOut, nodeEntries}
 use Rattle.octets.specs.Order.{and-false}
 use Rattle.node.specs.Cut.{cut, cut-drop, cut-u16, cut-nil}
 use Rattle.node.specs.Entries.{entriesFrom, listed, all-listed}
-use Rattle.lookup.specs.Look.{node-is, count-is, bytes-is, below-length, laid-short as look-short}
-
-pub below-nodes : (s : List ℕ) (i : ℕ) → i < nodesOf (length s) → i * 1024 + 1024 ≤ length s
-below-nodes s i h = below-length s i (lt-ltb i (nodesOf (length s)) h)
+use Rattle.lookup.specs.Look.{node-is, count-is, bytes-is, laid-short as look-short}
 
 pub nodes-are : (n : ℕ) → n / 1024 ≡ nodesOf n
 unfolding nodesOf

@@ -10,9 +10,9 @@ use Rattle.image.specs.Bytes.{u16}
 use Rattle.image.specs.Entry as defined
 use Rattle.image.specs.Image.{nodeBytes, laidOut, nodeEntries, pairsOf, orNone, leafOf, treeAt}
 use Rattle.path.specs.Shape.{Shape}
-use Rattle.reading.specs.SoundHere.{soundHere}
+use Rattle.laws.specs.Reading.SoundHere.{soundHere}
 use Rattle.node.specs.Entries.{entriesFrom, listed}
-use Rattle.node_check.specs.Leaf.{leafRun, leaf-sound}
+use Rattle.tree_check.specs.Node.Leaf.{leafRun, leaf-sound}
 use Rattle.tree_check.specs.declared.Checked.{Checked}
 use Rattle.octets.specs.Cap.{cap}
 use Rattle.tree_check.specs.Count.{countOf, onlyPairs, capped}

@@ -1,3 +1,4 @@
+pub mod Node
 pub mod Count
 pub mod Answer
 pub mod CountLaws

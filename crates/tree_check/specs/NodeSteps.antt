@@ -9,20 +9,19 @@ use native.Mathlib.Omega.{arith}
 use lib.ListN.{length, getD, set}
 use Rattle.image.specs.Image.{Tree, nodeBytes, nodesOf, nodeEntries, insideOf, orNone, interiorOf, treeAt}
 use Rattle.path.specs.Shape.{Shape}
-use Rattle.reading.specs.SoundHere.{soundHere}
-use Rattle.reading.specs.Visit.{unmet, visit}
+use Rattle.laws.specs.Reading.SoundHere.{soundHere}
+use Rattle.laws.specs.Reading.Visit.{unmet, visit}
 use Rattle.node.specs.Entries.{entriesFrom, listed}
 use Rattle.node.specs.Places.{part}
 use Rattle.node.specs.declared.Place.{Place}
 use Rattle.node.specs.declared.Cursor.{Cursor}
-use Rattle.node_check.specs.Inside.{kidsRun}
+use Rattle.tree_check.specs.Node.Inside.{kidsRun}
 use Rattle.tree_check.specs.declared.Tally.{Tally}
 use Rattle.tree_check.specs.declared.Checked.{Checked}
 use Rattle.tree_check.specs.declared.First.{First}
 use Rattle.tree_check.specs.Count.{Count, plus, countOf, onlyNode, kidsCount, capped}
 use Rattle.tree_check.specs.CountLaws.{node-capped}
 use Rattle.tree_check.specs.Answer.{Checks, unsound, all-sound, unsound-is, sound-is, tally-is, checks-as}
-use Rattle.tree_check.specs.Sequence.{Passed}
 use Rattle.tree_check.specs.Held.{tallyIs, answerIs, Adds}
 use Rattle.tree_check.specs.Walk.{nodeRun, node-met, unmet-low, unmet-past, unmet-again, unmet-yes, leaf-walk, headless, first-walk, first-counts}
 use Rattle.tree_check.specs.Layout.{reads-listed}

@@ -15,7 +15,7 @@ use Rattle.image.specs.Image.{Tree, nodeBytes, nodesOf, header, headerOf, heade
 use Rattle.image.specs.Sound.{soundTree, soundHeader, once, inRange, numbers, isIn, lowest, highest}
 use Rattle.octets.specs.Order.{and-false, and-left, and-right}
 use Rattle.path.specs.Shape.{fresh}
-use Rattle.reading.specs.Visit.{mark, markAll, visit, blank, zero-at, visit-root}
+use Rattle.laws.specs.Reading.Visit.{mark, markAll, visit, blank, zero-at, visit-root}
 use Rattle.path.specs.declared.Shape.{Shape}
 use Rattle.path.specs.Fed.{shapeIs}
 use Rattle.node.specs.Cut.{cut, cut-drop}

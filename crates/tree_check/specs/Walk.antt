@@ -16,10 +16,10 @@ use Rattle.image.specs.Image.{Tree, unread, leaf, interior, Forest, tree, Insid
 use Rattle.image.specs.Sound.{firstPivot}
 use Rattle.octets.specs.Order.{and-false}
 use Rattle.path.specs.Shape.{Shape}
-use Rattle.reading.specs.SoundHere.{soundHere, messagesHere}
-use Rattle.reading.specs.Visit.{mark, unmet, onward, visit, visitKids}
-use Rattle.node_check.specs.Leaf.{leafRun, leaf-sound}
-use Rattle.node_check.specs.Inside.{messagesRun, messages-not, childRun, kidsList, kidsRun, kids-are}
+use Rattle.laws.specs.Reading.SoundHere.{soundHere, messagesHere}
+use Rattle.laws.specs.Reading.Visit.{mark, unmet, onward, visit, visitKids}
+use Rattle.tree_check.specs.Node.Leaf.{leafRun, leaf-sound}
+use Rattle.tree_check.specs.Node.Inside.{messagesRun, messages-not, childRun, kidsList, kidsRun, kids-are}
 use Rattle.tree_check.specs.Count.{plus, countOf, onlyPairs, onlyNode, kidsCount}
 use Rattle.tree_check.specs.CountLaws.{leaf-holds, interior-holds}
 

@@ -1,11 +1,13 @@
-// The soundness check of document 01 as code.
-// It reads any store of at least one node, and meets the definition of `sound`, the live count apart; it counts what a sound tree holds.
+// Question 2 but for the live count: one marking walk over the tree, in which the check of a node and that of its children call each other.
+// It reads any store of at least one node, and counts pairs and messages. Relies on node_check for what one node holds, and on path.
+pub mod node_check;
+
 use node::Cursor;
 use node::Place;
 use node::Step;
+use node::search::Kid;
 use node_check::Counted;
 use path::Shape;
-use search::Kid;
 ghost use mathlib.Core.Path.{_≡_};
 ghost use mathlib.Core.Bool.{cond, _&&_};
 ghost use mathlib.Core.List.{List};
@@ -15,13 +17,13 @@ ghost use lib.ListN.{length};
 ghost use lib.Dec.{eqb};
 ghost use Rattle.image.specs.Bytes.{zeros};
 ghost use Rattle.image.specs.Image.{nodesOf, nodeBytes, laidOut, treeAt};
-ghost use Rattle.reading.specs.SoundHere.{soundHere};
-ghost use Rattle.reading.specs.Visit.{visit, blank};
+ghost use Rattle.laws.specs.Reading.SoundHere.{soundHere};
+ghost use Rattle.laws.specs.Reading.Visit.{visit, blank};
 ghost use Rattle.node.specs.Cut.{cut};
 ghost use Rattle.node.specs.Entries.{entriesFrom, listed};
 ghost use Rattle.node.specs.Places.{Within, part};
 ghost use Rattle.path.specs.Fed.{shapeIs};
-ghost use Rattle.node_check.specs.Inside.{messagesRun, childRun, kidsRun};
+ghost use Rattle.tree_check.specs.Node.Inside.{messagesRun, childRun, kidsRun};
 ghost use Rattle.tree_check.specs.Count.{tallySum, countOf, onlyMessages, lastCount, kidsCount};
 ghost use Rattle.tree_check.specs.Answer.{Checks, withRest};
 ghost use Rattle.tree_check.specs.Held.{tallyIs, answerIs, flatIs, Adds};
@@ -207,7 +209,7 @@ pub fn first_child(store: &[u8], num: usize, level: usize, lo: &[u8]) -> First
     let Step::Read(e, next) = c.step(store) else {
         return First::Nothing;
     };
-    let Kid::Of(child, p) = search::kid_of(e) else {
+    let Kid::Of(child, p) = node::search::kid_of(e) else {
         return First::Nothing;
     };
     let a = p.start;
@@ -319,7 +321,7 @@ pub fn check_children(
     let Step::Read(e, next) = start.step(image) else {
         return false;
     };
-    let Kid::Of(child, p) = search::kid_of(e) else {
+    let Kid::Of(child, p) = node::search::kid_of(e) else {
         let last = check_last(image, num, low, start, level, *lo, *hi, sh, seen);
         return hold(held, last);
     };

@@ -1,6 +1,7 @@
 // The store's static library as a Rust type: the functions of include/splicelog.h, each wrapped in a safe method, so that the second
 // program can judge it. The library takes any bytes, so a wrapper has nothing to test; it only takes the answer apart.
 
+pub mod batches;
 pub mod filling;
 pub mod images;
 pub mod moving;

@@ -1,9 +1,9 @@
 // Judges the static library: `judge [long] [SEED [CASES]]`, or `judge stack` for the stack alone. First by lists of calls, then in every
-// corner of the grid, then by reading whole images, by filling stores to the last path and by moves on full ones, then the stack. It
+// corner of the grid, then by reading whole images, by batches beside the same calls one by one, by filling stores to the last path and by moves on full ones, then the stack. It
 // prints what was tried, and fails where anything was not. A failure names the seed and the case.
 #![deny(warnings)]
 
-use judge::{filling, moving, reading, stack, Library};
+use judge::{batches, filling, moving, reading, stack, Library};
 use second::grid;
 use second::subject::Subject;
 use std::process::ExitCode;
@@ -13,6 +13,8 @@ const SEED: u64 = 20261115;
 const CASES: usize = 2400;
 const CASES_A_GRID: usize = 400;
 const CASES_A_READING: usize = 800;
+/// How many lists of calls for each batch store.
+const CASES_A_BATCH: usize = 4;
 /// How many times as much a long run does.
 const LONG: usize = 10;
 
@@ -60,6 +62,7 @@ fn judged(extent: &Extent) -> Result<(), String> {
     println!("{}", stats.table());
     let images = reading::run(&mut Library, seed, cases.div_ceil(CASES_A_READING))?;
     println!("whole images read: {images:?}");
+    println!("batches: {:?}", batches::run(seed, cases / CASES_A_BATCH)?);
     for n in [32, 64, 1024] {
         println!("{n} nodes filled twice: {} calls", filling::run(n)?);
     }

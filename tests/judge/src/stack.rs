@@ -3,8 +3,10 @@
 // images takes more than 32 KiB.
 
 use crate::{images, Library};
+use second::batch::{piece, Batching};
 use second::limits::*;
 use second::path::beginnings;
+use second::plain::Call;
 use second::sound::{self, Sound};
 use second::subject::Subject;
 use std::collections::BTreeMap;
@@ -100,6 +102,10 @@ const CALLS: &[(&str, Make)] = &[
     ("tidy", |c| Library.tidy(c.store, c.work).0),
     ("flush", |c| Library.flush(c.store, c.node, c.work).0),
     ("heal", |c| Library.heal(c.store, c.node, c.work).0),
+    ("batch", |c| {
+        let calls = c.list();
+        Library.batch(c.store, c.work, &calls, &mut [0; 256]).number
+    }),
 ];
 
 /// What a call is given: a present path, its first component, and an interior node.
@@ -110,6 +116,18 @@ struct Called<'a> {
     path: &'a [u8],
     top: &'a [u8],
     node: u64,
+}
+
+impl Called<'_> {
+    /// The call that takes most, as a batch: on the image as it is.
+    fn list(&self) -> Vec<u8> {
+        let call = Call::Move {
+            from: self.path.to_vec(),
+            to: b"~~~\0".to_vec(),
+            work: 0,
+        };
+        piece(&call).unwrap_or_default()
+    }
 }
 
 /// An image with the arguments that its calls are tried with.

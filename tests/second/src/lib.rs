@@ -6,6 +6,7 @@
 //   sound, meaning                is an image sound, and what does it mean
 //   plain, program                the plain path map, and the line language over it
 //   contract, upkeep              is one call right, from what is seen of it
+//   batch                         a list of calls as bytes, and whether it went as the calls one by one
 //   subject, script, calls, moves a store under test, and calls for it
 //   judge, grid, stats            lists of calls, corners with aimed calls, and what they tried
 //   paper                         the paper's thirteen cases
@@ -20,6 +21,7 @@
 #![deny(warnings)]
 
 pub mod antt;
+pub mod batch;
 pub mod calls;
 pub mod contract;
 pub mod corner;

@@ -4,11 +4,8 @@ use borrow.Author.Needs.{needs}
 use Rattle.append.proofs.install_root.Statement.{statement}
 use Rattle.append.proofs.install_root.Tie as tie
 
-mul-copy-at : tie.Need-mul-copy-at
-mul-copy-at c = search needs
-
-copy-at-requires : tie.Need-copy-at-requires
-copy-at-requires c κs = search needs
+write-page-requires : tie.Need-write-page-requires
+write-page-requires c κs = search needs
 
 put-u16-requires : tie.Need-put-u16-requires
 put-u16-requires c κs = search needs
@@ -19,10 +16,19 @@ put-u16-requires-2 c κs = search needs
 same-length : tie.Need-same-length
 same-length c = search needs
 
+same-length-2 : tie.Need-same-length-2
+same-length-2 c = search needs
+
 returns : tie.Need-returns
-returns c = installs _ _ _ _ _ _ _ (c .before .before .before .before .before .before .before .before .before .before .copy-at .ensures) (c .before .before .before .before .before .before .put-u16 .ensures) (c .before .before .put-u162 .ensures)
+returns c = installs _ _ _ _ _ _ _ (c .before .before .before .before .before .before .before .before .before .before .before .before .write-page .ensures) (c .before .before .before .before .before .before .put-u16 .ensures) (c .before .before .put-u162 .ensures)
 
 pub install-root-spec : {M : Type 1} → statement M
 install-root-spec =
     tie.close
-    (tie.spec mul-copy-at copy-at-requires put-u16-requires put-u16-requires-2 same-length returns)
+    (tie.spec
+    write-page-requires
+    put-u16-requires
+    put-u16-requires-2
+    same-length
+    same-length-2
+    returns)

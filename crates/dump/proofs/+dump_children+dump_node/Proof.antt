@@ -9,10 +9,10 @@ use Rattle.live.specs.Steps.{trail-wider, pends-child, pends-end}
 use Rattle.live.specs.Walk.{passing, NextChild}
 use Rattle.live.specs.PathBuffers.{pathIn}
 use Rattle.lookup.specs.Look.{node-inside}
-use Rattle.search.specs.Own.{kid, kidsE}
+use Rattle.node.specs.Search.Own.{kid, kidsE}
 use Rattle.node.specs.Entries.{listed}
 use Rattle.node.specs.Places.{part, Within}
-use Rattle.reading.specs.Relative.{usableIn}
+use Rattle.laws.specs.Reading.Relative.{usableIn}
 use Rattle.laws.specs.Filter.{keep}
 use Rattle.image.specs.Meaning.{rowsIn}
 use Rattle.image.specs.Image.{treeAt, nodesOf, forestOf}

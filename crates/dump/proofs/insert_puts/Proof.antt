@@ -3,7 +3,7 @@ use Rattle.live.specs.Walk.{passing}
 use Rattle.live.specs.PathBuffers.{pathIn}
 use Rattle.node.specs.Places.{step-read-is, step-bad-is, entry-wider}
 use Rattle.node.specs.Entries.{listed, listed-end}
-use Rattle.rows.specs.Area.{rowsOf}
+use Rattle.packed.specs.Rows.Area.{rowsOf}
 use Rattle.dump.specs.Dump.{insertE}
 use Rattle.dump.specs.InsertSteps.{Inserting, insert-first, insert-end, insert-open, insert-next}
 use borrow.Author.Needs.{needs}

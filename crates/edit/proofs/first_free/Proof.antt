@@ -1,14 +1,11 @@
 use borrow.Author.Needs.{needs}
-use native.Mathlib.Omega.{arith}
-use Prim.Native.Nat.{ℕ, _-_, _≤_, _<_}
-use mathlib.Core.Path.{_≡_}
-use lib.ListN.{getD}
-use Rattle.edit.specs.Free.{free-none, free-more}
+use Prim.Native.Nat.{_-_, _≤_}
+use Rattle.edit.specs.Free.{free-found, free-none}
 use Rattle.edit.proofs.first_free.Statement.{statement}
 use Rattle.edit.proofs.first_free.Tie as tie
 
 abbrev Inv-loop : tie.InvT-loop
-Inv-loop seen n i₀ i = (1 ≤ i) × ((j : ℕ) → 1 ≤ j → j < i → getD seen j 0 ≡ 0 → ⊥)
+Inv-loop seen n i₀ i = 1 ≤ i
 
 abbrev μ-loop : tie.MeasureT-loop
 μ-loop seen n i₀ i = n - i
@@ -20,7 +17,7 @@ element-copy-out-if1 : tie.Need-element-copy-out-if1 Inv-loop μ-loop
 element-copy-out-if1 c = search needs
 
 returns : tie.Need-returns Inv-loop μ-loop
-returns c = search needs
+returns c = search (needs, free-found)
 
 add-i : tie.Need-add-i Inv-loop μ-loop
 add-i c = search needs
@@ -29,10 +26,10 @@ loop-less : tie.Need-loop-less Inv-loop μ-loop
 loop-less c = search needs
 
 loop-again : tie.Need-loop-again Inv-loop μ-loop
-loop-again c = (omega arith, free-more (c .before .before .before .before .args .seen .now) (c .before .before .before .loop .i) (c .if1 .left) (c .before .before .before .loop .inv .1))
+loop-again c = search needs
 
 returns-2 : tie.Need-returns-2 Inv-loop μ-loop
-returns-2 c = free-none _ _ _ (omega arith) (c .before .loop .inv .1)
+returns-2 c = free-none _ _
 
 pub first-free-spec : {M : Type 1} → statement M
 first-free-spec =

@@ -1,6 +1,6 @@
 use native.Mathlib.Omega.{arith}
 use Rattle.laws.specs.ButLive.{sound-but-live}
-use Rattle.edit.specs.Room.{above-held, above-deep, above-found, nodes-are, few-nodes}
+use Rattle.edit.specs.Room.{above-none, above-found, nodes-are, few-nodes}
 use Rattle.edit.proofs.free_above.Statement.{statement}
 use Rattle.edit.proofs.free_above.Tie as tie
 
@@ -8,13 +8,13 @@ has-messages-at-root-requires : tie.Need-has-messages-at-root-requires
 has-messages-at-root-requires c κs = sound-but-live _ (c .before .pre .1)
 
 returns : tie.Need-returns
-returns c = above-held _ _ (c .before .has-messages-at-root .ensures) (c .if1 .taken)
+returns c = above-none _
 
 u16-at-requires : tie.Need-u16-at-requires
 u16-at-requires c κs = omega (arith, few-nodes _ (c .before .before .before .pre .0) .1)
 
 returns-2 : tie.Need-returns-2
-returns-2 c = above-deep _ _ (c .before .u16-at .ensures .0) (omega arith)
+returns-2 c = above-none _
 
 first-free-requires : tie.Need-first-free-requires
 first-free-requires c κs = let w = few-nodes _ (c .before .before .before .before .before .pre .0) in omega (arith, w .0)

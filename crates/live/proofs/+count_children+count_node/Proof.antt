@@ -7,10 +7,10 @@ use mathlib.Core.List.{_∷_}
 use mathlib.Core.Path.{_≡_}
 use mathlib.Core.Bool.{true}
 use Rattle.image.specs.Image.{treeAt, nodesOf, forestOf}
-use Rattle.reading.specs.Relative.{usableIn}
+use Rattle.laws.specs.Reading.Relative.{usableIn}
 use Rattle.node.specs.Places.{part, Within}
 use Rattle.node.specs.Entries.{listed}
-use Rattle.search.specs.Own.{kid, kidsE}
+use Rattle.node.specs.Search.Own.{kid, kidsE}
 use Rattle.lookup.specs.Look.{node-inside}
 use Rattle.live.specs.PathBuffers.{pathIn}
 use Rattle.live.specs.Live.{liveKids}

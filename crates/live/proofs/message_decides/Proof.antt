@@ -1,7 +1,7 @@
 -- `message_decides` meets its contract: only a put can decide, and only where nothing later in its node names it.
 -- Relies on specs/Steps.
 use Rattle.node.specs.Places.{Within}
-use Rattle.search.specs.Hear.{put-places}
+use Rattle.node.specs.Search.Hear.{put-places}
 use Rattle.live.specs.Steps.{put-hidden, put-decides, drop-decides, clear-decides}
 use native.Mathlib.Omega.{arith}
 use lib.ListN.{length}

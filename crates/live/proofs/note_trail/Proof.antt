@@ -10,7 +10,7 @@ use Rattle.live.proofs.note_trail.Statement.{statement}
 use Rattle.live.proofs.note_trail.Tie as tie
 use Rattle.live.proofs.note_trail.Reads as reads
 use Rattle.live.proofs.note_trail.Lts as lts
-use Rattle.notes.proofs.note_entries.Reads as note-entries-reads
+use Rattle.live.proofs.notes.note_entries.Reads as note-entries-reads
 use Rattle.octets.proofs.u16_at.Reads as u16-at-reads
 
 abbrev Inv-loop : tie.InvT-loop

@@ -10,9 +10,9 @@ use Rattle.lookup.proofs.lookup.Kinds as lookup-kinds
 use Rattle.lookup.proofs.+lookup.Lts-lookup as lookup-lts
 use Rattle.octets.proofs.common_length.Reads as common-length-reads
 use Rattle.octets.proofs.u16_at.Reads as u16-at-reads
-use Rattle.search.proofs.find.Reads as find-reads
-use Rattle.search.proofs.newest.Reads as newest-reads
-use Rattle.search.proofs.owner_of.Reads as owner-of-reads
+use Rattle.node.proofs.search.find.Reads as find-reads
+use Rattle.node.proofs.search.newest.Reads as newest-reads
+use Rattle.node.proofs.search.owner_of.Reads as owner-of-reads
 use Rattle.lookup.proofs.+lookup.{statement}
 use Rattle.lookup.proofs.+lookup.Tie.{close}
 

@@ -26,8 +26,14 @@ put-u16-requires-4 c κs = search needs
 put-u16-requires-5 : tie.Need-put-u16-requires-5
 put-u16-requires-5 c κs = search needs
 
+add-put-u16 : tie.Need-add-put-u16
+add-put-u16 c = search needs
+
 put-u16-requires-6 : tie.Need-put-u16-requires-6
 put-u16-requires-6 c κs = search needs
+
+add-put-u16-2 : tie.Need-add-put-u16-2
+add-put-u16-2 c = search needs
 
 put-u16-requires-7 : tie.Need-put-u16-requires-7
 put-u16-requires-7 c κs = search needs
@@ -52,7 +58,9 @@ write-empty-spec =
     put-u16-requires-3
     put-u16-requires-4
     put-u16-requires-5
+    add-put-u16
     put-u16-requires-6
+    add-put-u16-2
     put-u16-requires-7
     same-length
     returns)

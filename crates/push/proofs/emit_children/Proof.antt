@@ -6,16 +6,16 @@ use lib.ListN.{length}
 use mathlib.Core.Bool.{true}
 use mathlib.Core.Path.{_≡_, refl}
 use Prim.Native.Nat.{_≤_, _-_, _+_}
-use Rattle.search.specs.Own.{kidsE}
+use Rattle.node.specs.Search.Own.{kidsE}
 use Rattle.node.specs.Entries.{listed}
 use Rattle.node.specs.Places.{part}
-use Rattle.laws.specs.Encode.{bytesOf}
+use Rattle.laws.specs.Encode.{bytesOf, child-size}
 use Rattle.image.specs.Entry.{child}
 use Rattle.octets.specs.Put.{put}
 use Rattle.live.specs.Steps.{pends-child, pends-end}
 use Rattle.live.specs.Walk.{NextChild}
-use Rattle.push_laws.specs.Written.{childBytes, smallNumbers}
-use Rattle.push.specs.WriteSteps.{line-fits, line-length, line-on, line-end, line-ends, children-cons, children-none, small-first, small-later, child-length, as-child}
+use Rattle.push.specs.Laws.Written.{childBytes, smallNumbers}
+use Rattle.push.specs.WriteSteps.{line-fits, line-length, line-on, line-end, line-ends, children-cons, children-none, small-first, small-later, as-child}
 use Rattle.push.proofs.emit_children.Statement.{statement}
 use Rattle.push.proofs.emit_children.Tie as tie
 
@@ -47,23 +47,23 @@ same-length c = c .before .before .before .loop .inv .1
 returns : tie.Need-returns Inv-loop μ-loop
 returns c = let z = children-none _ (pends-end _ _ _ _ (c .before .before .read-child .ensures) (c .enum-told .given .1)) in (line-end _ _ _ _ _ _ z (c .before .before .before .loop .inv .4), line-ends _ _ (childBytes (kidsE (listed (c .before .before .before .before .before .before .args .node .now) 8 (c .before .before .before .before .before .before .args .stop)))) (childBytes (kidsE (listed (c .before .before .before .before .before .before .args .node .now) (c .before .before .before .loop .c .at) (c .before .before .before .loop .c .end)))) z (c .before .before .before .loop .inv .3))
 
-sub-emit-child : tie.Need-sub-emit-child Inv-loop μ-loop
-sub-emit-child c = let n = kid-next (c .before) in let w = n .place in omega arith
+sub-write-child : tie.Need-sub-write-child Inv-loop μ-loop
+sub-write-child c = let n = kid-next (c .before) in let w = n .place in omega arith
 
-part-emit-child-start : tie.Need-part-emit-child-start Inv-loop μ-loop
-part-emit-child-start c = let n = kid-next (c .before) in let w = n .place in omega arith
+part-write-child-start : tie.Need-part-write-child-start Inv-loop μ-loop
+part-write-child-start c = let n = kid-next (c .before) in let w = n .place in omega arith
 
-part-emit-child-end : tie.Need-part-emit-child-end Inv-loop μ-loop
-part-emit-child-end c = let n = kid-next (c .before) in let w = n .place in omega arith
+part-write-child-end : tie.Need-part-write-child-end Inv-loop μ-loop
+part-write-child-end c = let n = kid-next (c .before) in let w = n .place in omega arith
 
-emit-child-requires : tie.Need-emit-child-requires Inv-loop μ-loop
-emit-child-requires c κs = let n = kid-next (c .before .before) in let z = child-length (c .before .before .before .k .given .0 .0) (part (c .before .before .before .before .before .before .before .before .before .args .node .now) (c .before .before .before .k .given .0 .1 .0)) in let f = line-fits (c .before .before .before .before .before .before .before .before .before .args .page .now) (c .before .before .before .before .before .before .loop .page) (c .before .before .before .before .before .before .loop .page) (c .before .before .before .before .before .before .before .before .before .args .at) (c .before .before .before .before .before .before .loop .to) 0 (childBytes (kidsE (listed (c .before .before .before .before .before .before .before .before .before .args .node .now) 8 (c .before .before .before .before .before .before .before .before .before .args .stop)))) (childBytes (kidsE (listed (c .before .before .before .before .before .before .before .before .before .args .node .now) (c .before .before .before .before .before .before .loop .c .at) (c .before .before .before .before .before .before .loop .c .end)))) (bytesOf (child (c .before .before .before .k .given .0 .0) (part (c .before .before .before .before .before .before .before .before .before .args .node .now) (c .before .before .before .k .given .0 .1 .0)))) (childBytes (kidsE (listed (c .before .before .before .before .before .before .before .before .before .args .node .now) (c .before .before .before .k .given .0 .1 .1 .0 .at) (c .before .before .before .k .given .0 .1 .1 .0 .end)))) (children-cons _ _ _ (n .lists)) (c .before .before .before .before .before .before .loop .inv .3) (c .before .before .before .before .before .before .before .before .before .pre .1) (c .before .before .before .before .before .before .loop .inv .1) in (omega arith, omega arith, small-first _ _ _ (n .lists) (c .before .before .before .before .before .before .loop .inv .2))
+write-child-requires : tie.Need-write-child-requires Inv-loop μ-loop
+write-child-requires c κs = let n = kid-next (c .before .before) in let z = child-size (c .before .before .before .k .given .0 .0) (part (c .before .before .before .before .before .before .before .before .before .args .node .now) (c .before .before .before .k .given .0 .1 .0)) in let f = line-fits (c .before .before .before .before .before .before .before .before .before .args .page .now) (c .before .before .before .before .before .before .loop .page) (c .before .before .before .before .before .before .loop .page) (c .before .before .before .before .before .before .before .before .before .args .at) (c .before .before .before .before .before .before .loop .to) 0 (childBytes (kidsE (listed (c .before .before .before .before .before .before .before .before .before .args .node .now) 8 (c .before .before .before .before .before .before .before .before .before .args .stop)))) (childBytes (kidsE (listed (c .before .before .before .before .before .before .before .before .before .args .node .now) (c .before .before .before .before .before .before .loop .c .at) (c .before .before .before .before .before .before .loop .c .end)))) (bytesOf (child (c .before .before .before .k .given .0 .0) (part (c .before .before .before .before .before .before .before .before .before .args .node .now) (c .before .before .before .k .given .0 .1 .0)))) (childBytes (kidsE (listed (c .before .before .before .before .before .before .before .before .before .args .node .now) (c .before .before .before .k .given .0 .1 .1 .0 .at) (c .before .before .before .k .given .0 .1 .1 .0 .end)))) (children-cons _ _ _ (n .lists)) (c .before .before .before .before .before .before .loop .inv .3) (c .before .before .before .before .before .before .before .before .before .pre .1) (c .before .before .before .before .before .before .loop .inv .1) in (omega arith, omega arith, omega arith, small-first _ _ _ (n .lists) (c .before .before .before .before .before .before .loop .inv .2))
 
 loop-less : tie.Need-loop-less Inv-loop μ-loop
 loop-less c = let n = kid-next (c .before .before .before .before .before) in omega arith
 
 loop-again : tie.Need-loop-again Inv-loop μ-loop
-loop-again c = let n = kid-next (c .before .before .before .before .before) in let z = children-cons _ _ _ (n .lists) in let e = as-child _ _ _ _ (c .before .before .emit-child .ensures .1) in (omega arith, search needs, small-later _ _ _ (n .lists) (c .before .before .before .before .before .before .before .before .before .loop .inv .2), line-length (c .before .before .before .before .before .before .before .before .before .before .before .before .args .page .now) (c .before .before .before .before .before .before .before .before .before .loop .page) (c .before .before .before .before .before .before .before .before .before .loop .page) (c .before .before .before .before .before .before .before .before .before .before .before .before .args .at) (c .before .before .before .before .before .before .before .before .before .loop .to) (c .before .before .emit-child .result) (childBytes (kidsE (listed (c .before .before .before .before .before .before .before .before .before .before .before .before .args .node .now) 8 (c .before .before .before .before .before .before .before .before .before .before .before .before .args .stop)))) (childBytes (kidsE (listed (c .before .before .before .before .before .before .before .before .before .before .before .before .args .node .now) (c .before .before .before .before .before .before .before .before .before .loop .c .at) (c .before .before .before .before .before .before .before .before .before .loop .c .end)))) (bytesOf (child (c .before .before .before .before .before .before .k .given .0 .0) (part (c .before .before .before .before .before .before .before .before .before .before .before .before .args .node .now) (c .before .before .before .before .before .before .k .given .0 .1 .0)))) (childBytes (kidsE (listed (c .before .before .before .before .before .before .before .before .before .before .before .before .args .node .now) (c .before .before .before .before .before .before .k .given .0 .1 .1 .0 .at) (c .before .before .before .before .before .before .k .given .0 .1 .1 .0 .end)))) z (c .before .before .before .before .before .before .before .before .before .loop .inv .3) e, line-on (c .before .before .before .before .before .before .before .before .before .before .before .before .args .page .now) (c .before .before .before .before .before .before .before .before .before .loop .page) _ (c .before .before .before .before .before .before .before .before .before .before .before .before .args .at) (c .before .before .before .before .before .before .before .before .before .loop .to) (c .before .before .emit-child .result) (childBytes (kidsE (listed (c .before .before .before .before .before .before .before .before .before .before .before .before .args .node .now) 8 (c .before .before .before .before .before .before .before .before .before .before .before .before .args .stop)))) (childBytes (kidsE (listed (c .before .before .before .before .before .before .before .before .before .before .before .before .args .node .now) (c .before .before .before .before .before .before .before .before .before .loop .c .at) (c .before .before .before .before .before .before .before .before .before .loop .c .end)))) (bytesOf (child (c .before .before .before .before .before .before .k .given .0 .0) (part (c .before .before .before .before .before .before .before .before .before .before .before .before .args .node .now) (c .before .before .before .before .before .before .k .given .0 .1 .0)))) (childBytes (kidsE (listed (c .before .before .before .before .before .before .before .before .before .before .before .before .args .node .now) (c .before .before .before .before .before .before .k .given .0 .1 .1 .0 .at) (c .before .before .before .before .before .before .k .given .0 .1 .1 .0 .end)))) z (c .before .before .before .before .before .before .before .before .before .loop .inv .3) (c .before .before .before .before .before .before .before .before .before .before .before .before .pre .1) (c .before .before .before .before .before .before .before .before .before .loop .inv .1) e (c .before .before .emit-child .ensures .0) (c .before .before .before .before .before .before .before .before .before .loop .inv .4))
+loop-again c = let n = kid-next (c .before .before .before .before .before) in let z = children-cons _ _ _ (n .lists) in let e = as-child _ _ _ _ (c .before .before .write-child .ensures .1) in (omega arith, search needs, small-later _ _ _ (n .lists) (c .before .before .before .before .before .before .before .before .before .loop .inv .2), line-length (c .before .before .before .before .before .before .before .before .before .before .before .before .args .page .now) (c .before .before .before .before .before .before .before .before .before .loop .page) (c .before .before .before .before .before .before .before .before .before .loop .page) (c .before .before .before .before .before .before .before .before .before .before .before .before .args .at) (c .before .before .before .before .before .before .before .before .before .loop .to) (c .before .before .write-child .result) (childBytes (kidsE (listed (c .before .before .before .before .before .before .before .before .before .before .before .before .args .node .now) 8 (c .before .before .before .before .before .before .before .before .before .before .before .before .args .stop)))) (childBytes (kidsE (listed (c .before .before .before .before .before .before .before .before .before .before .before .before .args .node .now) (c .before .before .before .before .before .before .before .before .before .loop .c .at) (c .before .before .before .before .before .before .before .before .before .loop .c .end)))) (bytesOf (child (c .before .before .before .before .before .before .k .given .0 .0) (part (c .before .before .before .before .before .before .before .before .before .before .before .before .args .node .now) (c .before .before .before .before .before .before .k .given .0 .1 .0)))) (childBytes (kidsE (listed (c .before .before .before .before .before .before .before .before .before .before .before .before .args .node .now) (c .before .before .before .before .before .before .k .given .0 .1 .1 .0 .at) (c .before .before .before .before .before .before .k .given .0 .1 .1 .0 .end)))) z (c .before .before .before .before .before .before .before .before .before .loop .inv .3) e, line-on (c .before .before .before .before .before .before .before .before .before .before .before .before .args .page .now) (c .before .before .before .before .before .before .before .before .before .loop .page) _ (c .before .before .before .before .before .before .before .before .before .before .before .before .args .at) (c .before .before .before .before .before .before .before .before .before .loop .to) (c .before .before .write-child .result) (childBytes (kidsE (listed (c .before .before .before .before .before .before .before .before .before .before .before .before .args .node .now) 8 (c .before .before .before .before .before .before .before .before .before .before .before .before .args .stop)))) (childBytes (kidsE (listed (c .before .before .before .before .before .before .before .before .before .before .before .before .args .node .now) (c .before .before .before .before .before .before .before .before .before .loop .c .at) (c .before .before .before .before .before .before .before .before .before .loop .c .end)))) (bytesOf (child (c .before .before .before .before .before .before .k .given .0 .0) (part (c .before .before .before .before .before .before .before .before .before .before .before .before .args .node .now) (c .before .before .before .before .before .before .k .given .0 .1 .0)))) (childBytes (kidsE (listed (c .before .before .before .before .before .before .before .before .before .before .before .before .args .node .now) (c .before .before .before .before .before .before .k .given .0 .1 .1 .0 .at) (c .before .before .before .before .before .before .k .given .0 .1 .1 .0 .end)))) z (c .before .before .before .before .before .before .before .before .before .loop .inv .3) (c .before .before .before .before .before .before .before .before .before .before .before .before .pre .1) (c .before .before .before .before .before .before .before .before .before .loop .inv .1) e (c .before .before .write-child .ensures .0) (c .before .before .before .before .before .before .before .before .before .loop .inv .4))
 
 pub emit-children-spec : {M : Type 1} → statement M
 emit-children-spec =
@@ -77,9 +77,9 @@ emit-children-spec =
     enum-told
     same-length
     returns
-    sub-emit-child
-    part-emit-child-start
-    part-emit-child-end
-    emit-child-requires
+    sub-write-child
+    part-write-child-start
+    part-write-child-end
+    write-child-requires
     loop-less
     loop-again)

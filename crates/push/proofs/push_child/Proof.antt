@@ -2,7 +2,7 @@
 -- Relies on specs/LeafSteps.
 use native.Mathlib.Omega.{arith}
 use Rattle.node.specs.Entries.{listed}
-use Rattle.push_laws.specs.Only.{room-inside}
+use Rattle.push.specs.Laws.Only.{room-inside}
 use Rattle.push.specs.LeafSteps.{leaf-child, interior-child}
 use borrow.Author.Needs.{needs}
 use Rattle.push.proofs.push_child.Statement.{statement}

@@ -7,13 +7,13 @@ use mathlib.Core.Bool.{true}
 use mathlib.Core.List.{_∷_}
 use mathlib.Core.Path.{_≡_, refl, sym, ap, _∙_}
 use Prim.Native.Nat.{_≤_, _-_}
-use Rattle.search.specs.Own.{kid, kidsE}
+use Rattle.node.specs.Search.Own.{kid, kidsE}
 use Rattle.node.specs.Entries.{listed}
 use Rattle.node.specs.Places.{Within, part}
 use Rattle.live.specs.Steps.{pends-child, pends-end}
 use Rattle.live.specs.Walk.{NextChild}
 use Rattle.image.specs.Sound.{once}
-use Rattle.push_laws.specs.Written.{allHaveRoom, eachTakes, childTakes, kidNumbers}
+use Rattle.push.specs.Laws.Written.{allHaveRoom, eachTakes, childTakes, kidNumbers}
 use Rattle.push.specs.ChildSteps.{takes-none, last-room, last-takes, next-room, next-once, next-rooms, next-takes}
 use Rattle.push.proofs.push_children.Statement.{statement}
 use Rattle.push.proofs.push_children.Tie as tie

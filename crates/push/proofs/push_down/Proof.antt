@@ -1,5 +1,5 @@
 -- `push_down` meets its contract: the flush of the node with the high pivot that was found.
--- Relies on specs/NodeSteps and on node_high.
+-- Relies on specs/NodeSteps and on high.
 use native.Mathlib.Omega.{arith}
 use Rattle.push.specs.NodeSteps.{no-room, pushable}
 use borrow.Author.Needs.{needs}

@@ -3,8 +3,7 @@ use mathlib.Core.Path.{sym, _∙_}
 use borrow.Author.Needs.{needs}
 use borrow.Author.Tests.{not-true, not-false}
 use Rattle.image.specs.Calls.{get}
-use Rattle.query.specs.Asked.{ragged-store, unsound-store, malformed-path, short-buffer, nothing-there, something-there, refused-short, found-short}
-use Rattle.query.specs.Steps.{get-path, get-short, get-room, value-there, value-absent}
+use Rattle.query.specs.Asked.{ragged-store, unsound-store, refused-short}
 use Rattle.query.proofs.get.Statement.{statement}
 use Rattle.query.proofs.get.Tie as tie
 
@@ -12,55 +11,22 @@ whole-nodes-requires : tie.Need-whole-nodes-requires
 whole-nodes-requires c κs = search needs
 
 returns : tie.Need-returns
-returns c = (ragged-store (c .before .before .before .before .before .args .store .now) (get (c .before .before .before .before .before .args .path .now)) (c .before .before .before .before .before .args .buffer .now) _ (c .before .whole-nodes .ensures) (not-true _ (c .if1 .taken)), refused-short _)
+returns c = (ragged-store (c .before .before .before .before .before .args .store .now) (get (c .before .before .before .before .before .args .path .now)) (c .before .before .before .before .before .args .buffer .now) _ (c .before .whole-nodes .ensures) (not-true _ (c .if1 .taken)), refused-short _ _)
 
 is-sound-requires : tie.Need-is-sound-requires
 is-sound-requires c κs = sym (c .before .whole-nodes .ensures) ∙ not-false _ (c .if1 .left)
 
 returns-2 : tie.Need-returns-2
-returns-2 c = (unsound-store (c .before .before .before .before .before .before .before .args .store .now) (get (c .before .before .before .before .before .before .before .args .path .now)) (c .before .before .before .before .before .before .before .args .buffer .now) _ (c .before .before .before .whole-nodes .ensures) (not-false _ (c .before .before .if1 .left)) _ (c .before .is-sound .ensures) (not-true _ (c .if2 .taken)), refused-short _)
+returns-2 c = (unsound-store (c .before .before .before .before .before .before .before .args .store .now) (get (c .before .before .before .before .before .before .before .args .path .now)) (c .before .before .before .before .before .before .before .args .buffer .now) _ (c .before .before .before .whole-nodes .ensures) (not-false _ (c .before .before .if1 .left)) _ (c .before .is-sound .ensures) (not-true _ (c .if2 .taken)), refused-short _ _)
 
-is-path-requires : tie.Need-is-path-requires
-is-path-requires c κs = search needs
-
-returns-3 : tie.Need-returns-3
-returns-3 c = (malformed-path (c .before .before .before .before .before .before .before .before .before .args .store .now) (get (c .before .before .before .before .before .before .before .before .before .args .path .now)) (c .before .before .before .before .before .before .before .before .before .args .buffer .now) _ (c .before .before .before .before .before .whole-nodes .ensures) (not-false _ (c .before .before .before .before .if1 .left)) _ (c .before .before .before .is-sound .ensures) (not-false _ (c .before .before .if2 .left)) _ (get-path _ _ (c .before .is-path .ensures)) (not-true _ (c .if3 .taken)), refused-short _)
-
-returns-4 : tie.Need-returns-4
-returns-4 c = (short-buffer (c .before .before .before .before .before .before .before .before .before .before .args .store .now) (get (c .before .before .before .before .before .before .before .before .before .before .args .path .now)) (c .before .before .before .before .before .before .before .before .before .before .args .buffer .now) _ (c .before .before .before .before .before .before .whole-nodes .ensures) (not-false _ (c .before .before .before .before .before .if1 .left)) _ (c .before .before .before .before .is-sound .ensures) (not-false _ (c .before .before .before .if2 .left)) _ (get-path _ _ (c .before .before .is-path .ensures)) (not-false _ (c .before .if3 .left)) (get-short (c .before .before .before .before .before .before .before .before .before .before .args .path .now) (c .before .before .before .before .before .before .before .before .before .before .args .buffer .now) (omega arith)), refused-short _)
-
-value-of-requires : tie.Need-value-of-requires
-value-of-requires c κs = sym (c .before .before .before .before .is-sound .ensures) ∙ not-false _ (c .before .before .before .if2 .left)
-
-enum-known-found : tie.Need-enum-known-found
-enum-known-found c = search needs
-
-enum-told : tie.Need-enum-told
-enum-told c = search needs
-
-returns-5 : tie.Need-returns-5
-returns-5 c = (nothing-there (c .before .before .before .before .before .before .before .before .before .before .before .before .before .args .store .now) (get (c .before .before .before .before .before .before .before .before .before .before .before .before .before .args .path .now)) (c .before .before .before .before .before .before .before .before .before .before .before .before .before .args .buffer .now) _ (c .before .before .before .before .before .before .before .before .before .whole-nodes .ensures) (not-false _ (c .before .before .before .before .before .before .before .before .if1 .left)) _ (c .before .before .before .before .before .before .before .is-sound .ensures) (not-false _ (c .before .before .before .before .before .before .if2 .left)) _ (get-path _ _ (c .before .before .before .before .before .is-path .ensures)) (not-false _ (c .before .before .before .before .if3 .left)) (get-room (c .before .before .before .before .before .before .before .before .before .before .before .before .before .args .path .now) (c .before .before .before .before .before .before .before .before .before .before .before .before .before .args .buffer .now) (omega arith)) (value-absent _ _ _ (sym (c .before .before .before .before .before .before .before .is-sound .ensures) ∙ not-false _ (c .before .before .before .before .before .before .if2 .left)) (c .before .before .value-of .ensures) (c .enum-told .given .1)), refused-short _)
-
-sub-copy-at : tie.Need-sub-copy-at
-sub-copy-at c = let v = value-there _ (c .before .before .before .before .before .before .before .before .before .before .before .before .before .before .before .args .path .now) _ _ (sym (c .before .before .before .before .before .before .before .before .before .is-sound .ensures) ∙ not-false _ (c .before .before .before .before .before .before .before .before .if2 .left)) (c .before .before .before .before .value-of .ensures) (c .before .before .found .given .1) in omega (arith, v .rising)
-
-part-copy-at-start : tie.Need-part-copy-at-start
-part-copy-at-start c = let v = value-there _ (c .before .before .before .before .before .before .before .before .before .before .before .before .before .before .before .args .path .now) _ _ (sym (c .before .before .before .before .before .before .before .before .before .is-sound .ensures) ∙ not-false _ (c .before .before .before .before .before .before .before .before .if2 .left)) (c .before .before .before .before .value-of .ensures) (c .before .before .found .given .1) in omega (arith, v .rising, v .inside)
-
-part-copy-at-end : tie.Need-part-copy-at-end
-part-copy-at-end c = let v = value-there _ (c .before .before .before .before .before .before .before .before .before .before .before .before .before .before .before .args .path .now) _ _ (sym (c .before .before .before .before .before .before .before .before .before .is-sound .ensures) ∙ not-false _ (c .before .before .before .before .before .before .before .before .if2 .left)) (c .before .before .before .before .value-of .ensures) (c .before .before .found .given .1) in omega (arith, v .rising, v .inside)
-
-copy-at-requires : tie.Need-copy-at-requires
-copy-at-requires c κs = let v = value-there _ (c .before .before .before .before .before .before .before .before .before .before .before .before .before .before .before .before .args .path .now) _ _ (sym (c .before .before .before .before .before .before .before .before .before .before .is-sound .ensures) ∙ not-false _ (c .before .before .before .before .before .before .before .before .before .if2 .left)) (c .before .before .before .before .before .value-of .ensures) (c .before .before .before .found .given .1) in omega (arith, v .size, v .short)
-
-sub-t9 : tie.Need-sub-t9
-sub-t9 c = let v = value-there _ (c .before .before .before .before .before .before .before .before .before .before .before .before .before .before .before .before .before .before .before .args .path .now) _ _ (sym (c .before .before .before .before .before .before .before .before .before .before .before .before .before .is-sound .ensures) ∙ not-false _ (c .before .before .before .before .before .before .before .before .before .before .before .before .if2 .left)) (c .before .before .before .before .before .before .before .before .value-of .ensures) (c .before .before .before .before .before .before .found .given .1) in omega (arith, v .rising)
+get-fit-requires : tie.Need-get-fit-requires
+get-fit-requires c κs = (sym (c .before .before .before .before .whole-nodes .ensures) ∙ not-false _ (c .before .before .before .if1 .left), sym (c .before .before .is-sound .ensures) ∙ not-false _ (c .before .if2 .left))
 
 same-length : tie.Need-same-length
 same-length c = search needs
 
-returns-6 : tie.Need-returns-6
-returns-6 c = let v = value-there _ (c .before .before .before .before .before .before .before .before .before .before .before .before .before .before .before .before .before .before .before .args .path .now) _ _ (sym (c .before .before .before .before .before .before .before .before .before .before .before .before .before .is-sound .ensures) ∙ not-false _ (c .before .before .before .before .before .before .before .before .before .before .before .before .if2 .left)) (c .before .before .before .before .before .before .before .before .value-of .ensures) (c .before .before .before .before .before .before .found .given .1) in (something-there (c .before .before .before .before .before .before .before .before .before .before .before .before .before .before .before .before .before .before .before .args .store .now) (get (c .before .before .before .before .before .before .before .before .before .before .before .before .before .before .before .before .before .before .before .args .path .now)) (c .before .before .before .before .before .before .before .before .before .before .before .before .before .before .before .before .before .before .before .args .buffer .now) _ (c .before .before .before .before .before .before .before .before .before .before .before .before .before .before .before .whole-nodes .ensures) (not-false _ (c .before .before .before .before .before .before .before .before .before .before .before .before .before .before .if1 .left)) _ (c .before .before .before .before .before .before .before .before .before .before .before .before .before .is-sound .ensures) (not-false _ (c .before .before .before .before .before .before .before .before .before .before .before .before .if2 .left)) _ (get-path _ _ (c .before .before .before .before .before .before .before .before .before .before .before .is-path .ensures)) (not-false _ (c .before .before .before .before .before .before .before .before .before .before .if3 .left)) (get-room (c .before .before .before .before .before .before .before .before .before .before .before .before .before .before .before .before .before .before .before .args .path .now) (c .before .before .before .before .before .before .before .before .before .before .before .before .before .before .before .before .before .before .before .args .buffer .now) (omega arith)) _ _ _ (v .there) (sym (v .size)) (c .before .before .copy-at .ensures), found-short _ (omega (arith, v .short)))
+returns-3 : tie.Need-returns-3
+returns-3 c = search needs
 
 pub get-spec : {M : Type 1} → statement M
 get-spec =
@@ -70,17 +36,6 @@ get-spec =
     returns
     is-sound-requires
     returns-2
-    is-path-requires
-    returns-3
-    returns-4
-    value-of-requires
-    enum-known-found
-    enum-told
-    returns-5
-    sub-copy-at
-    part-copy-at-start
-    part-copy-at-end
-    copy-at-requires
-    sub-t9
+    get-fit-requires
     same-length
-    returns-6)
+    returns-3)

@@ -1,4 +1,4 @@
--- `rebuild::pack` meets its contract: the numbers from 1 up are what build asks (specs/RebuildSteps).
+-- `rebuild::pack` meets its contract: the numbers from 1 up, below a quarter of the nodes, are what build asks (specs/RebuildSteps).
 -- Assumes nothing.
 use Rattle.node.specs.Whole.{whole-parts}
 use Rattle.rebuild.specs.RebuildSteps.{pack-asks, pack-done}
@@ -8,7 +8,7 @@ use Rattle.rebuild.proofs.pack.Statement.{statement}
 use Rattle.rebuild.proofs.pack.Tie as tie
 
 count-numbers-requires : tie.Need-count-numbers-requires
-count-numbers-requires c κs = let p = c .before .before .before .before .pre in let w = whole-parts _ (p .whole) in let n = p .numbers in let f = w .few in omega arith
+count-numbers-requires c κs = let p = c .before .before .before .before .pre in let w = whole-parts _ (p .whole) in let n = p .numbers in let f = w .few in (omega arith, omega arith)
 
 build-requires : tie.Need-build-requires
 build-requires c κs = pack-asks _ _ _ _ _ (c .before .before .before .before .before .before .before .before .before .before .pre) (c .before .before .before .before .before .count-numbers .ensures)

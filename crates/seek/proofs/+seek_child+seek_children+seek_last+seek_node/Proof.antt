@@ -5,11 +5,11 @@ use Rattle.seek.specs.Walk.{walkIn, runPaths, KidsReady}
 use Rattle.seek.specs.Buffer.{bufferIs}
 use Rattle.path.specs.Fed.{shapeIs}
 use Rattle.lookup.specs.Look.{node-inside}
-use Rattle.search.specs.Own.{kid, kidsE, kid-place, kids-none, kids-other}
+use Rattle.node.specs.Search.Own.{kid, kidsE, kid-place, kids-none, kids-other}
 use Rattle.node.specs.Entries.{listed, listed-end}
 use Rattle.node.specs.Places.{part, Within, step-bad-is, step-read-is, entry-wider}
 use Rattle.node.specs.declared.Entry.{Entry}
-use Rattle.reading.specs.SeekHere.{under}
+use Rattle.laws.specs.Reading.SeekHere.{under}
 use lib.ListN.{length}
 use mathlib.Core.List.{_∷_}
 use mathlib.Core.Path.{_≡_, refl, sym, _∙_}
@@ -37,7 +37,7 @@ use Rattle.octets.proofs.u16_at.Reads as u16-at-reads
 use Rattle.seek.proofs.is_far.Reads as is-far-reads
 use Rattle.seek.proofs.join.Reads as join-reads
 use Rattle.seek.proofs.seek_entries.Reads as seek-entries-reads
-use Rattle.search.proofs.kid_of.Reads as kid-of-reads
+use Rattle.node.proofs.search.kid_of.Reads as kid-of-reads
 use Rattle.seek.proofs.+seek_child+seek_children+seek_last+seek_node.{statement}
 use Rattle.seek.proofs.+seek_child+seek_children+seek_last+seek_node.Tie.{close}
 

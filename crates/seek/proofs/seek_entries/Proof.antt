@@ -6,7 +6,7 @@ use Rattle.seek.specs.Buffer.{bufferIs}
 use Rattle.path.specs.Fed.{shapeIs}
 use Rattle.node.specs.Entries.{listed, listed-end}
 use Rattle.node.specs.Places.{Next, step-bad-is, step-read-is, entry-wider}
-use Rattle.reading.specs.SeekHere.{under}
+use Rattle.laws.specs.Reading.SeekHere.{under}
 use lib.ListN.{length}
 use mathlib.Core.Path.{_≡_, refl, _∙_}
 use Prim.Native.Nat.{_-_}

@@ -5,7 +5,7 @@ use Rattle.slice.specs.PairSteps.{page-written}
 use Rattle.lookup.specs.Look.{part-rest}
 use Rattle.node.specs.Places.{part}
 use Rattle.node.specs.Cut.{cut-length, cut-drop}
-use Rattle.packed.specs.Tidy.{zerosOf}
+use Rattle.packed.specs.Form.Tidy.{zerosOf}
 use mathlib.Core.Path.{sym}
 use Prim.Native.Nat.{_+_, _*_}
 use native.Mathlib.Omega.{arith}
@@ -21,7 +21,7 @@ use Rattle.slice.proofs.slice_left.Kinds as slice-left-kinds
 use Rattle.slice.proofs.+slice_cut+slice_left.Lts-slice_left as slice-left-lts
 use Rattle.octets.proofs.common_length.Reads as common-length-reads
 use Rattle.octets.proofs.u16_at.Reads as u16-at-reads
-use Rattle.push.proofs.message.write_page.Reads as write-page-reads
+use Rattle.node.proofs.writer.write_page.Reads as write-page-reads
 use Rattle.slice.proofs.kids.emit_left.Reads as emit-left-reads
 use Rattle.slice.proofs.pairs.write_pairs.Reads as write-pairs-reads
 use Rattle.slice.proofs.point.find_point.Reads as find-point-reads

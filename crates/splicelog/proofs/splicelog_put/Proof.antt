@@ -16,7 +16,7 @@ same-length-2 : tie.Need-same-length-2
 same-length-2 c = search needs
 
 returns : tie.Need-returns
-returns c = number-meets _ _ _ _ _ _ (c .before .before .before .before .before .put .ensures) (c .outcome-number .ensures)
+returns c = number-meets _ _ _ _ _ _ (c .before .before .before .before .before .put .ensures) (c .outcome-number .ensures .0)
 
 pub splicelog-put-spec : {M : Type 1} → statement M
 splicelog-put-spec =

@@ -5,7 +5,7 @@ use Rattle.tree_check.specs.NodeSteps.{number-low, number-past, reached-
 use Rattle.tree_check.specs.ChildSteps.{child-out, child-flat, child-walk, last-stops, last-done, next-place}
 use Rattle.tree_check.specs.HeldSteps.{list-last, list-messages, list-unread, list-stops, list-goes}
 use Rattle.tree_check.specs.Held.{flatIs}
-use Rattle.tree_check.specs.Layout.{below-nodes}
+use Rattle.laws.specs.WriteNode.{in-store}
 use Rattle.node.specs.Places.{part, step-read-is}
 use borrow.Author.Tests.{not-true, not-false}
 use mathlib.Core.Path.{sym, _∙_}
@@ -13,6 +13,7 @@ use Rattle.path.specs.Fed.{shapeIs}
 use borrow.Author.Needs.{needs}
 use native.Mathlib.Omega.{arith}
 use Prim.Native.Nat.{ℕ, _<_, _*_, _+_, _-_}
+use lib.ListN.{length}
 use borrow.Fn.Kinds.{In}
 use borrow.Fn.PlainCycle.{Measures, is, falls, and}
 use Rattle.tree_check.proofs.check_child.Reads as check-child
@@ -32,7 +33,7 @@ use Rattle.octets.proofs.common_length.Reads as common-length-reads
 use Rattle.octets.proofs.owned.Reads as owned-reads
 use Rattle.octets.proofs.precedes.Reads as precedes-reads
 use Rattle.path.proofs.feed.Reads as feed-reads
-use Rattle.search.proofs.kid_of.Reads as kid-of-reads
+use Rattle.node.proofs.search.kid_of.Reads as kid-of-reads
 use Rattle.tree_check.proofs.check_leaf.Reads as check-leaf-reads
 use Rattle.tree_check.proofs.check_messages.Reads as check-messages-reads
 use Rattle.tree_check.proofs.first_child.Reads as first-child-reads
@@ -1012,7 +1013,7 @@ check-node-check-leaf-requires : (t : ℕ) → check-node-lts.Need-check-leaf-re
   tally-of-reads.Asked,
   tally-of-reads.Learnt,
 ) (check-node-at t) check-node.Post
-check-node-check-leaf-requires t c κs = below-nodes (c .before .before .before .before .before .before .before .before .before .before .args .t1 .now) (c .before .before .before .before .before .before .before .before .before .before .args .num) (omega arith)
+check-node-check-leaf-requires t c κs = in-store (length (c .before .before .before .before .before .before .before .before .before .before .args .t1 .now)) (c .before .before .before .before .before .before .before .before .before .before .args .num) (omega arith)
 
 check-node-returns-5 : (t : ℕ) → check-node-lts.Need-returns-5 (
   node-count-reads.Asked,
@@ -1044,7 +1045,7 @@ check-node-first-child-requires : (t : ℕ) → check-node-lts.Need-first-child-
   tally-of-reads.Asked,
   tally-of-reads.Learnt,
 ) (check-node-at t) check-node.Post
-check-node-first-child-requires t c κs = below-nodes (c .before .before .before .before .before .before .before .before .before .before .args .t1 .now) (c .before .before .before .before .before .before .before .before .before .before .args .num) (omega arith)
+check-node-first-child-requires t c κs = in-store (length (c .before .before .before .before .before .before .before .before .before .before .args .t1 .now)) (c .before .before .before .before .before .before .before .before .before .before .args .num) (omega arith)
 
 check-node-enum-known-child : (t : ℕ) → check-node-lts.Need-enum-known-child (
   node-count-reads.Asked,

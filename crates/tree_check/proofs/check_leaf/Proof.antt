@@ -1,6 +1,6 @@
 -- `check_leaf` tells whether a node is a sound leaf, and how many pairs it has. Relies on LeafSteps and on node_check.
 use Rattle.tree_check.specs.LeafSteps.{leaf-unlaid, leaf-few, leaf-unsound, leaf-all-sound}
-use Rattle.node_check.specs.Counted.{counts-no, counts-yes}
+use Rattle.tree_check.specs.Node.Counted.{counts-no, counts-yes}
 use Rattle.path.specs.Fed.{shapeIs}
 use borrow.Author.Tests.{not-true, not-false}
 use borrow.Author.Needs.{needs}

@@ -1,9 +1,9 @@
 -- `apply_message` meets its contract: the pairs after the message and the first bytes make the new page.
 -- Relies on specs/LeafSteps.
 use native.Mathlib.Omega.{arith}
-use Rattle.packed.specs.Tidy.{zerosOf}
+use Rattle.packed.specs.Form.Tidy.{zerosOf}
 use Rattle.node.specs.Places.{messageIn}
-use Rattle.push_laws.specs.Arriving.{loweredBy}
+use Rattle.push.specs.Laws.Arriving.{loweredBy}
 use Rattle.push.specs.LeafSteps.{leaf-fits, leaf-written}
 use borrow.Author.Needs.{needs}
 use Rattle.push.proofs.leaf.apply_message.Statement.{statement}

@@ -4,7 +4,8 @@ use native.Mathlib.Omega.{arith}
 use lib.ListN.{length}
 use mathlib.Core.Path.{subst, sym}
 use Rattle.node.specs.Places.{Within, EntryWithin}
-use Rattle.push.specs.WriteSteps.{keyed-length, puts-as, ends-as, fits-as, puts-nothing, ends-nowhere}
+use Rattle.laws.specs.Encode.{keyed-length}
+use Rattle.push.specs.WriteSteps.{puts-as, ends-as, fits-as, puts-nothing, ends-nowhere}
 use Rattle.push.specs.LeafSteps.{kept-child, kept-message, kept-not, kept-yes}
 use borrow.Author.Needs.{needs}
 use Rattle.push.proofs.leaf.emit_kept.Statement.{statement}
@@ -32,26 +33,26 @@ stays-requires c κs = search needs
 returns : tie.Need-returns
 returns c = let z = kept-not (c .before .before .before .before .before .before .before .before .before .args .leaf .now) (c .before .before .before .before .before .before .before .before .before .args .side) (c .before .before .before .before .before .before .before .before .before .args .key .now) (c .before .before .before .before .before .before .before .before .before .args .e) _ _ (c .before .before .before .before .e .given .1) _ (c .before .stays .ensures) (c .if1 .taken) in (puts-nothing _ _ _ z, ends-nowhere _ _ z)
 
-sub-emit-keyed : tie.Need-sub-emit-keyed
-sub-emit-keyed c = let w = pair-in (c .before .before .before .before) in omega arith
+sub-write-keyed : tie.Need-sub-write-keyed
+sub-write-keyed c = let w = pair-in (c .before .before .before .before) in omega arith
 
-part-emit-keyed-start : tie.Need-part-emit-keyed-start
-part-emit-keyed-start c = let w = pair-in (c .before .before .before .before) in omega arith
+part-write-keyed-start : tie.Need-part-write-keyed-start
+part-write-keyed-start c = let w = pair-in (c .before .before .before .before) in omega arith
 
-part-emit-keyed-end : tie.Need-part-emit-keyed-end
-part-emit-keyed-end c = let w = pair-in (c .before .before .before .before) in omega arith
+part-write-keyed-end : tie.Need-part-write-keyed-end
+part-write-keyed-end c = let w = pair-in (c .before .before .before .before) in omega arith
 
-sub-emit-keyed-2 : tie.Need-sub-emit-keyed-2
-sub-emit-keyed-2 c = let w = pair-in (c .before .before .before .before .before) in omega arith
+sub-write-keyed-2 : tie.Need-sub-write-keyed-2
+sub-write-keyed-2 c = let w = pair-in (c .before .before .before .before .before) in omega arith
 
-part-emit-keyed-start-2 : tie.Need-part-emit-keyed-start-2
-part-emit-keyed-start-2 c = let w = pair-in (c .before .before .before .before .before) in omega arith
+part-write-keyed-start-2 : tie.Need-part-write-keyed-start-2
+part-write-keyed-start-2 c = let w = pair-in (c .before .before .before .before .before) in omega arith
 
-part-emit-keyed-end-2 : tie.Need-part-emit-keyed-end-2
-part-emit-keyed-end-2 c = let w = pair-in (c .before .before .before .before .before) in omega arith
+part-write-keyed-end-2 : tie.Need-part-write-keyed-end-2
+part-write-keyed-end-2 c = let w = pair-in (c .before .before .before .before .before) in omega arith
 
-emit-keyed-requires : tie.Need-emit-keyed-requires
-emit-keyed-requires c κs = (fits-as (c .before .before .before .before .before .before .before .before .before .before .before .before .args .page .now) (c .before .before .before .before .before .before .before .before .before .before .before .before .args .page .now) (c .before .before .before .before .before .before .before .before .before .before .before .before .args .at) 0 _ _ _ (kept-yes (c .before .before .before .before .before .before .before .before .before .before .before .before .args .leaf .now) (c .before .before .before .before .before .before .before .before .before .before .before .before .args .side) (c .before .before .before .before .before .before .before .before .before .before .before .before .args .key .now) (c .before .before .before .before .before .before .before .before .before .before .before .before .args .e) _ _ (c .before .before .before .before .before .before .before .e .given .1) _ (c .before .before .before .before .stays .ensures) (c .before .before .before .if1 .left)) (c .before .before .before .before .before .before .before .before .before .before .before .before .pre .1) (sym (keyed-length _ _ _)), c .before .before .before .before .before .before .before .before .before .before .before .before .pre .2, omega arith)
+write-keyed-requires : tie.Need-write-keyed-requires
+write-keyed-requires c κs = let f = fits-as (c .before .before .before .before .before .before .before .before .before .before .before .before .args .page .now) (c .before .before .before .before .before .before .before .before .before .before .before .before .args .page .now) (c .before .before .before .before .before .before .before .before .before .before .before .before .args .at) 0 _ _ _ (kept-yes (c .before .before .before .before .before .before .before .before .before .before .before .before .args .leaf .now) (c .before .before .before .before .before .before .before .before .before .before .before .before .args .side) (c .before .before .before .before .before .before .before .before .before .before .before .before .args .key .now) (c .before .before .before .before .before .before .before .before .before .before .before .before .args .e) _ _ (c .before .before .before .before .before .before .before .e .given .1) _ (c .before .before .before .before .stays .ensures) (c .before .before .before .if1 .left)) (c .before .before .before .before .before .before .before .before .before .before .before .before .pre .1) (sym (keyed-length _ _ _)) in (f, omega arith, omega arith, omega arith)
 
 enum-told : tie.Need-enum-told
 enum-told c = search needs
@@ -63,7 +64,7 @@ same-length : tie.Need-same-length
 same-length c = search needs
 
 returns-2 : tie.Need-returns-2
-returns-2 c = let z = kept-yes (c .before .before .before .before .before .before .before .before .before .before .before .before .before .before .before .args .leaf .now) (c .before .before .before .before .before .before .before .before .before .before .before .before .before .before .before .args .side) (c .before .before .before .before .before .before .before .before .before .before .before .before .before .before .before .args .key .now) (c .before .before .before .before .before .before .before .before .before .before .before .before .before .before .before .args .e) _ _ (c .before .before .before .before .before .before .before .before .before .before .e .given .1) _ (c .before .before .before .before .before .before .before .stays .ensures) (c .before .before .before .before .before .before .if1 .left) in (puts-as (c .before .before .before .before .before .before .before .before .before .before .before .before .before .before .before .args .page .now) _ (c .before .before .before .before .before .before .before .before .before .before .before .before .before .before .before .args .at) 0 0 _ _ z (c .before .before .emit-keyed .ensures .0), ends-as (c .before .before .before .before .before .before .before .before .before .before .before .before .before .before .before .args .page .now) (c .before .before .before .before .before .before .before .before .before .before .before .before .before .before .before .args .page .now) (c .before .before .before .before .before .before .before .before .before .before .before .before .before .before .before .args .at) _ _ _ _ z (c .before .before .emit-keyed .ensures .1) (sym (keyed-length _ _ _)))
+returns-2 c = let z = kept-yes (c .before .before .before .before .before .before .before .before .before .before .before .before .before .before .before .args .leaf .now) (c .before .before .before .before .before .before .before .before .before .before .before .before .before .before .before .args .side) (c .before .before .before .before .before .before .before .before .before .before .before .before .before .before .before .args .key .now) (c .before .before .before .before .before .before .before .before .before .before .before .before .before .before .before .args .e) _ _ (c .before .before .before .before .before .before .before .before .before .before .e .given .1) _ (c .before .before .before .before .before .before .before .stays .ensures) (c .before .before .before .before .before .before .if1 .left) in (puts-as (c .before .before .before .before .before .before .before .before .before .before .before .before .before .before .before .args .page .now) _ (c .before .before .before .before .before .before .before .before .before .before .before .before .before .before .before .args .at) 0 0 _ _ z (c .before .before .write-keyed .ensures .0), ends-as (c .before .before .before .before .before .before .before .before .before .before .before .before .before .before .before .args .page .now) (c .before .before .before .before .before .before .before .before .before .before .before .before .before .before .before .args .page .now) (c .before .before .before .before .before .before .before .before .before .before .before .before .before .before .before .args .at) _ _ _ _ z (c .before .before .write-keyed .ensures .1) (sym (keyed-length _ _ _)))
 
 returns-3 : tie.Need-returns-3
 returns-3 c = let z = kept-child (c .before .before .before .before .before .args .leaf .now) (c .before .before .before .before .before .args .side) (c .before .before .before .before .before .args .key .now) (c .before .before .before .before .before .args .e) _ _ (c .enum-told .given .1) in (puts-nothing _ _ _ z, ends-nowhere _ _ z)
@@ -81,13 +82,13 @@ emit-kept-spec =
     part-stays-end
     stays-requires
     returns
-    sub-emit-keyed
-    part-emit-keyed-start
-    part-emit-keyed-end
-    sub-emit-keyed-2
-    part-emit-keyed-start-2
-    part-emit-keyed-end-2
-    emit-keyed-requires
+    sub-write-keyed
+    part-write-keyed-start
+    part-write-keyed-end
+    sub-write-keyed-2
+    part-write-keyed-start-2
+    part-write-keyed-end-2
+    write-keyed-requires
     enum-told
     enum-told-2
     same-length

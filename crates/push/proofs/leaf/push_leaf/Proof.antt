@@ -8,8 +8,8 @@ use mathlib.Core.Path.{_≡_, refl, _∙_}
 use Prim.Native.Nat.{_-_}
 use Rattle.node.specs.Entries.{listed, listed-end}
 use Rattle.node.specs.Places.{Next, step-bad-is, step-read-is, entry-wider, entryIn}
-use Rattle.push_laws.specs.Written.{hasRoom}
-use Rattle.push_laws.specs.Leaves.{leafTakes}
+use Rattle.push.specs.Laws.Written.{hasRoom}
+use Rattle.push.specs.Laws.Leaves.{leafTakes}
 use Rattle.push.specs.LeafSteps.{all-taken, entry-inside, entry-fits, room-left, entry-taken}
 use Rattle.push.proofs.leaf.push_leaf.Statement.{statement}
 use Rattle.push.proofs.leaf.push_leaf.Tie as tie

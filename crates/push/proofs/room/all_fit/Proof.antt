@@ -6,12 +6,12 @@ use lib.ListN.{length}
 use mathlib.Core.List.{_∷_}
 use mathlib.Core.Path.{_≡_, refl, sym, ap}
 use Prim.Native.Nat.{_≤_, _-_}
-use Rattle.search.specs.Own.{kid, kidsE}
+use Rattle.node.specs.Search.Own.{kid, kidsE}
 use Rattle.node.specs.Entries.{listed}
 use Rattle.node.specs.Places.{Within, part}
 use Rattle.live.specs.Steps.{pends-child, pends-end}
 use Rattle.live.specs.Walk.{NextChild}
-use Rattle.push_laws.specs.Written.{allHaveRoom}
+use Rattle.push.specs.Laws.Written.{allHaveRoom}
 use Rattle.push.specs.ReadSteps.{rooms-none, rooms-last, rooms-no, rooms-on}
 use Rattle.push.proofs.room.all_fit.Statement.{statement}
 use Rattle.push.proofs.room.all_fit.Tie as tie

@@ -8,7 +8,7 @@ use mathlib.Core.Path.{_≡_, refl, _∙_}
 use Prim.Native.Nat.{_<_, _-_, _+_}
 use Rattle.node.specs.Entries.{listed, listed-end}
 use Rattle.node.specs.Places.{Next, step-bad-is, step-read-is, entry-wider}
-use Rattle.push_laws.specs.Arriving.{broughtAll}
+use Rattle.push.specs.Laws.Arriving.{broughtAll}
 use Rattle.push.specs.ReadSteps.{fit-over, fit-end, fit-step}
 use Rattle.push.proofs.room.messages_fit.Statement.{statement}
 use Rattle.push.proofs.room.messages_fit.Tie as tie

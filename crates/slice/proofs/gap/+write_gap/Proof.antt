@@ -2,7 +2,7 @@
 -- Relies on specs/GapSteps.
 use Rattle.slice.specs.GapSteps.{gap-new, gap-leaf, gap-deeper, gap-inner}
 use Rattle.lookup.specs.Look.{part-rest}
-use Rattle.packed.specs.Tidy.{zerosOf}
+use Rattle.packed.specs.Form.Tidy.{zerosOf}
 use Rattle.octets.specs.Put.{put}
 use Rattle.laws.specs.Encode.{bytesOf}
 use Rattle.image.specs.Entry.{child}
@@ -19,8 +19,8 @@ use Rattle.slice.proofs.gap.write_gap.Kinds as write-gap-kinds
 use Rattle.slice.proofs.gap.+write_gap.Lts-write_gap as write-gap-lts
 use Rattle.octets.proofs.common_length.Reads as common-length-reads
 use Rattle.octets.proofs.u16_at.Reads as u16-at-reads
-use Rattle.pages.proofs.emit_child.Reads as emit-child-reads
-use Rattle.push.proofs.message.write_page.Reads as write-page-reads
+use Rattle.node.proofs.writer.write_child.Reads as write-child-reads
+use Rattle.node.proofs.writer.write_page.Reads as write-page-reads
 use Rattle.slice.proofs.gap.+write_gap.{statement}
 use Rattle.slice.proofs.gap.+write_gap.Tie.{close}
 
@@ -41,8 +41,8 @@ write-gap-mul-u16-at : (t : ℕ) → write-gap-lts.Need-mul-u16-at (
   write-page-reads.Learnt,
   common-length-reads.Asked,
   common-length-reads.Learnt,
-  emit-child-reads.Asked,
-  emit-child-reads.Learnt,
+  write-child-reads.Asked,
+  write-child-reads.Learnt,
   write-gap-below t,
   write-gap.Post,
 ) (write-gap-at t) write-gap.Post
@@ -55,8 +55,8 @@ write-gap-u16-at-requires : (t : ℕ) → write-gap-lts.Need-u16-at-requires (
   write-page-reads.Learnt,
   common-length-reads.Asked,
   common-length-reads.Learnt,
-  emit-child-reads.Asked,
-  emit-child-reads.Learnt,
+  write-child-reads.Asked,
+  write-child-reads.Learnt,
   write-gap-below t,
   write-gap.Post,
 ) (write-gap-at t) write-gap.Post
@@ -69,8 +69,8 @@ write-gap-slice-aggregate-write-page : (t : ℕ) → write-gap-lts.Need-slice-ag
   write-page-reads.Learnt,
   common-length-reads.Asked,
   common-length-reads.Learnt,
-  emit-child-reads.Asked,
-  emit-child-reads.Learnt,
+  write-child-reads.Asked,
+  write-child-reads.Learnt,
   write-gap-below t,
   write-gap.Post,
 ) (write-gap-at t) write-gap.Post
@@ -83,8 +83,8 @@ write-gap-write-page-requires : (t : ℕ) → write-gap-lts.Need-write-page-requ
   write-page-reads.Learnt,
   common-length-reads.Asked,
   common-length-reads.Learnt,
-  emit-child-reads.Asked,
-  emit-child-reads.Learnt,
+  write-child-reads.Asked,
+  write-child-reads.Learnt,
   write-gap-below t,
   write-gap.Post,
 ) (write-gap-at t) write-gap.Post
@@ -97,8 +97,8 @@ write-gap-same-length : (t : ℕ) → write-gap-lts.Need-same-length (
   write-page-reads.Learnt,
   common-length-reads.Asked,
   common-length-reads.Learnt,
-  emit-child-reads.Asked,
-  emit-child-reads.Learnt,
+  write-child-reads.Asked,
+  write-child-reads.Learnt,
   write-gap-below t,
   write-gap.Post,
 ) (write-gap-at t) write-gap.Post
@@ -111,8 +111,8 @@ write-gap-returns : (t : ℕ) → write-gap-lts.Need-returns (
   write-page-reads.Learnt,
   common-length-reads.Asked,
   common-length-reads.Learnt,
-  emit-child-reads.Asked,
-  emit-child-reads.Learnt,
+  write-child-reads.Asked,
+  write-child-reads.Learnt,
   write-gap-below t,
   write-gap.Post,
 ) (write-gap-at t) write-gap.Post
@@ -126,8 +126,8 @@ write-gap-add-u16-at : (t : ℕ) → write-gap-lts.Need-add-u16-at (
   write-page-reads.Learnt,
   common-length-reads.Asked,
   common-length-reads.Learnt,
-  emit-child-reads.Asked,
-  emit-child-reads.Learnt,
+  write-child-reads.Asked,
+  write-child-reads.Learnt,
   write-gap-below t,
   write-gap.Post,
 ) (write-gap-at t) write-gap.Post
@@ -140,8 +140,8 @@ write-gap-mul-u16-at-2 : (t : ℕ) → write-gap-lts.Need-mul-u16-at-2 (
   write-page-reads.Learnt,
   common-length-reads.Asked,
   common-length-reads.Learnt,
-  emit-child-reads.Asked,
-  emit-child-reads.Learnt,
+  write-child-reads.Asked,
+  write-child-reads.Learnt,
   write-gap-below t,
   write-gap.Post,
 ) (write-gap-at t) write-gap.Post
@@ -154,8 +154,8 @@ write-gap-u16-at-requires-2 : (t : ℕ) → write-gap-lts.Need-u16-at-requires-2
   write-page-reads.Learnt,
   common-length-reads.Asked,
   common-length-reads.Learnt,
-  emit-child-reads.Asked,
-  emit-child-reads.Learnt,
+  write-child-reads.Asked,
+  write-child-reads.Learnt,
   write-gap-below t,
   write-gap.Post,
 ) (write-gap-at t) write-gap.Post
@@ -168,82 +168,82 @@ write-gap-common-length-requires : (t : ℕ) → write-gap-lts.Need-common-lengt
   write-page-reads.Learnt,
   common-length-reads.Asked,
   common-length-reads.Learnt,
-  emit-child-reads.Asked,
-  emit-child-reads.Learnt,
+  write-child-reads.Asked,
+  write-child-reads.Learnt,
   write-gap-below t,
   write-gap.Post,
 ) (write-gap-at t) write-gap.Post
 write-gap-common-length-requires t c κs = search needs
 
-write-gap-slice-aggregate-emit-child : (t : ℕ) → write-gap-lts.Need-slice-aggregate-emit-child (
+write-gap-slice-aggregate-write-child : (t : ℕ) → write-gap-lts.Need-slice-aggregate-write-child (
   u16-at-reads.Asked,
   u16-at-reads.Learnt,
   write-page-reads.Asked,
   write-page-reads.Learnt,
   common-length-reads.Asked,
   common-length-reads.Learnt,
-  emit-child-reads.Asked,
-  emit-child-reads.Learnt,
+  write-child-reads.Asked,
+  write-child-reads.Learnt,
   write-gap-below t,
   write-gap.Post,
 ) (write-gap-at t) write-gap.Post
-write-gap-slice-aggregate-emit-child t c = search needs
+write-gap-slice-aggregate-write-child t c = search needs
 
-write-gap-sub-emit-child : (t : ℕ) → write-gap-lts.Need-sub-emit-child (
+write-gap-sub-write-child : (t : ℕ) → write-gap-lts.Need-sub-write-child (
   u16-at-reads.Asked,
   u16-at-reads.Learnt,
   write-page-reads.Asked,
   write-page-reads.Learnt,
   common-length-reads.Asked,
   common-length-reads.Learnt,
-  emit-child-reads.Asked,
-  emit-child-reads.Learnt,
+  write-child-reads.Asked,
+  write-child-reads.Learnt,
   write-gap-below t,
   write-gap.Post,
 ) (write-gap-at t) write-gap.Post
-write-gap-sub-emit-child t c = let e = c .before .before .before .before .before .before .before .before .before .pre .1 .enough in let l = c .before .before .before .before .before .before .before .before .before .pre .1 .some in omega arith
+write-gap-sub-write-child t c = let e = c .before .before .before .before .before .before .before .before .before .pre .1 .enough in let l = c .before .before .before .before .before .before .before .before .before .pre .1 .some in omega arith
 
-write-gap-part-emit-child-start : (t : ℕ) → write-gap-lts.Need-part-emit-child-start (
+write-gap-part-write-child-start : (t : ℕ) → write-gap-lts.Need-part-write-child-start (
   u16-at-reads.Asked,
   u16-at-reads.Learnt,
   write-page-reads.Asked,
   write-page-reads.Learnt,
   common-length-reads.Asked,
   common-length-reads.Learnt,
-  emit-child-reads.Asked,
-  emit-child-reads.Learnt,
+  write-child-reads.Asked,
+  write-child-reads.Learnt,
   write-gap-below t,
   write-gap.Post,
 ) (write-gap-at t) write-gap.Post
-write-gap-part-emit-child-start t c = let e = c .before .before .before .before .before .before .before .before .before .pre .1 .enough in let l = c .before .before .before .before .before .before .before .before .before .pre .1 .some in omega arith
+write-gap-part-write-child-start t c = let e = c .before .before .before .before .before .before .before .before .before .pre .1 .enough in let l = c .before .before .before .before .before .before .before .before .before .pre .1 .some in omega arith
 
-write-gap-part-emit-child-end : (t : ℕ) → write-gap-lts.Need-part-emit-child-end (
+write-gap-part-write-child-end : (t : ℕ) → write-gap-lts.Need-part-write-child-end (
   u16-at-reads.Asked,
   u16-at-reads.Learnt,
   write-page-reads.Asked,
   write-page-reads.Learnt,
   common-length-reads.Asked,
   common-length-reads.Learnt,
-  emit-child-reads.Asked,
-  emit-child-reads.Learnt,
+  write-child-reads.Asked,
+  write-child-reads.Learnt,
   write-gap-below t,
   write-gap.Post,
 ) (write-gap-at t) write-gap.Post
-write-gap-part-emit-child-end t c = let e = c .before .before .before .before .before .before .before .before .before .pre .1 .enough in let l = c .before .before .before .before .before .before .before .before .before .pre .1 .some in omega arith
+write-gap-part-write-child-end t c = let e = c .before .before .before .before .before .before .before .before .before .pre .1 .enough in let l = c .before .before .before .before .before .before .before .before .before .pre .1 .some in omega arith
 
-write-gap-emit-child-requires : (t : ℕ) → write-gap-lts.Need-emit-child-requires (
+write-gap-write-child-requires : (t : ℕ) → write-gap-lts.Need-write-child-requires (
   u16-at-reads.Asked,
   u16-at-reads.Learnt,
   write-page-reads.Asked,
   write-page-reads.Learnt,
   common-length-reads.Asked,
   common-length-reads.Learnt,
-  emit-child-reads.Asked,
-  emit-child-reads.Learnt,
+  write-child-reads.Asked,
+  write-child-reads.Learnt,
   write-gap-below t,
   write-gap.Post,
 ) (write-gap-at t) write-gap.Post
-write-gap-emit-child-requires t c κs = let r = ap length (part-rest (c .before .before .common-length .result) (c .before .before .before .before .before .before .before .before .before .before .args .lo .now)) in let v = length-drop (c .before .before .common-length .result) (c .before .before .before .before .before .before .before .before .before .before .args .lo .now) in let x = c .before .before .before .before .before .before .before .before .before .before .pre .1 .short in (omega arith, search needs, c .before .before .before .u16-at2 .ensures .1)
+write-gap-write-child-requires t c κs = let r = ap length (part-rest (c .before .before .common-length .result) (c .before .before .before .before .before .before .before .before .before .before .args .lo .now)) in let v = length-drop (c .before .before .common-length .result) (c .before .before .before .before .before .before .before .before .before .before .args .lo .now) in let x = c .before .before .before .before .before .before .before .before .before .before .pre .1 .short in (omega arith, search needs, omega arith, c .before .before .before .u16-at2 .ensures .1)
 
 write-gap-sub-write-gap : (t : ℕ) → write-gap-lts.Need-sub-write-gap (
   u16-at-reads.Asked,
@@ -252,8 +252,8 @@ write-gap-sub-write-gap : (t : ℕ) → write-gap-lts.Need-sub-write-gap (
   write-page-reads.Learnt,
   common-length-reads.Asked,
   common-length-reads.Learnt,
-  emit-child-reads.Asked,
-  emit-child-reads.Learnt,
+  write-child-reads.Asked,
+  write-child-reads.Learnt,
   write-gap-below t,
   write-gap.Post,
 ) (write-gap-at t) write-gap.Post
@@ -266,8 +266,8 @@ write-gap-add-write-gap : (t : ℕ) → write-gap-lts.Need-add-write-gap (
   write-page-reads.Learnt,
   common-length-reads.Asked,
   common-length-reads.Learnt,
-  emit-child-reads.Asked,
-  emit-child-reads.Learnt,
+  write-child-reads.Asked,
+  write-child-reads.Learnt,
   write-gap-below t,
   write-gap.Post,
 ) (write-gap-at t) write-gap.Post
@@ -280,8 +280,8 @@ write-gap-write-gap-requires : (t : ℕ) → write-gap-lts.Need-write-gap-requir
   write-page-reads.Learnt,
   common-length-reads.Asked,
   common-length-reads.Learnt,
-  emit-child-reads.Asked,
-  emit-child-reads.Learnt,
+  write-child-reads.Asked,
+  write-child-reads.Learnt,
   write-gap-below t,
   write-gap.Post,
 ) (write-gap-at t) write-gap.Post
@@ -294,8 +294,8 @@ write-gap-slice-aggregate-write-page-2 : (t : ℕ) → write-gap-lts.Need-slice-
   write-page-reads.Learnt,
   common-length-reads.Asked,
   common-length-reads.Learnt,
-  emit-child-reads.Asked,
-  emit-child-reads.Learnt,
+  write-child-reads.Asked,
+  write-child-reads.Learnt,
   write-gap-below t,
   write-gap.Post,
 ) (write-gap-at t) write-gap.Post
@@ -308,8 +308,8 @@ write-gap-sub-write-page : (t : ℕ) → write-gap-lts.Need-sub-write-page (
   write-page-reads.Learnt,
   common-length-reads.Asked,
   common-length-reads.Learnt,
-  emit-child-reads.Asked,
-  emit-child-reads.Learnt,
+  write-child-reads.Asked,
+  write-child-reads.Learnt,
   write-gap-below t,
   write-gap.Post,
 ) (write-gap-at t) write-gap.Post
@@ -322,12 +322,12 @@ write-gap-write-page-requires-2 : (t : ℕ) → write-gap-lts.Need-write-page-re
   write-page-reads.Learnt,
   common-length-reads.Asked,
   common-length-reads.Learnt,
-  emit-child-reads.Asked,
-  emit-child-reads.Learnt,
+  write-child-reads.Asked,
+  write-child-reads.Learnt,
   write-gap-below t,
   write-gap.Post,
 ) (write-gap-at t) write-gap.Post
-write-gap-write-page-requires-2 t c κs = let r = ap length (part-rest (c .before .before .before .before .before .before .before .before .before .before .common-length .result) (c .before .before .before .before .before .before .before .before .before .before .before .before .before .before .before .before .before .before .args .lo .now)) in let v = length-drop (c .before .before .before .before .before .before .before .before .before .before .common-length .result) (c .before .before .before .before .before .before .before .before .before .before .before .before .before .before .before .before .before .before .args .lo .now) in let x = c .before .before .before .before .before .before .before .before .before .before .before .before .before .before .before .before .before .before .pre .1 .short in let n = gap-new (c .before .before .before .before .before .before .before .before .before .before .before .before .before .before .before .before .before .before .args .store .now) (c .before .before .before .before .before .before .before .before .before .before .before .before .before .before .before .before .before .before .args .level) (c .before .before .before .before .before .before .before .before .before .before .before .before .before .before .before .before .before .before .args .lo .now) (c .before .before .before .before .before .before .before .before .before .before .before .before .before .before .before .before .before .before .args .hi .now) (c .before .before .before .before .before .before .before .before .before .before .before .before .before .before .before .before .before .before .args .at) (c .before .before .before .before .before .before .before .before .before .before .before .before .before .before .before .before .before .before .args .free .now) (c .before .before .before .before .before .before .before .before .before .before .before .before .before .before .before .before .before .before .pre .1) (c .before .before .before .before .before .before .before .before .before .before .before .before .before .u16-at .result) (c .before .before .before .before .before .before .before .before .before .before .before .before .before .u16-at .ensures .0) in let f = c .before .before .before .before .before .before .before .emit-child .ensures .1 in let g = c .before .before .before .before .before .before .before .before .before .before .before .before .before .before .before .before .before .before .pre .1 .levels in (omega arith, search needs, omega arith, omega arith, omega arith)
+write-gap-write-page-requires-2 t c κs = let r = ap length (part-rest (c .before .before .before .before .before .before .before .before .before .before .common-length .result) (c .before .before .before .before .before .before .before .before .before .before .before .before .before .before .before .before .before .before .args .lo .now)) in let v = length-drop (c .before .before .before .before .before .before .before .before .before .before .common-length .result) (c .before .before .before .before .before .before .before .before .before .before .before .before .before .before .before .before .before .before .args .lo .now) in let x = c .before .before .before .before .before .before .before .before .before .before .before .before .before .before .before .before .before .before .pre .1 .short in let n = gap-new (c .before .before .before .before .before .before .before .before .before .before .before .before .before .before .before .before .before .before .args .store .now) (c .before .before .before .before .before .before .before .before .before .before .before .before .before .before .before .before .before .before .args .level) (c .before .before .before .before .before .before .before .before .before .before .before .before .before .before .before .before .before .before .args .lo .now) (c .before .before .before .before .before .before .before .before .before .before .before .before .before .before .before .before .before .before .args .hi .now) (c .before .before .before .before .before .before .before .before .before .before .before .before .before .before .before .before .before .before .args .at) (c .before .before .before .before .before .before .before .before .before .before .before .before .before .before .before .before .before .before .args .free .now) (c .before .before .before .before .before .before .before .before .before .before .before .before .before .before .before .before .before .before .pre .1) (c .before .before .before .before .before .before .before .before .before .before .before .before .before .u16-at .result) (c .before .before .before .before .before .before .before .before .before .before .before .before .before .u16-at .ensures .0) in let f = c .before .before .before .before .before .before .before .write-child .ensures .1 in let g = c .before .before .before .before .before .before .before .before .before .before .before .before .before .before .before .before .before .before .pre .1 .levels in (omega arith, search needs, omega arith, omega arith, omega arith)
 
 write-gap-same-length-2 : (t : ℕ) → write-gap-lts.Need-same-length-2 (
   u16-at-reads.Asked,
@@ -336,8 +336,8 @@ write-gap-same-length-2 : (t : ℕ) → write-gap-lts.Need-same-length-2 (
   write-page-reads.Learnt,
   common-length-reads.Asked,
   common-length-reads.Learnt,
-  emit-child-reads.Asked,
-  emit-child-reads.Learnt,
+  write-child-reads.Asked,
+  write-child-reads.Learnt,
   write-gap-below t,
   write-gap.Post,
 ) (write-gap-at t) write-gap.Post
@@ -350,13 +350,13 @@ write-gap-returns-2 : (t : ℕ) → write-gap-lts.Need-returns-2 (
   write-page-reads.Learnt,
   common-length-reads.Asked,
   common-length-reads.Learnt,
-  emit-child-reads.Asked,
-  emit-child-reads.Learnt,
+  write-child-reads.Asked,
+  write-child-reads.Learnt,
   write-gap-below t,
   write-gap.Post,
 ) (write-gap-at t) write-gap.Post
 unfolding zerosOf
-write-gap-returns-2 t c = gap-inner (c .before .before .before .before .before .before .before .before .before .before .before .before .before .before .before .before .before .before .before .before .before .before .args .store .now) (c .before .before .before .before .before .before .before .before .before .before .before .before .before .before .before .before .before .before .before .before .before .before .args .level) (c .before .before .before .before .before .before .before .before .before .before .before .before .before .before .before .before .before .before .before .before .before .before .args .lo .now) (c .before .before .before .before .before .before .before .before .before .before .before .before .before .before .before .before .before .before .before .before .before .before .args .hi .now) (c .before .before .before .before .before .before .before .before .before .before .before .before .before .before .before .before .before .before .before .before .before .before .args .at) (c .before .before .before .before .before .before .before .before .before .before .before .before .before .before .before .before .before .before .before .before .before .before .args .free .now) (c .before .before .before .before .before .before .before .before .before .before .before .before .before .before .before .before .before .before .before .before .before .before .pre .1) (c .before .before .before .before .before .before .before .before .before .before .before .before .before .before .before .before .before .u16-at .result) (c .before .before .before .before .before .before .before .before .before .before .before .before .before .before .before .before .before .u16-at .ensures .0) (omega arith) _ (c .before .before .before .before .before .before .before .before .before .before .before .before .before .before .common-length .ensures .0) _ (c .before .before .before .before .before .before .before .before .before .before .before .before .before .before .before .u16-at2 .ensures .0) _ _ _ (c .before .before .before .before .before .before .before .before .before .before .before .emit-child .result) (c .before .before .before .before .before .before .before .before .write-gap .ensures) (c .before .before .before .before .before .before .before .before .before .before .before .emit-child .ensures .0 ∙ ap (λ l. put (zerosOf 1024) 8 (bytesOf (child (c .before .before .before .before .before .before .before .before .before .before .before .before .before .before .before .u16-at2 .result) l))) (part-rest (c .before .before .before .before .before .before .before .before .before .before .before .before .before .before .common-length .result) (c .before .before .before .before .before .before .before .before .before .before .before .before .before .before .before .before .before .before .before .before .before .before .args .lo .now))) (c .before .before .before .before .before .before .before .before .before .before .before .emit-child .ensures .1 ∙ ap (λ l. 8 + (6 + length l)) (part-rest (c .before .before .before .before .before .before .before .before .before .before .before .before .before .before .common-length .result) (c .before .before .before .before .before .before .before .before .before .before .before .before .before .before .before .before .before .before .before .before .before .before .args .lo .now))) (c .before .before .before .write-page2 .ensures)
+write-gap-returns-2 t c = gap-inner (c .before .before .before .before .before .before .before .before .before .before .before .before .before .before .before .before .before .before .before .before .before .before .args .store .now) (c .before .before .before .before .before .before .before .before .before .before .before .before .before .before .before .before .before .before .before .before .before .before .args .level) (c .before .before .before .before .before .before .before .before .before .before .before .before .before .before .before .before .before .before .before .before .before .before .args .lo .now) (c .before .before .before .before .before .before .before .before .before .before .before .before .before .before .before .before .before .before .before .before .before .before .args .hi .now) (c .before .before .before .before .before .before .before .before .before .before .before .before .before .before .before .before .before .before .before .before .before .before .args .at) (c .before .before .before .before .before .before .before .before .before .before .before .before .before .before .before .before .before .before .before .before .before .before .args .free .now) (c .before .before .before .before .before .before .before .before .before .before .before .before .before .before .before .before .before .before .before .before .before .before .pre .1) (c .before .before .before .before .before .before .before .before .before .before .before .before .before .before .before .before .before .u16-at .result) (c .before .before .before .before .before .before .before .before .before .before .before .before .before .before .before .before .before .u16-at .ensures .0) (omega arith) _ (c .before .before .before .before .before .before .before .before .before .before .before .before .before .before .common-length .ensures .0) _ (c .before .before .before .before .before .before .before .before .before .before .before .before .before .before .before .u16-at2 .ensures .0) _ _ _ (c .before .before .before .before .before .before .before .before .before .before .before .write-child .result) (c .before .before .before .before .before .before .before .before .write-gap .ensures) (c .before .before .before .before .before .before .before .before .before .before .before .write-child .ensures .0 ∙ ap (λ l. put (zerosOf 1024) 8 (bytesOf (child (c .before .before .before .before .before .before .before .before .before .before .before .before .before .before .before .u16-at2 .result) l))) (part-rest (c .before .before .before .before .before .before .before .before .before .before .before .before .before .before .common-length .result) (c .before .before .before .before .before .before .before .before .before .before .before .before .before .before .before .before .before .before .before .before .before .before .args .lo .now))) (c .before .before .before .before .before .before .before .before .before .before .before .write-child .ensures .1 ∙ ap (λ l. 8 + (6 + length l)) (part-rest (c .before .before .before .before .before .before .before .before .before .before .before .before .before .before .common-length .result) (c .before .before .before .before .before .before .before .before .before .before .before .before .before .before .before .before .before .before .before .before .before .before .args .lo .now))) (c .before .before .before .write-page2 .ensures)
 
 pub +write-gap-spec : {M : Type 1} → statement M
 +write-gap-spec = close μ-write-gap λ t. write-gap-lts.spec (
@@ -366,8 +366,8 @@ pub +write-gap-spec : {M : Type 1} → statement M
   write-page-reads.Learnt,
   common-length-reads.Asked,
   common-length-reads.Learnt,
-  emit-child-reads.Asked,
-  emit-child-reads.Learnt,
+  write-child-reads.Asked,
+  write-child-reads.Learnt,
   write-gap-below t,
   write-gap.Post,
 )
@@ -383,11 +383,11 @@ pub +write-gap-spec : {M : Type 1} → statement M
     (write-gap-mul-u16-at-2 t)
     (write-gap-u16-at-requires-2 t)
     (write-gap-common-length-requires t)
-    (write-gap-slice-aggregate-emit-child t)
-    (write-gap-sub-emit-child t)
-    (write-gap-part-emit-child-start t)
-    (write-gap-part-emit-child-end t)
-    (write-gap-emit-child-requires t)
+    (write-gap-slice-aggregate-write-child t)
+    (write-gap-sub-write-child t)
+    (write-gap-part-write-child-start t)
+    (write-gap-part-write-child-end t)
+    (write-gap-write-child-requires t)
     (write-gap-sub-write-gap t)
     (write-gap-add-write-gap t)
     (write-gap-write-gap-requires t)

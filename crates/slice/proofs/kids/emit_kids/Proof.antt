@@ -2,16 +2,16 @@
 -- Relies on specs/KidSteps, push's specs/WriteSteps and live's reader of children.
 use Rattle.slice.specs.KidSteps.{kid-line, line-none, line-zero}
 use Rattle.slice.specs.Point.{kidLine}
-use Rattle.push.specs.WriteSteps.{line-fits, line-length, line-on, line-end, line-ends, small-first, small-later, child-length, as-child}
-use Rattle.push_laws.specs.Written.{smallNumbers}
+use Rattle.push.specs.WriteSteps.{line-fits, line-length, line-on, line-end, line-ends, small-first, small-later, as-child}
+use Rattle.push.specs.Laws.Written.{smallNumbers}
 use Rattle.live.specs.Walk.{NextChild}
 use Rattle.live.specs.Steps.{pends-child, pends-end}
 use Rattle.octets.specs.Put.{put}
 use Rattle.image.specs.Entry.{child}
-use Rattle.laws.specs.Encode.{bytesOf}
+use Rattle.laws.specs.Encode.{bytesOf, child-size}
 use Rattle.node.specs.Cut.{cut}
 use Rattle.node.specs.Entries.{listed}
-use Rattle.search.specs.Own.{kidsE}
+use Rattle.node.specs.Search.Own.{kidsE}
 use Prim.Native.Nat.{_≤_, _-_, _+_}
 use mathlib.Core.Path.{_≡_, refl}
 use mathlib.Core.Bool.{true}
@@ -52,17 +52,17 @@ returns c = let z = line-none (c .before .before .before .before .before .before
 start-past-requires : tie.Need-start-past-requires Inv-loop μ-loop
 start-past-requires c κs = let n = kid-next c in n .place .rises
 
-sub-emit-child : tie.Need-sub-emit-child Inv-loop μ-loop
-sub-emit-child c = search needs
+sub-write-child : tie.Need-sub-write-child Inv-loop μ-loop
+sub-write-child c = search needs
 
-part-emit-child-start : tie.Need-part-emit-child-start Inv-loop μ-loop
-part-emit-child-start c = search needs
+part-write-child-start : tie.Need-part-write-child-start Inv-loop μ-loop
+part-write-child-start c = search needs
 
-part-emit-child-end : tie.Need-part-emit-child-end Inv-loop μ-loop
-part-emit-child-end c = let n = kid-next (c .before .before) in let w = n .place in omega arith
+part-write-child-end : tie.Need-part-write-child-end Inv-loop μ-loop
+part-write-child-end c = let n = kid-next (c .before .before) in let w = n .place in omega arith
 
-emit-child-requires : tie.Need-emit-child-requires Inv-loop μ-loop
-emit-child-requires c κs = let n = kid-next (c .before .before .before) in let z = child-length (c .before .before .before .before .num .given .0 .0) (cut (c .before .before .before .before .before .before .before .before .before .before .before .args .node .now) (c .before .before .start-past .result) (c .before .before .before .before .num .given .0 .1 .0 .stop)) in let f = line-fits (c .before .before .before .before .before .before .before .before .before .before .before .args .page .now) (c .before .before .before .before .before .before .before .before .loop .page) (c .before .before .before .before .before .before .before .before .loop .page) (c .before .before .before .before .before .before .before .before .before .before .before .args .at) (c .before .before .before .before .before .before .before .before .loop .to) 0 (kidLine (c .before .before .before .before .before .before .before .before .before .before .before .args .d) (c .before .before .before .before .before .before .before .before .before .before .before .args .n) (kidsE (listed (c .before .before .before .before .before .before .before .before .before .before .before .args .node .now) (c .before .before .before .before .before .before .before .before .before .before .before .args .start .at) (c .before .before .before .before .before .before .before .before .before .before .before .args .start .end)))) (kidLine (c .before .before .before .before .before .before .before .before .before .before .before .args .d) (c .before .before .before .before .before .before .before .before .loop .left) (kidsE (listed (c .before .before .before .before .before .before .before .before .before .before .before .args .node .now) (c .before .before .before .before .before .before .before .before .loop .c .at) (c .before .before .before .before .before .before .before .before .loop .c .end)))) (bytesOf (child (c .before .before .before .before .num .given .0 .0) (cut (c .before .before .before .before .before .before .before .before .before .before .before .args .node .now) (c .before .before .start-past .result) (c .before .before .before .before .num .given .0 .1 .0 .stop)))) (kidLine (c .before .before .before .before .before .before .before .before .before .before .before .args .d) (c .before .before .before .before .before .before .before .before .loop .left - 1) (kidsE (listed (c .before .before .before .before .before .before .before .before .before .before .before .args .node .now) (c .before .before .before .before .num .given .0 .1 .1 .0 .at) (c .before .before .before .before .num .given .0 .1 .1 .0 .end)))) (kid-line (c .before .before .before .before .before .before .before .before .before .before .before .args .d) (c .before .before .before .before .before .before .before .before .loop .left) (c .before .before .before .before .before .before .before .before .before .before .before .args .node .now) _ _ (c .before .before .before .before .num .given .0 .0) (c .before .before .before .before .num .given .0 .1 .0) (c .before .before .start-past .result) (omega arith) (n .lists) (c .before .before .start-past .ensures .2)) (c .before .before .before .before .before .before .before .before .loop .inv .3) (c .before .before .before .before .before .before .before .before .before .before .before .pre .1) (c .before .before .before .before .before .before .before .before .loop .inv .1) in (omega arith, omega arith, small-first _ _ _ (n .lists) (c .before .before .before .before .before .before .before .before .loop .inv .2))
+write-child-requires : tie.Need-write-child-requires Inv-loop μ-loop
+write-child-requires c κs = let n = kid-next (c .before .before .before) in let z = child-size (c .before .before .before .before .num .given .0 .0) (cut (c .before .before .before .before .before .before .before .before .before .before .before .args .node .now) (c .before .before .start-past .result) (c .before .before .before .before .num .given .0 .1 .0 .stop)) in let f = line-fits (c .before .before .before .before .before .before .before .before .before .before .before .args .page .now) (c .before .before .before .before .before .before .before .before .loop .page) (c .before .before .before .before .before .before .before .before .loop .page) (c .before .before .before .before .before .before .before .before .before .before .before .args .at) (c .before .before .before .before .before .before .before .before .loop .to) 0 (kidLine (c .before .before .before .before .before .before .before .before .before .before .before .args .d) (c .before .before .before .before .before .before .before .before .before .before .before .args .n) (kidsE (listed (c .before .before .before .before .before .before .before .before .before .before .before .args .node .now) (c .before .before .before .before .before .before .before .before .before .before .before .args .start .at) (c .before .before .before .before .before .before .before .before .before .before .before .args .start .end)))) (kidLine (c .before .before .before .before .before .before .before .before .before .before .before .args .d) (c .before .before .before .before .before .before .before .before .loop .left) (kidsE (listed (c .before .before .before .before .before .before .before .before .before .before .before .args .node .now) (c .before .before .before .before .before .before .before .before .loop .c .at) (c .before .before .before .before .before .before .before .before .loop .c .end)))) (bytesOf (child (c .before .before .before .before .num .given .0 .0) (cut (c .before .before .before .before .before .before .before .before .before .before .before .args .node .now) (c .before .before .start-past .result) (c .before .before .before .before .num .given .0 .1 .0 .stop)))) (kidLine (c .before .before .before .before .before .before .before .before .before .before .before .args .d) (c .before .before .before .before .before .before .before .before .loop .left - 1) (kidsE (listed (c .before .before .before .before .before .before .before .before .before .before .before .args .node .now) (c .before .before .before .before .num .given .0 .1 .1 .0 .at) (c .before .before .before .before .num .given .0 .1 .1 .0 .end)))) (kid-line (c .before .before .before .before .before .before .before .before .before .before .before .args .d) (c .before .before .before .before .before .before .before .before .loop .left) (c .before .before .before .before .before .before .before .before .before .before .before .args .node .now) _ _ (c .before .before .before .before .num .given .0 .0) (c .before .before .before .before .num .given .0 .1 .0) (c .before .before .start-past .result) (omega arith) (n .lists) (c .before .before .start-past .ensures .2)) (c .before .before .before .before .before .before .before .before .loop .inv .3) (c .before .before .before .before .before .before .before .before .before .before .before .pre .1) (c .before .before .before .before .before .before .before .before .loop .inv .1) in (omega arith, omega arith, omega arith, small-first _ _ _ (n .lists) (c .before .before .before .before .before .before .before .before .loop .inv .2))
 
 sub-left : tie.Need-sub-left Inv-loop μ-loop
 sub-left c = search needs
@@ -71,7 +71,7 @@ loop-less : tie.Need-loop-less Inv-loop μ-loop
 loop-less c = omega arith
 
 loop-again : tie.Need-loop-again Inv-loop μ-loop
-loop-again c = let n = kid-next (c .before .before .before .before .before .before) in let z = kid-line (c .before .before .before .before .before .before .before .before .before .before .before .before .before .before .args .d) (c .before .before .before .before .before .before .before .before .before .before .before .loop .left) (c .before .before .before .before .before .before .before .before .before .before .before .before .before .before .args .node .now) _ _ (c .before .before .before .before .before .before .before .num .given .0 .0) (c .before .before .before .before .before .before .before .num .given .0 .1 .0) (c .before .before .before .before .before .start-past .result) (omega arith) (n .lists) (c .before .before .before .before .before .start-past .ensures .2) in let e = as-child _ _ _ _ (c .before .before .emit-child .ensures .1) in (omega arith, search needs, small-later _ _ _ (n .lists) (c .before .before .before .before .before .before .before .before .before .before .before .loop .inv .2), line-length (c .before .before .before .before .before .before .before .before .before .before .before .before .before .before .args .page .now) (c .before .before .before .before .before .before .before .before .before .before .before .loop .page) (c .before .before .before .before .before .before .before .before .before .before .before .loop .page) (c .before .before .before .before .before .before .before .before .before .before .before .before .before .before .args .at) (c .before .before .before .before .before .before .before .before .before .before .before .loop .to) (c .before .before .emit-child .result) (kidLine (c .before .before .before .before .before .before .before .before .before .before .before .before .before .before .args .d) (c .before .before .before .before .before .before .before .before .before .before .before .before .before .before .args .n) (kidsE (listed (c .before .before .before .before .before .before .before .before .before .before .before .before .before .before .args .node .now) (c .before .before .before .before .before .before .before .before .before .before .before .before .before .before .args .start .at) (c .before .before .before .before .before .before .before .before .before .before .before .before .before .before .args .start .end)))) (kidLine (c .before .before .before .before .before .before .before .before .before .before .before .before .before .before .args .d) (c .before .before .before .before .before .before .before .before .before .before .before .loop .left) (kidsE (listed (c .before .before .before .before .before .before .before .before .before .before .before .before .before .before .args .node .now) (c .before .before .before .before .before .before .before .before .before .before .before .loop .c .at) (c .before .before .before .before .before .before .before .before .before .before .before .loop .c .end)))) (bytesOf (child (c .before .before .before .before .before .before .before .num .given .0 .0) (cut (c .before .before .before .before .before .before .before .before .before .before .before .before .before .before .args .node .now) (c .before .before .before .before .before .start-past .result) (c .before .before .before .before .before .before .before .num .given .0 .1 .0 .stop)))) (kidLine (c .before .before .before .before .before .before .before .before .before .before .before .before .before .before .args .d) (c .before .before .before .before .before .before .before .before .before .before .before .loop .left - 1) (kidsE (listed (c .before .before .before .before .before .before .before .before .before .before .before .before .before .before .args .node .now) (c .before .before .before .before .before .before .before .num .given .0 .1 .1 .0 .at) (c .before .before .before .before .before .before .before .num .given .0 .1 .1 .0 .end)))) z (c .before .before .before .before .before .before .before .before .before .before .before .loop .inv .3) e, line-on (c .before .before .before .before .before .before .before .before .before .before .before .before .before .before .args .page .now) (c .before .before .before .before .before .before .before .before .before .before .before .loop .page) _ (c .before .before .before .before .before .before .before .before .before .before .before .before .before .before .args .at) (c .before .before .before .before .before .before .before .before .before .before .before .loop .to) (c .before .before .emit-child .result) (kidLine (c .before .before .before .before .before .before .before .before .before .before .before .before .before .before .args .d) (c .before .before .before .before .before .before .before .before .before .before .before .before .before .before .args .n) (kidsE (listed (c .before .before .before .before .before .before .before .before .before .before .before .before .before .before .args .node .now) (c .before .before .before .before .before .before .before .before .before .before .before .before .before .before .args .start .at) (c .before .before .before .before .before .before .before .before .before .before .before .before .before .before .args .start .end)))) (kidLine (c .before .before .before .before .before .before .before .before .before .before .before .before .before .before .args .d) (c .before .before .before .before .before .before .before .before .before .before .before .loop .left) (kidsE (listed (c .before .before .before .before .before .before .before .before .before .before .before .before .before .before .args .node .now) (c .before .before .before .before .before .before .before .before .before .before .before .loop .c .at) (c .before .before .before .before .before .before .before .before .before .before .before .loop .c .end)))) (bytesOf (child (c .before .before .before .before .before .before .before .num .given .0 .0) (cut (c .before .before .before .before .before .before .before .before .before .before .before .before .before .before .args .node .now) (c .before .before .before .before .before .start-past .result) (c .before .before .before .before .before .before .before .num .given .0 .1 .0 .stop)))) (kidLine (c .before .before .before .before .before .before .before .before .before .before .before .before .before .before .args .d) (c .before .before .before .before .before .before .before .before .before .before .before .loop .left - 1) (kidsE (listed (c .before .before .before .before .before .before .before .before .before .before .before .before .before .before .args .node .now) (c .before .before .before .before .before .before .before .num .given .0 .1 .1 .0 .at) (c .before .before .before .before .before .before .before .num .given .0 .1 .1 .0 .end)))) z (c .before .before .before .before .before .before .before .before .before .before .before .loop .inv .3) (c .before .before .before .before .before .before .before .before .before .before .before .before .before .before .pre .1) (c .before .before .before .before .before .before .before .before .before .before .before .loop .inv .1) e (c .before .before .emit-child .ensures .0) (c .before .before .before .before .before .before .before .before .before .before .before .loop .inv .4))
+loop-again c = let n = kid-next (c .before .before .before .before .before .before) in let z = kid-line (c .before .before .before .before .before .before .before .before .before .before .before .before .before .before .args .d) (c .before .before .before .before .before .before .before .before .before .before .before .loop .left) (c .before .before .before .before .before .before .before .before .before .before .before .before .before .before .args .node .now) _ _ (c .before .before .before .before .before .before .before .num .given .0 .0) (c .before .before .before .before .before .before .before .num .given .0 .1 .0) (c .before .before .before .before .before .start-past .result) (omega arith) (n .lists) (c .before .before .before .before .before .start-past .ensures .2) in let e = as-child _ _ _ _ (c .before .before .write-child .ensures .1) in (omega arith, search needs, small-later _ _ _ (n .lists) (c .before .before .before .before .before .before .before .before .before .before .before .loop .inv .2), line-length (c .before .before .before .before .before .before .before .before .before .before .before .before .before .before .args .page .now) (c .before .before .before .before .before .before .before .before .before .before .before .loop .page) (c .before .before .before .before .before .before .before .before .before .before .before .loop .page) (c .before .before .before .before .before .before .before .before .before .before .before .before .before .before .args .at) (c .before .before .before .before .before .before .before .before .before .before .before .loop .to) (c .before .before .write-child .result) (kidLine (c .before .before .before .before .before .before .before .before .before .before .before .before .before .before .args .d) (c .before .before .before .before .before .before .before .before .before .before .before .before .before .before .args .n) (kidsE (listed (c .before .before .before .before .before .before .before .before .before .before .before .before .before .before .args .node .now) (c .before .before .before .before .before .before .before .before .before .before .before .before .before .before .args .start .at) (c .before .before .before .before .before .before .before .before .before .before .before .before .before .before .args .start .end)))) (kidLine (c .before .before .before .before .before .before .before .before .before .before .before .before .before .before .args .d) (c .before .before .before .before .before .before .before .before .before .before .before .loop .left) (kidsE (listed (c .before .before .before .before .before .before .before .before .before .before .before .before .before .before .args .node .now) (c .before .before .before .before .before .before .before .before .before .before .before .loop .c .at) (c .before .before .before .before .before .before .before .before .before .before .before .loop .c .end)))) (bytesOf (child (c .before .before .before .before .before .before .before .num .given .0 .0) (cut (c .before .before .before .before .before .before .before .before .before .before .before .before .before .before .args .node .now) (c .before .before .before .before .before .start-past .result) (c .before .before .before .before .before .before .before .num .given .0 .1 .0 .stop)))) (kidLine (c .before .before .before .before .before .before .before .before .before .before .before .before .before .before .args .d) (c .before .before .before .before .before .before .before .before .before .before .before .loop .left - 1) (kidsE (listed (c .before .before .before .before .before .before .before .before .before .before .before .before .before .before .args .node .now) (c .before .before .before .before .before .before .before .num .given .0 .1 .1 .0 .at) (c .before .before .before .before .before .before .before .num .given .0 .1 .1 .0 .end)))) z (c .before .before .before .before .before .before .before .before .before .before .before .loop .inv .3) e, line-on (c .before .before .before .before .before .before .before .before .before .before .before .before .before .before .args .page .now) (c .before .before .before .before .before .before .before .before .before .before .before .loop .page) _ (c .before .before .before .before .before .before .before .before .before .before .before .before .before .before .args .at) (c .before .before .before .before .before .before .before .before .before .before .before .loop .to) (c .before .before .write-child .result) (kidLine (c .before .before .before .before .before .before .before .before .before .before .before .before .before .before .args .d) (c .before .before .before .before .before .before .before .before .before .before .before .before .before .before .args .n) (kidsE (listed (c .before .before .before .before .before .before .before .before .before .before .before .before .before .before .args .node .now) (c .before .before .before .before .before .before .before .before .before .before .before .before .before .before .args .start .at) (c .before .before .before .before .before .before .before .before .before .before .before .before .before .before .args .start .end)))) (kidLine (c .before .before .before .before .before .before .before .before .before .before .before .before .before .before .args .d) (c .before .before .before .before .before .before .before .before .before .before .before .loop .left) (kidsE (listed (c .before .before .before .before .before .before .before .before .before .before .before .before .before .before .args .node .now) (c .before .before .before .before .before .before .before .before .before .before .before .loop .c .at) (c .before .before .before .before .before .before .before .before .before .before .before .loop .c .end)))) (bytesOf (child (c .before .before .before .before .before .before .before .num .given .0 .0) (cut (c .before .before .before .before .before .before .before .before .before .before .before .before .before .before .args .node .now) (c .before .before .before .before .before .start-past .result) (c .before .before .before .before .before .before .before .num .given .0 .1 .0 .stop)))) (kidLine (c .before .before .before .before .before .before .before .before .before .before .before .before .before .before .args .d) (c .before .before .before .before .before .before .before .before .before .before .before .loop .left - 1) (kidsE (listed (c .before .before .before .before .before .before .before .before .before .before .before .before .before .before .args .node .now) (c .before .before .before .before .before .before .before .num .given .0 .1 .1 .0 .at) (c .before .before .before .before .before .before .before .num .given .0 .1 .1 .0 .end)))) z (c .before .before .before .before .before .before .before .before .before .before .before .loop .inv .3) (c .before .before .before .before .before .before .before .before .before .before .before .before .before .before .pre .1) (c .before .before .before .before .before .before .before .before .before .before .before .loop .inv .1) e (c .before .before .write-child .ensures .0) (c .before .before .before .before .before .before .before .before .before .before .before .loop .inv .4))
 
 same-length-2 : tie.Need-same-length-2 Inv-loop μ-loop
 same-length-2 c = c .before .loop .inv .1
@@ -92,10 +92,10 @@ emit-kids-spec =
     same-length
     returns
     start-past-requires
-    sub-emit-child
-    part-emit-child-start
-    part-emit-child-end
-    emit-child-requires
+    sub-write-child
+    part-write-child-start
+    part-write-child-end
+    write-child-requires
     sub-left
     loop-less
     loop-again

@@ -3,7 +3,7 @@
 use Rattle.slice.specs.LeftSteps.{inner-places, last-places}
 use Rattle.slice.specs.KidSteps.{left-inner, left-last, left-between, left-nowhere}
 use Rattle.push.specs.WriteSteps.{puts-as, ends-as, fits-as}
-use Rattle.search.specs.Own.{kidsE}
+use Rattle.node.specs.Search.Own.{kidsE}
 use Rattle.node.specs.Entries.{listed}
 use mathlib.Core.Path.{refl}
 use borrow.Author.Needs.{needs}

@@ -2,7 +2,7 @@
 -- Relies on specs/KidSteps.
 use Rattle.slice.specs.KidSteps.{first-room, behind-fits, behind-put, behind-ends}
 use Rattle.slice.specs.Point.{kidLine}
-use Rattle.search.specs.Own.{kidsE}
+use Rattle.node.specs.Search.Own.{kidsE}
 use Rattle.node.specs.Entries.{listed}
 use Rattle.node.specs.Places.{part}
 use Rattle.laws.specs.Encode.{bytesOf}
@@ -18,23 +18,23 @@ emit-kids-requires c κs = (c .before .before .before .pre .0, first-room (c .be
 start-past-requires : tie.Need-start-past-requires
 start-past-requires c κs = search needs
 
-sub-emit-child : tie.Need-sub-emit-child
-sub-emit-child c = search needs
+sub-write-child : tie.Need-sub-write-child
+sub-write-child c = search needs
 
-part-emit-child-start : tie.Need-part-emit-child-start
-part-emit-child-start c = search needs
+part-write-child-start : tie.Need-part-write-child-start
+part-write-child-start c = search needs
 
-part-emit-child-end : tie.Need-part-emit-child-end
-part-emit-child-end c = search needs
+part-write-child-end : tie.Need-part-write-child-end
+part-write-child-end c = search needs
 
-emit-child-requires : tie.Need-emit-child-requires
-emit-child-requires c κs = (behind-fits (c .before .before .before .before .before .before .before .before .before .args .page .now) _ (kidLine (c .before .before .before .before .before .before .before .before .before .args .d) (c .before .before .before .before .before .before .before .before .before .args .n) (kidsE (listed (c .before .before .before .before .before .before .before .before .before .args .node .now) 8 (c .before .before .before .before .before .before .before .before .before .args .stop)))) (c .before .before .before .before .before .emit-kids .result) (c .before .before .before .before .before .before .before .before .before .args .num) (c .before .before .before .before .before .before .before .before .before .args .d) (c .before .before .before .before .before .before .before .before .before .args .node .now) (c .before .before .before .before .before .before .before .before .before .args .low) (c .before .before .start-past .result) (c .before .before .start-past .ensures .2) (c .before .before .before .before .before .before .before .before .before .pre .2) (c .before .before .before .before .before .emit-kids .ensures .1) (c .before .before .before .before .before .emit-kids .ensures .0) (search needs), search needs, c .before .before .before .before .before .before .before .before .before .pre .5)
+write-child-requires : tie.Need-write-child-requires
+write-child-requires c κs = let f = behind-fits (c .before .before .before .before .before .before .before .before .before .args .page .now) _ (kidLine (c .before .before .before .before .before .before .before .before .before .args .d) (c .before .before .before .before .before .before .before .before .before .args .n) (kidsE (listed (c .before .before .before .before .before .before .before .before .before .args .node .now) 8 (c .before .before .before .before .before .before .before .before .before .args .stop)))) (c .before .before .before .before .before .emit-kids .result) (c .before .before .before .before .before .before .before .before .before .args .num) (c .before .before .before .before .before .before .before .before .before .args .d) (c .before .before .before .before .before .before .before .before .before .args .node .now) (c .before .before .before .before .before .before .before .before .before .args .low) (c .before .before .start-past .result) (c .before .before .start-past .ensures .2) (c .before .before .before .before .before .before .before .before .before .pre .2) (c .before .before .before .before .before .emit-kids .ensures .1) (c .before .before .before .before .before .emit-kids .ensures .0) (search needs) in (f, search needs, search needs, c .before .before .before .before .before .before .before .before .before .pre .5)
 
 same-length : tie.Need-same-length
 same-length c = search needs
 
 returns : tie.Need-returns
-returns c = (behind-put (c .before .before .before .before .before .before .before .before .before .before .before .before .args .page .now) _ (kidLine (c .before .before .before .before .before .before .before .before .before .before .before .before .args .d) (c .before .before .before .before .before .before .before .before .before .before .before .before .args .n) (kidsE (listed (c .before .before .before .before .before .before .before .before .before .before .before .before .args .node .now) 8 (c .before .before .before .before .before .before .before .before .before .before .before .before .args .stop)))) (c .before .before .before .before .before .before .before .before .emit-kids .result) (c .before .before .before .before .before .before .before .before .before .before .before .before .args .num) (c .before .before .before .before .before .before .before .before .before .before .before .before .args .d) (c .before .before .before .before .before .before .before .before .before .before .before .before .args .node .now) (c .before .before .before .before .before .before .before .before .before .before .before .before .args .low) (c .before .before .before .before .before .start-past .result) (c .before .before .before .before .before .start-past .ensures .2) (c .before .before .before .before .before .before .before .before .before .before .before .before .pre .2) (c .before .before .before .before .before .before .before .before .emit-kids .ensures .1) (c .before .before .before .before .before .before .before .before .emit-kids .ensures .0) (search needs) _ (c .before .before .emit-child .ensures .0), behind-ends (c .before .before .before .before .before .before .before .before .before .before .before .before .args .page .now) _ (kidLine (c .before .before .before .before .before .before .before .before .before .before .before .before .args .d) (c .before .before .before .before .before .before .before .before .before .before .before .before .args .n) (kidsE (listed (c .before .before .before .before .before .before .before .before .before .before .before .before .args .node .now) 8 (c .before .before .before .before .before .before .before .before .before .before .before .before .args .stop)))) (c .before .before .before .before .before .before .before .before .emit-kids .result) (c .before .before .before .before .before .before .before .before .before .before .before .before .args .num) (c .before .before .before .before .before .before .before .before .before .before .before .before .args .d) (c .before .before .before .before .before .before .before .before .before .before .before .before .args .node .now) (c .before .before .before .before .before .before .before .before .before .before .before .before .args .low) (c .before .before .before .before .before .start-past .result) (c .before .before .before .before .before .start-past .ensures .2) (c .before .before .before .before .before .before .before .before .before .before .before .before .pre .2) (c .before .before .before .before .before .before .before .before .emit-kids .ensures .1) (c .before .before .before .before .before .before .before .before .emit-kids .ensures .0) (search needs) _ (c .before .before .emit-child .ensures .1))
+returns c = (behind-put (c .before .before .before .before .before .before .before .before .before .before .before .before .args .page .now) _ (kidLine (c .before .before .before .before .before .before .before .before .before .before .before .before .args .d) (c .before .before .before .before .before .before .before .before .before .before .before .before .args .n) (kidsE (listed (c .before .before .before .before .before .before .before .before .before .before .before .before .args .node .now) 8 (c .before .before .before .before .before .before .before .before .before .before .before .before .args .stop)))) (c .before .before .before .before .before .before .before .before .emit-kids .result) (c .before .before .before .before .before .before .before .before .before .before .before .before .args .num) (c .before .before .before .before .before .before .before .before .before .before .before .before .args .d) (c .before .before .before .before .before .before .before .before .before .before .before .before .args .node .now) (c .before .before .before .before .before .before .before .before .before .before .before .before .args .low) (c .before .before .before .before .before .start-past .result) (c .before .before .before .before .before .start-past .ensures .2) (c .before .before .before .before .before .before .before .before .before .before .before .before .pre .2) (c .before .before .before .before .before .before .before .before .emit-kids .ensures .1) (c .before .before .before .before .before .before .before .before .emit-kids .ensures .0) (search needs) _ (c .before .before .write-child .ensures .0), behind-ends (c .before .before .before .before .before .before .before .before .before .before .before .before .args .page .now) _ (kidLine (c .before .before .before .before .before .before .before .before .before .before .before .before .args .d) (c .before .before .before .before .before .before .before .before .before .before .before .before .args .n) (kidsE (listed (c .before .before .before .before .before .before .before .before .before .before .before .before .args .node .now) 8 (c .before .before .before .before .before .before .before .before .before .before .before .before .args .stop)))) (c .before .before .before .before .before .before .before .before .emit-kids .result) (c .before .before .before .before .before .before .before .before .before .before .before .before .args .num) (c .before .before .before .before .before .before .before .before .before .before .before .before .args .d) (c .before .before .before .before .before .before .before .before .before .before .before .before .args .node .now) (c .before .before .before .before .before .before .before .before .before .before .before .before .args .low) (c .before .before .before .before .before .start-past .result) (c .before .before .before .before .before .start-past .ensures .2) (c .before .before .before .before .before .before .before .before .before .before .before .before .pre .2) (c .before .before .before .before .before .before .before .before .emit-kids .ensures .1) (c .before .before .before .before .before .before .before .before .emit-kids .ensures .0) (search needs) _ (c .before .before .write-child .ensures .1))
 
 pub emit-with-spec : {M : Type 1} → statement M
 emit-with-spec =
@@ -42,9 +42,9 @@ emit-with-spec =
     (tie.spec
     emit-kids-requires
     start-past-requires
-    sub-emit-child
-    part-emit-child-start
-    part-emit-child-end
-    emit-child-requires
+    sub-write-child
+    part-write-child-start
+    part-write-child-end
+    write-child-requires
     same-length
     returns)

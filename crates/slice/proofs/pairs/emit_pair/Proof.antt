@@ -1,7 +1,8 @@
 -- `emit_pair` meets its contract: only a pair on the wanted side is written.
 -- Relies on specs/PairSteps and on push's specs/WriteSteps.
 use Rattle.slice.specs.PairSteps.{side-child, side-message, side-not, side-yes}
-use Rattle.push.specs.WriteSteps.{keyed-length, puts-as, ends-as, fits-as, puts-nothing, ends-nowhere}
+use Rattle.laws.specs.Encode.{keyed-length}
+use Rattle.push.specs.WriteSteps.{puts-as, ends-as, fits-as, puts-nothing, ends-nowhere}
 use Rattle.node.specs.Places.{Within, EntryWithin}
 use mathlib.Core.Path.{subst, sym}
 use lib.ListN.{length}
@@ -35,26 +36,26 @@ returns c = let z = side-not (c .before .before .before .before .before .before 
 start-past-requires : tie.Need-start-past-requires
 start-past-requires c κs = let w = pair-in (c .before .before .before) in w .0 .rises
 
-sub-emit-keyed : tie.Need-sub-emit-keyed
-sub-emit-keyed c = search needs
+sub-write-keyed : tie.Need-sub-write-keyed
+sub-write-keyed c = search needs
 
-part-emit-keyed-start : tie.Need-part-emit-keyed-start
-part-emit-keyed-start c = search needs
+part-write-keyed-start : tie.Need-part-write-keyed-start
+part-write-keyed-start c = search needs
 
-part-emit-keyed-end : tie.Need-part-emit-keyed-end
-part-emit-keyed-end c = let w = pair-in (c .before .before .before .before .before) in omega arith
+part-write-keyed-end : tie.Need-part-write-keyed-end
+part-write-keyed-end c = let w = pair-in (c .before .before .before .before .before) in omega arith
 
-sub-emit-keyed-2 : tie.Need-sub-emit-keyed-2
-sub-emit-keyed-2 c = let w = pair-in (c .before .before .before .before .before .before) in omega arith
+sub-write-keyed-2 : tie.Need-sub-write-keyed-2
+sub-write-keyed-2 c = let w = pair-in (c .before .before .before .before .before .before) in omega arith
 
-part-emit-keyed-start-2 : tie.Need-part-emit-keyed-start-2
-part-emit-keyed-start-2 c = let w = pair-in (c .before .before .before .before .before .before) in omega arith
+part-write-keyed-start-2 : tie.Need-part-write-keyed-start-2
+part-write-keyed-start-2 c = let w = pair-in (c .before .before .before .before .before .before) in omega arith
 
-part-emit-keyed-end-2 : tie.Need-part-emit-keyed-end-2
-part-emit-keyed-end-2 c = let w = pair-in (c .before .before .before .before .before .before) in omega arith
+part-write-keyed-end-2 : tie.Need-part-write-keyed-end-2
+part-write-keyed-end-2 c = let w = pair-in (c .before .before .before .before .before .before) in omega arith
 
-emit-keyed-requires : tie.Need-emit-keyed-requires
-emit-keyed-requires c κs = let z = side-yes (c .before .before .before .before .before .before .before .before .before .before .before .before .before .args .node .now) (c .before .before .before .before .before .before .before .before .before .before .before .before .before .args .k .now) (c .before .before .before .before .before .before .before .before .before .before .before .before .before .args .left) (c .before .before .before .before .before .before .before .before .before .before .before .before .before .args .d) (c .before .before .before .before .before .before .before .before .before .before .before .before .before .args .e) _ _ (c .before .before .before .before .before .before .before .before .e .given .1) _ (c .before .before .before .before .before .is-on-side .ensures) (c .before .before .before .before .if1 .left) (c .before .before .before .start-past .result) (c .before .before .before .start-past .ensures .2) in (fits-as (c .before .before .before .before .before .before .before .before .before .before .before .before .before .args .page .now) (c .before .before .before .before .before .before .before .before .before .before .before .before .before .args .page .now) (c .before .before .before .before .before .before .before .before .before .before .before .before .before .args .at) 0 _ _ _ z (c .before .before .before .before .before .before .before .before .before .before .before .before .before .pre .1) (sym (keyed-length _ _ _)), c .before .before .before .before .before .before .before .before .before .before .before .before .before .pre .2, omega arith)
+write-keyed-requires : tie.Need-write-keyed-requires
+write-keyed-requires c κs = let z = side-yes (c .before .before .before .before .before .before .before .before .before .before .before .before .before .args .node .now) (c .before .before .before .before .before .before .before .before .before .before .before .before .before .args .k .now) (c .before .before .before .before .before .before .before .before .before .before .before .before .before .args .left) (c .before .before .before .before .before .before .before .before .before .before .before .before .before .args .d) (c .before .before .before .before .before .before .before .before .before .before .before .before .before .args .e) _ _ (c .before .before .before .before .before .before .before .before .e .given .1) _ (c .before .before .before .before .before .is-on-side .ensures) (c .before .before .before .before .if1 .left) (c .before .before .before .start-past .result) (c .before .before .before .start-past .ensures .2) in let f = fits-as (c .before .before .before .before .before .before .before .before .before .before .before .before .before .args .page .now) (c .before .before .before .before .before .before .before .before .before .before .before .before .before .args .page .now) (c .before .before .before .before .before .before .before .before .before .before .before .before .before .args .at) 0 _ _ _ z (c .before .before .before .before .before .before .before .before .before .before .before .before .before .pre .1) (sym (keyed-length _ _ _)) in (f, omega arith, omega arith, omega arith)
 
 enum-told : tie.Need-enum-told
 enum-told c = search needs
@@ -66,7 +67,7 @@ same-length : tie.Need-same-length
 same-length c = search needs
 
 returns-2 : tie.Need-returns-2
-returns-2 c = let z = side-yes (c .before .before .before .before .before .before .before .before .before .before .before .before .before .before .before .before .args .node .now) (c .before .before .before .before .before .before .before .before .before .before .before .before .before .before .before .before .args .k .now) (c .before .before .before .before .before .before .before .before .before .before .before .before .before .before .before .before .args .left) (c .before .before .before .before .before .before .before .before .before .before .before .before .before .before .before .before .args .d) (c .before .before .before .before .before .before .before .before .before .before .before .before .before .before .before .before .args .e) _ _ (c .before .before .before .before .before .before .before .before .before .before .before .e .given .1) _ (c .before .before .before .before .before .before .before .before .is-on-side .ensures) (c .before .before .before .before .before .before .before .if1 .left) (c .before .before .before .before .before .before .start-past .result) (c .before .before .before .before .before .before .start-past .ensures .2) in (puts-as (c .before .before .before .before .before .before .before .before .before .before .before .before .before .before .before .before .args .page .now) _ (c .before .before .before .before .before .before .before .before .before .before .before .before .before .before .before .before .args .at) 0 0 _ _ z (c .before .before .emit-keyed .ensures .0), ends-as (c .before .before .before .before .before .before .before .before .before .before .before .before .before .before .before .before .args .page .now) (c .before .before .before .before .before .before .before .before .before .before .before .before .before .before .before .before .args .page .now) (c .before .before .before .before .before .before .before .before .before .before .before .before .before .before .before .before .args .at) _ _ _ _ z (c .before .before .emit-keyed .ensures .1) (sym (keyed-length _ _ _)))
+returns-2 c = let z = side-yes (c .before .before .before .before .before .before .before .before .before .before .before .before .before .before .before .before .args .node .now) (c .before .before .before .before .before .before .before .before .before .before .before .before .before .before .before .before .args .k .now) (c .before .before .before .before .before .before .before .before .before .before .before .before .before .before .before .before .args .left) (c .before .before .before .before .before .before .before .before .before .before .before .before .before .before .before .before .args .d) (c .before .before .before .before .before .before .before .before .before .before .before .before .before .before .before .before .args .e) _ _ (c .before .before .before .before .before .before .before .before .before .before .before .e .given .1) _ (c .before .before .before .before .before .before .before .before .is-on-side .ensures) (c .before .before .before .before .before .before .before .if1 .left) (c .before .before .before .before .before .before .start-past .result) (c .before .before .before .before .before .before .start-past .ensures .2) in (puts-as (c .before .before .before .before .before .before .before .before .before .before .before .before .before .before .before .before .args .page .now) _ (c .before .before .before .before .before .before .before .before .before .before .before .before .before .before .before .before .args .at) 0 0 _ _ z (c .before .before .write-keyed .ensures .0), ends-as (c .before .before .before .before .before .before .before .before .before .before .before .before .before .before .before .before .args .page .now) (c .before .before .before .before .before .before .before .before .before .before .before .before .before .before .before .before .args .page .now) (c .before .before .before .before .before .before .before .before .before .before .before .before .before .before .before .before .args .at) _ _ _ _ z (c .before .before .write-keyed .ensures .1) (sym (keyed-length _ _ _)))
 
 returns-3 : tie.Need-returns-3
 returns-3 c = let z = side-child (c .before .before .before .before .before .args .node .now) (c .before .before .before .before .before .args .k .now) (c .before .before .before .before .before .args .left) (c .before .before .before .before .before .args .d) (c .before .before .before .before .before .args .e) _ _ (c .enum-told .given .1) in (puts-nothing _ _ _ z, ends-nowhere _ _ z)
@@ -85,13 +86,13 @@ emit-pair-spec =
     is-on-side-requires
     returns
     start-past-requires
-    sub-emit-keyed
-    part-emit-keyed-start
-    part-emit-keyed-end
-    sub-emit-keyed-2
-    part-emit-keyed-start-2
-    part-emit-keyed-end-2
-    emit-keyed-requires
+    sub-write-keyed
+    part-write-keyed-start
+    part-write-keyed-end
+    sub-write-keyed-2
+    part-write-keyed-start-2
+    part-write-keyed-end-2
+    write-keyed-requires
     enum-told
     enum-told-2
     same-length

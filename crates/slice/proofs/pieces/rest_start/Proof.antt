@@ -1,7 +1,7 @@
 -- `rest_start` meets its contract, by where the cut falls.
 -- Relies on specs/PieceSteps.
 use Rattle.slice.specs.PieceSteps.{inner-start, last-start, between-start, nowhere-start}
-use Rattle.search.specs.Own.{kidsE}
+use Rattle.node.specs.Search.Own.{kidsE}
 use Rattle.node.specs.Entries.{listed}
 use borrow.Author.Needs.{needs}
 use Rattle.slice.proofs.pieces.rest_start.Statement.{statement}

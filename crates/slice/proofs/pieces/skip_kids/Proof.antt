@@ -3,7 +3,7 @@
 use Rattle.slice.specs.PieceSteps.{drop-next, drop-none, drop-zero}
 use Rattle.live.specs.Walk.{NextChild}
 use Rattle.live.specs.Steps.{pends-child, pends-end}
-use Rattle.search.specs.Own.{kidsE}
+use Rattle.node.specs.Search.Own.{kidsE}
 use Rattle.node.specs.Entries.{listed}
 use lib.ListN.{length, drop}
 use mathlib.Core.Path.{_≡_, refl, sym, _∙_}

@@ -4,10 +4,10 @@ use Rattle.slice.specs.PieceSteps.{twice-put, twice-ends, over-none, tol
 use Rattle.slice.specs.PairSteps.{page-written}
 use Rattle.slice.specs.Right.{allLine, piecesIn}
 use Rattle.slice.specs.Point.{kidLine}
-use Rattle.search.specs.Own.{kidsE}
+use Rattle.node.specs.Search.Own.{kidsE}
 use Rattle.node.specs.Entries.{listed}
 use mathlib.Core.List.{_++_}
-use Rattle.packed.specs.Tidy.{zerosOf}
+use Rattle.packed.specs.Form.Tidy.{zerosOf}
 use lib.ListN.{length-append}
 use mathlib.Core.Path.{refl}
 use native.Mathlib.Omega.{arith}

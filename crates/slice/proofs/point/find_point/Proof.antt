@@ -6,7 +6,7 @@ use Rattle.live.specs.Walk.{NextChild}
 use Rattle.live.specs.Steps.{pends-child, pends-end}
 use Rattle.node.specs.Places.{Within, part}
 use Rattle.node.specs.Entries.{listed}
-use Rattle.search.specs.Own.{kid, kidsE}
+use Rattle.node.specs.Search.Own.{kid, kidsE}
 use Prim.Native.Nat.{_≤_, _-_}
 use mathlib.Core.Path.{_≡_}
 use mathlib.Core.List.{_∷_}

@@ -1,0 +1,4 @@
+pub mod Served
+pub mod Requests
+pub mod Steps
+pub mod Turns

@@ -1,0 +1,86 @@
+-- A skip that is fair: a child that no wanted path can stand in may be left out of the walk for next. Relies on Seek.
+use Prim.Native.Nat.{ℕ}
+use mathlib.Core.Path.{_≡_, refl, ap}
+use mathlib.Core.List.{List, [], _∷_}
+use mathlib.Core.Logic.{_⊎_, inl, inr}
+use mathlib.Core.Bool.{Bool, true, false, _&&_, _||_, not, false≢true}
+use mathlib.Core.Option.{Option, none, some}
+use Rattle.image.specs.Bytes.{before, begins, shared}
+use Rattle.image.specs.Path.{wellFormed}
+use Rattle.octets.specs.Order.{and-left, and-right, not-so, not-true, before-trans, before-irrefl, before-asym, before-le, between-begins}
+use Rattle.laws.specs.Rising.{one-key}
+use lib.Dec.{eqb}
+use Rattle.laws.specs.LookupTable.{not-low, under-high}
+use Rattle.laws.specs.Reading.Seek.{better, holds, wanted}
+use Rattle.octets.specs.Beginnings.{begins-not-before}
+
+-- It is fair where the child ends at or before P or Q, or starts past all that begins with P, or starts at the best or later.
+unfoldable pub farFrom : List ℕ → List ℕ → List ℕ → List ℕ → Option (List ℕ) → Bool
+farFrom P Q lo hi best =
+    not (before P hi) || not (before Q hi) || (before P lo && not (begins P lo)) || not (better best lo)
+
+-- what lies between P and an extension of it begins with it
+begins-shared : (P k : List ℕ) → begins P k ≡ true → shared P k ≡ P
+unfolding begins shared
+begins-shared [] k e = refl
+begins-shared (a ∷ P) [] e = absurd (false≢true e)
+begins-shared (a ∷ P) (b ∷ k) e = rw (and-left (eqb a b) (begins P k) e) (ap (λ l. a ∷ l) (begins-shared P k (and-right (eqb a b) _ e)))
+
+between : (P k lo : List ℕ) → begins P k ≡ true → before lo P ≡ false → before k lo ≡ false → begins P lo ≡ true
+between P k lo e a b = go (before lo k) refl
+  where
+    go : (x : Bool) → before lo k ≡ x → begins P lo ≡ true
+    go true c = rw (begins-shared P k e) at (between-begins P k lo a c)
+    go false c = rw (one-key lo k c b) e
+
+or-cases : (a b : Bool) → a || b ≡ true → (a ≡ true) ⊎ (b ≡ true)
+or-cases true b e = inl refl
+or-cases false b e = inr e
+
+unwanted : (P Q : List ℕ) (best : Option (List ℕ)) (k : List ℕ) → (begins P k ≡ true → before Q k ≡ true → better best k ≡ true → ⊥) → not (wanted P Q best k) ≡ true
+unfolding wanted
+unwanted P Q best k h = go (begins P k) refl (before Q k) refl (better best k) refl
+  where
+    go : (x : Bool) → begins P k ≡ x → (y : Bool) → before Q k ≡ y → (z : Bool) → better best k ≡ z → not (begins P k && before Q k && better best k) ≡ true
+    go true a true b true c = absurd (h a b c)
+    go true a true b false c = rw (a, b, c)
+    go true a false b z c = rw (a, b)
+    go false a y b z c = rw a
+
+better-low : (best : Option (List ℕ)) (lo k : List ℕ) → before k lo ≡ false → better best k ≡ true → better best lo ≡ true
+unfolding better
+better-low none lo k a b = refl
+better-low (some m) lo k a b = go (before lo m) refl
+  where
+    go : (x : Bool) → before lo m ≡ x → before lo m ≡ true
+    go true c = c
+    go false c = not-so (before-le k m lo b c) a
+
+-- k < hi and not m < hi: not m < k
+beyond : (m k hi : List ℕ) → before k hi ≡ true → before m hi ≡ false → before k m ≡ true
+beyond m k hi a b = before-le k hi m a b
+
+pub far-fair : (P Q lo hi : List ℕ) (best : Option (List ℕ)) → farFrom P Q lo hi best ≡ true → (k : List ℕ) → holds lo hi k ≡ true → not (wanted P Q best k) ≡ true
+unfolding farFrom holds
+far-fair P Q lo hi best s k h = unwanted P Q best k (λ a b c. go a b c (or-cases _ _ s))
+  where
+    low : before k lo ≡ false
+    low = not-low lo hi k (and-right (wellFormed k) _ h)
+
+    high : before k hi ≡ true
+    high = under-high lo hi k (and-right (wellFormed k) _ h)
+
+    first : begins P k ≡ true → before Q k ≡ true → (not (before P hi) ≡ true) ⊎ (not (before Q hi) ≡ true) → ⊥
+    first a b (inl x) = not-so (beyond P k hi high (not-true (before P hi) x)) (begins-not-before P k a)
+    first a b (inr x) = not-so (before-trans k Q k (beyond Q k hi high (not-true (before Q hi) x)) b) (before-irrefl k)
+
+    second : begins P k ≡ true → before Q k ≡ true → (not (before P hi) || not (before Q hi) ≡ true) ⊎ (before P lo && not (begins P lo) ≡ true) → ⊥
+    second a b (inl x) = first a b (or-cases _ _ x)
+    second a b (inr x) =
+        not-so (between P k lo a (before-asym P lo (and-left (before P lo) (not (begins P lo)) x)) low)
+        (not-true (begins P lo) (and-right (before P lo) _ x))
+
+    go : begins P k ≡ true → before Q k ≡ true → better best k ≡ true
+        → (not (before P hi) || not (before Q hi) || (before P lo && not (begins P lo)) ≡ true) ⊎ (not (better best lo) ≡ true) → ⊥
+    go a b c (inl x) = second a b (or-cases _ _ x)
+    go a b c (inr x) = not-so (better-low best lo k low c) (not-true (better best lo) x)

@@ -1,7 +1,0 @@
-pub mod Least
-pub mod Heads
-pub mod Room
-pub mod WeighSteps
-pub mod EmitSteps
-pub mod JoinSteps
-pub mod NodeSteps

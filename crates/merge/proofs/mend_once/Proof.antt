@@ -1,0 +1,75 @@
+-- `mend_once` meets its contract: the copy of the node lists the node's entries.
+-- Relies on specs/NodeSteps.
+use borrow.Author.Needs.{needs}
+use native.Mathlib.Omega.{arith}
+use Rattle.packed.specs.Form.Tidy.{zerosOf}
+use Rattle.merge.specs.NodeSteps.{node-in, room, once-done}
+use Rattle.merge.proofs.mend_once.Statement.{statement}
+use Rattle.merge.proofs.mend_once.Tie as tie
+
+mul-at : tie.Need-mul-at
+mul-at c = let i = node-in (c .before .before .args .store .now) (c .before .before .args .num) (c .before .before .args .hi .now) (c .before .before .pre) in omega arith
+
+u16-at-requires : tie.Need-u16-at-requires
+u16-at-requires c κs = let i = node-in (c .before .before .before .args .store .now) (c .before .before .before .args .num) (c .before .before .before .args .hi .now) (c .before .before .before .pre) in omega arith
+
+add-u16-at : tie.Need-add-u16-at
+add-u16-at c = let i = node-in (c .before .before .before .before .before .args .store .now) (c .before .before .before .before .before .args .num) (c .before .before .before .before .before .args .hi .now) (c .before .before .before .before .before .pre) in omega arith
+
+u16-at-requires-2 : tie.Need-u16-at-requires-2
+u16-at-requires-2 c κs = let i = node-in (c .before .before .before .before .before .args .store .now) (c .before .before .before .before .before .args .num) (c .before .before .before .before .before .args .hi .now) (c .before .before .before .before .before .pre) in omega arith
+
+add-stop : tie.Need-add-stop
+add-stop c = search needs
+
+add-end : tie.Need-add-end
+add-end c = let i = node-in (c .before .before .before .before .before .before .args .store .now) (c .before .before .before .before .before .before .args .num) (c .before .before .before .before .before .before .args .hi .now) (c .before .before .before .before .before .before .pre) in omega arith
+
+slice-aggregate-copy-at : tie.Need-slice-aggregate-copy-at
+slice-aggregate-copy-at c = search needs
+
+sub-copy-at : tie.Need-sub-copy-at
+sub-copy-at c = search needs
+
+part-copy-at-start : tie.Need-part-copy-at-start
+part-copy-at-start c = search needs
+
+part-copy-at-end : tie.Need-part-copy-at-end
+part-copy-at-end c = let i = node-in (c .before .before .before .before .before .before .before .before .args .store .now) (c .before .before .before .before .before .before .before .before .args .num) (c .before .before .before .before .before .before .before .before .args .hi .now) (c .before .before .before .before .before .before .before .before .pre) in omega arith
+
+copy-at-requires : tie.Need-copy-at-requires
+copy-at-requires c κs = search needs
+
+slice-aggregate-join-first : tie.Need-slice-aggregate-join-first
+slice-aggregate-join-first c = search needs
+
+join-first-requires : tie.Need-join-first-requires
+unfolding zerosOf
+join-first-requires c κs = room (c .before .before .before .before .before .before .before .before .before .before .before .before .before .args .store .now) (c .before .before .before .before .before .before .before .before .before .before .before .before .before .args .num) (c .before .before .before .before .before .before .before .before .before .before .before .before .before .args .hi .now) (c .before .before .before .before .before .before .before .before .before .before .before .before .before .pre) _ _ (c .before .before .before .before .before .before .before .before .before .u16-at .ensures .0) (c .before .before .before .before .before .before .before .u16-at2 .ensures .1) _ (c .before .before .before .copy-at .ensures)
+
+same-length : tie.Need-same-length
+same-length c = search needs
+
+returns : tie.Need-returns
+unfolding zerosOf
+returns c = once-done (c .before .before .before .before .before .before .before .before .before .before .before .before .before .before .before .before .args .store .now) (c .before .before .before .before .before .before .before .before .before .before .before .before .before .before .before .before .args .num) (c .before .before .before .before .before .before .before .before .before .before .before .before .before .before .before .before .args .hi .now) (c .before .before .before .before .before .before .before .before .before .before .before .before .before .before .before .before .pre) (c .before .before .before .before .before .before .before .before .before .before .before .before .u16-at .result) (c .before .before .before .before .before .before .before .before .before .before .u16-at2 .result) (c .before .before .before .before .before .before .before .before .before .before .before .before .u16-at .ensures .0) (c .before .before .before .before .before .before .before .before .before .before .u16-at2 .ensures .1) _ (c .before .before .before .before .before .before .copy-at .ensures) (c .before .before .before .before .before .before .before .before .before .before .u16-at2 .ensures .0) _ _ (c .before .before .join-first .ensures .0) (c .before .before .join-first .ensures .1)
+
+pub mend-once-spec : {M : Type 1} → statement M
+mend-once-spec =
+    tie.close
+    (tie.spec
+    mul-at
+    u16-at-requires
+    add-u16-at
+    u16-at-requires-2
+    add-stop
+    add-end
+    slice-aggregate-copy-at
+    sub-copy-at
+    part-copy-at-start
+    part-copy-at-end
+    copy-at-requires
+    slice-aggregate-join-first
+    join-first-requires
+    same-length
+    returns)

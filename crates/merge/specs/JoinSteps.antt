@@ -1,0 +1,97 @@
+-- Step lemmas of the joining: two neighbours, and the search for the first two that one node holds.
+use Prim.Native.Nat.{ℕ, _≤_, _-_}
+use mathlib.Core.Path.{_≡_, refl, sym, ap, _∙_}
+use mathlib.Core.List.{List, [], _∷_}
+use mathlib.Core.Bool.{Bool, true, false, not, cond}
+use native.Mathlib.Omega.{arith}
+use lib.ListN.{length, take, drop}
+use Rattle.image.specs.Entry as defined
+use Rattle.image.specs.Image.{Kid}
+use Rattle.octets.specs.Order.{not-true}
+use Rattle.laws.specs.RowsRising.{is-true}
+use Rattle.laws.specs.Reading.Relative.{kidHigh}
+use Rattle.node.specs.Cut.{cut-length}
+use Rattle.node.specs.Search.Own.{kid}
+use Rattle.merge.specs.Laws.Joined.{pairFits, leftWritten, nodeWithout, pairJoined, joinedIf, firstJoined, anyFits}
+use Rattle.merge.specs.Room.{Room}
+
+pub room-stays : (s s′ : List ℕ) (n level : ℕ) (node : List ℕ) (stop : ℕ) → length s′ ≡ length s → Room s n level node stop → Room s′ n level node stop
+room-stays s s′ n level node stop e r =
+    let f = r .few in
+    let g = r .inside in
+    record { ends = r .ends; whole = r .whole; inside = omega arith; few = omega arith; low = r .low; small = r .small; fits = r .fits }
+
+pub short-part : (l : List ℕ) (a b : ℕ) → a ≤ b → b ≤ length l → length l ≤ 1024 → length (take (b - a) (drop a l)) ≤ 2000000
+short-part l a b h g f = let z = cut-length l a b h g in omega arith
+
+pub kids-two : (ks us vs : List Kid) (k q : Kid) → ks ≡ k ∷ us → us ≡ q ∷ vs → ks ≡ k ∷ q ∷ vs
+kids-two ks us vs k q e f = e ∙ ap (λ l. k ∷ l) f
+
+-- TWO NEIGHBOURS
+module _ (n level : ℕ) (es : List defined.Entry) (a b : ℕ) (lo mid hi s : List ℕ) (r : Bool) (q : r ≡ pairFits s a b lo mid hi) where
+  pub not-joined : not r ≡ true → (s ≡ joinedIf n level es a b lo mid hi s) × (false ≡ pairFits s a b lo mid hi)
+  unfolding joinedIf
+  not-joined h =
+      let z : pairFits s a b lo mid hi ≡ false = sym q ∙ not-true r h in
+      (sym (ap (λ x. cond x (pairJoined n level es a b lo mid hi s) s) z), sym z)
+
+  pub do-fit : not r ≡ false → pairFits s a b lo mid hi ≡ true
+  do-fit h = sym q ∙ is-true r h
+
+  pub are-joined : (s₁ s₂ : List ℕ) → not r ≡ false → s₁ ≡ leftWritten s a b lo mid hi → s₂ ≡ nodeWithout s₁ n level b es
+      → (s₂ ≡ joinedIf n level es a b lo mid hi s) × (true ≡ pairFits s a b lo mid hi)
+  unfolding joinedIf pairJoined
+  are-joined s₁ s₂ h e f =
+      let z = do-fit h in
+      (f ∙ ap (λ t. nodeWithout t n level b es) e ∙ sym (ap (λ x. cond x (nodeWithout (leftWritten s a b lo mid hi) n level b es) s) z), sym z)
+
+-- THE SEARCH
+module _ (n level : ℕ) (es : List defined.Entry) (hi s : List ℕ) where
+  pub first-none : (ks : List Kid) → ks ≡ [] → (s ≡ firstJoined n level es ks hi s) × (false ≡ anyFits ks hi s)
+  unfolding firstJoined anyFits
+  first-none ks e = (sym (ap (λ l. firstJoined n level es l hi s) e), sym (ap (λ l. anyFits l hi s) e))
+
+  pub first-one : (ks us : List Kid) (k : Kid) → ks ≡ k ∷ us → us ≡ [] → (s ≡ firstJoined n level es ks hi s) × (false ≡ anyFits ks hi s)
+  unfolding firstJoined anyFits
+  first-one ks us k e f =
+      let g : ks ≡ k ∷ [] = e ∙ ap (λ l. k ∷ l) f in
+      (sym (ap (λ l. firstJoined n level es l hi s) g), sym (ap (λ l. anyFits l hi s) g))
+
+  -- the two in hand are a and b with the low pivots lo and mid; ks follow
+  module _ (a b : ℕ) (lo mid : List ℕ) (ks : List Kid) (s′ : List ℕ) (r : Bool) (X : List ℕ) (Y : Bool)
+      (inv : firstJoined n level es (kid a lo ∷ kid b mid ∷ ks) hi s ≡ X) (yes : anyFits (kid a lo ∷ kid b mid ∷ ks) hi s ≡ Y) where
+    as-any : (x : Bool) → x ≡ cond x true false
+    as-any true = refl
+    as-any false = refl
+
+    pub first-last : ks ≡ [] → s′ ≡ joinedIf n level es a b lo mid hi s → r ≡ pairFits s a b lo mid hi → (s′ ≡ X) × (r ≡ Y)
+    unfolding firstJoined anyFits joinedIf kidHigh
+    first-last e f g = (
+      f ∙ ap (λ l. firstJoined n level es (kid a lo ∷ kid b mid ∷ l) hi s) (sym e) ∙ inv,
+      g ∙ as-any (pairFits s a b lo mid hi) ∙ ap (λ l. anyFits (kid a lo ∷ kid b mid ∷ l) hi s) (sym e) ∙ yes,
+    )
+
+    module _ (k : ℕ) (p : List ℕ) (us : List Kid) (e : ks ≡ kid k p ∷ us) (f : s′ ≡ joinedIf n level es a b lo mid p s) (g : r ≡ pairFits s a b lo mid p) where
+      at-first : firstJoined n level es (kid a lo ∷ kid b mid ∷ kid k p ∷ us) hi s ≡ X
+      at-first = ap (λ l. firstJoined n level es (kid a lo ∷ kid b mid ∷ l) hi s) (sym e) ∙ inv
+
+      at-any : anyFits (kid a lo ∷ kid b mid ∷ kid k p ∷ us) hi s ≡ Y
+      at-any = ap (λ l. anyFits (kid a lo ∷ kid b mid ∷ l) hi s) (sym e) ∙ yes
+
+      pub first-here : r ≡ true → (s′ ≡ X) × (true ≡ Y)
+      unfolding firstJoined anyFits joinedIf kidHigh
+      first-here h =
+          let z : pairFits s a b lo mid p ≡ true = sym g ∙ h in (
+            f ∙ ap (λ x. cond x (pairJoined n level es a b lo mid p s) s) z
+                ∙ sym (ap (λ x. cond x (pairJoined n level es a b lo mid p s) (firstJoined n level es (kid b mid ∷ kid k p ∷ us) hi s)) z) ∙ at-first,
+            sym (ap (λ x. cond x true (anyFits (kid b mid ∷ kid k p ∷ us) hi s)) z) ∙ at-any,
+          )
+
+      pub first-on : r ≡ false → (s′ ≡ s) × (firstJoined n level es (kid b mid ∷ kid k p ∷ us) hi s ≡ X) × (anyFits (kid b mid ∷ kid k p ∷ us) hi s ≡ Y)
+      unfolding firstJoined anyFits joinedIf kidHigh
+      first-on h =
+          let z : pairFits s a b lo mid p ≡ false = sym g ∙ h in (
+            f ∙ ap (λ x. cond x (pairJoined n level es a b lo mid p s) s) z,
+            sym (ap (λ x. cond x (pairJoined n level es a b lo mid p s) (firstJoined n level es (kid b mid ∷ kid k p ∷ us) hi s)) z) ∙ at-first,
+            sym (ap (λ x. cond x true (anyFits (kid b mid ∷ kid k p ∷ us) hi s)) z) ∙ at-any,
+          )

@@ -1,0 +1,7 @@
+pub mod Laws
+pub mod Least
+pub mod Room
+pub mod WeighSteps
+pub mod EmitSteps
+pub mod JoinSteps
+pub mod NodeSteps

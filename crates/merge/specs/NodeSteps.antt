@@ -1,0 +1,116 @@
+-- Step lemmas of the heal of a node: the copy of its page lists its entries, and the node's high pivot as it was found.
+-- Relies on Laws/Mended.
+use Prim.Native.Nat.{ℕ, _+_, _*_, _-_, _≤_, _<_}
+use mathlib.Core.Path.{_≡_, refl, sym, ap, ap₂, subst, _∙_}
+use mathlib.Core.List.{List, []}
+use mathlib.Core.Bool.{Bool, true, false, not}
+use mathlib.Core.Option.{some}
+use native.Mathlib.Omega.{arith}
+use lib.ListN.{length, take, drop}
+use Rattle.image.specs.Bytes.{u16}
+use Rattle.image.specs.Image.{nodesOf, treeOf, wholeNodes}
+use Rattle.image.specs.Sound.{sound, highest}
+use Rattle.image.specs.Upkeep.{reachableAt, reachableNodes}
+use Rattle.image.specs.Contract.{isInterior}
+use Rattle.octets.specs.Order.{not-true}
+use Rattle.octets.specs.Put.{put}
+use Rattle.laws.specs.RowsRising.{is-true}
+use Rattle.laws.specs.Encode.{bytesOfAll}
+use Rattle.packed.specs.Form.Tidy.{zerosOf}
+use Rattle.node.specs.Cut.{cut, cut-drop, cut-take, cut-length}
+use Rattle.node.specs.Entries.{listed, listOf}
+use Rattle.node.specs.Search.Own.{kidsE}
+use Rattle.lookup.specs.Look.{listing}
+use Rattle.push.specs.Laws.High.{highHere}
+use Rattle.push.specs.Laws.PushedDown.{few-nodes}
+use Rattle.push.specs.High.Sought.{Seen}
+use Rattle.push.specs.High.Steps.{found-is, missing-is}
+use Rattle.push.specs.declared.high.Sought.{Sought}
+use Rattle.merge.specs.Laws.Joined.{smallEntries, firstJoined, anyFits}
+use Rattle.merge.specs.Laws.Mended.{Mendable, SoFar, HealedNode, Step, node-inside, node-short, node-small, node-fits, steps-on, ends, none-joined, high-there, high-fits}
+use Rattle.merge.specs.Room.{Room}
+use Rattle.push.specs.NodeSteps.{copied}
+
+-- THE COPY OF THE NODE
+module _ (s : List ℕ) (n : ℕ) (hi : List ℕ) (m : Mendable s n hi) where
+  pub node-in : n * 1024 + 1024 ≤ length s
+  node-in = node-inside s n hi m
+
+  pub node-len : u16 s (n * 1024) ≤ 1016
+  node-len = node-short s n hi m
+
+  few-bytes : length s ≤ 2000000
+  unfolding nodesOf
+  few-bytes = let w = few-nodes (length s) (m .whole) in omega arith
+
+  module _ (len level : ℕ) (el : len ≡ u16 s (n * 1024)) (low : level < 65536) (node : List ℕ) (en : node ≡ put (zerosOf 1024) 0 (cut s (n * 1024) (n * 1024 + 1024))) where
+    node-size : length (cut s (n * 1024) (n * 1024 + 1024)) ≡ 1024
+    node-size = cut-length s (n * 1024) (n * 1024 + 1024) (omega arith) node-in ∙ omega arith
+
+    copy-is : node ≡ cut s (n * 1024) (n * 1024 + 1024)
+    copy-is = en ∙ copied (cut s (n * 1024) (n * 1024 + 1024)) node-size
+
+    same-part : cut node 8 (8 + len) ≡ cut s (n * 1024 + 8) (n * 1024 + 8 + u16 s (n * 1024))
+    same-part =
+        let sh = node-len in
+        let z : 8 + len - 8 ≡ u16 s (n * 1024) = omega arith in
+        ap₂ (λ k l. take k (drop 8 l)) z copy-is
+        ∙ ap (take (u16 s (n * 1024))) (cut-drop s (n * 1024) (n * 1024 + 1024) 8 (omega arith))
+        ∙ cut-take s (n * 1024 + 8) (n * 1024 + 1024) (u16 s (n * 1024)) (omega arith)
+
+    lists : listed node 8 (8 + len) ≡ listing s n
+    unfolding listed
+    lists = ap listOf same-part
+
+    pub room : Room s n level node (8 + len)
+    room =
+        let sh = node-len in
+        let z : length node ≡ 1024 = ap length copy-is ∙ node-size in
+        let f = node-fits s n hi m in
+        let g = ap (λ es. length (bytesOfAll es)) lists in
+        record {
+          ends = omega arith;
+          whole = omega arith;
+          inside = node-in;
+          few = few-bytes;
+          low = low;
+          small = ap smallEntries lists ∙ node-small s n hi m;
+          fits = omega arith;
+        }
+
+    pub once-done : level ≡ u16 s (n * 1024 + 4) → (s′ : List ℕ) (r : Bool) → s′ ≡ firstJoined n level (listed node 8 (8 + len)) (kidsE (listed node 8 (8 + len))) hi s
+        → r ≡ anyFits (kidsE (listed node 8 (8 + len))) hi s
+        → (s′ ≡ firstJoined n (u16 s (n * 1024 + 4)) (listing s n) (kidsE (listing s n)) hi s) × (r ≡ anyFits (kidsE (listing s n)) hi s)
+    once-done ev s′ r a b =
+        (a ∙ ap₂ (λ v es. firstJoined n v es (kidsE es) hi s) ev lists, b ∙ ap (λ es. anyFits (kidsE es) hi s) lists)
+
+-- THE LOOP
+module _ (s₀ : List ℕ) (n : ℕ) (hi s s′ : List ℕ) (b : Bool) (m : Mendable s n hi) (r : SoFar s₀ n s)
+    (e : s′ ≡ firstJoined n (u16 s (n * 1024 + 4)) (listing s n) (kidsE (listing s n)) hi s) (q : b ≡ anyFits (kidsE (listing s n)) hi s) where
+  pub goes : not b ≡ false → Step s₀ n hi s s′
+  goes h = steps-on s n hi m (sym q ∙ is-true b h) (u16 s (n * 1024 + 4)) refl s′ e s₀ r
+
+  pub is-done : Mendable s₀ n hi → not b ≡ true → HealedNode s₀ n s′
+  is-done m₀ h =
+      let z : anyFits (kidsE (listing s n)) hi s ≡ false = sym q ∙ not-true b h in
+      let w : s ≡ s′ = sym (e ∙ none-joined n (u16 s (n * 1024 + 4)) (listing s n) (kidsE (listing s n)) hi s z) in
+      subst (HealedNode s₀ n) w (ends s₀ n hi s m₀ m r z)
+
+-- THE HIGH PIVOT
+module _ (s : List ℕ) (n : ℕ) (out : List ℕ) (r : Sought) (w : wholeNodes (length s) ≡ true) (e : sound s ≡ true) (i : isInterior (reachableAt n (reachableNodes s)) ≡ true)
+    (h : Seen (highHere n (treeOf s) [] highest) r out) where
+  pub not-missing : (X : Type 0) → r ≡ Sought.Missing → X
+  not-missing X q = absurd (high-there s n e i (missing-is (highHere n (treeOf s) [] highest) r out h q))
+
+  pub not-long : (X : Type 0) (k : ℕ) → r ≡ Sought.Found k → 1024 < k → X
+  not-long X k q g =
+      let f = found-is (highHere n (treeOf s) [] highest) r k out h q in
+      let z = f .held .size in
+      let l = high-fits s n (f .high) (f .is) in
+      absurd (omega arith)
+
+  pub mendable : (k : ℕ) → r ≡ Sought.Found k → k ≤ length out → Mendable s n (take (k - 0) (drop 0 out))
+  mendable k q f =
+      let g = found-is (highHere n (treeOf s) [] highest) r k out h q in
+      let z : k - 0 ≡ k = omega arith in
+      record { whole = w; is-sound = e; reached = i; high = g .is ∙ ap some (sym (ap (λ j. take j out) z ∙ g .held .front f)) }

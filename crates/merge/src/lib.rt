@@ -1,0 +1,226 @@
+// Heal: two neighbouring children of a node that hold no message and fit in one node are joined, the first such two again and again until
+// there are none. Everything is told from inside the node: suffixes and pivots are without what the node lifts. Relies on specs/Laws and
+// push's high; weigh says whether one node holds both, emit writes entries.
+pub mod emit;
+pub mod weigh;
+
+use live::Pending;
+use node::Cursor;
+use push::high::Sought;
+ghost use mathlib.Core.Path.{_≡_};
+ghost use mathlib.Core.Bool.{true};
+ghost use Prim.Native.Nat.{_+_, _*_, _≤_};
+ghost use lib.ListN.{length};
+ghost use Rattle.image.specs.Bytes.{u16};
+ghost use Rattle.image.specs.Image.{wholeNodes};
+ghost use Rattle.image.specs.Sound.{sound};
+ghost use Rattle.image.specs.Upkeep.{reachableAt, reachableNodes};
+ghost use Rattle.image.specs.Contract.{isInterior};
+ghost use Rattle.octets.specs.Put.{put};
+ghost use Rattle.node.specs.Entries.{listed};
+ghost use Rattle.node.specs.Search.Own.{kidsE};
+ghost use Rattle.lookup.specs.Look.{listing};
+ghost use Rattle.merge.specs.Laws.Mended.{Mendable, HealedNode};
+ghost use Rattle.merge.specs.Laws.Joined.{pairFits, bothEntries, leftWritten, nodeWithout, joinedIf, firstJoined, anyFits};
+ghost use Rattle.merge.specs.Room.{Room};
+
+// The entries of two neighbours for the left one's page. Gives the place behind them.
+fn emit_both(
+    page: &mut [u8],
+    store: &[u8],
+    left: usize,
+    right: usize,
+    lo: &[u8],
+    mid: &[u8],
+    hi: &[u8],
+) -> usize
+    requires { ⌜ (pairFits (now store) left right (now lo) (now mid) (now hi) ≡ true) × (length (now page) ≡ 1024) ⌝ }
+    ensures { λ r. ⌜ (now (page .exit)
+        ≡ put (now (page .entry)) 8 (bothEntries (now (store .entry)) left right (now (lo .entry)) (now (mid .entry)) (now (hi .entry))))
+        × (r ≡ 8 + length (bothEntries (now (store .entry)) left right (now (lo .entry)) (now (mid .entry)) (now (hi .entry)))) ⌝ }
+{
+    let shared = octets::common_length(lo, hi);
+    let own = octets::common_length(lo, mid);
+    let other = octets::common_length(mid, hi);
+    let x = weigh::lesser(shared, own);
+    let y = weigh::lesser(shared, other);
+    let end = emit::emit_node(page, image::ENTRIES_AT, store, left, &lo[x..own]);
+    emit::emit_node(page, end, store, right, &mid[y..other])
+}
+
+// The left one of two neighbours with the entries of both.
+fn write_left(store: &mut [u8], left: usize, right: usize, lo: &[u8], mid: &[u8], hi: &[u8])
+    requires { ⌜ pairFits (now store) left right (now lo) (now mid) (now hi) ≡ true ⌝ }
+    ensures { λ _. ⌜ now (store .exit) ≡ leftWritten (now (store .entry)) left right (now (lo .entry)) (now (mid .entry)) (now (hi .entry)) ⌝ }
+{
+    let at = left * image::NODE_SIZE;
+    let kind = octets::u16_at(store, at + image::KIND_AT);
+    let level = octets::u16_at(store, at + image::LEVEL_AT);
+    let mut page = [0u8; 1024];
+    let end = emit_both(&mut page, store, left, right, lo, mid, hi);
+    node::writer::write_page(store, left, &mut page, kind, level, end - image::ENTRIES_AT);
+}
+
+// The node without the entry of one child.
+fn write_without(store: &mut [u8], num: usize, level: usize, node: &[u8], stop: usize, gone: usize)
+    requires { ⌜ Room (now store) num level (now node) stop ⌝ }
+    ensures { λ _. ⌜ now (store .exit) ≡ nodeWithout (now (store .entry)) num level gone (listed (now (node .entry)) 8 stop) ⌝ }
+{
+    let mut page = [0u8; 1024];
+    let end = emit::emit_others(&mut page, image::ENTRIES_AT, node, stop, gone);
+    node::writer::write_page(
+        store,
+        num,
+        &mut page,
+        image::INTERIOR,
+        level,
+        end - image::ENTRIES_AT,
+    );
+}
+
+// Two neighbours joined, if one node holds both. Answers whether it does.
+fn join_fitting(
+    store: &mut [u8],
+    num: usize,
+    level: usize,
+    node: &[u8],
+    stop: usize,
+    left: usize,
+    lo: &[u8],
+    right: usize,
+    mid: &[u8],
+    hi: &[u8],
+) -> bool
+    requires { ⌜ Room (now store) num level (now node) stop × (length (now lo) ≤ 2000000) × (length (now mid) ≤ 2000000) ⌝ }
+    ensures { λ r. ⌜ (now (store .exit)
+        ≡ joinedIf num level (listed (now (node .entry)) 8 stop) left right (now (lo .entry)) (now (mid .entry)) (now (hi .entry))
+        (now (store .entry)))
+        × (r ≡ pairFits (now (store .entry)) left right (now (lo .entry)) (now (mid .entry)) (now (hi .entry))) ⌝ }
+{
+    if !weigh::pair_fits(store, left, right, lo, mid, hi) {
+        return false;
+    }
+    write_left(store, left, right, lo, mid, hi);
+    write_without(store, num, level, node, stop, right);
+    true
+}
+
+// The first two neighbours that one node holds, joined. Answers whether there were any.
+fn join_first(
+    store: &mut [u8],
+    num: usize,
+    level: usize,
+    node: &[u8],
+    stop: usize,
+    hi: &[u8],
+) -> bool
+    requires { ⌜ Room (now store) num level (now node) stop ⌝ }
+    ensures { λ r. ⌜ (now (store .exit)
+        ≡ firstJoined num level (listed (now (node .entry)) 8 stop) (kidsE (listed (now (node .entry)) 8 stop)) (now (hi .entry))
+        (now (store .entry)))
+        × (r ≡ anyFits (kidsE (listed (now (node .entry)) 8 stop)) (now (hi .entry)) (now (store .entry))) ⌝ }
+{
+    let Pending::Child(first, pivot, start) = live::read_child(
+        node,
+        Cursor {
+            at: image::ENTRIES_AT,
+            end: stop,
+        },
+    ) else {
+        return false;
+    };
+    let Pending::Child(second, middle, then) = live::read_child(node, start) else {
+        return false;
+    };
+    let mut c = then;
+    let mut left = first;
+    let mut low = pivot;
+    let mut right = second;
+    let mut mid = middle;
+    loop {
+        let a = low.start;
+        let b = low.stop;
+        let x = mid.start;
+        let y = mid.stop;
+        let Pending::Child(k, p, next) = live::read_child(node, c) else {
+            return join_fitting(
+                store,
+                num,
+                level,
+                node,
+                stop,
+                left,
+                &node[a..b],
+                right,
+                &node[x..y],
+                hi,
+            );
+        };
+        let v = p.start;
+        let w = p.stop;
+        if join_fitting(
+            store,
+            num,
+            level,
+            node,
+            stop,
+            left,
+            &node[a..b],
+            right,
+            &node[x..y],
+            &node[v..w],
+        ) {
+            return true;
+        }
+        left = right;
+        low = mid;
+        right = k;
+        mid = p;
+        c = next;
+    }
+}
+
+// One step: the first two neighbouring children of the node that one node holds are joined. Answers whether there were any.
+fn mend_once(store: &mut [u8], num: usize, hi: &[u8]) -> bool
+    requires { ⌜ Mendable (now store) num (now hi) ⌝ }
+    ensures { λ r. ⌜ (now (store .exit)
+        ≡ firstJoined num (u16 (now (store .entry)) (num * 1024 + 4)) (listing (now (store .entry)) num)
+        (kidsE (listing (now (store .entry)) num)) (now (hi .entry)) (now (store .entry)))
+        × (r ≡ anyFits (kidsE (listing (now (store .entry)) num)) (now (hi .entry)) (now (store .entry))) ⌝ }
+{
+    let at = num * image::NODE_SIZE;
+    let len = octets::u16_at(store, at);
+    let level = octets::u16_at(store, at + image::LEVEL_AT);
+    let stop = image::ENTRIES_AT + len;
+    let end = at + image::NODE_SIZE;
+    let mut node = [0u8; 1024];
+    octets::copy_at(&mut node, 0, &store[at..end]);
+    join_first(store, num, level, &node, stop, hi)
+}
+
+// Steps until no two neighbouring children of the node fit in one; each step leaves a child less.
+fn mend_node(store: &mut [u8], num: usize, hi: &[u8])
+    requires { ⌜ Mendable (now store) num (now hi) ⌝ }
+    ensures { λ _. ⌜ HealedNode (now (store .entry)) num (now (store .exit)) ⌝ }
+{
+    loop {
+        if !mend_once(store, num, hi) {
+            return;
+        }
+    }
+}
+
+// Heals a reachable interior node. Such a node is found and its pivot is at most 65 bytes, so the first two exits are not taken.
+pub fn mend_children(store: &mut [u8], num: usize)
+    requires { ⌜ (wholeNodes (length (now store)) ≡ true) × (sound (now store) ≡ true) × (isInterior (reachableAt num (reachableNodes (now store))) ≡ true) ⌝ }
+    ensures { λ _. ⌜ HealedNode (now (store .entry)) num (now (store .exit)) ⌝ }
+{
+    let mut high = [0u8; 1024];
+    let Sought::Found(n) = push::high::find_high(store, num, &mut high) else {
+        return;
+    };
+    if 1024 < n {
+        return;
+    }
+    mend_node(store, num, &high[0..n]);
+}

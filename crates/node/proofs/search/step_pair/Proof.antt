@@ -1,0 +1,29 @@
+-- `step_pair` meets its contract: by a quick look, or by way of any entry. Relies on specs/PairSteps.
+use Rattle.node.specs.Search.PairSteps.{pair-stepped}
+use borrow.Author.Needs.{needs}
+use Prim.Native.Nat.{_-_}
+use Rattle.node.proofs.search.step_pair.Statement.{statement}
+use Rattle.node.proofs.search.step_pair.Tie as tie
+
+pair-at-requires : tie.Need-pair-at-requires
+pair-at-requires c κs = search needs
+
+enum-known-p : tie.Need-enum-known-p
+enum-known-p c = search needs
+
+enum-told : tie.Need-enum-told
+enum-told c = search needs
+
+step-any-requires : tie.Need-step-any-requires
+step-any-requires c κs = search needs
+
+returns : tie.Need-returns
+returns c = search needs
+
+returns-2 : tie.Need-returns-2
+returns-2 c = pair-stepped _ _ _ _ _ _ _ (c .before .before .before .pair-at .ensures) (c .before .p .given .1)
+
+pub step-pair-spec : {M : Type 1} → statement M
+step-pair-spec =
+    tie.close
+    (tie.spec pair-at-requires enum-known-p enum-told step-any-requires returns returns-2)

@@ -1,0 +1,326 @@
+// What one node says of a path: its newest message on it, the pair of a leaf, the child that owns it; and the list of children.
+// Relies on the cursor; specs/Search joins each reader to the definitions.
+use crate::Cursor;
+use crate::Entry;
+use crate::Message;
+use crate::Place;
+use crate::Split;
+use crate::Step;
+ghost use mathlib.Core.Path.{_≡_};
+ghost use Prim.Native.Nat.{_≤_};
+ghost use lib.ListN.{length};
+ghost use mathlib.Core.List.{[], _∷_};
+ghost use Rattle.node.specs.Places.{EntryWithin, MessageWithin, Within, part, entryIn, messageIn};
+ghost use Rattle.image.specs.Meaning.{saysOf};
+ghost use Rattle.node.specs.Search.Own.{kidIs, kid, kidsE, ownerOf, Owned};
+ghost use Rattle.node.specs.Entries.{listed};
+ghost use Rattle.node.specs.Search.Hear.{Hears, HeardFits, said, saidBy, saysE, newestE, speaks};
+ghost use Rattle.node.specs.Search.Pairs.{Finds, findE, pairIs};
+ghost use Rattle.node.specs.Search.PairSteps.{Stands, PairStepped};
+
+// What the messages of a node say of a path.
+pub enum Heard {
+    Silent,
+    Gone,
+    Value(Place),
+}
+
+// Whether a message is on a rest.
+pub fn message_speaks(s: &[u8], m: Message, rest: &[u8]) -> bool
+    requires { ⌜ MessageWithin 0 (length (now s)) m ⌝ }
+    ensures { λ r. ⌜ r ≡ speaks (saysOf (messageIn (now (s .entry)) m) (now (rest .entry))) ⌝ }
+{
+    match m {
+        Message::Put(p, _) => {
+            let a = p.start;
+            let b = p.stop;
+            octets::equal(&s[a..b], rest)
+        }
+        Message::Drop(p) => {
+            let a = p.start;
+            let b = p.stop;
+            octets::equal(&s[a..b], rest)
+        }
+        Message::Clear(p) => {
+            let a = p.start;
+            let b = p.stop;
+            octets::begins_with(&s[a..b], rest)
+        }
+    }
+}
+
+pub fn entry_speaks(s: &[u8], e: Entry, rest: &[u8]) -> bool
+    requires { ⌜ EntryWithin 0 (length (now s)) e ⌝ }
+    ensures { λ r. ⌜ r ≡ speaks (saysE (entryIn (now (s .entry)) e) (now (rest .entry))) ⌝ }
+{
+    match e {
+        Entry::Pair(_, _) => false,
+        Entry::Child(_, _) => false,
+        Entry::Message(m) => message_speaks(s, m, rest),
+    }
+}
+
+// One message, after what was heard before it.
+pub fn hear_message(s: &[u8], best: Heard, m: Message, rest: &[u8]) -> Heard
+    requires { ⌜ HeardFits (length (now s)) best × MessageWithin 0 (length (now s)) m ⌝ }
+    ensures { λ r. ⌜ Hears (now (s .entry)) (saidBy (now (s .entry)) best m (now (rest .entry))) r ⌝ }
+{
+    match m {
+        Message::Put(p, v) => {
+            let a = p.start;
+            let b = p.stop;
+            if octets::equal(&s[a..b], rest) {
+                Heard::Value(v)
+            } else {
+                best
+            }
+        }
+        Message::Drop(p) => {
+            let a = p.start;
+            let b = p.stop;
+            if octets::equal(&s[a..b], rest) {
+                Heard::Gone
+            } else {
+                best
+            }
+        }
+        Message::Clear(p) => {
+            let a = p.start;
+            let b = p.stop;
+            if octets::begins_with(&s[a..b], rest) {
+                Heard::Gone
+            } else {
+                best
+            }
+        }
+    }
+}
+
+pub fn hear(s: &[u8], best: Heard, e: Entry, rest: &[u8]) -> Heard
+    requires { ⌜ HeardFits (length (now s)) best × EntryWithin 0 (length (now s)) e ⌝ }
+    ensures { λ r. ⌜ Hears (now (s .entry)) (said (now (s .entry)) best e (now (rest .entry))) r ⌝ }
+{
+    match e {
+        Entry::Pair(_, _) => best,
+        Entry::Child(_, _) => best,
+        Entry::Message(m) => hear_message(s, best, m, rest),
+    }
+}
+
+// The newest message on a rest, of the entries from a place up to another.
+pub fn newest(s: &[u8], from: usize, end: usize, rest: &[u8]) -> Heard
+    requires { ⌜ end ≤ length (now s) ⌝ }
+    ensures { λ r. ⌜ Hears (now (s .entry)) (newestE (listed (now (s .entry)) from end) (now (rest .entry))) r ⌝ }
+{
+    let mut c = Cursor { at: from, end };
+    let mut best = Heard::Silent;
+    while c.at < end {
+        let Step::Read(e, next) = c.step(s) else {
+            return best;
+        };
+        // Few entries speak; to copy what was heard past each of the others would take most of the time.
+        if !entry_speaks(s, e, rest) {
+            c = next;
+            continue;
+        }
+        best = hear(s, best, e, rest);
+        c = next;
+    }
+    best
+}
+
+pub enum Found {
+    Value(Place),
+    Nothing,
+}
+
+pub enum Pair {
+    Of(Place, Place),
+    Other,
+}
+
+pub fn pair_of(e: Entry) -> Pair
+    ensures { λ r. ⌜ r ≡ pairIs e ⌝ }
+{
+    match e {
+        Entry::Pair(p, v) => Pair::Of(p, v),
+        Entry::Child(_, _) => Pair::Other,
+        Entry::Message(_) => Pair::Other,
+    }
+}
+
+// The pair of a leaf on a rest.
+pub fn find(s: &[u8], from: usize, end: usize, rest: &[u8]) -> Found
+    requires { ⌜ end ≤ length (now s) ⌝ }
+    ensures { λ r. ⌜ Finds (now (s .entry)) (findE (listed (now (s .entry)) from end) (now (rest .entry))) r ⌝ }
+{
+    let mut c = Cursor { at: from, end };
+    while c.at < end {
+        let Step::Read(e, next) = c.step(s) else {
+            return Found::Nothing;
+        };
+        let Pair::Of(p, v) = pair_of(e) else {
+            return Found::Nothing;
+        };
+        let a = p.start;
+        let b = p.stop;
+        if octets::equal(rest, &s[a..b]) {
+            return Found::Value(v);
+        }
+        c = next;
+    }
+    Found::Nothing
+}
+
+// The child that owns a rest: its number, its low pivot, and its high pivot where the next child has it.
+pub enum Owner {
+    Inner(usize, Place, Place),
+    Last(usize, Place),
+    Nobody,
+}
+
+pub enum Kid {
+    Of(usize, Place),
+    Other,
+}
+
+pub fn kid_of(e: Entry) -> Kid
+    ensures { λ r. ⌜ r ≡ kidIs e ⌝ }
+{
+    match e {
+        Entry::Pair(_, _) => Kid::Other,
+        Entry::Child(k, p) => Kid::Of(k, p),
+        Entry::Message(_) => Kid::Other,
+    }
+}
+
+// The last child, if it owns the rest.
+pub fn last_of(s: &[u8], num: usize, low: Place, hi: &[u8], rest: &[u8]) -> Owner
+    requires { ⌜ Within 0 (length (now s)) low ⌝ }
+    ensures { λ r. ⌜ Owned (now (s .entry)) (now (hi .entry)) (ownerOf (kid num (part (now (s .entry)) low) ∷ []) (now (hi .entry)) (now (rest .entry))) r ⌝ }
+{
+    let a = low.start;
+    let b = low.stop;
+    if octets::owned(&s[a..b], hi, rest) {
+        return Owner::Last(num, low);
+    }
+    Owner::Nobody
+}
+
+// A child, and those that follow from the cursor on.
+pub fn owner_after(
+    s: &[u8],
+    first: usize,
+    pivot: Place,
+    start: Cursor,
+    hi: &[u8],
+    rest: &[u8],
+) -> Owner
+    requires { ⌜ (start .end ≤ length (now s)) × Within 0 (length (now s)) pivot ⌝ }
+    ensures { λ r. ⌜ Owned (now (s .entry)) (now (hi .entry))
+        (ownerOf (kid first (part (now (s .entry)) pivot) ∷ kidsE (listed (now (s .entry)) (start .at) (start .end))) (now (hi .entry))
+        (now (rest .entry))) r ⌝ }
+{
+    let end = start.end;
+    let mut c = start;
+    let mut num = first;
+    let mut low = pivot;
+    while c.at < end {
+        let Step::Read(e, next) = c.step(s) else {
+            return last_of(s, num, low, hi, rest);
+        };
+        let Kid::Of(k, p) = kid_of(e) else {
+            return last_of(s, num, low, hi, rest);
+        };
+        let a = low.start;
+        let b = low.stop;
+        let x = p.start;
+        let y = p.stop;
+        if octets::owned(&s[a..b], &s[x..y], rest) {
+            return Owner::Inner(num, low, p);
+        }
+        num = k;
+        low = p;
+        c = next;
+    }
+    last_of(s, num, low, hi, rest)
+}
+
+// The child that owns a rest, of the entries from a place up to another.
+pub fn owner_of(s: &[u8], from: usize, end: usize, hi: &[u8], rest: &[u8]) -> Owner
+    requires { ⌜ end ≤ length (now s) ⌝ }
+    ensures { λ r. ⌜ Owned (now (s .entry)) (now (hi .entry)) (ownerOf (kidsE (listed (now (s .entry)) from end)) (now (hi .entry)) (now (rest .entry))) r ⌝ }
+{
+    let c = Cursor { at: from, end };
+    let Step::Read(e, next) = c.step(s) else {
+        return Owner::Nobody;
+    };
+    let Kid::Of(k, p) = kid_of(e) else {
+        return Owner::Nobody;
+    };
+    owner_after(s, k, p, next, hi, rest)
+}
+
+// A pair at a cursor: its key, its value, and the cursor past it; or no pair stands there.
+pub enum PairStep {
+    Read(Place, Place, Cursor),
+    Other,
+}
+
+// The pair at a place, where the numbers in front of it show one; what else stands there is not told apart.
+fn pair_at(s: &[u8], at: usize, end: usize) -> PairStep
+    requires { ⌜ end ≤ length (now s) ⌝ }
+    ensures { λ r. ⌜ Stands (now (s .entry)) at end r ⌝ }
+{
+    if end <= at {
+        return PairStep::Other;
+    }
+    if end - at < 4 {
+        return PairStep::Other;
+    }
+    let len = octets::u16_at(s, at);
+    if octets::u16_at(s, at + 2) != 1 {
+        return PairStep::Other;
+    }
+    let start = at + 4;
+    if end - start < len {
+        return PairStep::Other;
+    }
+    let stop = start + len;
+    let Split::At(m) = crate::parted(s, start, stop) else {
+        return PairStep::Other;
+    };
+    PairStep::Read(
+        Place {
+            start: start + 2,
+            stop: m,
+        },
+        Place { start: m, stop },
+        Cursor { at: stop, end },
+    )
+}
+
+// The same by way of any entry.
+fn step_any(s: &[u8], c: Cursor) -> PairStep
+    requires { ⌜ c .end ≤ length (now s) ⌝ }
+    ensures { λ r. ⌜ PairStepped (now (s .entry)) (c .at) (c .end) r ⌝ }
+{
+    let Step::Read(e, next) = c.step(s) else {
+        return PairStep::Other;
+    };
+    let Pair::Of(p, v) = pair_of(e) else {
+        return PairStep::Other;
+    };
+    PairStep::Read(p, v, next)
+}
+
+// The pair at a cursor. A pair is told by its own numbers, with no look at what other kinds of entry there are.
+pub fn step_pair(s: &[u8], c: Cursor) -> PairStep
+    requires { ⌜ c .end ≤ length (now s) ⌝ }
+    ensures { λ r. ⌜ PairStepped (now (s .entry)) (c .at) (c .end) r ⌝ }
+{
+    let PairStep::Read(p, v, next) = pair_at(s, c.at, c.end) else {
+        return step_any(s, c);
+    };
+    PairStep::Read(p, v, next)
+}

@@ -1,0 +1,13 @@
+-- What a caller is told who puts the rows into the area.
+-- A row is path length, value length, u16 mark, 64 bytes for the path, 60 for the value (rows/specs/Area).
+use Prim.Native.Nat.{ℕ, _+_, _*_}
+use mathlib.Core.Path.{_≡_}
+use mathlib.Core.List.{List, [], _∷_, _++_}
+use lib.ListN.{drop}
+use Rattle.packed.specs.Rows.Area.{rowsOf, RowsFit}
+
+-- row i is (path, value), the rows before it and the bytes behind it are as before
+pub record RowPut (i : ℕ) (area area′ path value : List ℕ) : Type 0 where
+  pub fit : RowsFit (i + 1) area′
+  pub rows : rowsOf (i + 1) area′ 0 ≡ rowsOf i area 0 ++ (record { key = path; value = value } ∷ [])
+  pub behind : drop (i * 128 + 128) area′ ≡ drop (i * 128 + 128) area

@@ -1,0 +1,15 @@
+pub mod Chunk
+pub mod Climbs
+pub mod Examples
+pub mod Leaves
+pub mod Marks
+pub mod Neat
+pub mod Numbered
+pub mod Ordered
+pub mod Packed
+pub mod Pages
+pub mod Raised
+pub mod Stored
+pub mod Sweep
+pub mod Tidy
+pub mod Tower

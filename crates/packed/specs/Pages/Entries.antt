@@ -1,0 +1,205 @@
+-- Child entries put into a page.
+use Prim.Native.Nat.{ℕ, zero, suc, _+_, _*_, _-_, _≤_, _<_}
+use mathlib.Core.Path.{_≡_, refl, sym, ap, ap₂, _∙_}
+use mathlib.Core.List.{List, [], _∷_, _++_, append-assoc, append-nil}
+use mathlib.Core.Bool.{Bool, true, false, cond}
+use native.Mathlib.Omega.{arith}
+use mathlib.Core.Logic.{_≢_}
+use lib.Dec.{eqb, ltb}
+use borrow.Author.Tests.{eq-eqb, ne-eqb, eqb-true, eqb-false, lt-ltb, le-ltb, ltb-true, ltb-false}
+use lib.ListN.{length, take, drop, getD, length-append, length-drop, drop-of-length-le}
+use lib.Seq.{length-take-le, drop-drop, take-nil}
+use Rattle.image.specs.Entry.{child}
+use Rattle.image.specs.Image.{Kid}
+use Rattle.laws.specs.Encode.{bytesOf, bytesOfAll}
+use Rattle.packed.specs.Form.Marks.{kidEntries}
+use Rattle.packed.specs.Rows.Area.{rowAt, RowsFit}
+use Rattle.packed.specs.Rows.Kids.{markAt, lowOfRow, kidsOf, kids-take, kids-pass}
+use Rattle.packed.specs.Rows.Remark.{kids-split}
+use Rattle.octets.specs.Put.{put, put-put, put-nil, put-size}
+
+-- the bytes of the marked ones of n rows from row i
+unfoldable pub kidBytes : ℕ → ℕ → List ℕ → ℕ → List ℕ
+kidBytes k n area i = bytesOfAll (kidEntries k (kidsOf n area i))
+
+entries-append : (k : ℕ) (xs ys : List Kid) → bytesOfAll (kidEntries k (xs ++ ys)) ≡ bytesOfAll (kidEntries k xs) ++ bytesOfAll (kidEntries k ys)
+unfolding kidEntries bytesOfAll
+entries-append k [] ys = refl
+entries-append k (x ∷ xs) ys =
+    ap (λ l. bytesOf (child (x .number) (drop k (x .pivot))) ++ l) (entries-append k xs ys)
+    ∙ sym (append-assoc (bytesOf (child (x .number) (drop k (x .pivot)))) (bytesOfAll (kidEntries k xs)) (bytesOfAll (kidEntries k ys)))
+
+pub bytes-step : (k to : ℕ) (area : List ℕ) (i : ℕ) → i < to → kidBytes k (to - i) area i ≡ kidBytes k 1 area i ++ kidBytes k (to - (i + 1)) area (i + 1)
+unfolding kidBytes
+bytes-step k to area i h =
+    let z : to - i ≡ 1 + (to - (i + 1)) = omega arith in
+    ap (λ n. bytesOfAll (kidEntries k (kidsOf n area i))) z
+    ∙ ap (λ ks. bytesOfAll (kidEntries k ks)) (kids-split 1 (to - (i + 1)) area i)
+    ∙ entries-append k (kidsOf 1 area i) (kidsOf (to - (i + 1)) area (i + 1))
+
+pub bytes-done : (k to : ℕ) (area : List ℕ) (i : ℕ) → to ≤ i → kidBytes k (to - i) area i ≡ []
+unfolding kidBytes kidsOf kidEntries bytesOfAll
+bytes-done k to area i h = let z : to - i ≡ 0 = omega arith in rw z refl
+
+-- one row
+pub bytes-none : (k : ℕ) (area : List ℕ) (i : ℕ) → markAt area i ≡ 0 → kidBytes k 1 area i ≡ []
+bytes-none k area i h = unfold kidBytes in (ap (λ ks. bytesOfAll (kidEntries k ks)) (kids-pass 0 area i h) ∙ (unfold kidsOf kidEntries bytesOfAll in refl))
+
+pub bytes-some : (k : ℕ) (area : List ℕ) (i : ℕ) → (markAt area i ≡ 0 → ⊥) → kidBytes k 1 area i ≡ bytesOf (child (markAt area i) (drop k (lowOfRow area i)))
+bytes-some k area i h = go (markAt area i) refl
+  where
+    one : 1 ≤ markAt area i → kidBytes k 1 area i ≡ bytesOf (child (markAt area i) (drop k (lowOfRow area i)))
+    one o = unfold kidBytes kidsOf kidEntries bytesOfAll in
+        (ap (λ ks. bytesOfAll (kidEntries k ks)) (kids-take 0 area i o) ∙ append-nil (bytesOf (child (markAt area i) (drop k (lowOfRow area i)))))
+
+    go : (v : ℕ) → markAt area i ≡ v → kidBytes k 1 area i ≡ bytesOf (child (markAt area i) (drop k (lowOfRow area i)))
+    go zero e = absurd (h e)
+    go (suc v) e = one (omega arith)
+
+pub drop-take : (k n : ℕ) (l : List ℕ) → k ≤ n → drop k (take n l) ≡ take (n - k) (drop k l)
+drop-take zero n l h = let z : n ≡ n - 0 = omega arith in ap (λ q. take q l) z
+drop-take (suc k) zero l h = absurd (omega arith)
+drop-take (suc k) (suc n) [] h = sym (take-nil (suc n - suc k))
+drop-take (suc k) (suc n) (a ∷ l) h = let z : n - k ≡ suc n - suc k = omega arith in drop-take k n l (omega arith) ∙ ap (λ q. take q (drop k l)) z
+
+-- the suffix of row i, as the code takes it from the area
+pub suffix-first : (k : ℕ) (area : List ℕ) (i : ℕ) → i ≡ 0 → drop k (lowOfRow area i) ≡ []
+unfolding lowOfRow
+suffix-first k area zero e = drop-of-length-le [] {i = k} (omega arith)
+suffix-first k area (suc i) e = absurd (omega arith)
+
+module _ (m : ℕ) (area : List ℕ) (f : RowsFit m area) (k i : ℕ) (h : i < m) (n : i ≡ 0 → ⊥) where
+  low-is : lowOfRow area i ≡ take (getD area (i * 128) 0) (drop (i * 128 + 4) area)
+  low-is = go i n
+    where
+      go : (j : ℕ) → (j ≡ 0 → ⊥) → lowOfRow area j ≡ take (getD area (j * 128) 0) (drop (j * 128 + 4) area)
+      go zero q = absurd (q refl)
+      go (suc j) q = unfold lowOfRow rowAt in refl
+
+  pub suffix-short : (len : ℕ) → len ≡ getD area (i * 128) 0 → len < k → drop k (lowOfRow area i) ≡ []
+  suffix-short len e l =
+      let r = f .room in
+      let p = f .paths i h in
+      let s = ap length low-is ∙ length-take-le (getD area (i * 128) 0) (drop (i * 128 + 4) area) (rw (length-drop (i * 128 + 4) area) (omega arith)) in
+      drop-of-length-le (lowOfRow area i) {i = k} (omega arith)
+
+  pub suffix-is : (len : ℕ) → len ≡ getD area (i * 128) 0 → k ≤ len
+      → take (i * 128 + 4 + len - (i * 128 + 4 + k)) (drop (i * 128 + 4 + k) area) ≡ drop k (lowOfRow area i)
+  suffix-is len e l =
+      let z : i * 128 + 4 + len - (i * 128 + 4 + k) ≡ len - k = omega arith in
+      ap (λ q. take q (drop (i * 128 + 4 + k) area)) z
+      ∙ ap (take (len - k)) (sym (drop-drop k (i * 128 + 4) area))
+      ∙ sym (drop-take k len (drop (i * 128 + 4) area) l)
+      ∙ ap (λ q. drop k (take q (drop (i * 128 + 4) area))) e
+      ∙ ap (drop k) (sym low-is)
+
+-- where the suffix of row i stands
+unfoldable pub endAt : List ℕ → ℕ → ℕ
+endAt area i = cond (eqb i 0) (i * 128 + 4) (i * 128 + 4 + getD area (i * 128) 0)
+
+unfoldable pub startAt : ℕ → List ℕ → ℕ → ℕ
+startAt k area i = cond (eqb i 0) (i * 128 + 4) (cond (ltb (getD area (i * 128) 0) k) (i * 128 + 4 + getD area (i * 128) 0) (i * 128 + 4 + k))
+
+pub end-first : (area : List ℕ) (i : ℕ) → i ≡ 0 → endAt area i ≡ i * 128 + 4
+unfolding endAt
+end-first area i h = rw (eq-eqb i 0 h)
+
+pub end-later : (area : List ℕ) (i : ℕ) → (i ≡ 0 → ⊥) → endAt area i ≡ i * 128 + 4 + getD area (i * 128) 0
+unfolding endAt
+end-later area i h = rw (ne-eqb i 0 h)
+
+pub start-zero : (k : ℕ) (area : List ℕ) (i : ℕ) → i ≡ 0 → startAt k area i ≡ i * 128 + 4
+unfolding startAt
+start-zero k area i h = rw (eq-eqb i 0 h)
+
+pub start-short : (k : ℕ) (area : List ℕ) (i : ℕ) → (i ≡ 0 → ⊥) → getD area (i * 128) 0 < k → startAt k area i ≡ i * 128 + 4 + getD area (i * 128) 0
+unfolding startAt
+start-short k area i h l = rw (ne-eqb i 0 h, lt-ltb (getD area (i * 128) 0) k l)
+
+pub start-long : (k : ℕ) (area : List ℕ) (i : ℕ) → (i ≡ 0 → ⊥) → k ≤ getD area (i * 128) 0 → startAt k area i ≡ i * 128 + 4 + k
+unfolding startAt
+start-long k area i h l = rw (ne-eqb i 0 h, le-ltb (getD area (i * 128) 0) k l)
+
+pub record Span (k : ℕ) (area : List ℕ) (i s e : ℕ) : Type 0 where
+  pub ordered : s ≤ e
+  pub inside : e ≤ length area
+  pub bytes : take (e - s) (drop s area) ≡ drop k (lowOfRow area i)
+
+pub span : (m : ℕ) (area : List ℕ) → RowsFit m area → (k i : ℕ) → i < m → (s e : ℕ) → s ≡ startAt k area i → e ≡ endAt area i → Span k area i s e
+span m area f k i h s e a b = go (eqb i 0) refl (ltb (getD area (i * 128) 0) k) refl
+  where
+    none-of : (x y : ℕ) → x ≡ y → take (y - x) (drop x area) ≡ []
+    none-of x y q = let z : y - x ≡ 0 = omega arith in ap (λ n. take n (drop x area)) z
+
+    go : (x : Bool) → eqb i 0 ≡ x → (y : Bool) → ltb (getD area (i * 128) 0) k ≡ y → Span k area i s e
+    go true p y q =
+        let z : i ≡ 0 = eqb-true i 0 p in
+        let c = start-zero k area i z in
+        let d = end-first area i z in
+        let r = f .room in
+        record { ordered = omega arith; inside = omega arith; bytes = none-of s e (omega arith) ∙ sym (suffix-first k area i z) }
+    go false p true q =
+        let z : i ≢ 0 = eqb-false i 0 p in
+        let l : getD area (i * 128) 0 < k = ltb-true (getD area (i * 128) 0) k q in
+        let c = start-short k area i z l in
+        let d = end-later area i z in
+        let r = f .room in
+        let t = f .paths i h in
+        record { ordered = omega arith; inside = omega arith; bytes = none-of s e (omega arith) ∙ sym (suffix-short m area f k i h z (getD area (i * 128) 0) refl l) }
+    go false p false q =
+        let z : i ≢ 0 = eqb-false i 0 p in
+        let l : k ≤ getD area (i * 128) 0 = ltb-false (getD area (i * 128) 0) k q in
+        let c : s ≡ i * 128 + 4 + k = a ∙ start-long k area i z l in
+        let d : e ≡ i * 128 + 4 + getD area (i * 128) 0 = b ∙ end-later area i z in
+        let r = f .room in
+        let t = f .paths i h in
+        record {
+          ordered = omega arith;
+          inside = omega arith;
+          bytes = ap₂ (λ x y. take (x - y) (drop y area)) d c ∙ suffix-is m area f k i h z (getD area (i * 128) 0) refl l;
+        }
+
+-- what holds before each turn of the loop over the rows
+pub record Emits (page₀ area : List ℕ) (from to k at : ℕ) (page : List ℕ) (t p : ℕ) : Type 0 where
+  pub in-range : t ≤ to
+  pub not-before : from ≤ t
+  pub size : length page ≡ length page₀
+  pub place : p + length (kidBytes k (to - t) area t) ≡ at + length (kidBytes k (to - from) area from)
+  pub so-far : put page p (kidBytes k (to - t) area t) ≡ put page₀ at (kidBytes k (to - from) area from)
+
+pub emits-first : (page area : List ℕ) (from to k at : ℕ) → from ≤ to → Emits page area from to k at page from at
+emits-first page area from to k at h = record { in-range = h; not-before = omega arith; size = refl; place = refl; so-far = refl }
+
+pub emits-room : (page₀ area : List ℕ) (from to k at : ℕ) (page : List ℕ) (t p : ℕ) → Emits page₀ area from to k at page t p → t < to
+    → p + length (kidBytes k 1 area t) ≤ at + length (kidBytes k (to - from) area from)
+emits-room page₀ area from to k at page t p e h =
+    let a = ap length (bytes-step k to area t h) ∙ length-append (kidBytes k 1 area t) (kidBytes k (to - (t + 1)) area (t + 1)) in
+    let b = e .place in
+    omega arith
+
+pub emits-next : (page₀ area : List ℕ) (from to k at : ℕ) (page : List ℕ) (t p : ℕ) → Emits page₀ area from to k at page t p → t < to
+    → at + length (kidBytes k (to - from) area from) ≤ length page₀
+    → (page′ : List ℕ) (p′ : ℕ) → page′ ≡ put page p (kidBytes k 1 area t) → p′ ≡ p + length (kidBytes k 1 area t)
+    → Emits page₀ area from to k at page′ (t + 1) p′
+emits-next page₀ area from to k at page t p e h r page′ p′ x y =
+    let a = ap length (bytes-step k to area t h) ∙ length-append (kidBytes k 1 area t) (kidBytes k (to - (t + 1)) area (t + 1)) in
+    let b = e .place in
+    let c = e .size in
+    rw (x, y)
+    (record {
+      in-range = omega arith;
+      not-before = let q = e .not-before in omega arith;
+      size = put-size page p (kidBytes k 1 area t) (omega arith) ∙ c;
+      place = omega arith;
+      so-far =
+          put-put page p (kidBytes k 1 area t) (kidBytes k (to - (t + 1)) area (t + 1)) (omega arith)
+          ∙ ap (put page p) (sym (bytes-step k to area t h)) ∙ e .so-far;
+    })
+
+pub emits-last : (page₀ area : List ℕ) (from to k at : ℕ) (page : List ℕ) (t p : ℕ) → Emits page₀ area from to k at page t p → to ≤ t
+    → (page ≡ put page₀ at (kidBytes k (to - from) area from)) × (p ≡ at + length (kidBytes k (to - from) area from))
+emits-last page₀ area from to k at page t p e h =
+    let d = bytes-done k to area t h in
+    let a = ap length d in
+    let b = e .place in
+    (sym (put-nil page p) ∙ ap (put page p) (sym d) ∙ e .so-far, omega arith)

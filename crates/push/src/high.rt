@@ -1,0 +1,116 @@
+// The high pivot of an interior node without what the node lifts: only its parent knows it, so it is sought from the root down.
+// Relies on the readers of nodes (node, live) and on `usable` (laws/Reading); Laws/High says what is found.
+use live::Pending;
+use node::Cursor;
+use node::Place;
+ghost use mathlib.Core.Path.{_≡_};
+ghost use mathlib.Core.List.{_∷_, []};
+ghost use mathlib.Core.Bool.{true};
+ghost use lib.ListN.{length};
+ghost use Rattle.image.specs.Image.{treeAt, treeOf, nodesOf, forestOf};
+ghost use Rattle.image.specs.Sound.{sound, highest};
+ghost use Rattle.laws.specs.Reading.Relative.{usable};
+ghost use Rattle.node.specs.Places.{part};
+ghost use Rattle.node.specs.Entries.{listed};
+ghost use Rattle.node.specs.Search.Own.{kid, kidsE};
+ghost use Rattle.push.specs.Laws.High.{highHere, highIn};
+ghost use Rattle.push.specs.High.Sought.{Held, Seen, SeekKids};
+
+// How many bytes the pivot has that was sought; it stands at the front of the buffer if it fits.
+pub enum Sought {
+    Found(usize),
+    Missing,
+}
+
+// A pivot to the front of the buffer, if it fits. Gives its length.
+fn keep_high(out: &mut [u8], high: &[u8]) -> usize
+    ensures { λ r. ⌜ Held (now (high .entry)) r (now (out .exit)) ⌝ }
+{
+    if out.len() < high.len() {
+        return high.len();
+    }
+    octets::copy_at(out, 0, high);
+    high.len()
+}
+
+// The high pivot of node `num` in the tree of node `cur` of this level, whose pivots are without what its parent lifts.
+pub fn search_node(
+    store: &[u8],
+    cur: usize,
+    level: usize,
+    lo: &[u8],
+    hi: &[u8],
+    num: usize,
+    out: &mut [u8],
+) -> Sought
+    requires { ⌜ usable (nodesOf (length (now store))) (treeAt level (now store) cur) ≡ true ⌝ }
+    ensures { λ r. ⌜ Seen (highHere num (treeAt level (now (store .entry)) cur) (now (lo .entry)) (now (hi .entry))) r (now (out .exit)) ⌝ }
+{
+    if level <= 1 {
+        return Sought::Missing;
+    }
+    let k = octets::common_length(lo, hi);
+    if cur == num {
+        return Sought::Found(keep_high(out, &hi[k..]));
+    }
+    let at = cur * image::NODE_SIZE;
+    let len = octets::u16_at(store, at);
+    let from = at + image::ENTRIES_AT;
+    let end = from + len;
+    let Pending::Child(first, pivot, next) = live::read_child(store, Cursor { at: from, end })
+    else {
+        return Sought::Missing;
+    };
+    search_children(store, first, pivot, next, level - 1, &hi[k..], num, out)
+}
+
+// The same in the tree of a child and of those that follow from the cursor on; a child's high pivot is the next one's low, or else hi.
+pub fn search_children(
+    store: &[u8],
+    first: usize,
+    pivot: Place,
+    start: Cursor,
+    level: usize,
+    hi: &[u8],
+    num: usize,
+    out: &mut [u8],
+) -> Sought
+    requires { ⌜ SeekKids (now store) level first pivot start ⌝ }
+    ensures { λ r. ⌜ Seen
+        (highIn num
+        (forestOf (λ j. treeAt level (now (store .entry)) j)
+        (kid first (part (now (store .entry)) pivot) ∷ kidsE (listed (now (store .entry)) (start .at) (start .end)))) (now (hi .entry))) r
+        (now (out .exit)) ⌝ }
+{
+    let mut c = start;
+    let mut cur = first;
+    let mut low = pivot;
+    loop {
+        let a = low.start;
+        let b = low.stop;
+        let Pending::Child(k, p, next) = live::read_child(store, c) else {
+            return search_node(store, cur, level, &store[a..b], hi, num, out);
+        };
+        let x = p.start;
+        let y = p.stop;
+        let r = search_node(store, cur, level, &store[a..b], &store[x..y], num, out);
+        let Sought::Missing = r else {
+            return r;
+        };
+        cur = k;
+        low = p;
+        c = next;
+    }
+}
+
+// The high pivot of node `num` of a sound image.
+pub fn find_high(store: &[u8], num: usize, out: &mut [u8]) -> Sought
+    requires { ⌜ sound (now store) ≡ true ⌝ }
+    ensures { λ r. ⌜ Seen (highHere num (treeOf (now (store .entry))) [] highest) r (now (out .exit)) ⌝ }
+{
+    let root = octets::u16_at(store, image::ROOT_AT);
+    let levels = octets::u16_at(store, image::LEVELS_AT);
+    let lo = [0u8; 1];
+    let hi = [255u8; 1];
+    search_node(store, root, levels, &lo[0..0], &hi, num, out)
+}

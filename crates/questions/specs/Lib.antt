@@ -1,0 +1,4 @@
+pub mod Callers
+pub mod Asked
+pub mod Acted
+pub mod Steps

@@ -1,0 +1,23 @@
+use borrow.Author.Needs.{needs}
+use Prim.Native.Nat.{_-_}
+use Rattle.rename.specs.Prepare.Steps.{swing-waits, swing-high, swing-room}
+use Rattle.rename.proofs.prepare.may_swing.Statement.{statement}
+use Rattle.rename.proofs.prepare.may_swing.Tie as tie
+
+returns : tie.Need-returns
+returns c = search (needs, swing-waits)
+
+returns-2 : tie.Need-returns-2
+returns-2 c = search (needs, swing-high)
+
+mul-result : tie.Need-mul-result
+mul-result c = search needs
+
+add-result : tie.Need-add-result
+add-result c = search needs
+
+returns-3 : tie.Need-returns-3
+returns-3 c = search (needs, swing-room)
+
+pub may-swing-spec : {M : Type 1} → statement M
+may-swing-spec = tie.close (tie.spec returns returns-2 mul-result add-result returns-3)

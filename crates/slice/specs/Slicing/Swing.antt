@@ -1,0 +1,162 @@
+-- The swing: a settled tree under other bytes is sound there, when its paths are well formed there. And the middle of a move as one tree.
+use Prim.Native.Nat.{ℕ}
+use mathlib.Core.Path.{_≡_, refl, sym, ap, _∙_}
+use mathlib.Core.List.{List, [], _∷_, _++_, append-assoc}
+use mathlib.Core.Bool.{Bool, true, _&&_, false≢true}
+use lib.Seq.{drop-append-seam}
+use Rattle.image.specs.Bytes.{before, shared}
+use Rattle.image.specs.Path.{owns, wellFormed}
+use Rattle.image.specs.Table.{Row, everyKey, rising, underPrefix, renamed}
+use Rattle.image.specs.Image.{Tree, unread, leaf, interior, Forest, end, tree}
+use Rattle.image.specs.Meaning.{highOf, applyAll, rows, rowsIn}
+use Rattle.image.specs.Sound.{soundTree, soundForest, soundMessages, firstPivot}
+use Rattle.octets.specs.Order.{and-left, and-right, same-append, before-append, shared-append}
+use Rattle.laws.specs.Rising.{both}
+use Rattle.laws.specs.LookupTable.{Parts, parts, inner, not-unread}
+use Rattle.laws.specs.Shift.{under-under, high-shift, owns-shift, rows-shift}
+use Rattle.laws.specs.Pieces.{still, stillIn, Good}
+use Rattle.laws.specs.Filter.{every-append}
+
+pub every-left : (a : List ℕ → Bool) (t u : List Row) → everyKey a (t ++ u) ≡ true → everyKey a t ≡ true
+unfolding everyKey
+every-left a [] u e = refl
+every-left a (r ∷ t) u e = both (and-left (a (r .key)) _ e) (every-left a t u (and-right (a (r .key)) _ e))
+
+pub every-right : (a : List ℕ → Bool) (t u : List Row) → everyKey a (t ++ u) ≡ true → everyKey a u ≡ true
+unfolding everyKey
+every-right a [] u e = e
+every-right a (r ∷ t) u e = every-right a t u (and-right (a (r .key)) _ e)
+
+-- what does not depend on the bytes in front
+module _ (P : List ℕ) where
+  owned-shift : (lo hi : List ℕ) (t : List Row) → everyKey (owns (P ++ lo) (P ++ hi)) (underPrefix P t) ≡ everyKey (owns lo hi) t
+  unfolding everyKey underPrefix
+  owned-shift lo hi [] = refl
+  owned-shift lo hi (r ∷ t) = rw (owns-shift P lo hi (r .key), owned-shift lo hi t)
+
+  leaf-shift : (lo hi : List ℕ) (t : List Row)
+      → everyKey (owns (P ++ lo) (P ++ hi)) (underPrefix (shared (P ++ lo) (P ++ hi)) t) ≡ everyKey (owns lo hi) (underPrefix (shared lo hi) t)
+  leaf-shift lo hi t = rw (shared-append P lo hi, under-under P (shared lo hi) t) (owned-shift lo hi (underPrefix (shared lo hi) t))
+
+  first-shift : (l lo : List ℕ) (f : Forest) → firstPivot (P ++ l) (P ++ lo) f ≡ firstPivot l lo f
+  unfolding firstPivot
+  first-shift l lo end = refl
+  first-shift l lo (tree s t f) = rw (append-assoc P l s) (same-append P (l ++ s) lo)
+
+  pivot-shift : (l lo hi s : List ℕ) → owns (P ++ lo) (P ++ hi) ((P ++ l) ++ s) ≡ owns lo hi (l ++ s)
+  pivot-shift l lo hi s = rw (append-assoc P l s) (owns-shift P lo hi (l ++ s))
+
+  rise-shift : (l hi s : List ℕ) (f : Forest) → before ((P ++ l) ++ s) (highOf (P ++ l) (P ++ hi) f) ≡ before (l ++ s) (highOf l hi f)
+  rise-shift l hi s f = rw (append-assoc P l s, high-shift P l hi f) (before-append P (l ++ s) (highOf l hi f))
+
+  kid-shift : (l hi s : List ℕ) (t : Tree) (f : Forest)
+      → soundTree t ((P ++ l) ++ s) (highOf (P ++ l) (P ++ hi) f) ≡ soundTree t (P ++ (l ++ s)) (P ++ highOf l hi f)
+  kid-shift l hi s t f = rw (append-assoc P l s, high-shift P l hi f)
+
+  kid-rows : (l hi s : List ℕ) (t : Tree) (f : Forest) → rows t ((P ++ l) ++ s) (highOf (P ++ l) (P ++ hi) f) ≡ rows t (P ++ (l ++ s)) (P ++ highOf l hi f)
+  kid-rows l hi s t f = rw (append-assoc P l s, high-shift P l hi f)
+
+module _ (P Q : List ℕ) where
+  swing-leaf : (i : ℕ) (rs : List Row) (lo hi : List ℕ) → soundTree (leaf i rs) (P ++ lo) (P ++ hi) ≡ true
+      → everyKey wellFormed (rows (leaf i rs) (Q ++ lo) (Q ++ hi)) ≡ true → soundTree (leaf i rs) (Q ++ lo) (Q ++ hi) ≡ true
+  unfolding soundTree rows
+  swing-leaf i rs lo hi e g =
+      let l : List ℕ = shared (P ++ lo) (P ++ hi) in
+      let o : everyKey (owns (P ++ lo) (P ++ hi)) (underPrefix l rs) ≡ true = and-right (everyKey wellFormed (underPrefix l rs)) _ (and-left _ _ (and-left _ _ e)) in
+      both (both (both g (leaf-shift Q lo hi rs ∙ sym (leaf-shift P lo hi rs) ∙ o))
+      (and-right (everyKey wellFormed (underPrefix l rs) && everyKey (owns (P ++ lo) (P ++ hi)) (underPrefix l rs)) _ (and-left _ _ e)))
+      (and-right (everyKey wellFormed (underPrefix l rs) && everyKey (owns (P ++ lo) (P ++ hi)) (underPrefix l rs) && rising rs) _ e)
+
+  swing-inner : (i : ℕ) (f : Forest) (lo hi : List ℕ) → soundTree (interior i f []) (P ++ lo) (P ++ hi) ≡ true
+      → (soundForest f (P ++ shared lo hi) (P ++ lo) (P ++ hi) ≡ true → soundForest f (Q ++ shared lo hi) (Q ++ lo) (Q ++ hi) ≡ true)
+      → soundTree (interior i f []) (Q ++ lo) (Q ++ hi) ≡ true
+  unfolding soundTree soundMessages
+  swing-inner i f lo hi e on =
+      let l : List ℕ = shared (P ++ lo) (P ++ hi) in
+      let z : l ≡ P ++ shared lo hi = shared-append P lo hi in
+      let first : firstPivot l (P ++ lo) f ≡ true = and-left _ _ (and-left _ _ e) in
+      let kids : soundForest f l (P ++ lo) (P ++ hi) ≡ true = and-right (firstPivot l (P ++ lo) f) _ (and-left _ _ e) in
+      rw (shared-append Q lo hi)
+      (both (both (first-shift Q (shared lo hi) lo f ∙ sym (first-shift P (shared lo hi) lo f) ∙ ap (λ x. firstPivot x (P ++ lo) f) (sym z) ∙ first)
+      (on (ap (λ x. soundForest f x (P ++ lo) (P ++ hi)) (sym z) ∙ kids))) refl)
+
+  swing-kid : (s : List ℕ) (t : Tree) (f : Forest) (l lo hi : List ℕ) → soundForest (tree s t f) (P ++ l) (P ++ lo) (P ++ hi) ≡ true
+      → (soundTree t (P ++ (l ++ s)) (P ++ highOf l hi f) ≡ true → soundTree t (Q ++ (l ++ s)) (Q ++ highOf l hi f) ≡ true)
+      → (soundForest f (P ++ l) (P ++ lo) (P ++ hi) ≡ true → soundForest f (Q ++ l) (Q ++ lo) (Q ++ hi) ≡ true)
+      → soundForest (tree s t f) (Q ++ l) (Q ++ lo) (Q ++ hi) ≡ true
+  unfolding soundForest
+  swing-kid s t f l lo hi e here on =
+      let p : Parts s t f (P ++ l) (P ++ lo) (P ++ hi) = parts s t f (P ++ l) (P ++ lo) (P ++ hi) e in
+      both (both (both (pivot-shift Q l lo hi s ∙ sym (pivot-shift P l lo hi s) ∙ p .owned) (rise-shift Q l hi s f ∙ sym (rise-shift P l hi s f) ∙ p .rises))
+      (kid-shift Q l hi s t f ∙ here (sym (kid-shift P l hi s t f) ∙ p .first))) (on (p .later))
+
+  inner-rows : (i : ℕ) (f : Forest) (lo hi : List ℕ) → everyKey wellFormed (rows (interior i f []) (Q ++ lo) (Q ++ hi)) ≡ true
+      → everyKey wellFormed (rowsIn f (Q ++ shared lo hi) (Q ++ hi)) ≡ true
+  unfolding rows applyAll
+  inner-rows i f lo hi e = ap (λ x. everyKey wellFormed (rowsIn f x (Q ++ hi))) (sym (shared-append Q lo hi)) ∙ e
+
+  forest-rows : (s : List ℕ) (t : Tree) (f : Forest) (l hi : List ℕ) → everyKey wellFormed (rowsIn (tree s t f) (Q ++ l) (Q ++ hi)) ≡ true
+      → (everyKey wellFormed (rows t (Q ++ (l ++ s)) (Q ++ highOf l hi f)) ≡ true) × (everyKey wellFormed (rowsIn f (Q ++ l) (Q ++ hi)) ≡ true)
+  unfolding rowsIn
+  forest-rows s t f l hi e = (
+    ap (everyKey wellFormed) (sym (kid-rows Q l hi s t f)) ∙ every-left wellFormed (rows t ((Q ++ l) ++ s) (highOf (Q ++ l) (Q ++ hi) f)) (rowsIn f (Q ++ l) (Q ++ hi)) e,
+    every-right wellFormed (rows t ((Q ++ l) ++ s) (highOf (Q ++ l) (Q ++ hi) f)) (rowsIn f (Q ++ l) (Q ++ hi)) e,
+  )
+
+  none-sound : (l lo hi : List ℕ) → soundForest end l lo hi ≡ true
+  unfolding soundForest
+  none-sound l lo hi = refl
+
+  mutual
+    unfolding still stillIn
+
+    pub swing-sound : (t : Tree) (lo hi : List ℕ) → still t ≡ true → soundTree t (P ++ lo) (P ++ hi) ≡ true
+        → everyKey wellFormed (rows t (Q ++ lo) (Q ++ hi)) ≡ true → soundTree t (Q ++ lo) (Q ++ hi) ≡ true
+    swing-sound (unread i) lo hi q e g = absurd (not-unread i (P ++ lo) (P ++ hi) e)
+    swing-sound (leaf i rs) lo hi q e g = swing-leaf i rs lo hi e g
+    swing-sound (interior i f []) lo hi q e g =
+        swing-inner i f lo hi e (λ h. swing-sound-in f (shared lo hi) lo hi q h (inner-rows i f lo hi g))
+    swing-sound (interior i f (m ∷ ms)) lo hi q e g = absurd (false≢true q)
+
+    pub swing-sound-in : (f : Forest) (l lo hi : List ℕ) → stillIn f ≡ true → soundForest f (P ++ l) (P ++ lo) (P ++ hi) ≡ true
+        → everyKey wellFormed (rowsIn f (Q ++ l) (Q ++ hi)) ≡ true → soundForest f (Q ++ l) (Q ++ lo) (Q ++ hi) ≡ true
+    swing-sound-in end l lo hi q e g = none-sound (Q ++ l) (Q ++ lo) (Q ++ hi)
+    swing-sound-in (tree s t f) l lo hi q e g =
+        swing-kid s t f l lo hi e
+        (λ h. swing-sound t (l ++ s) (highOf l hi f) (and-left _ _ q) h (forest-rows s t f l hi g .0))
+        (λ h. swing-sound-in f l lo hi (and-right (still t) _ q) h (forest-rows s t f l hi g .1))
+
+-- The swing from P to Q: the tree under P and P FF, put under Q and Q FF.
+renamed-under : (P Q : List ℕ) (t : List Row) → renamed P Q (underPrefix P t) ≡ underPrefix Q t
+unfolding renamed underPrefix
+renamed-under P Q [] = refl
+renamed-under P Q (r ∷ t) = rw (drop-append-seam P (r .key)) (ap (λ l. record { key = Q ++ r .key; value = r .value } ∷ l) (renamed-under P Q t))
+
+pub swing-rows : (P Q lo hi : List ℕ) (t : Tree) → rows t (Q ++ lo) (Q ++ hi) ≡ renamed P Q (rows t (P ++ lo) (P ++ hi))
+swing-rows P Q lo hi t = rows-shift Q t lo hi ∙ sym (renamed-under P Q (rows t lo hi)) ∙ ap (renamed P Q) (sym (rows-shift P t lo hi))
+
+pub swing-good : {h : ℕ} (P Q lo hi : List ℕ) (t : Tree) → Good h t (P ++ lo) (P ++ hi)
+    → everyKey wellFormed (renamed P Q (rows t (P ++ lo) (P ++ hi))) ≡ true → Good h t (Q ++ lo) (Q ++ hi)
+swing-good P Q lo hi t g e =
+    record { sound = swing-sound P Q t lo hi (g .holdsNoMessage) (g .sound) (ap (everyKey wellFormed) (swing-rows P Q lo hi t) ∙ e); holdsNoMessage = g .holdsNoMessage; level = g .level }
+
+-- the paths of a settled sound tree are well formed
+leaf-formed : (i : ℕ) (rs : List Row) (lo hi : List ℕ) → soundTree (leaf i rs) lo hi ≡ true → everyKey wellFormed (rows (leaf i rs) lo hi) ≡ true
+unfolding soundTree rows
+leaf-formed i rs lo hi e = and-left _ _ (and-left _ _ (and-left _ _ e))
+
+mutual
+  unfolding still stillIn rows rowsIn applyAll everyKey
+
+  pub rows-formed : (t : Tree) (lo hi : List ℕ) → still t ≡ true → soundTree t lo hi ≡ true → everyKey wellFormed (rows t lo hi) ≡ true
+  rows-formed (unread i) lo hi q e = refl
+  rows-formed (leaf i rs) lo hi q e = leaf-formed i rs lo hi e
+  rows-formed (interior i f []) lo hi q e = rows-formed-in f (shared lo hi) lo hi q (inner i f [] lo hi e .kids)
+  rows-formed (interior i f (m ∷ ms)) lo hi q e = absurd (false≢true q)
+
+  pub rows-formed-in : (f : Forest) (l lo hi : List ℕ) → stillIn f ≡ true → soundForest f l lo hi ≡ true → everyKey wellFormed (rowsIn f l hi) ≡ true
+  rows-formed-in end l lo hi q e = refl
+  rows-formed-in (tree s t f) l lo hi q e =
+      every-append wellFormed (rows t (l ++ s) (highOf l hi f)) (rowsIn f l hi)
+      (rows-formed t (l ++ s) (highOf l hi f) (and-left _ _ q) (parts s t f l lo hi e .first))
+      (rows-formed-in f l lo hi (and-right (still t) _ q) (parts s t f l lo hi e .later))

@@ -1,0 +1,206 @@
+// A list of calls as bytes, and their answers as bytes, as docs/FORMAT.md has them: how a batch is
+// written, what it must answer by the same calls made one by one, and whether it did.
+
+use crate::limits::*;
+use crate::plain::{Call, NO_LENGTHS, NO_SOUND};
+use crate::sound::judge;
+use crate::subject::{perform, Subject};
+use crate::{image, rng::Rng};
+
+/// The kinds of the pieces that no message has.
+const KIND_MOVE: u16 = 0x0023;
+const KIND_GET: u16 = 0x0030;
+const KIND_NEXT: u16 = 0x0031;
+const KIND_SETTLE: u16 = 0x0040;
+const KIND_TIDY: u16 = 0x0041;
+const KIND_FLUSH: u16 = 0x0042;
+const KIND_HEAL: u16 = 0x0043;
+
+/// The bytes of an answer before what was found: length, number.
+const ANSWER_HEAD: usize = 4;
+
+/// What a batch answers: a number, how many calls were done, how many bytes of answers written.
+#[derive(Clone, Copy, Debug, PartialEq, Eq)]
+pub struct Done {
+    pub number: u32,
+    pub calls: usize,
+    pub written: usize,
+}
+
+impl Done {
+    fn refused(number: u32) -> Done {
+        Done {
+            number,
+            calls: 0,
+            written: 0,
+        }
+    }
+}
+
+/// A store that also takes its calls as a list.
+pub trait Batching: Subject {
+    fn batch(
+        &mut self,
+        store: &mut [u8],
+        work: &mut [u8],
+        calls: &[u8],
+        answers: &mut [u8],
+    ) -> Done;
+}
+
+/// A call as a piece of a batch; a node number that two bytes do not hold is none.
+pub fn piece(call: &Call) -> Option<Vec<u8>> {
+    Some(match call {
+        Call::Put { path, value, .. } => laid(KIND_PUT, &two(path, value)),
+        Call::Drop { path, .. } => laid(KIND_DROP, path),
+        Call::Clear { path, .. } => laid(KIND_CLEAR, path),
+        Call::Move { from, to, .. } => laid(KIND_MOVE, &two(from, to)),
+        Call::Get { path, .. } => laid(KIND_GET, path),
+        Call::Next { path, after, .. } => laid(KIND_NEXT, &two(path, after)),
+        Call::Settle { .. } => laid(KIND_SETTLE, &[]),
+        Call::Tidy { .. } => laid(KIND_TIDY, &[]),
+        Call::Flush { node, .. } => laid(KIND_FLUSH, &u16::try_from(*node).ok()?.to_le_bytes()),
+        Call::Heal { node, .. } => laid(KIND_HEAL, &u16::try_from(*node).ok()?.to_le_bytes()),
+    })
+}
+
+fn laid(kind: u16, rest: &[u8]) -> Vec<u8> {
+    let length = (rest.len() as u16).to_le_bytes();
+    [&length[..], &kind.to_le_bytes(), rest].concat()
+}
+
+fn two(first: &[u8], second: &[u8]) -> Vec<u8> {
+    let length = (first.len() as u16).to_le_bytes();
+    [&length[..], first, second].concat()
+}
+
+/// Bytes that are no piece, whatever stands before them: it ends the batch there.
+pub fn no_piece(rng: &mut Rng) -> Vec<u8> {
+    match rng.below(7) {
+        0 => rng.bytes(3),
+        1 => laid(0x0024, b"r1\0"),
+        2 => laid(0x2000, b"r1\0"),
+        3 => [laid(KIND_SETTLE, &[0]), laid(KIND_TIDY, &[])].concat(),
+        4 => laid(KIND_FLUSH, &[1]),
+        5 => laid(KIND_MOVE, &[4, 0, b'r', b'1', 0]),
+        _ => {
+            let mut cut = laid(KIND_DROP, b"r1\0");
+            cut.pop();
+            cut
+        }
+    }
+}
+
+/// The most bytes that the answer of a call may take.
+pub fn most(call: &Call) -> usize {
+    match call {
+        Call::Get { .. } => ANSWER_HEAD + VALUE_LIMIT,
+        Call::Next { .. } => ANSWER_HEAD + PATH_LIMIT,
+        _ => ANSWER_HEAD,
+    }
+}
+
+/// The bytes of the answer that a call gives by itself, on this store: it is lent a work area that
+/// is long enough, and a buffer of 64 bytes.
+pub fn answered(subject: &mut dyn Subject, store: &mut [u8], call: &Call) -> Vec<u8> {
+    let mut work = vec![0; WORK_PER_NODE * store.len() / NODE];
+    let mut buffer = [0; NEXT_BUFFER];
+    let answer = perform(subject, call, store, &mut work, &mut buffer);
+    let found = match call {
+        Call::Get { .. } | Call::Next { .. } => answer.beside as usize,
+        _ => 0,
+    };
+    let head = [found as u16, answer.number as u16].map(u16::to_le_bytes);
+    [&head.concat()[..], &buffer[..found]].concat()
+}
+
+/// A batch as it is handed over: the calls that read, and bytes behind them that do not.
+pub struct Handed<'a> {
+    pub calls: &'a [Call],
+    pub behind: &'a [u8],
+    pub work: &'a [u8],
+    pub answers: &'a [u8],
+}
+
+impl Handed<'_> {
+    fn bytes(&self) -> Vec<u8> {
+        let pieces = self.calls.iter().filter_map(piece);
+        let mut bytes = pieces.collect::<Vec<_>>().concat();
+        bytes.extend_from_slice(self.behind);
+        bytes
+    }
+
+    /// What it must answer, the answers' bytes, and the store after the same calls one by one.
+    fn expected(&self, subject: &mut dyn Subject, store: &[u8]) -> (Done, Vec<u8>, Vec<u8>) {
+        let mut after = store.to_vec();
+        let fit = image::nodes_of(store.len()).filter(|n| WORK_PER_NODE * n <= self.work.len());
+        let number = match fit {
+            None => NO_LENGTHS,
+            Some(_) if judge(store).is_err() => NO_SOUND,
+            Some(_) => 0,
+        };
+        if number != 0 {
+            return (Done::refused(number), Vec::new(), after);
+        }
+        let (mut done, mut answers) = (0, Vec::new());
+        for call in self.calls {
+            if self.answers.len() - answers.len() < most(call) {
+                break;
+            }
+            answers.extend(answered(subject, &mut after, call));
+            done += 1;
+        }
+        let (calls, written) = (done, answers.len());
+        (
+            Done {
+                number,
+                calls,
+                written,
+            },
+            answers,
+            after,
+        )
+    }
+}
+
+/// Makes the batch and judges all that it leaves, by the same calls made one by one. Gives what it
+/// answered.
+pub fn check(
+    subject: &mut dyn Batching,
+    store: &mut Vec<u8>,
+    handed: &Handed,
+) -> Result<Done, String> {
+    let mut work = handed.work.to_vec();
+    let mut answers = handed.answers.to_vec();
+    let before = store.clone();
+    let done = subject.batch(store, &mut work, &handed.bytes(), &mut answers);
+    let (expected, bytes, alone) = handed.expected(subject, &before);
+    let told = |what: &str| format!("batch of {}: {what}", handed.calls.len());
+    if done != expected {
+        return Err(told(&format!("answers {done:?}, one by one {expected:?}")));
+    }
+    if answers[..bytes.len()] != bytes {
+        return Err(told("other answers than one by one"));
+    }
+    if answers[bytes.len()..] != handed.answers[bytes.len()..] {
+        return Err(told("bytes behind the answers changed"));
+    }
+    if done.number != 0 {
+        return match *store == before && work == handed.work {
+            true => Ok(done),
+            false => Err(told("refused, and bytes changed")),
+        };
+    }
+    let area = WORK_PER_NODE * store.len() / NODE;
+    if work[..area].iter().any(|byte| *byte != 0) || work[area..] != handed.work[area..] {
+        return Err(told("the work area is not as it must be"));
+    }
+    let meaning = |image: &[u8]| {
+        let sound = judge(image).map_err(|rule| told(&format!("unsound: {}", rule.name())));
+        sound.map(|sound| sound.table)
+    };
+    match meaning(store)? == meaning(&alone)? {
+        true => Ok(done),
+        false => Err(told("the store means something else than one by one")),
+    }
+}

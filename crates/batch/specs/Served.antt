@@ -1,5 +1,5 @@
 -- What a batch keeps from turn to turn, and what each part of it promises.
--- Relies on image's Batch (requests, answers, the contract) and on ready (questions 1 and 2 are a yes).
+-- Relies on image's Batch (requests, answers, the contract) and on questions (1 and 2 are a yes).
 use Prim.Native.Nat.{ℕ, _+_, _-_, _<_, _≤_}
 use mathlib.Core.Path.{_≡_}
 use mathlib.Core.List.{List, [], _++_}

@@ -150,14 +150,6 @@ pub next-within : (n : ℕ) (q : Query) (p p′ : Place) → QueryWithin n q →
 unfolding QueryWithin
 next-within n q p p′ h e = subst (QueryWithin n) e h
 
-pub most-get : (q : Query) (p : Place) → q ≡ Query.Get p → queryMost q ≡ 36
-unfolding queryMost
-most-get q p e = rw e refl
-
-pub most-next : (q : Query) (p p′ : Place) → q ≡ Query.Next p p′ → queryMost q ≡ 68
-unfolding queryMost
-most-next q p p′ e = rw e refl
-
 -- A TURN
 most-change : (b : List ℕ) (c : Change) → mostBytes (changeIn b c) ≡ 4
 unfolding mostBytes changeIn

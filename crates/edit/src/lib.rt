@@ -1,7 +1,7 @@
 // put, drop and clear: each becomes one message at the root. Where the root has no room, a new root is put above an old one that holds no
 // message; where that cannot be, the store is rebuilt first, and then one of the two always can. The live count follows by one lookup; after
 // a clear it is counted anew. Each call is questions 1 and 2, its part on a store that is fit (put_fit, drop_fit, clear_fit), which uses the work
-// area for a rebuild alone and leaves it zero then, and the area zeroed. Relies on: ready, append (the message), rebuild, live (the count).
+// area for a rebuild alone and leaves it zero then, and the area zeroed. Relies on: questions, append (the message), rebuild, live (the count).
 use image::Outcome;
 use image::Refusal;
 use node::search::Found;

@@ -1,4 +1,4 @@
-// The end of every call that changes the map: the live count is written, counted anew where it is not known, and the work area zeroed.
+// The end of a move: the live count, counted anew, is written, and the work area zeroed. Its laws serve the other calls that change the map.
 // Relies on live (the count), append (the count written) and packed (the area zeroed).
 ghost use mathlib.Core.Path.{_≡_};
 ghost use mathlib.Core.Bool.{true};
@@ -35,20 +35,4 @@ pub fn finish(store: &mut [u8], work: &mut [u8])
 {
     let live = live::live_count(store);
     conclude(store, work, live);
-}
-
-// The same with no count where the number of paths is known: 65,536 says that it is not.
-pub fn finish_known(store: &mut [u8], work: &mut [u8], known: usize)
-    requires { ⌜ (wholeNodes (length (now store)) ≡ true)
-        × (soundButLive (now store) ≡ true)
-        × (length (tableOf (now store)) ≤ nodesOf (length (now store)))
-        × (workPerNode * nodesOf (length (now store)) ≤ length (now work))
-        × (known ≤ 65535 → known ≡ length (tableOf (now store))) ⌝ }
-    ensures { λ _. ⌜ Finished (now (store .entry)) (now (store .exit)) (now (work .entry)) (now (work .exit)) ⌝ }
-{
-    if 65535 < known {
-        finish(store, work);
-        return;
-    }
-    conclude(store, work, known);
 }

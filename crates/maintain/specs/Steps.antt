@@ -38,9 +38,6 @@ use Rattle.maintain.specs.Upkept.{Reached, Stayed, Upkept, Upheld}
 pub reached : (s w seen : List ℕ) (t : Tally) → Fit s w t seen → Reached s seen
 reached s w seen t f = record { whole = f .whole; is-sound = f .is-sound; marks = f .holds .reached }
 
-pub reached-by : (s seen : List ℕ) (t : Tally) → wholeNodes (length s) ≡ true → sound s ≡ true → Holds s t seen → Reached s seen
-reached-by s seen t whole ok h = record { whole = whole; is-sound = ok; marks = h .reached }
-
 -- whether no message waits, by the tally of the check
 pub quiet : (s seen : List ℕ) (t : Tally) → Holds s t seen → eqb (t .messages) 0 ≡ settled s
 quiet s seen t h = messages-settled s t seen h

@@ -116,5 +116,3 @@ zeroed-not r q n w e = rw e refl
 pub never-unsound : (s seen : List ℕ) (c : Checked) (t : Tally) → sound s ≡ true → Verified s c seen → c ≡ Checked.Unsound → Holds s t seen
 never-unsound s seen c t ok v e = absurd (false≢true (sym (verified-no s c seen v e) ∙ sound-but-live s ok))
 
-pub holds-fit : (s w seen : List ℕ) (t : Tally) → Passed s w → Holds s t seen → Fit s w t seen
-holds-fit s w seen t p h = record { whole = p .whole; long = p .long; is-sound = p .is-sound; holds = h }

@@ -1,109 +1,79 @@
 -- `batch::answer_query` meets its contract. Relies on specs/Steps.
-use Rattle.batch.specs.Steps.{get-within, next-within, most-get, most-next, got, stepped}
+use Rattle.batch.specs.Steps.{get-within, next-within, got, stepped}
+use Rattle.requests.specs.Steps.{most-get, most-next}
 use borrow.Author.Needs.{needs}
 use native.Mathlib.Omega.{arith}
-use Prim.Native.Nat.{ℕ, suc, _+_, _-_, _≤_, _<_}
-use mathlib.Core.Path.{_≡_, refl, sym, ap, _∙_}
-use mathlib.Core.List.{List, [], _∷_, _++_}
-use lib.ListN.{length, getD, take, drop}
-use borrow.Author.Needs.{needs}
+use mathlib.Core.Path.{_≡_}
+use lib.ListN.{length}
 use Rattle.batch.proofs.answer_query.Statement.{statement}
 use Rattle.batch.proofs.answer_query.Tie as tie
-use Rattle.batch.proofs.answer_query.Reads as reads
-use Rattle.batch.proofs.answer_query.Lts as lts
-use Rattle.requests.proofs.write_found.Reads as write-found-reads
-use Rattle.query.proofs.get_fit.Reads as get-fit-reads
-use Rattle.query.proofs.next_fit.Reads as next-fit-reads
 
--- src/lib.rt:142:20
 enum-known-query : tie.Need-enum-known-query
 enum-known-query c = search needs
 
--- src/lib.rt:145:47
 sub-get-fit : tie.Need-sub-get-fit
 sub-get-fit c = let h = get-within _ _ _ (c .before .before .before .before .before .before .pre .2) (c .before .query .given .1) in omega (arith, h .rises)
 
--- src/lib.rt:145:47
 part-get-fit-start : tie.Need-part-get-fit-start
 part-get-fit-start c = let h = get-within _ _ _ (c .before .before .before .before .before .before .pre .2) (c .before .query .given .1) in omega (arith, h .rises, h .high)
 
--- src/lib.rt:145:47
 part-get-fit-end : tie.Need-part-get-fit-end
 part-get-fit-end c = let h = get-within _ _ _ (c .before .before .before .before .before .before .pre .2) (c .before .query .given .1) in omega (arith, h .high)
 
--- src/lib.rt:145:68
 slice-aggregate-get-fit : tie.Need-slice-aggregate-get-fit
 slice-aggregate-get-fit c = search needs
 
--- src/lib.rt:145:17
 get-fit-requires : tie.Need-get-fit-requires
 get-fit-requires c κs = search needs
 
--- src/lib.rt:146:53
 slice-aggregate-write-found : tie.Need-slice-aggregate-write-found
 slice-aggregate-write-found c = search needs
 
--- src/lib.rt:146:13
 write-found-requires : tie.Need-write-found-requires
 write-found-requires c κs = let m = most-get _ _ (c .before .before .before .before .before .before .before .query .given .1) in let k = c .before .before .before .get-fit .ensures .1 in let l : length (c .before .before .before .get-fit .last .1 .1 .0) ≡ 64 = search needs in (omega (arith, c .before .before .before .before .before .before .before .before .before .before .before .before .pre .3), omega arith, omega arith)
 
--- src/lib.rt:148:21
 enum-known-query-2 : tie.Need-enum-known-query-2
 enum-known-query-2 c = search needs
 
--- src/lib.rt:155:17
 sub-next-fit : tie.Need-sub-next-fit
 sub-next-fit c = let h = next-within _ _ _ _ (c .before .before .before .before .before .before .pre .2) (c .before .query2 .given .1) in omega (arith, h .0 .rises)
 
--- src/lib.rt:155:17
 part-next-fit-start : tie.Need-part-next-fit-start
 part-next-fit-start c = let h = next-within _ _ _ _ (c .before .before .before .before .before .before .pre .2) (c .before .query2 .given .1) in omega (arith, h .0 .rises, h .0 .high)
 
--- src/lib.rt:155:17
 part-next-fit-end : tie.Need-part-next-fit-end
 part-next-fit-end c = let h = next-within _ _ _ _ (c .before .before .before .before .before .before .pre .2) (c .before .query2 .given .1) in omega (arith, h .0 .high)
 
--- src/lib.rt:156:17
 sub-next-fit-2 : tie.Need-sub-next-fit-2
 sub-next-fit-2 c = let h = next-within _ _ _ _ (c .before .before .before .before .before .before .before .pre .2) (c .before .before .query2 .given .1) in omega (arith, h .1 .rises)
 
--- src/lib.rt:156:17
 part-next-fit-start-2 : tie.Need-part-next-fit-start-2
 part-next-fit-start-2 c = let h = next-within _ _ _ _ (c .before .before .before .before .before .before .before .pre .2) (c .before .before .query2 .given .1) in omega (arith, h .1 .rises, h .1 .high)
 
--- src/lib.rt:156:17
 part-next-fit-end-2 : tie.Need-part-next-fit-end-2
 part-next-fit-end-2 c = let h = next-within _ _ _ _ (c .before .before .before .before .before .before .before .pre .2) (c .before .before .query2 .given .1) in omega (arith, h .1 .high)
 
--- src/lib.rt:157:17
 slice-aggregate-next-fit : tie.Need-slice-aggregate-next-fit
 slice-aggregate-next-fit c = search needs
 
--- src/lib.rt:153:17
 next-fit-requires : tie.Need-next-fit-requires
 next-fit-requires c κs = search needs
 
--- src/lib.rt:159:53
 slice-aggregate-write-found-2 : tie.Need-slice-aggregate-write-found-2
 slice-aggregate-write-found-2 c = search needs
 
--- src/lib.rt:159:13
 write-found-requires-2 : tie.Need-write-found-requires-2
 write-found-requires-2 c κs = let m = most-next _ _ _ (c .before .before .before .before .before .before .before .before .query2 .given .1) in let k = c .before .before .before .next-fit .ensures .1 in let l : length (c .before .before .before .next-fit .last .1 .1 .1 .0) ≡ 64 = search needs in (omega (arith, c .before .before .before .before .before .before .before .before .before .before .before .before .before .pre .3), omega arith, omega arith)
 
--- src/lib.rt:136:1
 same-length : tie.Need-same-length
 same-length c = search needs
 
--- src/lib.rt:136:1
 returns : tie.Need-returns
 returns c = got _ (c .before .before .before .before .before .before .before .before .before .before .before .before .before .before .before .args .calls .now) _ _ _ _ _ _ _ (c .before .before .write-found .ensures) (c .before .before .before .before .before .before .before .before .before .before .before .before .before .before .before .pre .3) _ (c .before .before .before .before .before .before .before .before .before .before .query .given .1) (c .before .before .before .before .before .before .get-fit .ensures .1) (c .before .before .before .before .before .before .get-fit .ensures .0)
 
--- src/lib.rt:136:1
 same-length-2 : tie.Need-same-length-2
 same-length-2 c = search needs
 
--- src/lib.rt:136:1
 returns-2 : tie.Need-returns-2
 returns-2 c = stepped _ (c .before .before .before .before .before .before .before .before .before .before .before .before .before .before .before .before .args .calls .now) _ _ _ _ _ _ _ (c .before .before .write-found2 .ensures) (c .before .before .before .before .before .before .before .before .before .before .before .before .before .before .before .before .pre .3) _ _ (c .before .before .before .before .before .before .before .before .before .before .before .query2 .given .1) (c .before .before .before .before .before .before .next-fit .ensures .1) (c .before .before .before .before .before .before .next-fit .ensures .0)
 

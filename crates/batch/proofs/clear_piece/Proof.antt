@@ -2,43 +2,27 @@
 use mathlib.Core.Bool.{false≢true}
 use Rattle.batch.specs.Steps.{served-act}
 use borrow.Author.Needs.{needs}
-use native.Mathlib.Omega.{arith}
-use Prim.Native.Nat.{ℕ, suc, _+_, _-_, _≤_, _<_}
-use mathlib.Core.Path.{_≡_, refl, sym, ap, _∙_}
-use mathlib.Core.List.{List, [], _∷_, _++_}
-use lib.ListN.{length, getD, take, drop}
-use borrow.Author.Needs.{needs}
 use Rattle.batch.proofs.clear_piece.Statement.{statement}
 use Rattle.batch.proofs.clear_piece.Tie as tie
-use Rattle.batch.proofs.clear_piece.Reads as reads
-use Rattle.batch.proofs.clear_piece.Lts as lts
-use Rattle.edit.proofs.clear_fit.Reads as clear-fit-reads
 
--- src/lib.rt:61:34
 sub-clear-fit : tie.Need-sub-clear-fit
 sub-clear-fit c = search needs
 
--- src/lib.rt:61:34
 part-clear-fit-start : tie.Need-part-clear-fit-start
 part-clear-fit-start c = search needs
 
--- src/lib.rt:61:34
 part-clear-fit-end : tie.Need-part-clear-fit-end
 part-clear-fit-end c = search needs
 
--- src/lib.rt:61:5
 clear-fit-requires : tie.Need-clear-fit-requires
 clear-fit-requires c κs = (search needs, λ e. absurd (false≢true e))
 
--- src/lib.rt:55:1
 same-length : tie.Need-same-length
 same-length c = search needs
 
--- src/lib.rt:55:1
 same-length-2 : tie.Need-same-length-2
 same-length-2 c = search needs
 
--- src/lib.rt:55:1
 returns : tie.Need-returns
 returns c = served-act (c .before .before .before .before .before .before .before .before .before .before .before .before .args .store .now) (c .before .before .before .before .before .before .before .before .before .before .before .before .args .work .now) _ _ (c .before .before .before .before .before .before .before .before .before .before .before .before .pre .0) _ _ (c .before .before .before .before .clear-fit .ensures)
 

@@ -3,15 +3,11 @@ use Rattle.batch.specs.Served.{SoFar}
 use Rattle.batch.specs.Turns.{begins, turn-asks, moved, goes-on, ends}
 use borrow.Author.Needs.{needs}
 use native.Mathlib.Omega.{arith}
-use Prim.Native.Nat.{ℕ, suc, _+_, _-_, _≤_, _<_}
-use mathlib.Core.Path.{_≡_, refl, sym, ap, _∙_}
-use mathlib.Core.List.{List, [], _∷_, _++_}
-use lib.ListN.{length, getD, take, drop}
+use Prim.Native.Nat.{_-_}
+use mathlib.Core.Path.{_≡_, refl}
+use lib.ListN.{length}
 use Rattle.batch.proofs.run.Statement.{statement}
 use Rattle.batch.proofs.run.Tie as tie
-use Rattle.batch.proofs.run.Reads as reads
-use Rattle.batch.proofs.run.Lts as lts
-use Rattle.batch.proofs.take_turn.Reads as take-turn-reads
 
 abbrev Inv-loop : tie.InvT-loop
 Inv-loop store₀ work₀ calls answers₀ at₀ done₀ written₀ store work answers at done written =
@@ -20,47 +16,36 @@ Inv-loop store₀ work₀ calls answers₀ at₀ done₀ written₀ store work a
 abbrev μ-loop : tie.MeasureT-loop
 μ-loop store₀ work₀ calls answers₀ at₀ done₀ written₀ store work answers at done written = length calls - at
 
--- src/lib.rt:207:5
 loop-holds : tie.Need-loop-holds Inv-loop μ-loop
 loop-holds c = (begins _ _ _ _ (c .before .before .before .before .pre), refl, refl, refl)
 
--- src/lib.rt:208:13
 take-turn-requires : tie.Need-take-turn-requires Inv-loop μ-loop
 take-turn-requires c κs = turn-asks _ _ _ _ _ _ _ _ _ _ (c .before .before .before .loop .inv .0)
 
--- src/lib.rt:211:17
 enum-told : tie.Need-enum-told Inv-loop μ-loop
 enum-told c = search needs
 
--- src/lib.rt:211:17
 same-length : tie.Need-same-length Inv-loop μ-loop
 same-length c = search needs
 
--- src/lib.rt:211:17
 same-length-2 : tie.Need-same-length-2 Inv-loop μ-loop
 same-length-2 c = search needs
 
--- src/lib.rt:211:17
 same-length-3 : tie.Need-same-length-3 Inv-loop μ-loop
 same-length-3 c = search needs
 
--- src/lib.rt:211:17
 returns : tie.Need-returns Inv-loop μ-loop
 returns c = ends _ _ _ _ _ _ _ _ _ _ (c .before .before .before .before .before .before .before .before .before .before .before .before .loop .inv .0) _ _ _ _ (c .before .before .before .before .before .before .before .before .take-turn .ensures) (c .enum-told .given .1)
 
--- src/lib.rt:217:24
 enum-known-turn : tie.Need-enum-known-turn Inv-loop μ-loop
 enum-known-turn c = search needs
 
--- src/lib.rt:220:24
 add-done : tie.Need-add-done Inv-loop μ-loop
 add-done c = let m = moved _ _ _ _ _ _ _ _ _ _ (c .before .before .before .before .before .before .before .before .before .before .before .before .before .loop .inv .0) _ _ _ _ (c .before .before .before .before .before .before .before .before .before .take-turn .ensures) _ _ (c .before .turn .given .1) in omega (arith, m .0, m .1, m .2)
 
--- src/lib.rt:207:5
 loop-less : tie.Need-loop-less Inv-loop μ-loop
 loop-less c = let m = moved _ _ _ _ _ _ _ _ _ _ (c .before .before .before .before .before .before .before .before .before .before .before .before .before .loop .inv .0) _ _ _ _ (c .before .before .before .before .before .before .before .before .before .take-turn .ensures) _ _ (c .before .turn .given .1) in omega (arith, m .0, m .1)
 
--- src/lib.rt:207:5
 loop-again : tie.Need-loop-again Inv-loop μ-loop
 loop-again c = (goes-on _ _ _ _ _ _ _ _ _ _ (c .before .before .before .before .before .before .before .before .before .before .before .before .before .loop .inv .0) _ _ _ _ (c .before .before .before .before .before .before .before .before .before .take-turn .ensures) _ _ (c .before .turn .given .1), search needs, search needs, search needs)
 

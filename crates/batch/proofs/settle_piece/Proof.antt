@@ -2,36 +2,21 @@
 use Rattle.batch.specs.Steps.{served-meets}
 use Rattle.maintain.specs.Steps.{quiet}
 use borrow.Author.Needs.{needs}
-use native.Mathlib.Omega.{arith}
-use Prim.Native.Nat.{ℕ, suc, _+_, _-_, _≤_, _<_}
-use mathlib.Core.Path.{_≡_, refl, sym, ap, _∙_}
-use mathlib.Core.List.{List, [], _∷_, _++_}
-use lib.ListN.{length, getD, take, drop}
-use borrow.Author.Needs.{needs}
 use Rattle.batch.proofs.settle_piece.Statement.{statement}
 use Rattle.batch.proofs.settle_piece.Tie as tie
-use Rattle.batch.proofs.settle_piece.Reads as reads
-use Rattle.batch.proofs.settle_piece.Lts as lts
-use Rattle.maintain.proofs.settle_fit.Reads as settle-fit-reads
-use Rattle.questions.proofs.mark.Reads as mark-reads
 
--- src/lib.rt:89:9
 mark-requires : tie.Need-mark-requires
 mark-requires c κs = search needs
 
--- src/lib.rt:90:5
 settle-fit-requires : tie.Need-settle-fit-requires
 settle-fit-requires c κs = (c .before .before .before .before .before .before .before .before .pre .passed, quiet _ _ _ (c .before .before .before .mark .ensures))
 
--- src/lib.rt:84:1
 same-length : tie.Need-same-length
 same-length c = search needs
 
--- src/lib.rt:84:1
 same-length-2 : tie.Need-same-length-2
 same-length-2 c = search needs
 
--- src/lib.rt:84:1
 returns : tie.Need-returns
 returns c = served-meets (c .before .before .before .before .before .before .before .before .before .before .before .before .before .args .store .now) (c .before .before .before .before .before .before .before .before .before .before .before .before .before .args .work .now) _ _ (c .before .before .before .before .before .before .before .before .before .before .before .before .before .pre) _ _ (c .before .before .before .before .settle-fit .ensures)
 

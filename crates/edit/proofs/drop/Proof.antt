@@ -4,61 +4,40 @@ use Rattle.questions.specs.Asked.{asked-fit, refused-meets}
 use Rattle.edit.specs.Room.{fit-marks}
 use Rattle.questions.specs.Acted.{passed, acted-long, acted-meets}
 use borrow.Author.Needs.{needs}
-use native.Mathlib.Omega.{arith}
-use Prim.Native.Nat.{ℕ, suc, _+_, _-_, _≤_, _<_}
-use mathlib.Core.Path.{_≡_, refl, sym, ap, _∙_}
-use mathlib.Core.List.{List, [], _∷_, _++_}
-use lib.ListN.{length, getD, take, drop}
-use borrow.Author.Needs.{needs}
+use mathlib.Core.Path.{refl}
 use Rattle.edit.proofs.drop.Statement.{statement}
 use Rattle.edit.proofs.drop.Tie as tie
-use Rattle.edit.proofs.drop.Reads as reads
-use Rattle.edit.proofs.drop.Lts as lts
-use Rattle.edit.proofs.drop_fit.Reads as drop-fit-reads
-use Rattle.questions.proofs.ask.Reads as ask-reads
-use Rattle.questions.proofs.zero_area.Reads as zero-area-reads
 
--- src/lib.rt:312:9
 ask-requires : tie.Need-ask-requires
 ask-requires c κs = search needs
 
--- src/lib.rt:314:24
 enum-known-asked : tie.Need-enum-known-asked
 enum-known-asked c = search needs
 
--- src/lib.rt:316:36
 enum-told : tie.Need-enum-told
 enum-told c = search needs
 
--- src/lib.rt:316:17
 drop-fit-requires : tie.Need-drop-fit-requires
 drop-fit-requires c κs = (passed _ _ _ _ (asked-fit _ _ _ _ (c .before .before .before .before .before .ask .ensures) _ (c .before .before .before .enum-told .given .1)), λ _. fit-marks _ _ _ _ (asked-fit _ _ _ _ (c .before .before .before .before .before .ask .ensures) _ (c .before .before .before .enum-told .given .1)))
 
--- src/lib.rt:317:13
 zero-area-requires : tie.Need-zero-area-requires
 zero-area-requires c κs = acted-long (c .before .before .before .before .before .before .before .before .before .before .before .before .before .before .before .before .before .before .args .store .now) _ _ _ (c .before .before .before .before .before .before .before .before .before .before .before .before .before .before .before .before .before .before .args .work .now) _ (passed _ _ _ _ (asked-fit _ _ _ _ (c .before .before .before .before .before .before .before .before .before .before .before .ask .ensures) _ (c .before .before .before .before .before .before .before .before .before .enum-told .given .1))) (c .before .before .before .before .before .drop-fit .ensures)
 
--- src/lib.rt:308:1
 same-length : tie.Need-same-length
 same-length c = search needs
 
--- src/lib.rt:308:1
 same-length-2 : tie.Need-same-length-2
 same-length-2 c = search needs
 
--- src/lib.rt:308:1
 returns : tie.Need-returns
 returns c = refused-meets _ _ _ _ (c .before .before .before .ask .ensures) _ (c .before .asked .given .1) _ to-act
 
--- src/lib.rt:308:1
 same-length-3 : tie.Need-same-length-3
 same-length-3 c = search needs
 
--- src/lib.rt:308:1
 same-length-4 : tie.Need-same-length-4
 same-length-4 c = search needs
 
--- src/lib.rt:308:1
 returns-2 : tie.Need-returns-2
 returns-2 c = acted-meets (c .before .before .before .before .before .before .before .before .before .before .before .before .before .before .before .before .before .before .before .before .before .args .store .now) _ _ _ (c .before .before .before .before .before .before .before .before .before .before .before .before .before .before .before .before .before .before .before .before .before .args .work .now) _ (passed _ _ _ _ (asked-fit _ _ _ _ (c .before .before .before .before .before .before .before .before .before .before .before .before .before .before .ask .ensures) _ (c .before .before .before .before .before .before .before .before .before .before .before .before .enum-told .given .1))) (c .before .before .before .before .before .before .before .before .drop-fit .ensures) _ _ refl (c .before .before .zero-area .ensures)
 

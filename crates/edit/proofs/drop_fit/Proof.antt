@@ -4,51 +4,33 @@ use Rattle.edit.specs.declared.Change.{Change}
 use Rattle.edit.specs.Edited.{drop-malformed, drop-done, drop-allowed, not-put-drop}
 use borrow.Author.Needs.{needs}
 use native.Mathlib.Omega.{arith}
-use Prim.Native.Nat.{ℕ, suc, _+_, _-_, _≤_, _<_}
-use mathlib.Core.Path.{_≡_, refl, sym, ap, _∙_}
-use mathlib.Core.List.{List, [], _∷_, _++_}
-use lib.ListN.{length, getD, take, drop}
-use borrow.Author.Needs.{needs}
 use Rattle.edit.proofs.drop_fit.Statement.{statement}
 use Rattle.edit.proofs.drop_fit.Tie as tie
-use Rattle.edit.proofs.drop_fit.Reads as reads
-use Rattle.edit.proofs.drop_fit.Lts as lts
-use Rattle.edit.proofs.apply_change.Reads as apply-change-reads
-use Rattle.path.proofs.is_path.Reads as is-path-reads
 
--- src/lib.rt:300:9
 is-path-requires : tie.Need-is-path-requires
 is-path-requires c κs = search needs
 
--- src/lib.rt:301:9
 returns : tie.Need-returns
 returns c = drop-malformed (c .before .before .before .before .before .args .store .now) (c .before .before .before .before .before .args .work .now) (c .before .before .before .before .before .pre .0 .whole) (c .before .before .before .before .before .pre .0 .is-sound) (c .before .before .before .before .before .pre .0 .long) (c .before .before .before .before .before .args .path .now) _ (c .before .is-path .ensures) (not-true _ (c .if1 .taken))
 
--- src/lib.rt:303:51
 sub-apply-change : tie.Need-sub-apply-change
 sub-apply-change c = search needs
 
--- src/lib.rt:303:51
 part-apply-change-start : tie.Need-part-apply-change-start
 part-apply-change-start c = search needs
 
--- src/lib.rt:303:51
 part-apply-change-end : tie.Need-part-apply-change-end
 part-apply-change-end c = search needs
 
--- src/lib.rt:303:5
 apply-change-requires : tie.Need-apply-change-requires
 apply-change-requires c κs = (c .before .before .before .before .before .before .before .before .pre .0, c .before .before .before .before .before .before .before .before .pre .1, drop-allowed (c .before .before .before .before .before .before .before .before .args .store .now) (c .before .before .before .before .before .before .before .before .args .work .now) (c .before .before .before .before .before .before .before .before .pre .0 .whole) (c .before .before .before .before .before .before .before .before .pre .0 .is-sound) (c .before .before .before .before .before .before .before .before .pre .0 .long) (c .before .before .before .before .before .before .before .before .args .path .now) _ (c .before .before .before .before .is-path .ensures) (not-false _ (c .before .before .before .if1 .left)) Change.Drop _ (omega arith) not-put-drop)
 
--- src/lib.rt:296:1
 same-length : tie.Need-same-length
 same-length c = search needs
 
--- src/lib.rt:296:1
 same-length-2 : tie.Need-same-length-2
 same-length-2 c = search needs
 
--- src/lib.rt:296:1
 returns-2 : tie.Need-returns-2
 returns-2 c = drop-done (c .before .before .before .before .before .before .before .before .before .before .before .before .before .args .store .now) (c .before .before .before .before .before .before .before .before .before .before .before .before .before .args .work .now) (c .before .before .before .before .before .before .before .before .before .before .before .before .before .pre .0 .whole) (c .before .before .before .before .before .before .before .before .before .before .before .before .before .pre .0 .is-sound) (c .before .before .before .before .before .before .before .before .before .before .before .before .before .pre .0 .long) (c .before .before .before .before .before .before .before .before .before .before .before .before .before .args .path .now) _ (c .before .before .before .before .before .before .before .before .before .is-path .ensures) (not-false _ (c .before .before .before .before .before .before .before .before .if1 .left)) _ _ _ (c .before .before .before .before .apply-change .ensures)
 

@@ -4,57 +4,36 @@ use Rattle.questions.specs.Callers.{to-act}
 use Rattle.questions.specs.Asked.{asked-fit, refused-meets}
 use Rattle.questions.specs.Acted.{passed}
 use Rattle.maintain.specs.Steps.{quiet}
-use borrow.Author.Needs.{needs}
-use native.Mathlib.Omega.{arith}
-use Prim.Native.Nat.{ℕ, suc, _+_, _-_, _≤_, _<_}
-use mathlib.Core.Path.{_≡_, refl, sym, ap, _∙_}
-use mathlib.Core.List.{List, [], _∷_, _++_}
-use lib.ListN.{length, getD, take, drop}
-use borrow.Author.Needs.{needs}
 use Rattle.maintain.proofs.settle.Statement.{statement}
 use Rattle.maintain.proofs.settle.Tie as tie
-use Rattle.maintain.proofs.settle.Reads as reads
-use Rattle.maintain.proofs.settle.Lts as lts
-use Rattle.maintain.proofs.settle_fit.Reads as settle-fit-reads
-use Rattle.questions.proofs.ask.Reads as ask-reads
 
--- src/lib.rt:46:9
 ask-requires : tie.Need-ask-requires
 ask-requires c κs = search needs
 
--- src/lib.rt:48:24
 enum-known-ready : tie.Need-enum-known-ready
 enum-known-ready c = search needs
 
--- src/lib.rt:49:20
 enum-known-ready-2 : tie.Need-enum-known-ready-2
 enum-known-ready-2 c = search needs
 
--- src/lib.rt:49:30
 settle-fit-requires : tie.Need-settle-fit-requires
 settle-fit-requires c κs = let f = asked-fit _ _ _ _ (c .before .before .before .before .before .before .ask .ensures) _ (c .before .before .before .before .ready2 .given .1) in (passed _ _ _ _ f, quiet _ _ _ (f .holds))
 
--- src/lib.rt:42:1
 same-length : tie.Need-same-length
 same-length c = search needs
 
--- src/lib.rt:42:1
 same-length-2 : tie.Need-same-length-2
 same-length-2 c = search needs
 
--- src/lib.rt:42:1
 returns : tie.Need-returns
 returns c = refused-meets _ _ _ _ (c .before .before .before .ask .ensures) _ (c .before .ready .given .1) _ to-act
 
--- src/lib.rt:42:1
 same-length-3 : tie.Need-same-length-3
 same-length-3 c = search needs
 
--- src/lib.rt:42:1
 same-length-4 : tie.Need-same-length-4
 same-length-4 c = search needs
 
--- src/lib.rt:42:1
 returns-2 : tie.Need-returns-2
 returns-2 c = search needs
 

@@ -1,5 +1,4 @@
 use borrow.Author.Needs.{needs}
-use borrow.Author.Needs.{needs}
 use borrow.Author.Tests.{not-true, not-false}
 use Rattle.make.specs.Steps.{make-refused, make-done, room}
 use Rattle.make.proofs.make.Statement.{statement}

@@ -1,6 +1,5 @@
 use borrow.Author.Needs.{needs}
 use native.Mathlib.Omega.{arith}
-use borrow.Author.Needs.{needs}
 use Rattle.make.specs.Steps.{writes-empty}
 use Rattle.make.proofs.write_empty.Statement.{statement}
 use Rattle.make.proofs.write_empty.Tie as tie

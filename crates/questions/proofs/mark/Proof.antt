@@ -1,36 +1,22 @@
--- `ready::mark` meets its contract: the check of a sound store says that it is sound. Relies on specs/Acted and tree_check's Callers.
+-- `questions::mark` meets its contract: the check of a sound store says that it is sound. Relies on specs/Acted and tree_check's Callers.
 use Rattle.questions.specs.Acted.{check-asks, never-unsound}
 use Rattle.tree_check.specs.Callers.{verified-yes}
 use borrow.Author.Needs.{needs}
-use native.Mathlib.Omega.{arith}
-use Prim.Native.Nat.{ℕ, suc, _+_, _-_, _≤_, _<_}
-use mathlib.Core.Path.{_≡_, refl, sym, ap, _∙_}
-use mathlib.Core.List.{List, [], _∷_, _++_}
-use lib.ListN.{length, getD, take, drop}
-use borrow.Author.Needs.{needs}
 use Rattle.questions.proofs.mark.Statement.{statement}
 use Rattle.questions.proofs.mark.Tie as tie
-use Rattle.questions.proofs.mark.Reads as reads
-use Rattle.questions.proofs.mark.Lts as lts
-use Rattle.tree_check.proofs.check_tree.Reads as check-tree-reads
 
--- src/lib.rt:46:9
 check-tree-requires : tie.Need-check-tree-requires
 check-tree-requires c κs = check-asks (c .before .before .args .store .now) (c .before .before .pre .0)
 
--- src/lib.rt:47:24
 enum-known-c : tie.Need-enum-known-c
 enum-known-c c = search needs
 
--- src/lib.rt:48:9
 enum-told : tie.Need-enum-told
 enum-told c = search needs
 
--- src/lib.rt:48:9
 returns : tie.Need-returns
 returns c = never-unsound _ _ _ _ (c .before .before .before .before .before .pre .1) (c .before .before .check-tree .ensures) (c .enum-told .given .1)
 
--- src/lib.rt:42:1
 returns-2 : tie.Need-returns-2
 returns-2 c = verified-yes _ _ _ _ (c .before .before .before .check-tree .ensures) (c .before .c .given .1)
 

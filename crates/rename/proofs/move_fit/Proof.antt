@@ -2,77 +2,52 @@
 use Rattle.rename.specs.Going.GoingSteps.{is-fit}
 use Rattle.rename.specs.Apply.{refused, area-long, stays, goes}
 use borrow.Author.Needs.{needs}
-use native.Mathlib.Omega.{arith}
-use Prim.Native.Nat.{ℕ, suc, _+_, _-_, _≤_, _<_}
-use mathlib.Core.Path.{_≡_, refl, sym, ap, _∙_}
-use mathlib.Core.List.{List, [], _∷_, _++_}
-use lib.ListN.{length, getD, take, drop}
-use borrow.Author.Needs.{needs}
+use mathlib.Core.Path.{refl}
 use Rattle.rename.proofs.move_fit.Statement.{statement}
 use Rattle.rename.proofs.move_fit.Tie as tie
-use Rattle.rename.proofs.move_fit.Reads as reads
-use Rattle.rename.proofs.move_fit.Lts as lts
-use Rattle.packed.proofs.clear_area.Reads as clear-area-reads
-use Rattle.rename.proofs.going.ask_later.Reads as ask-later-reads
-use Rattle.rename.proofs.apply_move.Reads as apply-move-reads
 
--- src/lib.rt:47:9
 ask-later-requires : tie.Need-ask-later-requires
 ask-later-requires c κs = search needs
 
--- src/lib.rt:49:24
 enum-known-asked : tie.Need-enum-known-asked
 enum-known-asked c = search needs
 
--- src/lib.rt:51:47
 enum-told : tie.Need-enum-told
 enum-told c = search needs
 
--- src/lib.rt:51:23
 mul-len : tie.Need-mul-len
 mul-len c = search needs
 
--- src/lib.rt:52:13
 clear-area-requires : tie.Need-clear-area-requires
 clear-area-requires c κs = area-long (c .before .before .before .before .before .before .before .before .before .args .store .now) (c .before .before .before .before .before .before .before .before .before .args .work .now) (c .before .before .before .before .before .before .before .before .before .args .from .now) (c .before .before .before .before .before .before .before .before .before .args .to .now) _ _ (is-fit (c .before .before .before .before .before .before .before .before .before .args .store .now) (c .before .before .before .before .before .before .before .before .before .args .work .now) (c .before .before .before .before .before .before .before .before .before .args .from .now) (c .before .before .before .before .before .before .before .before .before .args .to .now) _ _ (c .before .before .before .before .before .before .before .before .before .pre) _ (c .before .before .before .ask-later .ensures)) (c .before .enum-told .given .1)
 
--- src/lib.rt:55:21
 enum-known-asked-2 : tie.Need-enum-known-asked-2
 enum-known-asked-2 c = search needs
 
--- src/lib.rt:56:13
 apply-move-requires : tie.Need-apply-move-requires
 apply-move-requires c κs = goes (c .before .before .before .before .before .before .before .before .before .before .before .args .store .now) (c .before .before .before .before .before .before .before .before .before .before .before .args .work .now) (c .before .before .before .before .before .before .before .before .before .before .before .args .from .now) (c .before .before .before .before .before .before .before .before .before .before .before .args .to .now) _ _ (is-fit (c .before .before .before .before .before .before .before .before .before .before .before .args .store .now) (c .before .before .before .before .before .before .before .before .before .before .before .args .work .now) (c .before .before .before .before .before .before .before .before .before .before .before .args .from .now) (c .before .before .before .before .before .before .before .before .before .before .before .args .to .now) _ _ (c .before .before .before .before .before .before .before .before .before .before .before .pre) _ (c .before .before .before .before .before .ask-later .ensures)) _ (c .before .before .before .asked2 .given .1)
 
--- src/lib.rt:36:1
 same-length : tie.Need-same-length
 same-length c = search needs
 
--- src/lib.rt:36:1
 returns : tie.Need-returns
 returns c = refused (c .before .before .before .before .before .before .before .before .before .args .store .now) (c .before .before .before .before .before .before .before .before .before .args .work .now) (c .before .before .before .before .before .before .before .before .before .args .from .now) (c .before .before .before .before .before .before .before .before .before .args .to .now) _ _ (is-fit (c .before .before .before .before .before .before .before .before .before .args .store .now) (c .before .before .before .before .before .before .before .before .before .args .work .now) (c .before .before .before .before .before .before .before .before .before .args .from .now) (c .before .before .before .before .before .before .before .before .before .args .to .now) _ _ (c .before .before .before .before .before .before .before .before .before .pre) _ (c .before .before .before .ask-later .ensures)) _ (c .before .asked .given .1)
 
--- src/lib.rt:36:1
 same-length-2 : tie.Need-same-length-2
 same-length-2 c = search needs
 
--- src/lib.rt:36:1
 same-length-3 : tie.Need-same-length-3
 same-length-3 c = search needs
 
--- src/lib.rt:36:1
 returns-2 : tie.Need-returns-2
 returns-2 c = stays (c .before .before .before .before .before .before .before .before .before .before .before .before .args .store .now) (c .before .before .before .before .before .before .before .before .before .before .before .before .args .work .now) (c .before .before .before .before .before .before .before .before .before .before .before .before .args .from .now) (c .before .before .before .before .before .before .before .before .before .before .before .before .args .to .now) _ _ (is-fit (c .before .before .before .before .before .before .before .before .before .before .before .before .args .store .now) (c .before .before .before .before .before .before .before .before .before .before .before .before .args .work .now) (c .before .before .before .before .before .before .before .before .before .before .before .before .args .from .now) (c .before .before .before .before .before .before .before .before .before .before .before .before .args .to .now) _ _ (c .before .before .before .before .before .before .before .before .before .before .before .before .pre) _ (c .before .before .before .before .before .before .ask-later .ensures)) (c .before .before .before .before .enum-told .given .1) _ _ refl (c .before .before .clear-area .ensures)
 
--- src/lib.rt:36:1
 same-length-4 : tie.Need-same-length-4
 same-length-4 c = search needs
 
--- src/lib.rt:36:1
 same-length-5 : tie.Need-same-length-5
 same-length-5 c = search needs
 
--- src/lib.rt:36:1
 returns-3 : tie.Need-returns-3
 returns-3 c = search needs
 

@@ -1,84 +1,57 @@
 use Rattle.requests.specs.Steps.{found-written, refusal-written, found-room, copy-room}
 use borrow.Author.Needs.{needs}
 use native.Mathlib.Omega.{arith}
-use Prim.Native.Nat.{ℕ, suc, _+_, _-_, _≤_, _<_}
-use mathlib.Core.Path.{_≡_, refl, sym, ap, _∙_}
-use mathlib.Core.List.{List, [], _∷_, _++_}
-use lib.ListN.{length, getD, take, drop}
-use borrow.Author.Needs.{needs}
 use Rattle.requests.proofs.write_found.Statement.{statement}
 use Rattle.requests.proofs.write_found.Tie as tie
-use Rattle.requests.proofs.write_found.Reads as reads
-use Rattle.requests.proofs.write_found.Lts as lts
-use Rattle.octets.proofs.copy_at.Reads as copy-at-reads
-use Rattle.requests.proofs.refusal_number.Reads as refusal-number-reads
-use Rattle.requests.proofs.write_head.Reads as write-head-reads
 
--- src/lib.rt:199:23
 enum-known-found : tie.Need-enum-known-found
 enum-known-found c = search needs
 
--- src/lib.rt:200:13
 write-head-requires : tie.Need-write-head-requires
 write-head-requires c κs = let z = found-room _ _ _ _ _ (c .before .before .found .given .1) (c .before .before .before .before .before .before .pre .0) (c .before .before .before .before .before .before .pre .1) (c .before .before .before .before .before .before .pre .2) in (omega (arith, z .0), z .2, omega arith)
 
--- src/lib.rt:201:38
 add-copy-at : tie.Need-add-copy-at
 add-copy-at c = search needs
 
--- src/lib.rt:201:46
 sub-copy-at : tie.Need-sub-copy-at
 sub-copy-at c = search needs
 
--- src/lib.rt:201:46
 part-copy-at-start : tie.Need-part-copy-at-start
 part-copy-at-start c = search needs
 
--- src/lib.rt:201:46
 part-copy-at-end : tie.Need-part-copy-at-end
 part-copy-at-end c = let z = found-room _ _ _ _ _ (c .before .before .before .before .before .before .found .given .1) (c .before .before .before .before .before .before .before .before .before .before .pre .0) (c .before .before .before .before .before .before .before .before .before .before .pre .1) (c .before .before .before .before .before .before .before .before .before .before .pre .2) in omega (arith, z .1)
 
--- src/lib.rt:201:13
 copy-at-requires : tie.Need-copy-at-requires
 copy-at-requires c κs = let z = found-room _ _ _ _ _ (c .before .before .before .before .before .before .before .found .given .1) (c .before .before .before .before .before .before .before .before .before .before .before .pre .0) (c .before .before .before .before .before .before .before .before .before .before .before .pre .1) (c .before .before .before .before .before .before .before .before .before .before .before .pre .2) in copy-room _ _ (c .before .before .before .before .before .before .before .before .before .before .before .args .buffer .now) _ _ (z .0) (z .1) (c .before .before .before .before .write-head .ensures)
 
--- src/lib.rt:202:13
 add-result : tie.Need-add-result
 add-result c = search needs
 
--- src/lib.rt:202:13
 add-result-2 : tie.Need-add-result-2
 add-result-2 c = let z = found-room _ _ _ _ _ (c .before .before .before .before .before .before .before .before .before .before .found .given .1) (c .before .before .before .before .before .before .before .before .before .before .before .before .before .before .pre .0) (c .before .before .before .before .before .before .before .before .before .before .before .before .before .before .pre .1) (c .before .before .before .before .before .before .before .before .before .before .before .before .before .before .pre .2) in omega (arith, z .0)
 
--- src/lib.rt:204:24
 enum-known-found-2 : tie.Need-enum-known-found-2
 enum-known-found-2 c = search needs
 
--- src/lib.rt:205:40
 refusal-number-requires : tie.Need-refusal-number-requires
 refusal-number-requires c κs = search needs
 
--- src/lib.rt:205:13
 write-head-requires-2 : tie.Need-write-head-requires-2
 write-head-requires-2 c κs = search needs
 
--- src/lib.rt:206:13
 add-result-3 : tie.Need-add-result-3
 add-result-3 c = search needs
 
--- src/lib.rt:193:1
 same-length : tie.Need-same-length
 same-length c = search needs
 
--- src/lib.rt:193:1
 returns : tie.Need-returns
 returns c = let z = found-room _ _ _ _ _ (c .before .before .before .before .before .before .before .before .before .before .found .given .1) (c .before .before .before .before .before .before .before .before .before .before .before .before .before .before .pre .0) (c .before .before .before .before .before .before .before .before .before .before .before .before .before .before .pre .1) (c .before .before .before .before .before .before .before .before .before .before .before .before .before .before .pre .2) in found-written _ _ _ (c .before .before .before .before .before .before .before .before .before .before .before .before .before .before .args .buffer .now) _ _ _ (c .before .before .before .before .before .before .before .before .before .before .found .given .1) (z .0) (z .1) (c .before .before .before .before .before .before .before .write-head .ensures) (c .before .before .copy-at .ensures)
 
--- src/lib.rt:193:1
 same-length-2 : tie.Need-same-length-2
 same-length-2 c = search needs
 
--- src/lib.rt:193:1
 returns-2 : tie.Need-returns-2
 returns-2 c = refusal-written _ _ (c .before .before .before .before .before .before .before .before .before .before .args .buffer .now) _ _ _ _ (c .before .before .before .before .before .before .found2 .given .1) (c .before .before .before .refusal-number .ensures .0) (c .before .before .write-head2 .ensures)
 

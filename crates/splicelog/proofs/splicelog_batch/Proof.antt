@@ -2,56 +2,36 @@
 use Rattle.splicelog.specs.BatchWord.{room-small, batch-small, front-small, front-meets}
 use borrow.Author.Needs.{needs}
 use native.Mathlib.Omega.{arith}
-use Prim.Native.Nat.{ℕ, suc, _+_, _-_, _≤_, _<_}
-use mathlib.Core.Path.{_≡_, refl, sym, ap, _∙_}
-use mathlib.Core.List.{List, [], _∷_, _++_}
-use lib.ListN.{length, getD, take, drop}
-use borrow.Author.Needs.{needs}
 use Rattle.splicelog.proofs.splicelog_batch.Statement.{statement}
 use Rattle.splicelog.proofs.splicelog_batch.Tie as tie
-use Rattle.splicelog.proofs.splicelog_batch.Reads as reads
-use Rattle.splicelog.proofs.splicelog_batch.Lts as lts
-use Rattle.batch.proofs.batch.Reads as batch-reads
-use Rattle.splicelog.proofs.answers_room.Reads as answers-room-reads
-use Rattle.splicelog.proofs.batch_word.Reads as batch-word-reads
 
--- src/lib.rt:150:9
 answers-room-requires : tie.Need-answers-room-requires
 answers-room-requires c κs = search needs
 
--- src/lib.rt:151:49
 sub-batch : tie.Need-sub-batch
 sub-batch c = search needs
 
--- src/lib.rt:151:49
 part-batch-start : tie.Need-part-batch-start
 part-batch-start c = search needs
 
--- src/lib.rt:151:49
 part-batch-end : tie.Need-part-batch-end
 part-batch-end c = let k = room-small _ _ (c .before .before .answers-room .ensures) in omega (arith, k .0)
 
--- src/lib.rt:151:16
 batch-requires : tie.Need-batch-requires
 batch-requires c κs = search needs
 
--- src/lib.rt:151:5
 batch-word-requires : tie.Need-batch-word-requires
 batch-word-requires c κs = batch-small _ _ _ _ _ _ _ _ _ _ (c .before .before .before .before .before .before .batch .ensures) (front-small (c .before .before .before .before .before .before .before .before .before .before .before .before .before .before .before .args .answers .now) _ (c .before .before .before .before .before .before .before .before .before .before .answers-room .ensures))
 
--- src/lib.rt:144:1
 same-length : tie.Need-same-length
 same-length c = search needs
 
--- src/lib.rt:144:1
 same-length-2 : tie.Need-same-length-2
 same-length-2 c = search needs
 
--- src/lib.rt:144:1
 same-length-3 : tie.Need-same-length-3
 same-length-3 c = search needs
 
--- src/lib.rt:144:1
 returns : tie.Need-returns
 returns c = front-meets (c .before .before .before .before .before .before .before .before .before .before .before .before .before .before .before .before .args .answers .now) _ (c .before .before .before .before .before .before .before .before .before .before .before .answers-room .ensures) _ _ _ _ _ _ _ _ _ _ (c .before .before .before .before .before .before .before .batch .ensures) (c .batch-word .ensures)
 

@@ -1,4 +1,3 @@
-use lib.ListN.{drop}
 use borrow.Author.Needs.{needs}
 use Rattle.splicelog.specs.Words.{number-meets}
 use Rattle.splicelog.proofs.splicelog_drop.Statement.{statement}

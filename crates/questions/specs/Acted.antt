@@ -115,4 +115,3 @@ zeroed-not r q n w e = rw e refl
 -- the answer of the check on a store that is sound
 pub never-unsound : (s seen : List ℕ) (c : Checked) (t : Tally) → sound s ≡ true → Verified s c seen → c ≡ Checked.Unsound → Holds s t seen
 never-unsound s seen c t ok v e = absurd (false≢true (sym (verified-no s c seen v e) ∙ sound-but-live s ok))
-

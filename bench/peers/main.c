@@ -28,7 +28,7 @@ static const size_t sizes[] = {64, 256, 1024};
 enum { SIZES = sizeof sizes / sizeof *sizes };
 
 /* The least ratio to a judging SQLite at each size and state, and the call that has it; and the ratio of puts in a row. */
-enum { SETTLED, FULL_ROOT, STATES };
+enum { SETTLED, WAITING, FULL_ROOT, STATES };
 static struct worst {
     double ratio;
     enum call call;
@@ -95,9 +95,9 @@ static double print_columns(const char *first) {
     return us[JUDGED] / us[OURS];
 }
 
-static void load_all(size_t nodes, size_t wanted) {
+static void load_all(size_t nodes, size_t wanted, enum way way) {
     content_make(&content, nodes);
-    ours_build(&content, wanted);
+    ours_build(&content, wanted, way);
     for (size_t c = 0; c < COLUMNS; c++)
         if (columns[c])
             columns[c]->load(&content);
@@ -114,11 +114,14 @@ static void print_calls(struct worst *least) {
 }
 
 static void print_peers(size_t size) {
-    load_all(sizes[size], 0);
+    load_all(sizes[size], 0, BY_CALLS);
     title("%zu nodes, %zu records, settled, in µs", content.nodes, content.nodes);
     print_calls(&worst[size][SETTLED]);
-    load_all(sizes[size], WAITING_MOST);
-    title("%zu nodes, %zu records, %zu puts waiting in a full root, in µs", content.nodes, content.nodes, content.waiting);
+    load_all(sizes[size], WAITING_MOST, BY_CALLS);
+    title("%zu nodes, %zu records, %zu puts waiting, the most that calls leave, in µs", content.nodes, content.nodes, content.waiting);
+    print_calls(&worst[size][WAITING]);
+    load_all(sizes[size], WAITING_MOST, BY_BATCHES);
+    title("%zu nodes, %zu records, %zu puts waiting in a full root, as a batch may leave it, in µs", content.nodes, content.nodes, content.waiting);
     print_calls(&worst[size][FULL_ROOT]);
 }
 
@@ -128,26 +131,26 @@ static void print_in_a_row(void) {
     for (size_t size = 0; size < SIZES; size++) {
         char nodes[16];
         snprintf(nodes, sizeof nodes, "%zu", sizes[size]);
-        load_all(sizes[size], 0);
+        load_all(sizes[size], 0, BY_CALLS);
         series_puts_in_a_row(&series, &content);
         ratio_in_a_row[size] = print_columns(nodes);
     }
 }
 
 static void print_worst(void) {
-    static const char *const head[] = {"nodes", "settled", "call", "full root", "call", "puts in a row", "wanted"};
+    static const char *const head[] = {"nodes", "settled", "call", "most waiting", "call", "full root", "call", "puts in a row", "wanted"};
     static const char *const wanted[SIZES] = {"4", "-", "1.5"};
     if (!columns[JUDGED])
         return;
     title("The least ratios to a judging SQLite");
-    table_head(head, 7);
+    table_head(head, 9);
     for (size_t size = 0; size < SIZES; size++) {
-        const struct worst *settled = &worst[size][SETTLED], *full = &worst[size][FULL_ROOT];
+        const struct worst *settled = &worst[size][SETTLED], *most = &worst[size][WAITING], *full = &worst[size][FULL_ROOT];
         char nodes[16];
         snprintf(nodes, sizeof nodes, "%zu", sizes[size]);
-        const char *cells[] = {nodes, figure(settled->ratio), call_names[settled->call], figure(full->ratio), call_names[full->call],
-                               figure(ratio_in_a_row[size]), wanted[size]};
-        table_row(cells, 7);
+        const char *cells[] = {nodes, figure(settled->ratio), call_names[settled->call], figure(most->ratio), call_names[most->call],
+                               figure(full->ratio), call_names[full->call], figure(ratio_in_a_row[size]), wanted[size]};
+        table_row(cells, 9);
     }
 }
 
@@ -169,7 +172,7 @@ static void print_growth(void) {
         uint16_t reachable[NODES_MOST];
         char first[16], second[16];
         content_make(&content, nodes);
-        ours_build(&content, 0);
+        ours_build(&content, 0, BY_CALLS);
         const double pass = pass_us(ours_pristine()), get = measure_ours(GET), put = measure_ours(PUT);
         snprintf(first, sizeof first, "%zu", nodes);
         snprintf(second, sizeof second, "%zu", image_reachable(ours_pristine(), reachable));
@@ -186,7 +189,7 @@ static void print_waiting(void) {
     for (size_t i = 0; i < sizeof wanted / sizeof *wanted; i++) {
         char count[32];
         content_make(&content, NODES_MOST);
-        ours_build(&content, wanted[i]);
+        ours_build(&content, wanted[i], BY_BATCHES);
         const double pass = pass_us(ours_pristine()), get = measure_ours(GET);
         snprintf(count, sizeof count, wanted[i] == WAITING_MOST ? "%zu (as many as fit)" : "%zu", content.waiting);
         const char *cells[] = {count, figure(pass), figure(get), figure(get / pass)};

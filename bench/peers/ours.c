@@ -14,13 +14,22 @@ static uint32_t put(uint8_t *to, const struct record *record) {
     return splicelog_put(to, store_len, work, work_len, record->path.at, record->path.len, record->value.at, record->value.len);
 }
 
+static uint32_t put_in_batch(uint8_t *to, const struct record *record) {
+    uint8_t bytes[256], answer[4];
+    struct splicelog_calls calls = {.bytes = bytes, .room = sizeof bytes};
+    if (!splicelog_add(&calls, SPLICELOG_PUT, record->path.at, record->path.len, record->value.at, record->value.len))
+        fail("a put does not fit a batch");
+    const uint64_t done = splicelog_batch(to, store_len, work, work_len, bytes, calls.length, answer, sizeof answer);
+    return splicelog_batch_done(done) == 1 ? (uint32_t)(answer[2] | answer[3] << 8) : 1;
+}
+
 /* Puts until so many wait in the root; where one more would send them down, the image before it stays. */
-static void wait_for(struct content *content, size_t wanted) {
+static void wait_for(struct content *content, size_t wanted, enum way way) {
     image_raise(pristine);
     while (content->waiting < wanted && content->waiting < WAITING_MOST) {
         const struct record next = content_later(content, content->waiting);
         memcpy(store, pristine, store_len);
-        if (put(store, &next) != 0)
+        if ((way == BY_CALLS ? put(store, &next) : put_in_batch(store, &next)) != 0)
             fail("a put to a sound store was refused");
         if (image_waiting(store) != content->waiting + 1)
             return;
@@ -29,7 +38,7 @@ static void wait_for(struct content *content, size_t wanted) {
     }
 }
 
-void ours_build(struct content *content, size_t wanted) {
+void ours_build(struct content *content, size_t wanted, enum way way) {
     store_len = content->nodes * NODE;
     work_len = content->nodes * 128;
     bool made = splicelog_make(pristine, store_len) == 0;
@@ -39,7 +48,7 @@ void ours_build(struct content *content, size_t wanted) {
     if (!made)
         fail("the library refused to make a store of %zu nodes", content->nodes);
     if (wanted > 0)
-        wait_for(content, wanted);
+        wait_for(content, wanted, way);
 }
 
 const uint8_t *ours_pristine(void) { return pristine; }

@@ -88,8 +88,10 @@ size_t image_reachable(const uint8_t *image, uint16_t nodes[NODES_MOST]);
 size_t image_waiting(const uint8_t *image);
 void image_raise(uint8_t *image);
 
-/* ours.c; wanted is how many puts shall wait in the root, WAITING_MOST for as many as fit. */
-void ours_build(struct content *content, size_t wanted);
+/* ours.c; wanted is how many puts shall wait in the root, WAITING_MOST for as many as there can be: made one by one, which leaves a reserve in
+ * the root, or by batches, which fill it. */
+enum way { BY_CALLS, BY_BATCHES };
+void ours_build(struct content *content, size_t wanted, enum way way);
 const uint8_t *ours_pristine(void);
 
 /* measure.c */

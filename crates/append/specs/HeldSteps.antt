@@ -9,7 +9,7 @@ use native.Mathlib.Omega.{arith}
 use lib.ListN.{length}
 use Rattle.image.specs.Bytes.{u16}
 use Rattle.image.specs.Entry as defined
-use Rattle.image.specs.Image.{Tree, leaf, interior, Forest, Inside, nodesOf, headerOf, messageThen, messagesOf, noKids, kidThen, insideOf, forestOf, treeAt, treeOf}
+use Rattle.image.specs.Image.{Tree, leaf, interior, Forest, Inside, nodesOf, headerOf, messageThen, messagesOf, noBranches, branchThen, insideOf, forestOf, treeAt, treeOf}
 use Rattle.image.specs.Upkeep.{noMessage}
 use Rattle.laws.specs.Reading.Relative.{usable, sound-usable}
 use Rattle.image.specs.Sound.{lowest, highest}
@@ -61,27 +61,27 @@ unfoldable some-left : List defined.Message → Bool
 some-left [] = false
 some-left (m ∷ ms) = true
 
-only-messages : (m : defined.Message) (es : List defined.Entry) (x : Inside) → noKids (messagesOf (defined.message m ∷ es)) ≡ some x → true ≡ some-left (x .messages)
-unfolding messagesOf messageThen noKids some-left
+only-messages : (m : defined.Message) (es : List defined.Entry) (x : Inside) → noBranches (messagesOf (defined.message m ∷ es)) ≡ some x → true ≡ some-left (x .messages)
+unfolding messagesOf messageThen noBranches some-left
 only-messages m es x p = go (messagesOf es) refl
   where
     go : (o : Option (List defined.Message)) → messagesOf es ≡ o → true ≡ some-left (x .messages)
     go none q = let is : none ≡ some x = rw q at p in absurd (Option·none-ne-some x is)
     go (some ns) q =
-        let is : some (record { kids = []; messages = m ∷ ns }) ≡ some x = rw q at p in
-        ap (λ y. some-left (y .messages)) (Option·some-injective (record { kids = []; messages = m ∷ ns }) x is)
+        let is : some (record { branches = []; messages = m ∷ ns }) ≡ some x = rw q at p in
+        ap (λ y. some-left (y .messages)) (Option·some-injective (record { branches = []; messages = m ∷ ns }) x is)
 
 inside-held : (es : List defined.Entry) (x : Inside) → insideOf es ≡ some x → anyMessage es ≡ some-left (x .messages)
-unfolding insideOf anyMessage kidThen some-left
-inside-held [] x p = ap (λ y. some-left (y .messages)) (Option·some-injective (record { kids = []; messages = [] }) x p)
+unfolding insideOf anyMessage branchThen some-left
+inside-held [] x p = ap (λ y. some-left (y .messages)) (Option·some-injective (record { branches = []; messages = [] }) x p)
 inside-held (defined.pair s v ∷ es) x p = absurd (Option·none-ne-some x p)
 inside-held (defined.child i s ∷ es) x p = go (insideOf es) refl (λ y q. inside-held es y q)
   where
     go : (o : Option Inside) → insideOf es ≡ o → ((y : Inside) → insideOf es ≡ some y → anyMessage es ≡ some-left (y .messages)) → anyMessage es ≡ some-left (x .messages)
     go none q ih = let is : none ≡ some x = rw q at p in absurd (Option·none-ne-some x is)
     go (some y) q ih =
-        let is : some (record { kids = record { number = i; pivot = s } ∷ y .kids; messages = y .messages }) ≡ some x = rw q at p in
-        ih y q ∙ ap (λ z. some-left (z .messages)) (Option·some-injective (record { kids = record { number = i; pivot = s } ∷ y .kids; messages = y .messages }) x is)
+        let is : some (record { branches = record { number = i; pivot = s } ∷ y .branches; messages = y .messages }) ≡ some x = rw q at p in
+        ih y q ∙ ap (λ z. some-left (z .messages)) (Option·some-injective (record { branches = record { number = i; pivot = s } ∷ y .branches; messages = y .messages }) x is)
 inside-held (defined.message m ∷ es) x p = only-messages m es x p
 
 left-held : (i : ℕ) (f : Forest) (ms : List defined.Message) → some-left ms ≡ not (noMessage (interior i f ms))
@@ -125,5 +125,5 @@ module _ (s : List ℕ) (e : soundButLive s ≡ true) where
       let lists : listed s (at + 8) (at + 8 + len) ≡ x .es =
       ap (λ k. listed s (at + 8) (at + 8 + k)) l ∙ ap (λ k. listed s (k + 8) (k + 8 + u16 s k)) r ∙ x .node .lists in
       f ∙ ap anyMessage lists ∙ inside-held (x .es) (x .x) (x .splits)
-      ∙ left-held (headerOf s .root) (forestOf (λ j. treeAt (headerOf s .levels - 1) s j) (x .x .kids)) (x .x .messages)
+      ∙ left-held (headerOf s .root) (forestOf (λ j. treeAt (headerOf s .levels - 1) s j) (x .x .branches)) (x .x .messages)
       ∙ ap (λ t. not (noMessage t)) (sym (x .tree))

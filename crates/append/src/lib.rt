@@ -15,6 +15,7 @@ ghost use Rattle.image.specs.Upkeep.{noMessage};
 ghost use Rattle.octets.specs.Put.{put};
 ghost use Rattle.node.specs.Entries.{listed};
 ghost use Rattle.laws.specs.ButLive.{soundButLive};
+ghost use Rattle.node.specs.Whole.{HasNode};
 ghost use Rattle.append.specs.Laws.Append.{rootAt, roomAtRoot, appended};
 ghost use Rattle.append.specs.Laws.Raise.{rootRaised};
 ghost use Rattle.append.specs.Laws.SetLive.{withLive};
@@ -82,7 +83,7 @@ pub fn append_clear(store: &mut [u8], path: &[u8])
 // A page with entries of this size as node `free`, and that node as the root of a tree of so many levels.
 fn install_root(store: &mut [u8], free: usize, levels: usize, page: &mut [u8], size: usize)
     requires { ⌜ (length (now page) ≡ 1024)
-        × (free * 1024 + 1024 ≤ length (now store))
+        × HasNode (now store) free
         × (length (now store) ≤ 2000000)
         × (levels < 65536)
         × (size < 65536) ⌝ }

@@ -19,7 +19,7 @@ use Rattle.packed.specs.Form.Tidy.{zerosOf}
 use Rattle.rebuild.specs.Rebuild.{cleared}
 use Rattle.questions.specs.Callers.{to-act, plain-settle, plain-number}
 use Rattle.finish.specs.Finished.{cleared-size, cleared-later, cleared-again}
-use Rattle.questions.specs.declared.Ready.{Ready}
+use Rattle.questions.specs.declared.Admission.{Admission}
 use Rattle.questions.specs.Asked.{Fit, Asked, asked-fit, asked-refused}
 use Rattle.questions.specs.Acted.{passed}
 use Rattle.tree_check.specs.declared.Tally.{Tally}
@@ -193,8 +193,8 @@ refusal-some k Refusal.Absent e = λ z. omega arith
 refusal-some k Refusal.BecomesMalformed e = λ z. omega arith
 refusal-some k Refusal.Full e = λ z. omega arith
 
-module _ (s w calls out seen : List ℕ) (r : Ready) (a : Asked s w seen r) where
-  pub refused : (q : Refusal) → r ≡ Ready.Refused q → (k : ℕ) → k ≡ refusalNumber q → BatchMeets s w calls out k 0 0 s w out
+module _ (s w calls out seen : List ℕ) (r : Admission) (a : Asked s w seen r) where
+  pub refused : (q : Refusal) → r ≡ Admission.Refused q → (k : ℕ) → k ≡ refusalNumber q → BatchMeets s w calls out k 0 0 s w out
   refused q e k z =
       let n : batchNo s w ≡ refusalNumber q = sym (number-is s w) ∙ asked-refused s w seen r a q e (acts settle w) to-act in
       record {
@@ -203,7 +203,7 @@ module _ (s w calls out seen : List ℕ) (r : Ready) (a : Asked s w seen r) wher
         runs = λ h. absurd (refusal-some (refusalNumber q) q refl (sym n ∙ h));
       }
 
-  module _ (t : Tally) (e : r ≡ Ready.Fit t) where
+  module _ (t : Tally) (e : r ≡ Admission.Fit t) where
     fit : Fit s w t seen
     fit = asked-fit s w seen r a t e
 

@@ -1,12 +1,13 @@
 // A batch: a list of calls as one call. Questions 1 and 2 are asked once; then call after call by the parts of the calls that follow these
 // questions, each on the store as the last one left it, with no second judgement: after each the store is sound again, which is proved.
-// Relies on questions (the questions, the marks), requests (the requests read, the answers written), query, edit, maintain and rename.
+// Relies on questions, tree_check (the marks), requests (the requests read, the answers written), query, edit, maintain and rename.
 use image::Outcome;
 use node::Place;
-use questions::Ready;
+use questions::Admission;
 use requests::Change;
 use requests::Piece;
 use requests::Query;
+use tree_check::marks;
 ghost use mathlib.Core.Path.{_≡_};
 ghost use Prim.Native.Nat.{_+_, _≤_};
 ghost use mathlib.Core.Bool.{true};
@@ -36,39 +37,29 @@ fn put_piece(store: &mut [u8], work: &mut [u8], calls: &[u8], path: Place, value
     requires { ⌜ Fresh (now store) (now work) × Within 0 (length (now calls)) path × Within 0 (length (now calls)) value ⌝ }
     ensures { λ r. ⌜ Served (now (store .entry)) (now (work .entry)) (acting (put (part (now (calls .entry)) path) (part (now (calls .entry)) value))) r (now (store .exit)) (now (work .exit)) ⌝ }
 {
-    let seen = [0u8; 1024];
     let start = path.start;
     let middle = path.stop;
     let from = value.start;
     let stop = value.stop;
-    edit::put_fit(
-        store,
-        work,
-        &seen,
-        false,
-        &calls[start..middle],
-        &calls[from..stop],
-    )
+    edit::put_fit(store, work, &calls[start..middle], &calls[from..stop], 0)
 }
 
 fn drop_piece(store: &mut [u8], work: &mut [u8], calls: &[u8], path: Place) -> Outcome
     requires { ⌜ Fresh (now store) (now work) × Within 0 (length (now calls)) path ⌝ }
     ensures { λ r. ⌜ Served (now (store .entry)) (now (work .entry)) (acting (drops (part (now (calls .entry)) path))) r (now (store .exit)) (now (work .exit)) ⌝ }
 {
-    let seen = [0u8; 1024];
     let start = path.start;
     let stop = path.stop;
-    edit::drop_fit(store, work, &seen, false, &calls[start..stop])
+    edit::drop_fit(store, work, &calls[start..stop], 0)
 }
 
 fn clear_piece(store: &mut [u8], work: &mut [u8], calls: &[u8], path: Place) -> Outcome
     requires { ⌜ Fresh (now store) (now work) × Within 0 (length (now calls)) path ⌝ }
     ensures { λ r. ⌜ Served (now (store .entry)) (now (work .entry)) (acting (clear (part (now (calls .entry)) path))) r (now (store .exit)) (now (work .exit)) ⌝ }
 {
-    let seen = [0u8; 1024];
     let start = path.start;
     let stop = path.stop;
-    edit::clear_fit(store, work, &seen, false, &calls[start..stop])
+    edit::clear_fit(store, work, &calls[start..stop], 0)
 }
 
 fn move_piece(store: &mut [u8], work: &mut [u8], calls: &[u8], from: Place, to: Place) -> Outcome
@@ -76,7 +67,7 @@ fn move_piece(store: &mut [u8], work: &mut [u8], calls: &[u8], from: Place, to: 
     ensures { λ r. ⌜ Served (now (store .entry)) (now (work .entry)) (acting (move (part (now (calls .entry)) from) (part (now (calls .entry)) to))) r (now (store .exit)) (now (work .exit)) ⌝ }
 {
     let mut seen = [0u8; 1024];
-    let tally = questions::mark(store, &mut seen);
+    let quiet = marks::mark_nodes(store, &mut seen);
     let start = from.start;
     let middle = from.stop;
     let first = to.start;
@@ -84,7 +75,7 @@ fn move_piece(store: &mut [u8], work: &mut [u8], calls: &[u8], from: Place, to: 
     rename::move_fit(
         store,
         work,
-        tally,
+        quiet,
         &seen,
         &calls[start..middle],
         &calls[first..stop],
@@ -96,8 +87,8 @@ fn settle_piece(store: &mut [u8], work: &mut [u8]) -> Outcome
     ensures { λ r. ⌜ Served (now (store .entry)) (now (work .entry)) (acting settle) r (now (store .exit)) (now (work .exit)) ⌝ }
 {
     let mut seen = [0u8; 1024];
-    let tally = questions::mark(store, &mut seen);
-    maintain::settle_fit(store, work, tally.messages == 0)
+    let quiet = marks::mark_nodes(store, &mut seen);
+    maintain::settle_fit(store, work, quiet)
 }
 
 fn tidy_piece(store: &mut [u8], work: &mut [u8]) -> Outcome
@@ -112,7 +103,7 @@ fn flush_piece(store: &mut [u8], work: &mut [u8], node: usize) -> Outcome
     ensures { λ r. ⌜ Served (now (store .entry)) (now (work .entry)) (keeping flush node) r (now (store .exit)) (now (work .exit)) ⌝ }
 {
     let mut seen = [0u8; 1024];
-    questions::mark(store, &mut seen);
+    marks::mark_nodes(store, &mut seen);
     maintain::flush_fit(store, work, &seen, node)
 }
 
@@ -121,7 +112,7 @@ fn heal_piece(store: &mut [u8], work: &mut [u8], node: usize) -> Outcome
     ensures { λ r. ⌜ Served (now (store .entry)) (now (work .entry)) (keeping heal node) r (now (store .exit)) (now (work .exit)) ⌝ }
 {
     let mut seen = [0u8; 1024];
-    questions::mark(store, &mut seen);
+    marks::mark_nodes(store, &mut seen);
     maintain::heal_fit(store, work, &seen, node)
 }
 
@@ -241,12 +232,12 @@ pub fn batch(store: &mut [u8], work: &mut [u8], calls: &[u8], answers: &mut [u8]
     let mut seen = [0u8; 1024];
     let asked = questions::ask(store, work, &mut seen);
     match asked {
-        Ready::Refused(refusal) => Batched {
+        Admission::Refused(refusal) => Batched {
             number: requests::refusal_number(refusal),
             done: 0,
             written: 0,
         },
-        Ready::Fit(_) => {
+        Admission::Fit(_) => {
             let len = image::WORK_PER_NODE * (store.len() / image::NODE_SIZE);
             packed::clear_area(work, len);
             run(store, work, calls, answers)

@@ -93,7 +93,7 @@ pub record Answered (s : List ℕ) (q : Query) (buffer : List ℕ) (len : ℕ) (
   pub len-is : len ≡ length bytes
   pub out-is : out ≡ bytes ++ drop (length bytes) buffer
 
-was-found : (s : List ℕ) (q : Query) (buffer : List ℕ) → firstNoOn s (asks q buffer) ≡ 0 → isSome (foundBy q (tableOf s)) ≡ true
+pub was-found : (s : List ℕ) (q : Query) (buffer : List ℕ) → firstNoOn s (asks q buffer) ≡ 0 → isSome (foundBy q (tableOf s)) ≡ true
 unfolding nodeQuestions questions queryQuestions foundBy
 was-found s (get p) buffer e = first-yes 7 _ _ (later-yes 4 _ _ (later-yes 2 _ _ (from-three s (asks (get p) buffer) e)))
 was-found s (next p q) buffer e = first-yes 7 _ _ (later-yes 4 _ _ (later-yes 2 _ _ (from-three s (asks (next p q) buffer) e)))

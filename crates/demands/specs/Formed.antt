@@ -49,7 +49,7 @@ module _ (q : List ℕ) (bad : wellFormed q ≡ false) where
     tree-lacks (unread i) lo hi g = find-nil q
     tree-lacks (leaf i rs) lo hi g = find-fails wellFormed q (underPrefix (shared lo hi) rs) (leaf-rowed i rs lo hi g .formed) bad
     tree-lacks (interior i f ms) lo hi g =
-        all-lack lo hi ms (rowsIn f (shared lo hi) hi) (inner i f ms lo hi g .wait) (forest-lacks f (shared lo hi) lo hi (inner i f ms lo hi g .kids))
+        all-lack lo hi ms (rowsIn f (shared lo hi) hi) (inner i f ms lo hi g .wait) (forest-lacks f (shared lo hi) lo hi (inner i f ms lo hi g .branches))
 
     forest-lacks : (f : Forest) (lifted lo hi : List ℕ) → soundForest f lifted lo hi ≡ true → find q (rowsIn f lifted hi) ≡ none
     forest-lacks end lifted lo hi g = find-nil q

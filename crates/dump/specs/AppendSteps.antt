@@ -18,8 +18,11 @@ use Rattle.laws.specs.Filter.{keep, keep-append}
 use Rattle.packed.specs.Form.Leaves.{value-length}
 use Rattle.node.specs.Places.{part, entryIn}
 use Rattle.node.specs.declared.Place.{Place}
-use Rattle.node.specs.declared.Message.{Message}
 use Rattle.node.specs.declared.Entry.{Entry}
+use Rattle.node.specs.declared.search.Pair.{Pair}
+use Rattle.node.specs.Entries.{listed}
+use Rattle.node.specs.Search.Pairs.{pairIs}
+use Rattle.node.specs.Search.PairSteps.{Unpaired, unread, unlike}
 use Rattle.packed.specs.Rows.Area.{rowsOf, RowsFit}
 use Rattle.packed.specs.Build.Rows.{RowPut}
 use Rattle.live.specs.Notes.Notes.{quiet}
@@ -31,7 +34,7 @@ use Rattle.live.specs.declared.Trail.{Trail}
 use Rattle.live.specs.Noted.{keyed, LeafTold}
 use Rattle.live.specs.Walk.{passing}
 use Rattle.live.specs.Steps.{passes-short, as-path}
-use Rattle.dump.specs.Dump.{rowIn, pairsE, valueFitsE, valuesFitE, Room, Added, KeyTold}
+use Rattle.dump.specs.Dump.{rowIn, pairsAmong, entryValueFits, valuesFitAmong, Room, Added, KeyTold}
 
 -- ROWS ADDED
 pub added-none : (m : ℕ) (area : List ℕ) (t : List Row) → t ≡ [] → RowsFit m area → Added m area area m t
@@ -168,68 +171,66 @@ module _ (s : List ℕ) (t : Trail) (X ns : List ℕ) (n : ℕ) where
             ∙ ap (λ b. b && quiet s ns n k) (and-right (owns (h .lo) (h .hi) k) (short (X ++ k)) a);
       }
 
--- ONE ENTRY, BY ITS KIND
-module _ (s : List ℕ) (p : PathBuffer) (t : Trail) (e : Entry) where
-  abbrev Rows : List Row
-  Rows = keep (passing s t) (underPrefix (pathIn p) (pairsE (entryIn s e ∷ [])))
+-- a leaf has no other entries
+module _ (s : List ℕ) (t : Trail) (X ns : List ℕ) (n : ℕ) where
+  only-pairs : (e : Entry) (ts : List defined.Entry) → pairIs e ≡ Pair.Other → LeafTold s t X (entryIn s e ∷ ts) ns n → ⊥
+  unfolding pairIs keyed
+  only-pairs (Entry.Pair k v) ts q h = let z : _≡_ {A = ℕ} 0 1 = cc in omega arith
+  only-pairs (Entry.Child i k) ts q h = true≢false (sym (h .keys))
+  only-pairs (Entry.Message m) ts q h = true≢false (sym (h .keys))
 
-  pub entry-pair : (k v : Place) → e ≡ Entry.Pair k v → Rows ≡ keep (passing s t) (rowIn s p k v ∷ [])
-  unfolding underPrefix pairsE
-  entry-pair k v q = rw q
+  pub leaf-ends : (at end : ℕ) → Unpaired s at end → LeafTold s t X (listed s at end) ns n → listed s at end ≡ []
+  leaf-ends at end (unread f g) h = g
+  leaf-ends at end (unlike e c x o) h = absurd (only-pairs e (listed s (c .at) (c .end)) o (subst (λ es. LeafTold s t X es ns n) (x .lists) h))
 
-  pub entry-value : (k v : Place) → e ≡ Entry.Pair k v → valueFitsE (entryIn s e) ≡ true → valueFits (part s v) ≡ true
-  unfolding valueFitsE
-  entry-value k v q h = rw q at h
+-- a pair as it is read
+module _ (s : List ℕ) (p : PathBuffer) (t : Trail) (k v : Place) where
+  pub pair-rows : keep (passing s t) (underPrefix (pathIn p) (pairsAmong (entryIn s (Entry.Pair k v) ∷ []))) ≡ keep (passing s t) (rowIn s p k v ∷ [])
+  unfolding underPrefix pairsAmong
+  pair-rows = refl
 
-  pub entry-told : (k v : Place) (ns : List ℕ) (n : ℕ) → e ≡ Entry.Pair k v → LeafTold s t (pathIn p) (entryIn s e ∷ []) ns n → KeyTold s t (pathIn p) (part s k) ns n
-  entry-told k v ns n q h = told-key s t (pathIn p) ns n (part s k) (part s v) (subst (λ x. LeafTold s t (pathIn p) (entryIn s x ∷ []) ns n) q h)
-
-  pub entry-child : (i : ℕ) (k : Place) → e ≡ Entry.Child i k → Rows ≡ []
-  unfolding underPrefix pairsE keep
-  entry-child i k q = rw q
-
-  pub entry-message : (m : Message) → e ≡ Entry.Message m → Rows ≡ []
-  unfolding underPrefix pairsE keep
-  entry-message m q = rw q
+  pub pair-value : entryValueFits (entryIn s (Entry.Pair k v)) ≡ true → valueFits (part s v) ≡ true
+  unfolding entryValueFits
+  pair-value h = h
 
 -- THE LOOP
-pairs-cons : (e : defined.Entry) (es : List defined.Entry) → pairsE (e ∷ es) ≡ pairsE (e ∷ []) ++ pairsE es
-unfolding pairsE
+pairs-cons : (e : defined.Entry) (es : List defined.Entry) → pairsAmong (e ∷ es) ≡ pairsAmong (e ∷ []) ++ pairsAmong es
+unfolding pairsAmong
 pairs-cons (defined.pair k v) es = refl
 pairs-cons (defined.child i k) es = refl
 pairs-cons (defined.message m) es = refl
 
 module _ (ok : List ℕ → Bool) (X : List ℕ) where
   pub rows-cons : (e : defined.Entry) (es ts : List defined.Entry) → es ≡ e ∷ ts
-      → keep ok (underPrefix X (pairsE es)) ≡ keep ok (underPrefix X (pairsE (e ∷ []))) ++ keep ok (underPrefix X (pairsE ts))
+      → keep ok (underPrefix X (pairsAmong es)) ≡ keep ok (underPrefix X (pairsAmong (e ∷ []))) ++ keep ok (underPrefix X (pairsAmong ts))
   rows-cons e es ts q =
-      ap (λ l. keep ok (underPrefix X (pairsE l))) q
+      ap (λ l. keep ok (underPrefix X (pairsAmong l))) q
       ∙ ap (λ l. keep ok (underPrefix X l)) (pairs-cons e ts)
-      ∙ ap (keep ok) (sym (under-append X (pairsE (e ∷ [])) (pairsE ts)))
-      ∙ keep-append ok (underPrefix X (pairsE (e ∷ []))) (underPrefix X (pairsE ts))
+      ∙ ap (keep ok) (sym (under-append X (pairsAmong (e ∷ [])) (pairsAmong ts)))
+      ∙ keep-append ok (underPrefix X (pairsAmong (e ∷ []))) (underPrefix X (pairsAmong ts))
 
-  pub rows-none : (es : List defined.Entry) → es ≡ [] → keep ok (underPrefix X (pairsE es)) ≡ []
-  unfolding keep underPrefix pairsE
+  pub rows-none : (es : List defined.Entry) → es ≡ [] → keep ok (underPrefix X (pairsAmong es)) ≡ []
+  unfolding keep underPrefix pairsAmong
   rows-none es q = rw q
 
-pub values-first : (e : defined.Entry) (es ts : List defined.Entry) → es ≡ e ∷ ts → valuesFitE es ≡ true → valueFitsE e ≡ true
-unfolding valuesFitE
-values-first e es ts q h = let z : valueFitsE e && valuesFitE ts ≡ true = rw q at h in and-left (valueFitsE e) (valuesFitE ts) z
+pub values-first : (e : defined.Entry) (es ts : List defined.Entry) → es ≡ e ∷ ts → valuesFitAmong es ≡ true → entryValueFits e ≡ true
+unfolding valuesFitAmong
+values-first e es ts q h = let z : entryValueFits e && valuesFitAmong ts ≡ true = rw q at h in and-left (entryValueFits e) (valuesFitAmong ts) z
 
-pub values-later : (e : defined.Entry) (es ts : List defined.Entry) → es ≡ e ∷ ts → valuesFitE es ≡ true → valuesFitE ts ≡ true
-unfolding valuesFitE
-values-later e es ts q h = let z : valueFitsE e && valuesFitE ts ≡ true = rw q at h in and-right (valueFitsE e) (valuesFitE ts) z
+pub values-later : (e : defined.Entry) (es ts : List defined.Entry) → es ≡ e ∷ ts → valuesFitAmong es ≡ true → valuesFitAmong ts ≡ true
+unfolding valuesFitAmong
+values-later e es ts q h = let z : entryValueFits e && valuesFitAmong ts ≡ true = rw q at h in and-right (entryValueFits e) (valuesFitAmong ts) z
 
 -- the rows so far, t of all, and those of the entries to come, make all
 pub record Appending (first : ℕ) (area₀ area : List ℕ) (m : ℕ) (ok : List ℕ → Bool) (X : List ℕ) (es : List defined.Entry) (all : List Row) : Type 0 where
   pub done : List Row
   pub so-far : Added first area₀ area m done
-  pub room : Room area m (keep ok (underPrefix X (pairsE es)))
-  pub whole : all ≡ done ++ keep ok (underPrefix X (pairsE es))
-  pub values : valuesFitE es ≡ true
+  pub room : Room area m (keep ok (underPrefix X (pairsAmong es)))
+  pub whole : all ≡ done ++ keep ok (underPrefix X (pairsAmong es))
+  pub values : valuesFitAmong es ≡ true
 
-pub append-first : (first : ℕ) (area : List ℕ) (ok : List ℕ → Bool) (X : List ℕ) (es : List defined.Entry) → valuesFitE es ≡ true
-    → Room area first (keep ok (underPrefix X (pairsE es))) → Appending first area area first ok X es (keep ok (underPrefix X (pairsE es)))
+pub append-first : (first : ℕ) (area : List ℕ) (ok : List ℕ → Bool) (X : List ℕ) (es : List defined.Entry) → valuesFitAmong es ≡ true
+    → Room area first (keep ok (underPrefix X (pairsAmong es))) → Appending first area area first ok X es (keep ok (underPrefix X (pairsAmong es)))
 append-first first area ok X es v r = record { done = []; so-far = added-none first area [] refl (r .fit); room = r; whole = refl; values = v }
 
 module _ (first : ℕ) (area₀ area : List ℕ) (m : ℕ) (ok : List ℕ → Bool) (X : List ℕ) (es : List defined.Entry) (all : List Row)
@@ -240,17 +241,17 @@ module _ (first : ℕ) (area₀ area : List ℕ) (m : ℕ) (ok : List ℕ → Bo
       subst (λ t. Added first area₀ area m t) (sym e) (a .so-far)
 
   module _ (e : defined.Entry) (ts : List defined.Entry) (q : es ≡ e ∷ ts) where
-    pub append-room : Room area m (keep ok (underPrefix X (pairsE (e ∷ []))))
-    append-room = room-first area m (keep ok (underPrefix X (pairsE (e ∷ [])))) (keep ok (underPrefix X (pairsE ts))) _ (rows-cons ok X e es ts q) (a .room)
+    pub append-room : Room area m (keep ok (underPrefix X (pairsAmong (e ∷ []))))
+    append-room = room-first area m (keep ok (underPrefix X (pairsAmong (e ∷ [])))) (keep ok (underPrefix X (pairsAmong ts))) _ (rows-cons ok X e es ts q) (a .room)
 
-    pub append-next : (area′ : List ℕ) (r : ℕ) → Added m area area′ r (keep ok (underPrefix X (pairsE (e ∷ [])))) → Appending first area₀ area′ r ok X ts all
+    pub append-next : (area′ : List ℕ) (r : ℕ) → Added m area area′ r (keep ok (underPrefix X (pairsAmong (e ∷ [])))) → Appending first area₀ area′ r ok X ts all
     append-next area′ r x =
-        let one : List Row = keep ok (underPrefix X (pairsE (e ∷ []))) in
-        let rest : List Row = keep ok (underPrefix X (pairsE ts)) in
+        let one : List Row = keep ok (underPrefix X (pairsAmong (e ∷ []))) in
+        let rest : List Row = keep ok (underPrefix X (pairsAmong ts)) in
         record {
           done = a .done ++ one;
           so-far = added-more first m r area₀ area area′ (a .done) one (a .done ++ one) refl (a .so-far) x;
-          room = room-rest area area′ m r one rest (keep ok (underPrefix X (pairsE es))) (rows-cons ok X e es ts q) (a .room) x;
+          room = room-rest area area′ m r one rest (keep ok (underPrefix X (pairsAmong es))) (rows-cons ok X e es ts q) (a .room) x;
           whole = a .whole ∙ ap (λ l. a .done ++ l) (rows-cons ok X e es ts q) ∙ sym (append-assoc (a .done) one rest);
           values = values-later e es ts q (a .values);
         }

@@ -8,12 +8,12 @@ use lib.ListN.{length, drop}
 use Rattle.image.specs.Path.{valueFits}
 use Rattle.image.specs.Entry.{Entry, pair, child, message, puts, drops, clears}
 use Rattle.image.specs.Table.{Row, withRow, everyKey, rising}
-use Rattle.image.specs.Image.{Kid, treeAt, forestOf}
+use Rattle.image.specs.Image.{Branch, treeAt, forestOf}
 use Rattle.image.specs.Sound.{soundForest, tableOf}
 use Rattle.node.specs.Places.{part}
 use Rattle.node.specs.declared.Place.{Place}
 use Rattle.node.specs.declared.Cursor.{Cursor}
-use Rattle.node.specs.Search.Hear.{newestE}
+use Rattle.node.specs.Search.Latest.{newestAmong}
 use Rattle.packed.specs.Rows.Area.{rowsOf, RowsFit}
 use Rattle.live.specs.Notes.Notes.{NotesFit, quiet}
 use Rattle.live.specs.Live.{holdsNoMessage}
@@ -28,23 +28,23 @@ abbrev pub rowIn : List ℕ → PathBuffer → Place → Place → Row
 rowIn s prefix k v = record { key = pathIn prefix ++ part s k; value = part s v }
 
 -- the pairs among entries, as stored
-unfoldable pub pairsE : List Entry → List Row
-pairsE [] = []
-pairsE (pair k v ∷ es) = record { key = k; value = v } ∷ pairsE es
-pairsE (child i k ∷ es) = pairsE es
-pairsE (message m ∷ es) = pairsE es
+unfoldable pub pairsAmong : List Entry → List Row
+pairsAmong [] = []
+pairsAmong (pair k v ∷ es) = record { key = k; value = v } ∷ pairsAmong es
+pairsAmong (child i k ∷ es) = pairsAmong es
+pairsAmong (message m ∷ es) = pairsAmong es
 
 -- the values of pairs and puts are at most 32 bytes
-unfoldable pub valueFitsE : Entry → Bool
-valueFitsE (pair k v) = valueFits v
-valueFitsE (child i k) = true
-valueFitsE (message (puts k v)) = valueFits v
-valueFitsE (message (drops k)) = true
-valueFitsE (message (clears k)) = true
+unfoldable pub entryValueFits : Entry → Bool
+entryValueFits (pair k v) = valueFits v
+entryValueFits (child i k) = true
+entryValueFits (message (puts k v)) = valueFits v
+entryValueFits (message (drops k)) = true
+entryValueFits (message (clears k)) = true
 
-unfoldable pub valuesFitE : List Entry → Bool
-valuesFitE [] = true
-valuesFitE (e ∷ es) = valueFitsE e && valuesFitE es
+unfoldable pub valuesFitAmong : List Entry → Bool
+valuesFitAmong [] = true
+valuesFitAmong (e ∷ es) = entryValueFits e && valuesFitAmong es
 
 -- a table after an entry: a put that decides its path comes in
 unfoldable pub withEntry : Bool → List ℕ → Entry → List Row → List Row
@@ -55,14 +55,14 @@ withEntry b X (message (drops k)) t = t
 withEntry b X (message (clears k)) t = t
 
 -- a table after all entries of an interior node
-unfoldable pub insertE : (List ℕ → Bool) → List ℕ → List Entry → List Row → List Row
-insertE ok X [] t = t
-insertE ok X (e ∷ es) t = insertE ok X es (withEntry (decides ok X e es) X e t)
+unfoldable pub insertAmong : (List ℕ → Bool) → List ℕ → List Entry → List Row → List Row
+insertAmong ok X [] t = t
+insertAmong ok X (e ∷ es) t = insertAmong ok X es (withEntry (decides ok X e es) X e t)
 
 -- the rows rise, and no message among the entries says anything of them
 pub record Untold (X : List ℕ) (es : List Entry) (t : List Row) : Type 0 where
   pub rises : rising t ≡ true
-  pub quiet : everyKey (λ q. holdsNoMessage (newestE es (drop (length X) q))) t ≡ true
+  pub quiet : everyKey (λ q. holdsNoMessage (newestAmong es (drop (length X) q))) t ≡ true
 
 -- m rows stand in the area, and there is room for those of t
 pub record Room (area : List ℕ) (m : ℕ) (t : List Row) : Type 0 where
@@ -81,8 +81,8 @@ pub record Open (area : List ℕ) (first m : ℕ) (ok : List ℕ → Bool) (X : 
   pub fit : RowsFit m area
   pub ahead : first ≤ m
   pub untold : Untold X es (rowsOf (m - first) area first)
-  pub values : valuesFitE es ≡ true
-  pub room : 128 * (first + length (insertE ok X es (rowsOf (m - first) area first))) ≤ length area
+  pub values : valuesFitAmong es ≡ true
+  pub room : 128 * (first + length (insertAmong ok X es (rowsOf (m - first) area first))) ≤ length area
 
 -- the rows from `first` on are the table t, those before it are as they were
 pub record Placed (first : ℕ) (area area′ : List ℕ) (r : ℕ) (t : List Row) : Type 0 where
@@ -98,13 +98,13 @@ pub record KeyTold (s : List ℕ) (t : Trail) (X k ns : List ℕ) (n : ℕ) : Ty
   pub told : n ≤ 64 → passing s t (X ++ k) ≡ quiet s ns n k
 
 -- children, from the one in hand on, of a sound node that lifts X; hi is its high pivot without X, low its low one
-pub record SoundKids (s : List ℕ) (level : ℕ) (X hi : List ℕ) (ks : List Kid) : Type 0 where
+pub record SoundBranches (s : List ℕ) (level : ℕ) (X hi : List ℕ) (ks : List Branch) : Type 0 where
   pub low : List ℕ
-  pub kids : soundForest (forestOf (λ j. treeAt level s j) ks) X low (X ++ hi) ≡ true
+  pub branches : soundForest (forestOf (λ j. treeAt level s j) ks) X low (X ++ hi) ≡ true
 
 -- notes tell of all that the node of the children owns, from the child in hand on
-abbrev pub KidsTold : List ℕ → ℕ → ℕ → Place → Cursor → PathBuffer → List ℕ → Trail → List ℕ → ℕ → Type 0
-KidsTold s level first pivot start p hi t ns n = noted.SoundKids s level first pivot start p hi t ns n
+abbrev pub BranchesTold : List ℕ → ℕ → ℕ → Place → Cursor → PathBuffer → List ℕ → Trail → List ℕ → ℕ → Type 0
+BranchesTold s level first pivot start p hi t ns n = noted.SoundBranches s level first pivot start p hi t ns n
 
 -- all m rows of the table stand in the area after the dump
 pub record Dumped (s area area′ : List ℕ) (m : ℕ) : Type 0 where

@@ -11,7 +11,7 @@ use lib.Seq.{take-append-seam, drop-append-seam}
 use borrow.Author.Tests.{not-true, not-false}
 use Rattle.image.specs.Path.{valueFits}
 use Rattle.image.specs.Entry as defined
-use Rattle.image.specs.Table.{Row, find, withRow, everyKey}
+use Rattle.image.specs.Table.{Row, find, withRow, putAll, everyKey, rising}
 use Rattle.image.specs.Meaning.{Said, nothing, says, newer}
 use Rattle.octets.specs.Order.{and-false, and-left, same-refl}
 use Rattle.laws.specs.Tables.{find-fails}
@@ -21,10 +21,11 @@ use Rattle.node.specs.Places.{part, messageIn, entryIn}
 use Rattle.node.specs.declared.Place.{Place}
 use Rattle.node.specs.declared.Message.{Message}
 use Rattle.node.specs.declared.Entry.{Entry}
-use Rattle.node.specs.Search.Hear.{saysE, newestE}
+use Rattle.node.specs.Search.Latest.{entrySays, newestAmong}
 use Rattle.packed.specs.Rows.Area.{rowsOf, RowsFit}
 use Rattle.packed.specs.Rows.Steps.{rows-length}
 use Rattle.dump.specs.Insertion.Insertion.{Inserted}
+use Rattle.dump.specs.Insertion.Merge.{put-among}
 use Rattle.dump.specs.Insertion.Slots.{rows-split}
 use Rattle.live.specs.Live.{holdsNoMessage}
 use Rattle.laws.specs.Filter.{every-with}
@@ -33,7 +34,7 @@ use Rattle.live.specs.PathBuffers.{pathIn}
 use Rattle.live.specs.declared.path_buffer.PathBuffer.{PathBuffer}
 use Rattle.live.specs.Walk.{decides}
 use Rattle.live.specs.Steps.{as-path}
-use Rattle.dump.specs.Dump.{valueFitsE, withEntry, insertE, Untold, Open, Placed}
+use Rattle.dump.specs.Dump.{entryValueFits, withEntry, insertAmong, Untold, Open, Placed}
 use Rattle.dump.specs.AppendSteps.{values-first, values-later}
 
 -- ROWS THAT NO ENTRY SAYS ANYTHING OF
@@ -48,35 +49,35 @@ quiet-both a nothing e = e
 quiet-both a (says v) e = absurd (true≢false (sym e))
 
 module _ (X : List ℕ) (e : defined.Entry) (es : List defined.Entry) (t : List Row) (u : Untold X (e ∷ es) t) where
-  quiet-later : everyKey (λ q. holdsNoMessage (newestE es (drop (length X) q))) t ≡ true
-  unfolding newestE
+  quiet-later : everyKey (λ q. holdsNoMessage (newestAmong es (drop (length X) q))) t ≡ true
+  unfolding newestAmong
   quiet-later =
-      every-imp (λ q. holdsNoMessage (newestE (e ∷ es) (drop (length X) q))) (λ q. holdsNoMessage (newestE es (drop (length X) q))) t
-      (λ q h. quiet-rest (saysE e (drop (length X) q)) (newestE es (drop (length X) q)) h) (u .quiet)
+      every-imp (λ q. holdsNoMessage (newestAmong (e ∷ es) (drop (length X) q))) (λ q. holdsNoMessage (newestAmong es (drop (length X) q))) t
+      (λ q h. quiet-rest (entrySays e (drop (length X) q)) (newestAmong es (drop (length X) q)) h) (u .quiet)
 
   untold-skip : Untold X es t
   untold-skip = record { rises = u .rises; quiet = quiet-later }
 
 -- the path of a put that is to come is not among them
 pub untold-absent : (X k v : List ℕ) (es : List defined.Entry) (t : List Row) → Untold X (defined.message (defined.puts k v) ∷ es) t → find (X ++ k) t ≡ none
-unfolding newestE saysE
+unfolding newestAmong entrySays
 untold-absent X k v es t u =
-    find-fails (λ q. holdsNoMessage (newestE (defined.message (defined.puts k v) ∷ es) (drop (length X) q))) (X ++ k) t (u .quiet) (told (holdsNoMessage (newestE (defined.message (defined.puts k v) ∷ es) (drop (length X) (X ++ k)))) refl)
+    find-fails (λ q. holdsNoMessage (newestAmong (defined.message (defined.puts k v) ∷ es) (drop (length X) q))) (X ++ k) t (u .quiet) (told (holdsNoMessage (newestAmong (defined.message (defined.puts k v) ∷ es) (drop (length X) (X ++ k)))) refl)
   where
-    says-it : holdsNoMessage (saysE (defined.message (defined.puts k v)) (drop (length X) (X ++ k))) ≡ false
-    says-it = unfold saysE in (quiet-put k v (drop (length X) (X ++ k)) ∙ rw (drop-append-seam X k, same-refl k))
+    says-it : holdsNoMessage (entrySays (defined.message (defined.puts k v)) (drop (length X) (X ++ k))) ≡ false
+    says-it = unfold entrySays in (quiet-put k v (drop (length X) (X ++ k)) ∙ rw (drop-append-seam X k, same-refl k))
 
-    told : (x : Bool) → holdsNoMessage (newestE (defined.message (defined.puts k v) ∷ es) (drop (length X) (X ++ k))) ≡ x
-        → holdsNoMessage (newestE (defined.message (defined.puts k v) ∷ es) (drop (length X) (X ++ k))) ≡ false
+    told : (x : Bool) → holdsNoMessage (newestAmong (defined.message (defined.puts k v) ∷ es) (drop (length X) (X ++ k))) ≡ x
+        → holdsNoMessage (newestAmong (defined.message (defined.puts k v) ∷ es) (drop (length X) (X ++ k))) ≡ false
     told false h = h
     told true h =
-        absurd (true≢false (sym (quiet-both (saysE (defined.message (defined.puts k v)) (drop (length X) (X ++ k))) (newestE es (drop (length X) (X ++ k))) h) ∙ says-it))
+        absurd (true≢false (sym (quiet-both (entrySays (defined.message (defined.puts k v)) (drop (length X) (X ++ k))) (newestAmong es (drop (length X) (X ++ k))) h) ∙ says-it))
 
-untold-with : (X k v : List ℕ) (es : List defined.Entry) (t : List Row) → holdsNoMessage (newestE es k) ≡ true → Untold X es t → Untold X es (withRow (X ++ k) v t)
+untold-with : (X k v : List ℕ) (es : List defined.Entry) (t : List Row) → holdsNoMessage (newestAmong es k) ≡ true → Untold X es t → Untold X es (withRow (X ++ k) v t)
 untold-with X k v es t h u =
     record {
       rises = rising-with (X ++ k) v t (u .rises);
-      quiet = every-with (λ q. holdsNoMessage (newestE es (drop (length X) q))) (X ++ k) v t (rw (drop-append-seam X k) h) (u .quiet);
+      quiet = every-with (λ q. holdsNoMessage (newestAmong es (drop (length X) q))) (X ++ k) v t (rw (drop-append-seam X k) h) (u .quiet);
     }
 
 -- one entry done: the rows are untold by those that follow
@@ -85,10 +86,10 @@ pub untold-next : (ok : List ℕ → Bool) (X : List ℕ) (e : defined.Entry) (e
 unfolding withEntry decides
 untold-next ok X (defined.pair k v) es t u = untold-skip X (defined.pair k v) es t u
 untold-next ok X (defined.child i k) es t u = untold-skip X (defined.child i k) es t u
-untold-next ok X (defined.message (defined.puts k v)) es t u = go (holdsNoMessage (newestE es k) && ok (X ++ k)) refl
+untold-next ok X (defined.message (defined.puts k v)) es t u = go (holdsNoMessage (newestAmong es k) && ok (X ++ k)) refl
   where
-    go : (x : Bool) → holdsNoMessage (newestE es k) && ok (X ++ k) ≡ x → Untold X es (cond x (withRow (X ++ k) v t) t)
-    go true h = untold-with X k v es t (and-left (holdsNoMessage (newestE es k)) (ok (X ++ k)) h) (untold-skip X (defined.message (defined.puts k v)) es t u)
+    go : (x : Bool) → holdsNoMessage (newestAmong es k) && ok (X ++ k) ≡ x → Untold X es (cond x (withRow (X ++ k) v t) t)
+    go true h = untold-with X k v es t (and-left (holdsNoMessage (newestAmong es k)) (ok (X ++ k)) h) (untold-skip X (defined.message (defined.puts k v)) es t u)
     go false h = untold-skip X (defined.message (defined.puts k v)) es t u
 untold-next ok X (defined.message (defined.drops k)) es t u = untold-skip X (defined.message (defined.drops k)) es t u
 untold-next ok X (defined.message (defined.clears k)) es t u = untold-skip X (defined.message (defined.clears k)) es t u
@@ -107,12 +108,68 @@ entry-grows ok X (defined.message (defined.puts k v)) es t u = go (decides ok X 
 entry-grows ok X (defined.message (defined.drops k)) es t u = omega arith
 entry-grows ok X (defined.message (defined.clears k)) es t u = omega arith
 
-pub insert-grows : (ok : List ℕ → Bool) (X : List ℕ) (es : List defined.Entry) (t : List Row) → Untold X es t → length t ≤ length (insertE ok X es t)
-unfolding insertE
+pub insert-grows : (ok : List ℕ → Bool) (X : List ℕ) (es : List defined.Entry) (t : List Row) → Untold X es t → length t ≤ length (insertAmong ok X es t)
+unfolding insertAmong
 insert-grows ok X [] t u = omega arith
 insert-grows ok X (e ∷ es) t u =
     let a = entry-grows ok X e es t u in
     let b = insert-grows ok X es (withEntry (decides ok X e es) X e t) (untold-next ok X e es t u) in
+    omega arith
+
+-- PUTS INTO ROWS OF OTHERS: the entries' puts into the empty table, and its rows into the others, are the puts into the others
+pub untold-none : (X : List ℕ) (es : List defined.Entry) → Untold X es []
+unfolding rising everyKey
+untold-none X es = record { rises = refl; quiet = refl }
+
+entry-put : (ok : List ℕ → Bool) (X : List ℕ) (e : defined.Entry) (es : List defined.Entry) (u t : List Row) → Untold X (e ∷ es) u → rising t ≡ true
+    → withEntry (decides ok X e es) X e (putAll u t) ≡ putAll (withEntry (decides ok X e es) X e u) t
+unfolding withEntry
+entry-put ok X (defined.pair k v) es u t un h = refl
+entry-put ok X (defined.child i k) es u t un h = refl
+entry-put ok X (defined.message (defined.puts k v)) es u t un h = go (decides ok X (defined.message (defined.puts k v)) es)
+  where
+    go : (x : Bool) → cond x (withRow (X ++ k) v (putAll u t)) (putAll u t) ≡ putAll (cond x (withRow (X ++ k) v u) u) t
+    go true = put-among (X ++ k) v u t (untold-absent X k v es u un) h
+    go false = refl
+entry-put ok X (defined.message (defined.drops k)) es u t un h = refl
+entry-put ok X (defined.message (defined.clears k)) es u t un h = refl
+
+pub insert-put : (ok : List ℕ → Bool) (X : List ℕ) (es : List defined.Entry) (u t : List Row) → Untold X es u → rising t ≡ true
+    → insertAmong ok X es (putAll u t) ≡ putAll (insertAmong ok X es u) t
+unfolding insertAmong
+insert-put ok X [] u t un h = refl
+insert-put ok X (e ∷ es) u t un h =
+    ap (insertAmong ok X es) (entry-put ok X e es u t un h) ∙ insert-put ok X es (withEntry (decides ok X e es) X e u) t (untold-next ok X e es u un) h
+
+pub insert-rises : (ok : List ℕ → Bool) (X : List ℕ) (es : List defined.Entry) (t : List Row) → Untold X es t → rising (insertAmong ok X es t) ≡ true
+unfolding insertAmong
+insert-rises ok X [] t u = u .rises
+insert-rises ok X (e ∷ es) t u = insert-rises ok X es (withEntry (decides ok X e es) X e t) (untold-next ok X e es t u)
+
+-- two tables grow by the same puts
+entry-counts : (ok : List ℕ → Bool) (X : List ℕ) (e : defined.Entry) (es : List defined.Entry) (u t : List Row) → Untold X (e ∷ es) u → Untold X (e ∷ es) t
+    → length (withEntry (decides ok X e es) X e t) + length u ≡ length t + length (withEntry (decides ok X e es) X e u)
+unfolding withEntry
+entry-counts ok X (defined.pair k v) es u t a b = refl
+entry-counts ok X (defined.child i k) es u t a b = refl
+entry-counts ok X (defined.message (defined.puts k v)) es u t a b = go (decides ok X (defined.message (defined.puts k v)) es)
+  where
+    go : (x : Bool) → length (cond x (withRow (X ++ k) v t) t) + length u ≡ length t + length (cond x (withRow (X ++ k) v u) u)
+    go true =
+        let l = with-length (X ++ k) v t (untold-absent X k v es t b) in
+        let m = with-length (X ++ k) v u (untold-absent X k v es u a) in
+        omega arith
+    go false = refl
+entry-counts ok X (defined.message (defined.drops k)) es u t a b = refl
+entry-counts ok X (defined.message (defined.clears k)) es u t a b = refl
+
+pub insert-counts : (ok : List ℕ → Bool) (X : List ℕ) (es : List defined.Entry) (u t : List Row) → Untold X es u → Untold X es t
+    → length (insertAmong ok X es t) + length u ≡ length t + length (insertAmong ok X es u)
+unfolding insertAmong
+insert-counts ok X [] u t a b = refl
+insert-counts ok X (e ∷ es) u t a b =
+    let l = entry-counts ok X e es u t a b in
+    let m = insert-counts ok X es (withEntry (decides ok X e es) X e u) (withEntry (decides ok X e es) X e t) (untold-next ok X e es u a) (untold-next ok X e es t b) in
     omega arith
 
 -- ROWS PLACED
@@ -154,34 +211,34 @@ module _ (s : List ℕ) (p : PathBuffer) (k v : Place) (es : List defined.Entry)
   abbrev there : List Row
   there = withEntry (decides ok (pathIn p) entry es) (pathIn p) entry here
 
-  pub put-told : (b : Bool) → b ≡ holdsNoMessage (newestE es (part s k)) → not b ≡ true → Placed first area area m there
+  pub put-told : (b : Bool) → b ≡ holdsNoMessage (newestAmong es (part s k)) → not b ≡ true → Placed first area area m there
   unfolding withEntry decides
   put-told b e n = placed-same area first m there (opened .fit) (opened .ahead) (rw (← e, not-true b n))
 
   pub put-hidden : (b : Bool) → b ≡ ok (pathIn p ++ part s k) → not b ≡ true → Placed first area area m there
   unfolding withEntry decides
   put-hidden b e n =
-      placed-same area first m there (opened .fit) (opened .ahead) (rw (← e, not-true b n, and-false (holdsNoMessage (newestE es (part s k)))))
+      placed-same area first m there (opened .fit) (opened .ahead) (rw (← e, not-true b n, and-false (holdsNoMessage (newestAmong es (part s k)))))
 
   pub put-absent : find (pathIn p ++ part s k) here ≡ none
   put-absent = untold-absent (pathIn p) (part s k) (part s v) es here (opened .untold)
 
   pub put-value : valueFits (part s v) ≡ true
-  unfolding valueFitsE
+  unfolding entryValueFits
   put-value = values-first entry (entry ∷ es) es refl (opened .values)
 
   -- it decides its path
-  module _ (b c : Bool) (e : b ≡ holdsNoMessage (newestE es (part s k))) (n : not b ≡ false) (f : c ≡ ok (pathIn p ++ part s k)) (g : not c ≡ false) where
+  module _ (b c : Bool) (e : b ≡ holdsNoMessage (newestAmong es (part s k))) (n : not b ≡ false) (f : c ≡ ok (pathIn p ++ part s k)) (g : not c ≡ false) where
     put-in : there ≡ withRow (pathIn p ++ part s k) (part s v) here
     unfolding withEntry decides
     put-in = rw (← e, not-false b n, ← f, not-false c g)
 
     pub put-room : m * 128 + 128 ≤ length area
-    unfolding insertE
+    unfolding insertAmong
     put-room =
         let a = opened .room in
         let h = opened .ahead in
-        let d : length there ≤ length (insertE ok (pathIn p) es there) = insert-grows ok (pathIn p) es there (untold-next ok (pathIn p) entry es here (opened .untold)) in
+        let d : length there ≤ length (insertAmong ok (pathIn p) es there) = insert-grows ok (pathIn p) es there (untold-next ok (pathIn p) entry es here (opened .untold)) in
         let w : length there ≡ suc (length here) = ap length put-in ∙ with-length (pathIn p ++ part s k) (part s v) here put-absent in
         let l : length here ≡ m - first = rows-length (m - first) area first in
         omega arith
@@ -233,18 +290,18 @@ placed-as first r area area′ ok X e d es t q o = subst (λ x. Placed first are
 -- THE LOOP
 pub record Inserting (first : ℕ) (area₀ area : List ℕ) (m : ℕ) (ok : List ℕ → Bool) (X : List ℕ) (es : List defined.Entry) (all : List Row) : Type 0 where
   pub opened : Open area first m ok X es
-  pub whole : insertE ok X es (rowsOf (m - first) area first) ≡ all
+  pub whole : insertAmong ok X es (rowsOf (m - first) area first) ≡ all
   pub front : rowsOf first area 0 ≡ rowsOf first area₀ 0
   pub size : length area ≡ length area₀
 
 pub insert-first : (first : ℕ) (area : List ℕ) (m : ℕ) (ok : List ℕ → Bool) (X : List ℕ) (es : List defined.Entry) → Open area first m ok X es
-    → Inserting first area area m ok X es (insertE ok X es (rowsOf (m - first) area first))
+    → Inserting first area area m ok X es (insertAmong ok X es (rowsOf (m - first) area first))
 insert-first first area m ok X es o = record { opened = o; whole = refl; front = refl; size = refl }
 
 module _ (first : ℕ) (area₀ area : List ℕ) (m : ℕ) (ok : List ℕ → Bool) (X : List ℕ) (es : List defined.Entry) (all : List Row)
     (a : Inserting first area₀ area m ok X es all) where
   pub insert-end : es ≡ [] → Placed first area₀ area m all
-  unfolding insertE
+  unfolding insertAmong
   insert-end q =
       let e : rowsOf (m - first) area first ≡ all = rw q at (a .whole) in
       record { fit = a .opened .fit; ahead = a .opened .ahead; front = a .front; rows = e; size = a .size }
@@ -258,10 +315,10 @@ module _ (first : ℕ) (area₀ area : List ℕ) (m : ℕ) (ok : List ℕ → Bo
     insert-next area′ r x =
         let o = insert-open in
         let t : List Row = withEntry (decides ok X e ts) X e (rowsOf (m - first) area first) in
-        let w : insertE ok X ts (rowsOf (r - first) area′ first) ≡ insertE ok X (e ∷ ts) (rowsOf (m - first) area first) = ap (λ l. insertE ok X ts l) (x .rows) ∙ folds in
+        let w : insertAmong ok X ts (rowsOf (r - first) area′ first) ≡ insertAmong ok X (e ∷ ts) (rowsOf (m - first) area first) = ap (λ l. insertAmong ok X ts l) (x .rows) ∙ folds in
         let h = o .room in
         let s = x .size in
-        let l : length (insertE ok X ts (rowsOf (r - first) area′ first)) ≡ length (insertE ok X (e ∷ ts) (rowsOf (m - first) area first)) = ap length w in
+        let l : length (insertAmong ok X ts (rowsOf (r - first) area′ first)) ≡ length (insertAmong ok X (e ∷ ts) (rowsOf (m - first) area first)) = ap length w in
         record {
           opened = record {
             fit = x .fit;
@@ -270,10 +327,10 @@ module _ (first : ℕ) (area₀ area : List ℕ) (m : ℕ) (ok : List ℕ → Bo
             values = values-later e (e ∷ ts) ts refl (o .values);
             room = omega arith;
           };
-          whole = w ∙ ap (λ l. insertE ok X l (rowsOf (m - first) area first)) (sym q) ∙ a .whole;
+          whole = w ∙ ap (λ l. insertAmong ok X l (rowsOf (m - first) area first)) (sym q) ∙ a .whole;
           front = x .front ∙ a .front;
           size = x .size ∙ a .size;
         }
       where
-        folds : insertE ok X ts (withEntry (decides ok X e ts) X e (rowsOf (m - first) area first)) ≡ insertE ok X (e ∷ ts) (rowsOf (m - first) area first)
-        folds = unfold insertE in refl
+        folds : insertAmong ok X ts (withEntry (decides ok X e ts) X e (rowsOf (m - first) area first)) ≡ insertAmong ok X (e ∷ ts) (rowsOf (m - first) area first)
+        folds = unfold insertAmong in refl

@@ -1,5 +1,7 @@
 pub mod Insertion
 pub mod Ranks
+pub mod Merge
 pub mod Moves
 pub mod Slots
 pub mod InsertSteps
+pub mod MergeSteps

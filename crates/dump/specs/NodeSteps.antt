@@ -8,8 +8,8 @@ use native.Mathlib.Omega.{arith}
 use lib.ListN.{length, take, drop, length-append}
 use Rattle.image.specs.Bytes.{u16, shared}
 use Rattle.image.specs.Entry.{Entry}
-use Rattle.image.specs.Table.{Row, underPrefix}
-use Rattle.image.specs.Image.{Kid, Forest, forestOf, treeAt}
+use Rattle.image.specs.Table.{Row, underPrefix, putAll, rising}
+use Rattle.image.specs.Image.{Branch, Forest, forestOf, treeAt}
 use Rattle.image.specs.Meaning.{highOf, rows, rowsIn}
 use Rattle.image.specs.Sound.{soundTree, soundForest}
 use Rattle.octets.specs.Order.{shared-append}
@@ -21,11 +21,12 @@ use Rattle.node.specs.Places.{part}
 use Rattle.node.specs.Entries.{listed}
 use Rattle.node.specs.declared.Place.{Place}
 use Rattle.node.specs.declared.Cursor.{Cursor}
-use Rattle.node.specs.Search.Hear.{newestE}
-use Rattle.node.specs.Search.Own.{kid, kidsE}
+use Rattle.node.specs.Search.Latest.{newestAmong}
+use Rattle.node.specs.Search.Own.{branch, branchesAmong}
 use Rattle.lookup.specs.Look.{listing, part-rest}
 use Rattle.packed.specs.Rows.Area.{rowsOf}
 use Rattle.packed.specs.Rows.Steps.{rows-length}
+use Rattle.dump.specs.Insertion.Insertion.{Apart, Merged}
 use Rattle.dump.specs.Insertion.Slots.{rows-split}
 use Rattle.live.specs.Live.{holdsNoMessage}
 use Rattle.live.specs.PathBuffers.{pathIn}
@@ -34,10 +35,10 @@ use Rattle.live.specs.declared.path_buffer.PathBuffer.{PathBuffer}
 use Rattle.live.specs.declared.Trail.{Trail}
 use Rattle.live.specs.Walk.{passing, Deeper, NextChild, Ready}
 use Rattle.live.specs.Steps.{passes-short}
-use Rattle.dump.specs.Dump.{pairsE, valuesFitE, insertE, Untold, Room, Added, Open, Placed, SoundKids}
+use Rattle.dump.specs.Dump.{pairsAmong, valuesFitAmong, insertAmong, Untold, Room, Added, Open, Placed, SoundBranches}
 use Rattle.dump.specs.AppendSteps.{added-none, added-as, added-more, room-first, room-rest}
-use Rattle.dump.specs.InsertSteps.{insert-grows, rows-parts}
-use Rattle.dump.specs.TreeLaws.{leaf-is, leaf-fits, kids-sound, interior-fits, has-kids, interior-is, interior-untold, long-none}
+use Rattle.dump.specs.InsertSteps.{insert-grows, untold-none, insert-put, insert-rises, insert-counts, rows-parts}
+use Rattle.dump.specs.TreeLaws.{leaf-is, leaf-fits, branches-sound, interior-fits, has-branches, interior-is, interior-untold, long-none}
 use Rattle.octets.specs.Beginnings.{shared-take}
 
 -- A NODE: its pivots are lo and hi, the prefix and the trail are those of its parent's children.
@@ -74,33 +75,33 @@ module _ (s : List ℕ) (level num : ℕ) (p : PathBuffer) (t : Trail) (ready : 
           shared-append (pathIn p) lo hi ∙ sym (eh ∙ ap (λ l. pathIn p ++ l) (ap (λ n. take n lo) z ∙ shared-take lo hi))
 
       -- a leaf
-      leaf-whole : level ≤ 1 → keep (passing s t) (underPrefix (pathIn here) (pairsE own)) ≡ Whole
+      leaf-whole : level ≤ 1 → keep (passing s t) (underPrefix (pathIn here) (pairsAmong own)) ≡ Whole
       leaf-whole l =
-          ap₂ (λ X es. keep (passing s t) (underPrefix X (pairsE es))) (sym here-is) (sym own-is) ∙ ap (keep (passing s t)) (leaf-is s num level (ready .reads) low high sound l)
+          ap₂ (λ X es. keep (passing s t) (underPrefix X (pairsAmong es))) (sym here-is) (sym own-is) ∙ ap (keep (passing s t)) (leaf-is s num level (ready .reads) low high sound l)
 
-      pub leaf-values : level ≤ 1 → valuesFitE own ≡ true
-      leaf-values l = ap (λ es. valuesFitE es) (sym own-is) ∙ leaf-fits s num level (ready .reads) low high sound l
+      pub leaf-values : level ≤ 1 → valuesFitAmong own ≡ true
+      leaf-values l = ap (λ es. valuesFitAmong es) (sym own-is) ∙ leaf-fits s num level (ready .reads) low high sound l
 
-      pub leaf-room : level ≤ 1 → Room area m (keep (passing s t) (underPrefix (pathIn here) (pairsE own)))
+      pub leaf-room : level ≤ 1 → Room area m (keep (passing s t) (underPrefix (pathIn here) (pairsAmong own)))
       leaf-room l = subst (λ w. Room area m w) (sym (leaf-whole l)) room
 
-      pub leaf-added : level ≤ 1 → (area′ : List ℕ) (r : ℕ) → Added m area area′ r (keep (passing s t) (underPrefix (pathIn here) (pairsE own))) → Added m area area′ r Whole
-      leaf-added l area′ r x = added-as m r area area′ (keep (passing s t) (underPrefix (pathIn here) (pairsE own))) Whole (leaf-whole l) x
+      pub leaf-added : level ≤ 1 → (area′ : List ℕ) (r : ℕ) → Added m area area′ r (keep (passing s t) (underPrefix (pathIn here) (pairsAmong own))) → Added m area area′ r Whole
+      leaf-added l area′ r x = added-as m r area area′ (keep (passing s t) (underPrefix (pathIn here) (pairsAmong own))) Whole (leaf-whole l) x
 
       -- an interior node
       module _ (two : 2 ≤ level) where
-        pub node-bare : kidsE own ≡ [] → Added m area area m Whole
-        node-bare q = absurd (has-kids s num level (ready .reads) two low high sound (ap (λ es. kidsE es) own-is ∙ q))
+        pub node-bare : branchesAmong own ≡ [] → Added m area area m Whole
+        node-bare q = absurd (has-branches s num level (ready .reads) two low high sound (ap (λ es. branchesAmong es) own-is ∙ q))
 
         module _ (first : ℕ) (pivot : Place) (next : Cursor) (nc : NextChild s (num * 1024 + 8) (num * 1024 + 8 + len) first pivot next) where
-          abbrev kids : List Kid
-          kids = kid first (part s pivot) ∷ kidsE (listed s (next .at) (next .end))
+          abbrev branches : List Branch
+          branches = branch first (part s pivot) ∷ branchesAmong (listed s (next .at) (next .end))
 
           abbrev rest : List ℕ
           rest = take (length hi - k) (drop k hi)
 
-          kids-are : kidsE (listing s num) ≡ kids
-          kids-are = ap (λ es. kidsE es) own-is ∙ nc .lists
+          branches-are : branchesAmong (listing s num) ≡ branches
+          branches-are = ap (λ es. branchesAmong es) own-is ∙ nc .lists
 
           high-is : high ≡ pathIn here ++ rest
           high-is =
@@ -110,137 +111,183 @@ module _ (s : List ℕ) (level num : ℕ) (p : PathBuffer) (t : Trail) (ready : 
               dropped : drop k hi ≡ drop (lifts lo hi) hi
               dropped = unfold lifts in ap (λ n. drop n hi) ek
 
-          pub sound-kids : SoundKids s (level - 1) (pathIn here) rest kids
-          sound-kids =
+          pub sound-branches : SoundBranches s (level - 1) (pathIn here) rest branches
+          sound-branches =
               record {
                 low = low;
-                kids = sym (ap₂ (λ X ks. soundForest (forestOf (λ j. treeAt (level - 1) s j) ks) X low high) here-is kids-are
-                    ∙ ap (λ h. soundForest (forestOf (λ j. treeAt (level - 1) s j) kids) (pathIn here) low h) high-is)
-                    ∙ kids-sound s num level (ready .reads) two low high sound;
+                branches = sym (ap₂ (λ X ks. soundForest (forestOf (λ j. treeAt (level - 1) s j) ks) X low high) here-is branches-are
+                    ∙ ap (λ h. soundForest (forestOf (λ j. treeAt (level - 1) s j) branches) (pathIn here) low h) high-is)
+                    ∙ branches-sound s num level (ready .reads) two low high sound;
               }
 
           module _ (above : Trail) (deeper : Deeper s num (here .len) t above) (w : here .len ≤ length (here .bytes)) where
-            abbrev Kids : List Row
-            Kids = keep (passing s above) (rowsIn (forestOf (λ j. treeAt (level - 1) s j) kids) (pathIn here) (pathIn here ++ rest))
+            abbrev Branches : List Row
+            Branches = keep (passing s above) (rowsIn (forestOf (λ j. treeAt (level - 1) s j) branches) (pathIn here) (pathIn here ++ rest))
 
-            kept-kids : keep (passing s above) (rowsIn (forestOf (λ j. treeAt (level - 1) s j) (kidsE (listing s num))) (shared low high) high) ≡ Kids
-            kept-kids =
-                ap₂ (λ X ks. keep (passing s above) (rowsIn (forestOf (λ j. treeAt (level - 1) s j) ks) X high)) here-is kids-are
-                ∙ ap (λ h. keep (passing s above) (rowsIn (forestOf (λ j. treeAt (level - 1) s j) kids) (pathIn here) h)) high-is
+            kept-branches : keep (passing s above) (rowsIn (forestOf (λ j. treeAt (level - 1) s j) (branchesAmong (listing s num))) (shared low high) high) ≡ Branches
+            kept-branches =
+                ap₂ (λ X ks. keep (passing s above) (rowsIn (forestOf (λ j. treeAt (level - 1) s j) ks) X high)) here-is branches-are
+                ∙ ap (λ h. keep (passing s above) (rowsIn (forestOf (λ j. treeAt (level - 1) s j) branches) (pathIn here) h)) high-is
 
-            test : (q : List ℕ) → passing s above q ≡ passing s t q && holdsNoMessage (newestE (listing s num) (drop (length (shared low high)) q))
+            test : (q : List ℕ) → passing s above q ≡ passing s t q && holdsNoMessage (newestAmong (listing s num) (drop (length (shared low high)) q))
             test q =
                 deeper .test q
-                ∙ ap (λ n. passing s t q && holdsNoMessage (newestE (listing s num) (drop n q))) (sym (ap length here-is ∙ path-length here w))
+                ∙ ap (λ n. passing s t q && holdsNoMessage (newestAmong (listing s num) (drop n q))) (sym (ap length here-is ∙ path-length here w))
 
-            inner-whole : insertE (passing s t) (pathIn here) own Kids ≡ Whole
+            inner-whole : insertAmong (passing s t) (pathIn here) own Branches ≡ Whole
             inner-whole =
                 sym (interior-is s num level (ready .reads) two low high sound (passing s t) (passing s above) test
-                ∙ ap₂ (λ X es. insertE (passing s t) X es (keep (passing s above) (rowsIn (forestOf (λ j. treeAt (level - 1) s j) (kidsE (listing s num))) (shared low high) high))) here-is own-is
-                ∙ ap (λ l. insertE (passing s t) (pathIn here) own l) kept-kids)
+                ∙ ap₂ (λ X es. insertAmong (passing s t) X es (keep (passing s above) (rowsIn (forestOf (λ j. treeAt (level - 1) s j) (branchesAmong (listing s num))) (shared low high) high))) here-is own-is
+                ∙ ap (λ l. insertAmong (passing s t) (pathIn here) own l) kept-branches)
 
-            untold : Untold (pathIn here) own Kids
+            untold : Untold (pathIn here) own Branches
             untold =
-                subst (λ l. Untold (pathIn here) own l) kept-kids
-                (subst (λ X. Untold X own (keep (passing s above) (rowsIn (forestOf (λ j. treeAt (level - 1) s j) (kidsE (listing s num))) (shared low high) high))) here-is
-                (subst (λ es. Untold (shared low high) es (keep (passing s above) (rowsIn (forestOf (λ j. treeAt (level - 1) s j) (kidsE (listing s num))) (shared low high) high))) own-is
+                subst (λ l. Untold (pathIn here) own l) kept-branches
+                (subst (λ X. Untold X own (keep (passing s above) (rowsIn (forestOf (λ j. treeAt (level - 1) s j) (branchesAmong (listing s num))) (shared low high) high))) here-is
+                (subst (λ es. Untold (shared low high) es (keep (passing s above) (rowsIn (forestOf (λ j. treeAt (level - 1) s j) (branchesAmong (listing s num))) (shared low high) high))) own-is
                 (interior-untold s num level (ready .reads) two low high sound (passing s t) (passing s above) test)))
 
-            pub kids-room : Room area m Kids
-            kids-room =
-                let g = insert-grows (passing s t) (pathIn here) own Kids untold in
-                let e : length (insertE (passing s t) (pathIn here) own Kids) ≡ length Whole = ap length inner-whole in
+            pub branches-room : Room area m Branches
+            branches-room =
+                let g = insert-grows (passing s t) (pathIn here) own Branches untold in
+                let e : length (insertAmong (passing s t) (pathIn here) own Branches) ≡ length Whole = ap length inner-whole in
                 let r = room .room in
                 record { fit = room .fit; room = omega arith }
 
-            -- the children's rows stand in the area, and the node's puts are to come in
-            module _ (area₁ : List ℕ) (n : ℕ) (x : Added m area area₁ n Kids) where
-              cut : (rowsOf m area₁ 0 ≡ rowsOf m area 0) × (rowsOf (n - m) area₁ m ≡ Kids)
-              cut = let c = x .count in rows-parts m n area area₁ Kids (omega arith) (x .rows)
+            -- the children's rows stand in the area, and the node's puts are to come behind them
+            abbrev Puts : List Row
+            Puts = insertAmong (passing s t) (pathIn here) own []
 
-              pub puts-open : Open area₁ m n (passing s t) (pathIn here) own
+            whole-parts : putAll Puts Branches ≡ Whole
+            unfolding putAll
+            whole-parts = sym (insert-put (passing s t) (pathIn here) own [] Branches (untold-none (pathIn here) own) (untold .rises)) ∙ inner-whole
+
+            whole-count : length Whole ≡ length Branches + length Puts
+            whole-count =
+                let e : length (insertAmong (passing s t) (pathIn here) own Branches) ≡ length Whole = ap length inner-whole in
+                let c = insert-counts (passing s t) (pathIn here) own [] Branches (untold-none (pathIn here) own) untold in
+                omega arith
+
+            module _ (area₁ : List ℕ) (n : ℕ) (x : Added m area area₁ n Branches) where
+              none-behind : rowsOf (n - n) area₁ n ≡ []
+              unfolding rowsOf
+              none-behind = let z : n - n ≡ 0 = omega arith in ap (λ k. rowsOf k area₁ n) z
+
+              pub puts-open : Open area₁ n n (passing s t) (pathIn here) own
               puts-open =
                   let c = x .count in
-                  let e : length (insertE (passing s t) (pathIn here) own (rowsOf (n - m) area₁ m)) ≡ length Whole
-                  = ap (λ l. length (insertE (passing s t) (pathIn here) own l)) (cut .1) ∙ ap length inner-whole in
+                  let e : length (insertAmong (passing s t) (pathIn here) own (rowsOf (n - n) area₁ n)) ≡ length Puts
+                  = ap (λ l. length (insertAmong (passing s t) (pathIn here) own l)) none-behind in
+                  let w = whole-count in
                   let r = room .room in
                   let z = x .size in
                   record {
                     fit = x .fit;
                     ahead = omega arith;
-                    untold = subst (λ l. Untold (pathIn here) own l) (sym (cut .1)) untold;
-                    values = ap (λ es. valuesFitE es) (sym own-is) ∙ interior-fits s num level (ready .reads) two low high sound;
+                    untold = subst (λ l. Untold (pathIn here) own l) (sym none-behind) (untold-none (pathIn here) own);
+                    values = ap (λ es. valuesFitAmong es) (sym own-is) ∙ interior-fits s num level (ready .reads) two low high sound;
                     room = omega arith;
                   }
 
-              pub node-inner : (area₂ : List ℕ) (r : ℕ) → Placed m area₁ area₂ r (insertE (passing s t) (pathIn here) own (rowsOf (n - m) area₁ m)) → Added m area area₂ r Whole
-              node-inner area₂ r y =
-                  let h = y .ahead in
-                  let e : rowsOf (r - m) area₂ m ≡ Whole = y .rows ∙ ap (λ l. insertE (passing s t) (pathIn here) own l) (cut .1) ∙ inner-whole in
-                  let z : r ≡ m + (r - m) = omega arith in
-                  let o : 0 + m ≡ m = omega arith in
-                  let l : r - m ≡ length Whole = sym (rows-length (r - m) area₂ m) ∙ ap length e in
-                  record {
-                    fit = y .fit;
-                    rows = ap (λ j. rowsOf j area₂ 0) z ∙ rows-split m (r - m) area₂ 0 ∙ ap (λ j. rowsOf m area₂ 0 ++ rowsOf (r - m) area₂ j) o
-                        ∙ ap₂ (λ a b. a ++ b) (y .front ∙ cut .0) e;
-                    count = omega arith;
-                    size = y .size ∙ x .size;
-                  }
+              -- they stand there, and are to be merged
+              module _ (area₂ : List ℕ) (r : ℕ) (y : Placed n area₁ area₂ r (insertAmong (passing s t) (pathIn here) own (rowsOf (n - n) area₁ n))) where
+                cut : (rowsOf m area₂ 0 ≡ rowsOf m area 0) × (rowsOf (n - m) area₂ m ≡ Branches)
+                cut = let c = x .count in rows-parts m n area area₂ Branches (omega arith) (y .front ∙ x .rows)
+
+                behind : rowsOf (r - n) area₂ n ≡ Puts
+                behind = y .rows ∙ ap (λ l. insertAmong (passing s t) (pathIn here) own l) none-behind
+
+                both : putAll (rowsOf (r - n) area₂ n) (rowsOf (n - m) area₂ m) ≡ Whole
+                both = ap₂ putAll behind (cut .1) ∙ whole-parts
+
+                count : r ≡ m + length Whole
+                count =
+                    let c = x .count in
+                    let h = y .ahead in
+                    let l : r - n ≡ length Puts = sym (rows-length (r - n) area₂ n) ∙ ap length behind in
+                    let w = whole-count in
+                    omega arith
+
+                pub puts-apart : Apart area₂ m n r
+                puts-apart =
+                    let c = x .count in
+                    let e : length (putAll (rowsOf (r - n) area₂ n) (rowsOf (n - m) area₂ m)) ≡ length Whole = ap length both in
+                    let l = count in
+                    record {
+                      fit = y .fit;
+                      low = omega arith;
+                      high = y .ahead;
+                      rises = ap rising (cut .1) ∙ untold .rises;
+                      later = ap rising behind ∙ insert-rises (passing s t) (pathIn here) own [] (untold-none (pathIn here) own);
+                      apart = omega arith;
+                    }
+
+                pub node-inner : (area₃ : List ℕ) → length area₃ ≡ length area₂ → Merged area₂ area₃ m n r → Added m area area₃ r Whole
+                node-inner area₃ l z =
+                    let h = count in
+                    let q : r ≡ m + (r - m) = omega arith in
+                    let o : 0 + m ≡ m = omega arith in
+                    record {
+                      fit = z .fit;
+                      rows = ap (λ j. rowsOf j area₃ 0) q ∙ rows-split m (r - m) area₃ 0 ∙ ap (λ j. rowsOf m area₃ 0 ++ rowsOf (r - m) area₃ j) o
+                          ∙ ap₂ (λ a b. a ++ b) (z .front ∙ cut .0) (z .rows ∙ both);
+                      count = count;
+                      size = l ∙ y .size ∙ x .size;
+                    }
 
 -- THE CHILDREN: the child in hand, and those that follow
 module _ (s : List ℕ) (level : ℕ) (X hi : List ℕ) (ok : List ℕ → Bool) where
-  abbrev forest : List Kid → Forest
+  abbrev forest : List Branch → Forest
   forest ks = forestOf (λ j. treeAt level s j) ks
 
-  abbrev below : List Kid → List Row
+  abbrev below : List Branch → List Row
   below ks = keep ok (rowsIn (forest ks) X (X ++ hi))
 
   -- the rows so far, and those of the children from the one in hand on, make all
-  pub record Descending (first : ℕ) (area₀ area : List ℕ) (m : ℕ) (ks : List Kid) (all : List Row) : Type 0 where
+  pub record Descending (first : ℕ) (area₀ area : List ℕ) (m : ℕ) (ks : List Branch) (all : List Row) : Type 0 where
     pub done : List Row
     pub so-far : Added first area₀ area m done
     pub room : Room area m (below ks)
     pub whole : all ≡ done ++ below ks
-    pub sound : SoundKids s level X hi ks
+    pub sound : SoundBranches s level X hi ks
 
-  pub descend-first : (first : ℕ) (area : List ℕ) (ks : List Kid) → Room area first (below ks) → SoundKids s level X hi ks → Descending first area area first ks (below ks)
+  pub descend-first : (first : ℕ) (area : List ℕ) (ks : List Branch) → Room area first (below ks) → SoundBranches s level X hi ks → Descending first area area first ks (below ks)
   descend-first first area ks r k = record { done = []; so-far = added-none first area [] refl (r .fit); room = r; whole = refl; sound = k }
 
   module _ (num : ℕ) (low : List ℕ) where
     abbrev rowsUnder : List ℕ → List Row
     rowsUnder high = keep ok (rows (treeAt level s num) (X ++ low) (X ++ high))
 
-    below-last : below (kid num low ∷ []) ≡ rowsUnder hi
+    below-last : below (branch num low ∷ []) ≡ rowsUnder hi
     unfolding rowsIn forestOf highOf
     below-last = ap (keep ok) (append-nil (rows (treeAt level s num) (X ++ low) (X ++ hi)))
 
-    below-more : (k : ℕ) (p : List ℕ) (us : List Kid) → below (kid num low ∷ kid k p ∷ us) ≡ rowsUnder p ++ below (kid k p ∷ us)
+    below-more : (k : ℕ) (p : List ℕ) (us : List Branch) → below (branch num low ∷ branch k p ∷ us) ≡ rowsUnder p ++ below (branch k p ∷ us)
     unfolding rowsIn forestOf highOf
-    below-more k p us = keep-append ok (rows (treeAt level s num) (X ++ low) (X ++ p)) (rowsIn (forest (kid k p ∷ us)) X (X ++ hi))
+    below-more k p us = keep-append ok (rows (treeAt level s num) (X ++ low) (X ++ p)) (rowsIn (forest (branch k p ∷ us)) X (X ++ hi))
 
-    sound-last : (lo : List ℕ) → soundForest (forest (kid num low ∷ [])) X lo (X ++ hi) ≡ true → soundTree (treeAt level s num) (X ++ low) (X ++ hi) ≡ true
+    sound-last : (lo : List ℕ) → soundForest (forest (branch num low ∷ [])) X lo (X ++ hi) ≡ true → soundTree (treeAt level s num) (X ++ low) (X ++ hi) ≡ true
     unfolding forestOf highOf
     sound-last lo e = parts low (treeAt level s num) (forest []) X lo (X ++ hi) e .first
 
-    sound-more : (lo : List ℕ) (k : ℕ) (p : List ℕ) (us : List Kid) → soundForest (forest (kid num low ∷ kid k p ∷ us)) X lo (X ++ hi) ≡ true
+    sound-more : (lo : List ℕ) (k : ℕ) (p : List ℕ) (us : List Branch) → soundForest (forest (branch num low ∷ branch k p ∷ us)) X lo (X ++ hi) ≡ true
         → soundTree (treeAt level s num) (X ++ low) (X ++ p) ≡ true
     unfolding forestOf highOf
-    sound-more lo k p us e = parts low (treeAt level s num) (forest (kid k p ∷ us)) X lo (X ++ hi) e .first
+    sound-more lo k p us e = parts low (treeAt level s num) (forest (branch k p ∷ us)) X lo (X ++ hi) e .first
 
-    sound-rest : (lo : List ℕ) (us : List Kid) → soundForest (forest (kid num low ∷ us)) X lo (X ++ hi) ≡ true → soundForest (forest us) X lo (X ++ hi) ≡ true
+    sound-rest : (lo : List ℕ) (us : List Branch) → soundForest (forest (branch num low ∷ us)) X lo (X ++ hi) ≡ true → soundForest (forest us) X lo (X ++ hi) ≡ true
     unfolding forestOf
     sound-rest lo us e = parts low (treeAt level s num) (forest us) X lo (X ++ hi) e .later
 
-    module _ (first : ℕ) (area₀ area : List ℕ) (m : ℕ) (ks : List Kid) (all : List Row) (a : Descending first area₀ area m (kid num low ∷ ks) all) where
+    module _ (first : ℕ) (area₀ area : List ℕ) (m : ℕ) (ks : List Branch) (all : List Row) (a : Descending first area₀ area m (branch num low ∷ ks) all) where
       -- the last child
       module _ (q : ks ≡ []) where
-        last-is : below (kid num low ∷ ks) ≡ rowsUnder hi
-        last-is = ap (λ us. below (kid num low ∷ us)) q ∙ below-last
+        last-is : below (branch num low ∷ ks) ≡ rowsUnder hi
+        last-is = ap (λ us. below (branch num low ∷ us)) q ∙ below-last
 
         pub last-sound : soundTree (treeAt level s num) (X ++ low) (X ++ hi) ≡ true
         last-sound =
-            sound-last (a .sound .low) (ap (λ us. soundForest (forest (kid num low ∷ us)) X (a .sound .low) (X ++ hi)) (sym q) ∙ a .sound .kids)
+            sound-last (a .sound .low) (ap (λ us. soundForest (forest (branch num low ∷ us)) X (a .sound .low) (X ++ hi)) (sym q) ∙ a .sound .branches)
 
         pub last-room : Room area m (rowsUnder hi)
         last-room = subst (λ t. Room area m t) last-is (a .room)
@@ -250,25 +297,25 @@ module _ (s : List ℕ) (level : ℕ) (X hi : List ℕ) (ok : List ℕ → Bool)
             added-more first m r area₀ area area′ (a .done) (rowsUnder hi) all (a .whole ∙ ap (λ t. a .done ++ t) last-is) (a .so-far) x
 
       -- a child with others behind it
-      module _ (k : ℕ) (p : List ℕ) (us : List Kid) (q : ks ≡ kid k p ∷ us) where
-        more-is : below (kid num low ∷ ks) ≡ rowsUnder p ++ below (kid k p ∷ us)
-        more-is = ap (λ vs. below (kid num low ∷ vs)) q ∙ below-more k p us
+      module _ (k : ℕ) (p : List ℕ) (us : List Branch) (q : ks ≡ branch k p ∷ us) where
+        more-is : below (branch num low ∷ ks) ≡ rowsUnder p ++ below (branch k p ∷ us)
+        more-is = ap (λ vs. below (branch num low ∷ vs)) q ∙ below-more k p us
 
-        forest-sound : soundForest (forest (kid num low ∷ kid k p ∷ us)) X (a .sound .low) (X ++ hi) ≡ true
-        forest-sound = ap (λ vs. soundForest (forest (kid num low ∷ vs)) X (a .sound .low) (X ++ hi)) (sym q) ∙ a .sound .kids
+        forest-sound : soundForest (forest (branch num low ∷ branch k p ∷ us)) X (a .sound .low) (X ++ hi) ≡ true
+        forest-sound = ap (λ vs. soundForest (forest (branch num low ∷ vs)) X (a .sound .low) (X ++ hi)) (sym q) ∙ a .sound .branches
 
         pub more-sound : soundTree (treeAt level s num) (X ++ low) (X ++ p) ≡ true
         more-sound = sound-more (a .sound .low) k p us forest-sound
 
         pub more-room : Room area m (rowsUnder p)
-        more-room = room-first area m (rowsUnder p) (below (kid k p ∷ us)) (below (kid num low ∷ ks)) more-is (a .room)
+        more-room = room-first area m (rowsUnder p) (below (branch k p ∷ us)) (below (branch num low ∷ ks)) more-is (a .room)
 
-        pub descend-next : (area′ : List ℕ) (r : ℕ) → Added m area area′ r (rowsUnder p) → Descending first area₀ area′ r (kid k p ∷ us) all
+        pub descend-next : (area′ : List ℕ) (r : ℕ) → Added m area area′ r (rowsUnder p) → Descending first area₀ area′ r (branch k p ∷ us) all
         descend-next area′ r x =
             record {
               done = a .done ++ rowsUnder p;
               so-far = added-more first m r area₀ area area′ (a .done) (rowsUnder p) (a .done ++ rowsUnder p) refl (a .so-far) x;
-              room = room-rest area area′ m r (rowsUnder p) (below (kid k p ∷ us)) (below (kid num low ∷ ks)) more-is (a .room) x;
-              whole = a .whole ∙ ap (λ t. a .done ++ t) more-is ∙ sym (append-assoc (a .done) (rowsUnder p) (below (kid k p ∷ us)));
-              sound = record { low = a .sound .low; kids = sound-rest (a .sound .low) (kid k p ∷ us) forest-sound };
+              room = room-rest area area′ m r (rowsUnder p) (below (branch k p ∷ us)) (below (branch num low ∷ ks)) more-is (a .room) x;
+              whole = a .whole ∙ ap (λ t. a .done ++ t) more-is ∙ sym (append-assoc (a .done) (rowsUnder p) (below (branch k p ∷ us)));
+              sound = record { low = a .sound .low; branches = sound-rest (a .sound .low) (branch k p ∷ us) forest-sound };
             }

@@ -1,15 +1,15 @@
-// A row put at its place among rows of the work area that rise: the place by halving, then one move of the rows behind it.
-// Relies on the layout of a row and on the writer of one row (packed).
+// Rows put at their places among rows of the work area that rise: one row, the place by halving and then a move of the rows behind it; or
+// rows that rise too, merged in one pass. Relies on the layout of a row and on the writer of one row (packed).
 ghost use mathlib.Core.Path.{_≡_};
 ghost use mathlib.Core.Bool.{true};
 ghost use mathlib.Core.Option.{none};
 ghost use Prim.Native.Nat.{_+_, _*_, _-_, _<_, _≤_};
-ghost use lib.ListN.{length, take, drop};
+ghost use lib.ListN.{length, take, drop, getD};
 ghost use Rattle.image.specs.Bytes.{before};
 ghost use Rattle.image.specs.Table.{rising, find};
 ghost use Rattle.octets.specs.Put.{put};
 ghost use Rattle.packed.specs.Rows.Area.{RowsFit, rowAt, rowsOf};
-ghost use Rattle.dump.specs.Insertion.Insertion.{rank, Inserted};
+ghost use Rattle.dump.specs.Insertion.Insertion.{rank, slot, Inserted, Apart, RowMerged, Merged};
 
 // Whether the path of row `i` comes before a path.
 fn row_precedes(area: &[u8], m: usize, i: usize, path: &[u8]) -> bool
@@ -39,26 +39,28 @@ pub fn place_of(area: &[u8], from: usize, m: usize, path: &[u8]) -> usize
     low
 }
 
-// All bytes but the last 128, 128 places up, from the last to the first. On a slice of its own the compiler makes one move of it.
-fn shift_up(rows: &mut [u8])
-    requires { ⌜ 128 ≤ length (now rows) ⌝ }
-    ensures { λ _. ⌜ now (rows .exit) ≡ put (now (rows .entry)) 128 (take (length (now (rows .entry)) - 128) (now (rows .entry))) ⌝ }
+// A copy of row `from` as row `to`. By way of a local array: so the compiler makes a few wide copies of it.
+fn copy_row(area: &mut [u8], from: usize, to: usize)
+    requires { ⌜ (from * 128 + 128 ≤ length (now area)) × (to * 128 + 128 ≤ length (now area)) ⌝ }
+    ensures { λ _. ⌜ now (area .exit) ≡ put (now (area .entry)) (to * 128) (slot (now (area .entry)) from) ⌝ }
 {
-    let mut at = rows.len() - 128;
-    while 0 < at {
-        at = at - 1;
-        rows[at + 128] = rows[at];
-    }
+    let mut row = [0u8; 128];
+    let start = from * 128;
+    let end = start + 128;
+    octets::copy_at(&mut row, 0, &area[start..end]);
+    octets::copy_at(area, to * 128, &row);
 }
 
-// The rows from `i` up to `m` one place up.
-pub fn move_rows(area: &mut [u8], i: usize, m: usize)
-    requires { ⌜ (i ≤ m) × (m * 128 + 128 ≤ length (now area)) ⌝ }
-    ensures { λ _. ⌜ now (area .exit) ≡ put (now (area .entry)) (i * 128 + 128) (take ((m - i) * 128) (drop (i * 128) (now (area .entry)))) ⌝ }
+// The rows from `i` up to `m` moved up by some places, the last first.
+fn move_rows(area: &mut [u8], i: usize, m: usize, by: usize)
+    requires { ⌜ (i ≤ m) × (1 ≤ by) × ((m + by) * 128 ≤ length (now area)) ⌝ }
+    ensures { λ _. ⌜ now (area .exit) ≡ put (now (area .entry)) ((i + by) * 128) (take ((m - i) * 128) (drop (i * 128) (now (area .entry)))) ⌝ }
 {
-    let start = i * 128;
-    let end = m * 128 + 128;
-    shift_up(&mut area[start..end]);
+    let mut at = m;
+    while i < at {
+        at = at - 1;
+        copy_row(area, at, at + by);
+    }
 }
 
 // The path and its value as a row at its place among the rows from `from` up to `m`, which rise and do not have the path.
@@ -73,6 +75,65 @@ pub fn insert_row(area: &mut [u8], from: usize, m: usize, path: &[u8], value: &[
     ensures { λ _. ⌜ Inserted from m (now (area .entry)) (now (area .exit)) (now (path .entry)) (now (value .entry)) ⌝ }
 {
     let i = place_of(area, from, m, path);
-    move_rows(area, i, m);
+    move_rows(area, i, m, 1);
     packed::put_row(area, i, path, value);
+}
+
+// Row `left` of those set aside, the last that is not merged yet, at its place among the rows from `first` up to `high`. Those behind its
+// place make room for it and for the rows before it, which are set aside too. Gives its place.
+fn merge_row(area: &mut [u8], first: usize, high: usize, aside: &[u8], left: usize) -> usize
+    requires { ⌜ RowsFit high (now area)
+        × (first ≤ high)
+        × ((high + left + 1) * 128 ≤ length (now area))
+        × (left * 128 + 128 ≤ length (now aside))
+        × (getD (now aside) (left * 128) 0 ≤ 64)
+        × (rising (rowsOf (high - first) (now area) first) ≡ true) ⌝ }
+    ensures { λ r. ⌜ RowMerged (now (area .entry)) (now (area .exit)) (now (aside .entry)) first high left r ⌝ }
+{
+    let from = left * 128;
+    let to = from + 128;
+    let start = from + 4;
+    let stop = start + octets::wide(aside[from]);
+    let i = place_of(area, first, high, &aside[start..stop]);
+    move_rows(area, i, high, left + 1);
+    octets::copy_at(area, (i + left) * 128, &aside[from..to]);
+    i
+}
+
+// At most 32 rows from `middle` up to `end` merged into those from `first` up to `middle`. They are set aside and go in from the last on,
+// so that each of the other rows moves once, to where it stays.
+fn merge_chunk(area: &mut [u8], first: usize, middle: usize, end: usize)
+    requires { ⌜ Apart (now area) first middle end × (end ≤ middle + 32) ⌝ }
+    ensures { λ _. ⌜ Merged (now (area .entry)) (now (area .exit)) first middle end ⌝ }
+{
+    let mut aside = [0u8; 4096];
+    let start = middle * 128;
+    let stop = end * 128;
+    octets::copy_at(&mut aside, 0, &area[start..stop]);
+    let mut high = middle;
+    let mut left = end - middle;
+    while 0 < left {
+        left = left - 1;
+        high = merge_row(area, first, high, &aside, left);
+    }
+}
+
+// The rows from `middle` up to `end` merged into those from `first` up to `middle`.
+pub fn merge_rows(area: &mut [u8], first: usize, middle: usize, end: usize)
+    requires { ⌜ Apart (now area) first middle end ⌝ }
+    ensures { λ _. ⌜ Merged (now (area .entry)) (now (area .exit)) first middle end ⌝ }
+{
+    if end <= middle {
+        return;
+    }
+    if middle <= first {
+        return;
+    }
+    let mut done = middle;
+    while 32 < end - done {
+        let next = done + 32;
+        merge_chunk(area, first, done, next);
+        done = next;
+    }
+    merge_chunk(area, first, done, end);
 }

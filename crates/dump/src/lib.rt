@@ -1,10 +1,13 @@
 // Every row of a sound store's map, rising, in the rows of the work area, by one walk over the tree: a leaf's pairs are appended in their
-// order, and a waiting put is inserted among the rows of its node's children. Only what decides a path is written, so that there are never
+// order, and a node's waiting puts are merged into the rows of its children. Only what decides a path is written, so that there are never
 // more rows than live paths. Relies on the tests of `live` and its notes, `packed` (one row) and `insertion`; the caller has checked the store.
 pub mod insertion;
 
 use live::Pending;
+use live::Position;
+use live::Run;
 use live::Trail;
+use live::Visit;
 use live::path_buffer;
 use live::path_buffer::PathBuffer;
 use node::Cursor;
@@ -12,6 +15,7 @@ use node::Entry;
 use node::Message;
 use node::Place;
 use node::Step;
+use node::search::PairStep;
 ghost use mathlib.Core.Path.{_≡_};
 ghost use mathlib.Core.Bool.{true};
 ghost use mathlib.Core.List.{_∷_, [], _++_};
@@ -26,31 +30,30 @@ ghost use Rattle.image.specs.Sound.{sound, soundTree};
 ghost use Rattle.laws.specs.Filter.{keep};
 ghost use Rattle.node.specs.Places.{Within, EntryWithin, MessageWithin, part, entryIn, messageIn};
 ghost use Rattle.node.specs.Entries.{listed};
-ghost use Rattle.node.specs.Search.Own.{kid, kidsE};
+ghost use Rattle.node.specs.Search.Own.{branch, branchesAmong};
 ghost use Rattle.packed.specs.Rows.Area.{rowsOf};
 ghost use Rattle.live.specs.PathBuffers.{pathIn};
 ghost use Rattle.live.specs.Noted.{Tells, LeafTold};
-ghost use Rattle.live.specs.Walk.{passing, decides, TrailIn, Ready, ReadyKids};
-ghost use Rattle.dump.specs.Dump.{rowIn, pairsE, valueFitsE, valuesFitE, withEntry, insertE, Room, Added, Open, Placed, KeyTold, KidsTold, SoundKids, Dumped};
+ghost use Rattle.live.specs.Walk.{passing, decides, TrailIn, Ready, ReadyBranches};
+ghost use Rattle.dump.specs.Dump.{rowIn, pairsAmong, valuesFitAmong, withEntry, insertAmong, Room, Added, Open, Placed, KeyTold, BranchesTold, SoundBranches, Dumped};
+
+// The places of a key and its value.
+struct Pair {
+    key: Place,
+    value: Place,
+}
 
 // Whether a leaf's key is shown: no message above says anything of its path. The notes tell, and where these had no room, the trail.
-fn is_shown(
-    store: &[u8],
-    prefix: PathBuffer,
-    trail: Trail,
-    key: &[u8],
-    notes: &[usize; 64],
-    n: usize,
-) -> bool
-    requires { ⌜ (prefix .len ≤ 64)
-        × TrailIn (now store) (prefix .len) trail
-        × KeyTold (now store) trail (pathIn prefix) (now key) (now notes) n ⌝ }
-    ensures { λ r. ⌜ r ≡ passing (now (store .entry)) trail (pathIn prefix ++ now (key .entry)) ⌝ }
+fn is_shown(store: &[u8], here: Position, key: &[u8], notes: &[usize; 64]) -> bool
+    requires { ⌜ (here .prefix .len ≤ 64)
+        × TrailIn (now store) (here .prefix .len) (here .trail)
+        × KeyTold (now store) (here .trail) (pathIn (here .prefix)) (now key) (now notes) (here .noted) ⌝ }
+    ensures { λ r. ⌜ r ≡ passing (now (store .entry)) (here .trail) (pathIn (here .prefix) ++ now (key .entry)) ⌝ }
 {
-    if 64 < n {
-        return live::is_live(store, prefix, trail, key);
+    if 64 < here.noted {
+        return live::is_live(store, here.prefix, here.trail, key);
     }
-    live::notes::is_quiet(store, notes, n, key)
+    live::notes::is_quiet(store, notes, here.noted, key)
 }
 
 // A pair's row after the `m` rows of the area, if no message above says anything of its path.
@@ -58,87 +61,60 @@ fn append_pair(
     store: &[u8],
     area: &mut [u8],
     m: usize,
-    prefix: PathBuffer,
-    trail: Trail,
-    key: Place,
-    value: Place,
+    here: Position,
+    pair: Pair,
     notes: &[usize; 64],
-    n: usize,
 ) -> usize
-    requires { ⌜ (prefix .len ≤ 64)
-        × TrailIn (now store) (prefix .len) trail
-        × Within 0 (length (now store)) key
-        × Within 0 (length (now store)) value
-        × (valueFits (part (now store) value) ≡ true)
-        × Room (now area) m (keep (passing (now store) trail) (rowIn (now store) prefix key value ∷ []))
-        × KeyTold (now store) trail (pathIn prefix) (part (now store) key) (now notes) n ⌝ }
-    ensures { λ r. ⌜ Added m (now (area .entry)) (now (area .exit)) r (keep (passing (now (store .entry)) trail) (rowIn (now (store .entry)) prefix key value ∷ [])) ⌝ }
+    requires { ⌜ (here .prefix .len ≤ 64)
+        × TrailIn (now store) (here .prefix .len) (here .trail)
+        × Within 0 (length (now store)) (pair .key)
+        × Within 0 (length (now store)) (pair .value)
+        × (valueFits (part (now store) (pair .value)) ≡ true)
+        × Room (now area) m (keep (passing (now store) (here .trail)) (rowIn (now store) (here .prefix) (pair .key) (pair .value) ∷ []))
+        × KeyTold (now store) (here .trail) (pathIn (here .prefix)) (part (now store) (pair .key)) (now notes) (here .noted) ⌝ }
+    ensures { λ r. ⌜ Added m (now (area .entry)) (now (area .exit)) r
+        (keep (passing (now (store .entry)) (here .trail)) (rowIn (now (store .entry)) (here .prefix) (pair .key) (pair .value) ∷ [])) ⌝ }
 {
-    let a = key.start;
-    let b = key.stop;
-    if !is_shown(store, prefix, trail, &store[a..b], notes, n) {
+    let a = pair.key.start;
+    let b = pair.key.stop;
+    if !is_shown(store, here, &store[a..b], notes) {
         return m;
     }
-    let len = prefix.len;
-    let bytes = prefix.bytes;
-    let x = value.start;
-    let y = value.stop;
+    let len = here.prefix.len;
+    let bytes = here.prefix.bytes;
+    let x = pair.value.start;
+    let y = pair.value.stop;
     packed::put_joined(area, m, &bytes[0..len], &store[a..b], &store[x..y]);
     m + 1
 }
 
-fn append_entry(
-    store: &[u8],
-    area: &mut [u8],
-    m: usize,
-    prefix: PathBuffer,
-    trail: Trail,
-    e: Entry,
-    notes: &[usize; 64],
-    n: usize,
-) -> usize
-    requires { ⌜ (prefix .len ≤ 64)
-        × TrailIn (now store) (prefix .len) trail
-        × EntryWithin 0 (length (now store)) e
-        × (valueFitsE (entryIn (now store) e) ≡ true)
-        × Room (now area) m (keep (passing (now store) trail) (underPrefix (pathIn prefix) (pairsE (entryIn (now store) e ∷ []))))
-        × LeafTold (now store) trail (pathIn prefix) (entryIn (now store) e ∷ []) (now notes) n ⌝ }
-    ensures { λ r. ⌜ Added m (now (area .entry)) (now (area .exit)) r (keep (passing (now (store .entry)) trail) (underPrefix (pathIn prefix) (pairsE (entryIn (now (store .entry)) e ∷ [])))) ⌝ }
-{
-    match e {
-        Entry::Pair(key, value) => append_pair(store, area, m, prefix, trail, key, value, notes, n),
-        Entry::Child(_, _) => m,
-        Entry::Message(_) => m,
-    }
-}
-
-// The pairs among the entries from a place up to another, each as a row if no message above says anything of its path.
+// The pairs of a leaf, which stand from the cursor on, each as a row if no message above says anything of its path.
 fn append_pairs(
     store: &[u8],
     area: &mut [u8],
     first: usize,
-    from: usize,
-    end: usize,
-    prefix: PathBuffer,
-    trail: Trail,
+    start: Cursor,
+    here: Position,
     notes: &[usize; 64],
-    n: usize,
 ) -> usize
-    requires { ⌜ (end ≤ length (now store))
-        × (prefix .len ≤ 64)
-        × TrailIn (now store) (prefix .len) trail
-        × (valuesFitE (listed (now store) from end) ≡ true)
-        × Room (now area) first (keep (passing (now store) trail) (underPrefix (pathIn prefix) (pairsE (listed (now store) from end))))
-        × LeafTold (now store) trail (pathIn prefix) (listed (now store) from end) (now notes) n ⌝ }
-    ensures { λ r. ⌜ Added first (now (area .entry)) (now (area .exit)) r (keep (passing (now (store .entry)) trail) (underPrefix (pathIn prefix) (pairsE (listed (now (store .entry)) from end)))) ⌝ }
+    requires { ⌜ (start .end ≤ length (now store))
+        × (here .prefix .len ≤ 64)
+        × TrailIn (now store) (here .prefix .len) (here .trail)
+        × (valuesFitAmong (listed (now store) (start .at) (start .end)) ≡ true)
+        × Room (now area) first
+        (keep (passing (now store) (here .trail)) (underPrefix (pathIn (here .prefix)) (pairsAmong (listed (now store) (start .at) (start .end)))))
+        × LeafTold (now store) (here .trail) (pathIn (here .prefix)) (listed (now store) (start .at) (start .end)) (now notes) (here .noted) ⌝ }
+    ensures { λ r. ⌜ Added first (now (area .entry)) (now (area .exit)) r
+        (keep (passing (now (store .entry)) (here .trail)) (underPrefix (pathIn (here .prefix)) (pairsAmong (listed (now (store .entry)) (start .at) (start .end))))) ⌝ }
 {
-    let mut c = Cursor { at: from, end };
+    let end = start.end;
+    let mut c = start;
     let mut m = first;
     while c.at < end {
-        let Step::Read(e, next) = c.step(store) else {
+        let PairStep::Read(key, value, next) = node::search::step_pair(store, c) else {
             return m;
         };
-        m = append_entry(store, area, m, prefix, trail, e, notes, n);
+        m = append_pair(store, area, m, here, Pair { key, value }, notes);
         c = next;
     }
     m
@@ -151,41 +127,40 @@ fn insert_put(
     area: &mut [u8],
     first: usize,
     m: usize,
-    prefix: PathBuffer,
-    trail: Trail,
-    key: Place,
-    value: Place,
+    here: Position,
+    pair: Pair,
     next: Cursor,
 ) -> usize
     requires { ⌜ (next .end ≤ length (now store))
-        × (prefix .len ≤ 64)
-        × TrailIn (now store) (prefix .len) trail
-        × Within 0 (length (now store)) key
-        × Within 0 (length (now store)) value
-        × Open (now area) first m (passing (now store) trail) (pathIn prefix)
-        (message (puts (part (now store) key) (part (now store) value)) ∷ listed (now store) (next .at) (next .end)) ⌝ }
+        × (here .prefix .len ≤ 64)
+        × TrailIn (now store) (here .prefix .len) (here .trail)
+        × Within 0 (length (now store)) (pair .key)
+        × Within 0 (length (now store)) (pair .value)
+        × Open (now area) first m (passing (now store) (here .trail)) (pathIn (here .prefix))
+        (message (puts (part (now store) (pair .key)) (part (now store) (pair .value))) ∷ listed (now store) (next .at) (next .end)) ⌝ }
     ensures { λ r. ⌜ Placed first (now (area .entry)) (now (area .exit)) r
         (withEntry
-        (decides (passing (now (store .entry)) trail) (pathIn prefix)
-        (message (puts (part (now (store .entry)) key) (part (now (store .entry)) value)))
-        (listed (now (store .entry)) (next .at) (next .end))) (pathIn prefix)
-        (message (puts (part (now (store .entry)) key) (part (now (store .entry)) value))) (rowsOf (m - first) (now (area .entry)) first)) ⌝ }
+        (decides (passing (now (store .entry)) (here .trail)) (pathIn (here .prefix))
+        (message (puts (part (now (store .entry)) (pair .key)) (part (now (store .entry)) (pair .value))))
+        (listed (now (store .entry)) (next .at) (next .end))) (pathIn (here .prefix))
+        (message (puts (part (now (store .entry)) (pair .key)) (part (now (store .entry)) (pair .value)))) (rowsOf (m - first) (now (area .entry)) first)) ⌝ }
 {
-    let a = key.start;
-    let b = key.stop;
+    let a = pair.key.start;
+    let b = pair.key.stop;
     let from = next.at;
     let end = next.end;
-    if !live::is_silent(store, from, end, &store[a..b]) {
+    if !live::none_covers(store, from, end, &store[a..b]) {
         return m;
     }
-    if !live::is_live(store, prefix, trail, &store[a..b]) {
+    let prefix = here.prefix;
+    if !live::is_live(store, prefix, here.trail, &store[a..b]) {
         return m;
     }
     let full = path_buffer::extend(prefix, &store[a..b]);
     let n = full.len;
     let path = full.bytes;
-    let x = value.start;
-    let y = value.stop;
+    let x = pair.value.start;
+    let y = pair.value.stop;
     insertion::insert_row(area, first, m, &path[0..n], &store[x..y]);
     m + 1
 }
@@ -195,26 +170,25 @@ fn insert_message(
     area: &mut [u8],
     first: usize,
     m: usize,
-    prefix: PathBuffer,
-    trail: Trail,
+    here: Position,
     given: Message,
     next: Cursor,
 ) -> usize
     requires { ⌜ (next .end ≤ length (now store))
-        × (prefix .len ≤ 64)
-        × TrailIn (now store) (prefix .len) trail
+        × (here .prefix .len ≤ 64)
+        × TrailIn (now store) (here .prefix .len) (here .trail)
         × MessageWithin 0 (length (now store)) given
-        × Open (now area) first m (passing (now store) trail) (pathIn prefix)
+        × Open (now area) first m (passing (now store) (here .trail)) (pathIn (here .prefix))
         (message (messageIn (now store) given) ∷ listed (now store) (next .at) (next .end)) ⌝ }
     ensures { λ r. ⌜ Placed first (now (area .entry)) (now (area .exit)) r
         (withEntry
-        (decides (passing (now (store .entry)) trail) (pathIn prefix) (message (messageIn (now (store .entry)) given))
-        (listed (now (store .entry)) (next .at) (next .end))) (pathIn prefix) (message (messageIn (now (store .entry)) given))
+        (decides (passing (now (store .entry)) (here .trail)) (pathIn (here .prefix)) (message (messageIn (now (store .entry)) given))
+        (listed (now (store .entry)) (next .at) (next .end))) (pathIn (here .prefix)) (message (messageIn (now (store .entry)) given))
         (rowsOf (m - first) (now (area .entry)) first)) ⌝ }
 {
     match given {
         Message::Put(key, value) => {
-            insert_put(store, area, first, m, prefix, trail, key, value, next)
+            insert_put(store, area, first, m, here, Pair { key, value }, next)
         }
         Message::Drop(_) => m,
         Message::Clear(_) => m,
@@ -226,204 +200,187 @@ fn insert_entry(
     area: &mut [u8],
     first: usize,
     m: usize,
-    prefix: PathBuffer,
-    trail: Trail,
+    here: Position,
     e: Entry,
     next: Cursor,
 ) -> usize
     requires { ⌜ (next .end ≤ length (now store))
-        × (prefix .len ≤ 64)
-        × TrailIn (now store) (prefix .len) trail
+        × (here .prefix .len ≤ 64)
+        × TrailIn (now store) (here .prefix .len) (here .trail)
         × EntryWithin 0 (length (now store)) e
-        × Open (now area) first m (passing (now store) trail) (pathIn prefix) (entryIn (now store) e ∷ listed (now store) (next .at) (next .end)) ⌝ }
+        × Open (now area) first m (passing (now store) (here .trail)) (pathIn (here .prefix)) (entryIn (now store) e ∷ listed (now store) (next .at) (next .end)) ⌝ }
     ensures { λ r. ⌜ Placed first (now (area .entry)) (now (area .exit)) r
         (withEntry
-        (decides (passing (now (store .entry)) trail) (pathIn prefix) (entryIn (now (store .entry)) e)
-        (listed (now (store .entry)) (next .at) (next .end))) (pathIn prefix) (entryIn (now (store .entry)) e)
+        (decides (passing (now (store .entry)) (here .trail)) (pathIn (here .prefix)) (entryIn (now (store .entry)) e)
+        (listed (now (store .entry)) (next .at) (next .end))) (pathIn (here .prefix)) (entryIn (now (store .entry)) e)
         (rowsOf (m - first) (now (area .entry)) first)) ⌝ }
 {
     match e {
         Entry::Pair(_, _) => m,
         Entry::Child(_, _) => m,
-        Entry::Message(given) => {
-            insert_message(store, area, first, m, prefix, trail, given, next)
-        }
+        Entry::Message(given) => { insert_message(store, area, first, m, here, given, next) }
     }
 }
 
-// The puts among the entries from a place up to another that decide their paths, each as a row among the rows from `first` up to `count`.
+// The puts among the entries from the cursor on that decide their paths, each as a row among the rows from `first` up to `count`.
 fn insert_puts(
     store: &[u8],
     area: &mut [u8],
     first: usize,
     count: usize,
-    from: usize,
-    end: usize,
-    prefix: PathBuffer,
-    trail: Trail,
+    start: Cursor,
+    here: Position,
 ) -> usize
-    requires { ⌜ (end ≤ length (now store))
-        × (prefix .len ≤ 64)
-        × TrailIn (now store) (prefix .len) trail
-        × Open (now area) first count (passing (now store) trail) (pathIn prefix) (listed (now store) from end) ⌝ }
+    requires { ⌜ (start .end ≤ length (now store))
+        × (here .prefix .len ≤ 64)
+        × TrailIn (now store) (here .prefix .len) (here .trail)
+        × Open (now area) first count (passing (now store) (here .trail)) (pathIn (here .prefix)) (listed (now store) (start .at) (start .end)) ⌝ }
     ensures { λ r. ⌜ Placed first (now (area .entry)) (now (area .exit)) r
-        (insertE (passing (now (store .entry)) trail) (pathIn prefix) (listed (now (store .entry)) from end)
+        (insertAmong (passing (now (store .entry)) (here .trail)) (pathIn (here .prefix)) (listed (now (store .entry)) (start .at) (start .end))
         (rowsOf (count - first) (now (area .entry)) first)) ⌝ }
 {
-    let mut c = Cursor { at: from, end };
+    let end = start.end;
+    let mut c = start;
     let mut m = count;
     while c.at < end {
         let Step::Read(e, next) = c.step(store) else {
             return m;
         };
-        m = insert_entry(store, area, first, m, prefix, trail, e, next);
+        m = insert_entry(store, area, first, m, here, e, next);
         c = next;
     }
     m
 }
 
 // The rows under a node whose paths pass the trail, after the `m` rows of the area. The pivots lack what the parent lifts, which is the
-// prefix; a lifted prefix that is too long for any path leaves no row. `handed` has `many` notes of the
-// parent, which tell what the trail tells.
+// prefix; a lifted prefix that is too long for any path leaves no row. `handed` has the notes of the parent, which tell what the trail tells.
 fn dump_node(
     store: &[u8],
     area: &mut [u8],
     m: usize,
-    num: usize,
-    level: usize,
-    prefix: PathBuffer,
+    node: Visit,
     lo: &[u8],
     hi: &[u8],
-    trail: Trail,
     handed: &[usize; 64],
-    many: usize,
 ) -> usize
-    requires { ⌜ Ready (now store) level num prefix trail
-        × (soundTree (treeAt level (now store) num) (pathIn prefix ++ now lo) (pathIn prefix ++ now hi) ≡ true)
-        × Room (now area) m (keep (passing (now store) trail) (rows (treeAt level (now store) num) (pathIn prefix ++ now lo) (pathIn prefix ++ now hi)))
-        × Tells (now store) trail (pathIn prefix) (now lo) (now hi) (now handed) many ⌝ }
+    requires { ⌜ Ready (now store) (node .level) (node .num) (node .position .prefix) (node .position .trail)
+        × (soundTree (treeAt (node .level) (now store) (node .num)) (pathIn (node .position .prefix) ++ now lo) (pathIn (node .position .prefix) ++ now hi) ≡ true)
+        × Room (now area) m
+        (keep (passing (now store) (node .position .trail))
+        (rows (treeAt (node .level) (now store) (node .num)) (pathIn (node .position .prefix) ++ now lo) (pathIn (node .position .prefix) ++ now hi)))
+        × Tells (now store) (node .position .trail) (pathIn (node .position .prefix)) (now lo) (now hi) (now handed) (node .position .noted) ⌝ }
     ensures { λ r. ⌜ Added m (now (area .entry)) (now (area .exit)) r
-        (keep (passing (now (store .entry)) trail)
-        (rows (treeAt level (now (store .entry)) num) (pathIn prefix ++ now (lo .entry)) (pathIn prefix ++ now (hi .entry)))) ⌝ }
+        (keep (passing (now (store .entry)) (node .position .trail))
+        (rows (treeAt (node .level) (now (store .entry)) (node .num)) (pathIn (node .position .prefix) ++ now (lo .entry))
+        (pathIn (node .position .prefix) ++ now (hi .entry)))) ⌝ }
 {
+    let num = node.num;
+    let level = node.level;
+    let prefix = node.position.prefix;
+    let trail = node.position.trail;
+    let noted = node.position.noted;
     let k = octets::common_length(lo, hi);
     let room = 64 - prefix.len;
     if room < k {
         return m;
     }
-    let here = path_buffer::extend(prefix, &lo[0..k]);
+    let lifted = path_buffer::extend(prefix, &lo[0..k]);
+    let mut here = Position {
+        prefix: lifted,
+        trail,
+        noted,
+    };
     let mut notes = [0usize; 64];
     let n = live::note_above(
         store,
         here,
-        trail,
         &lo[0..k],
         &lo[k..],
         &hi[k..],
         handed,
-        many,
         &mut notes,
     );
+    here.noted = n;
     let at = num * image::NODE_SIZE;
     let len = octets::u16_at(store, at);
     let from = at + image::ENTRIES_AT;
     let end = from + len;
+    let c = Cursor { at: from, end };
     if level <= 1 {
-        return append_pairs(store, area, m, from, end, here, trail, &notes, n);
+        return append_pairs(store, area, m, c, here, &notes);
     }
-    let Pending::Child(child, pivot, next) = live::read_child(store, Cursor { at: from, end })
-    else {
+    let Pending::Child(first, low, rest) = live::read_child(store, c) else {
         return m;
     };
-    let lift = here.len;
-    let above = live::lengthen_trail(store, trail, num, lift);
+    let lift = lifted.len;
+    let deeper = live::lengthen_trail(store, trail, num, lift);
     let more = live::note_own(store, num, &lo[k..], &hi[k..], &mut notes, n);
-    let r = dump_children(
-        store,
-        area,
-        m,
-        child,
-        pivot,
-        next,
-        level - 1,
-        here,
-        &hi[k..],
-        above,
-        &notes,
-        more,
-    );
-    insert_puts(store, area, m, r, from, end, here, trail)
+    let below = level - 1;
+    let position = Position {
+        prefix: lifted,
+        trail: deeper,
+        noted: more,
+    };
+    let child = Visit {
+        num: first,
+        level: below,
+        position,
+    };
+    let r = dump_children(store, area, m, child, Run { low, rest }, &hi[k..], &notes);
+    let all = insert_puts(store, area, r, r, c, here);
+    insertion::merge_rows(area, m, r, all);
+    all
 }
 
-// The same for a child and those that follow from the cursor on; a child's high pivot is the next one's low pivot, or else hi.
+// The same for the child that is visited and those that follow from the cursor on; a child's high pivot is the next one's low pivot, or
+// else hi.
 fn dump_children(
     store: &[u8],
     area: &mut [u8],
     first: usize,
-    child: usize,
-    pivot: Place,
-    start: Cursor,
-    level: usize,
-    prefix: PathBuffer,
+    child: Visit,
+    run: Run,
     hi: &[u8],
-    trail: Trail,
     notes: &[usize; 64],
-    n: usize,
 ) -> usize
-    requires { ⌜ ReadyKids (now store) level child pivot start prefix trail
-        × SoundKids (now store) level (pathIn prefix) (now hi)
-        (kid child (part (now store) pivot) ∷ kidsE (listed (now store) (start .at) (start .end)))
+    requires { ⌜ ReadyBranches (now store) (child .level) (child .num) (run .low) (run .rest) (child .position .prefix) (child .position .trail)
+        × SoundBranches (now store) (child .level) (pathIn (child .position .prefix)) (now hi)
+        (branch (child .num) (part (now store) (run .low)) ∷ branchesAmong (listed (now store) (run .rest .at) (run .rest .end)))
         × Room (now area) first
-        (keep (passing (now store) trail)
+        (keep (passing (now store) (child .position .trail))
         (rowsIn
-        (forestOf (λ j. treeAt level (now store) j)
-        (kid child (part (now store) pivot) ∷ kidsE (listed (now store) (start .at) (start .end)))) (pathIn prefix)
-        (pathIn prefix ++ now hi)))
-        × KidsTold (now store) level child pivot start prefix (now hi) trail (now notes) n ⌝ }
+        (forestOf (λ j. treeAt (child .level) (now store) j)
+        (branch (child .num) (part (now store) (run .low)) ∷ branchesAmong (listed (now store) (run .rest .at) (run .rest .end))))
+        (pathIn (child .position .prefix)) (pathIn (child .position .prefix) ++ now hi)))
+        × BranchesTold (now store) (child .level) (child .num) (run .low) (run .rest) (child .position .prefix) (now hi) (child .position .trail)
+        (now notes) (child .position .noted) ⌝ }
     ensures { λ r. ⌜ Added first (now (area .entry)) (now (area .exit)) r
-        (keep (passing (now (store .entry)) trail)
+        (keep (passing (now (store .entry)) (child .position .trail))
         (rowsIn
-        (forestOf (λ j. treeAt level (now (store .entry)) j)
-        (kid child (part (now (store .entry)) pivot) ∷ kidsE (listed (now (store .entry)) (start .at) (start .end)))) (pathIn prefix)
-        (pathIn prefix ++ now (hi .entry)))) ⌝ }
+        (forestOf (λ j. treeAt (child .level) (now (store .entry)) j)
+        (branch (child .num) (part (now (store .entry)) (run .low)) ∷ branchesAmong (listed (now (store .entry)) (run .rest .at) (run .rest .end))))
+        (pathIn (child .position .prefix)) (pathIn (child .position .prefix) ++ now (hi .entry)))) ⌝ }
 {
-    let mut c = start;
-    let mut num = child;
-    let mut low = pivot;
+    let level = child.level;
+    let position = child.position;
+    let mut c = run.rest;
+    let mut num = child.num;
+    let mut low = run.low;
     let mut m = first;
     loop {
         let a = low.start;
         let b = low.stop;
+        let node = Visit {
+            num,
+            level,
+            position,
+        };
         let Pending::Child(k, p, next) = live::read_child(store, c) else {
-            return dump_node(
-                store,
-                area,
-                m,
-                num,
-                level,
-                prefix,
-                &store[a..b],
-                hi,
-                trail,
-                notes,
-                n,
-            );
+            return dump_node(store, area, m, node, &store[a..b], hi, notes);
         };
         let x = p.start;
         let y = p.stop;
-        m = dump_node(
-            store,
-            area,
-            m,
-            num,
-            level,
-            prefix,
-            &store[a..b],
-            &store[x..y],
-            trail,
-            notes,
-            n,
-        );
+        m = dump_node(store, area, m, node, &store[a..b], &store[x..y], notes);
         num = k;
         low = p;
         c = next;
@@ -449,17 +406,14 @@ pub fn dump(store: &[u8], area: &mut [u8]) -> usize
         depth: 0,
     };
     let notes = [0usize; 64];
-    dump_node(
-        store,
-        area,
-        0,
-        root,
-        levels,
-        prefix,
-        &lo[0..0],
-        &hi,
-        trail,
-        &notes,
-        0,
-    )
+    let node = Visit {
+        num: root,
+        level: levels,
+        position: Position {
+            prefix,
+            trail,
+            noted: 0,
+        },
+    };
+    dump_node(store, area, 0, node, &lo[0..0], &hi, &notes)
 }

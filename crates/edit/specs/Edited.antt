@@ -4,33 +4,23 @@ use mathlib.Core.Path.{_≡_, refl, sym, ap, subst, _∙_}
 use mathlib.Core.List.{List, [], _++_}
 use mathlib.Core.Bool.{Bool, true, false, _||_, false≢true}
 use mathlib.Core.Logic.{_⊎_}
-use mathlib.Core.Option.{none, some}
 use native.Mathlib.Omega.{arith}
 use lib.ListN.{length, drop}
-use lib.Dec.{ltb, eqb}
-use borrow.Author.Tests.{le-leb, lt-leb, eqb-true}
-use Rattle.image.specs.Bytes.{u16}
+use lib.Dec.{leb, ltb}
+use borrow.Author.Tests.{le-leb, lt-leb}
 use Rattle.image.specs.Path.{wellFormed, valueLimit, valueFits}
 use Rattle.image.specs.Entry.{Message, puts, drops, clears}
 use Rattle.image.specs.Table.{find, isSome}
-use Rattle.image.specs.Image.{nodesOf, wholeNodes, headerOf}
+use Rattle.image.specs.Image.{nodesOf, wholeNodes}
 use Rattle.image.specs.Meaning.{apply}
-use Rattle.image.specs.Sound.{sound, valueIn, tableOf}
+use Rattle.image.specs.Sound.{sound, tableOf}
 use Rattle.image.specs.Calls as calls
 use Rattle.image.specs.Calls.{acts, Act, firstNo, workPerNode, questions, actQuestions, tableAfter, actTable}
 use Rattle.image.specs.Contract.{nodeQuestions, firstNoOn, Besides}
 use Rattle.image.specs.Answers.{refusalNumber}
 use Rattle.image.specs.declared.Refusal.{Refusal}
 use Rattle.image.specs.declared.Outcome.{Outcome}
-use Rattle.octets.specs.Order.{and-right}
-use Rattle.laws.specs.ButLive.{soundButLive, sound-live, sound-but-live}
-use Rattle.laws.specs.LookupTable.{means-table}
-use Rattle.node.specs.Whole.{Whole, whole-parts}
-use Rattle.node.specs.declared.Place.{Place}
-use Rattle.node.specs.Places.{part}
-use Rattle.node.specs.declared.search.Found.{Found}
-use Rattle.node.specs.Search.Pairs.{Finds, foundIn}
-use Rattle.soundness.specs.Judged.{told-live}
+use Rattle.laws.specs.ButLive.{soundButLive, sound-but-live}
 use Rattle.append.specs.Laws.Append.{roomAtRoot, appended, Appended}
 use Rattle.append.specs.Laws.Raise.{rootRaised}
 use Rattle.append.specs.Callers as code
@@ -46,7 +36,8 @@ use Rattle.questions.specs.Acted.{Acted, acted-done, acted-refused}
 use Rattle.edit.specs.declared.Change.{Change}
 use Rattle.edit.specs.declared.Spot.{Spot}
 use Rattle.edit.specs.Change.{messageOf, sizeOf, Allowed, message-sound, size-small, few-after}
-use Rattle.edit.specs.Room.{Free, SpotFits, Roomy}
+use Rattle.edit.specs.Known.{CountWith, place-told}
+use Rattle.edit.specs.Room.{Free, SpotFits, Roomy, nodes-are}
 
 -- The message written, by each arm of the code.
 module _ (s s′ p v : List ℕ) (ok : sound s ≡ true) (formed : wellFormed p ≡ true) (fits : valueFits v ≡ true) where
@@ -176,21 +167,10 @@ module _ (s s₁ s₂ s₃ w w₁ p v : List ℕ) (c : Change) (size : ℕ) (spo
       }
 
 -- THE CALLS
--- question 10
-pub place-present : (s p : List ℕ) (r : Found) (v : Place) → sound s ≡ true → Finds s (valueIn s p) r → r ≡ Found.Value v
-    → true ≡ isSome (find p (tableOf s)) || ltb (length (tableOf s)) (nodesOf (length s))
-unfolding isSome foundIn
-place-present s p r v ok f e = let q : find p (tableOf s) ≡ some (part s v) = sym (means-table s ok p) ∙ sym (f .meant) ∙ ap (foundIn s) e in rw q
-
-pub place-left : (s p : List ℕ) (r : Found) (live n : ℕ) → wholeNodes (length s) ≡ true → sound s ≡ true → Finds s (valueIn s p) r → r ≡ Found.Nothing → live ≡ u16 s 10
-    → n ≡ length s / 1024 → ltb live n ≡ isSome (find p (tableOf s)) || ltb (length (tableOf s)) (nodesOf (length s))
-unfolding isSome foundIn nodesOf
-place-left s p r live n whole ok f e l z =
-    let parts : Whole (length s) = whole-parts (length s) whole in
-    let q : find p (tableOf s) ≡ none = sym (means-table s ok p) ∙ sym (f .meant) ∙ ap (foundIn s) e in
-    let right : eqb (headerOf s .live) (length (tableOf s)) ≡ true = and-right (soundButLive s) _ (sym (sound-live s) ∙ ok) in
-    let count : live ≡ length (tableOf s) = told-live s live (omega (arith, parts .filled, parts .enough)) l ∙ eqb-true (headerOf s .live) (length (tableOf s)) right in
-    rw (q, z) (ap (λ k. ltb k (length s / 1024)) count)
+unfoldable pub isPut : Change → Bool
+isPut Change.Put = true
+isPut Change.Drop = false
+isPut Change.Clear = false
 
 module _ (s w : List ℕ) (whole : wholeNodes (length s) ≡ true) (ok : sound s ≡ true) (long : workPerNode * nodesOf (length s) ≤ length w) where
   number-by : (a : Act) → firstNoOn s (acts a w) ≡ firstNo (actQuestions (nodesOf (length s)) a (tableOf s))
@@ -225,23 +205,35 @@ module _ (s w : List ℕ) (whole : wholeNodes (length s) ≡ true) (ok : sound s
       unfolding actQuestions firstNo refusalNumber valueFits valueLimit
       put-long v h = acted-refused s Refusal.LongValue to-act (number-by (calls.put p v) ∙ rw (sym x-is ∙ x-yes, lt-leb (length v) 32 h) refl)
 
-      module _ (v : List ℕ) (short : length v ≤ 32) (y : Bool) (y-is : y ≡ isSome (find p (tableOf s)) || ltb (length (tableOf s)) (nodesOf (length s))) where
-        pub put-full : y ≡ false → Acted s (acts (calls.put p v) w) (Outcome.Refused Refusal.Full) s w w
+      -- the count of paths once this one has a value decides question 10
+      module _ (v : List ℕ) (short : length v ≤ 32) (count n : ℕ) (n-is : n ≡ length s / 1024) (counted : CountWith p (tableOf s) count) where
+        place : leb count n ≡ isSome (find p (tableOf s)) || ltb (length (tableOf s)) (nodesOf (length s))
+        place =
+            let z : n ≡ nodesOf (length s) = n-is ∙ nodes-are (length s) in
+            ap (leb count) z ∙ place-told p (tableOf s) (nodesOf (length s)) count (table-rises s ok) (table-few s ok) counted
+
+        pub put-full : n < count → Acted s (acts (calls.put p v) w) (Outcome.Refused Refusal.Full) s w w
         unfolding actQuestions firstNo refusalNumber valueFits valueLimit
-        put-full f = acted-refused s Refusal.Full to-act (number-by (calls.put p v) ∙ rw (sym x-is ∙ x-yes, le-leb (length v) 32 short, sym y-is ∙ f) refl)
+        put-full h =
+            acted-refused s Refusal.Full to-act (number-by (calls.put p v) ∙ rw (sym x-is ∙ x-yes, le-leb (length v) 32 short, sym place ∙ lt-leb count n h) refl)
 
-        pub put-done : (s′ w′ : List ℕ) → y ≡ true → Edited s s′ w w′ (messageOf Change.Put p v) → Acted s (acts (calls.put p v) w) Outcome.Done s′ w w′
-        unfolding actQuestions firstNo messageOf apply tableAfter actTable Besides valueFits valueLimit
-        put-done s′ w′ f e =
-            acted-done s s′ w′ to-act (number-by (calls.put p v) ∙ rw (sym x-is ∙ x-yes, le-leb (length v) 32 short, sym y-is ∙ f) refl) (e .is-sound) (e .table) (e .size) (e .area) tt
+        module _ (h : count ≤ n) where
+          left : isSome (find p (tableOf s)) || ltb (length (tableOf s)) (nodesOf (length s)) ≡ true
+          left = sym place ∙ le-leb count n h
 
-        pub put-allowed : y ≡ true → Allowed Change.Put p v (tableOf s) (nodesOf (length s))
-        unfolding valueFits valueLimit
-        put-allowed f = record { formed = sym x-is ∙ x-yes; fits = le-leb (length v) 32 short; place = λ e. sym y-is ∙ f }
+          pub put-done : (s′ w′ : List ℕ) → Edited s s′ w w′ (messageOf Change.Put p v) → Acted s (acts (calls.put p v) w) Outcome.Done s′ w w′
+          unfolding actQuestions firstNo messageOf apply tableAfter actTable Besides valueFits valueLimit
+          put-done s′ w′ e =
+              acted-done s s′ w′ to-act (number-by (calls.put p v) ∙ rw (sym x-is ∙ x-yes, le-leb (length v) 32 short, left) refl) (e .is-sound) (e .table) (e .size) (e .area) tt
 
-      pub drop-allowed : (c : Change) (v : List ℕ) → length v ≤ 32 → (c ≡ Change.Put → ⊥) → Allowed c p v (tableOf s) (nodesOf (length s))
-      unfolding valueFits valueLimit
-      drop-allowed c v short d = record { formed = sym x-is ∙ x-yes; fits = le-leb (length v) 32 short; place = λ e. absurd (d e) }
+          pub put-allowed : Allowed Change.Put p v (tableOf s) (nodesOf (length s))
+          unfolding valueFits valueLimit
+          put-allowed = record { formed = sym x-is ∙ x-yes; fits = le-leb (length v) 32 short; place = λ e. left }
+
+      pub drop-allowed : (c : Change) (v : List ℕ) → length v ≤ 32 → isPut c ≡ false → Allowed c p v (tableOf s) (nodesOf (length s))
+      unfolding valueFits valueLimit isPut
+      drop-allowed c v short d =
+          record { formed = sym x-is ∙ x-yes; fits = le-leb (length v) 32 short; place = λ e. absurd (false≢true (sym d ∙ ap isPut e)) }
 
 -- what the code asks between the steps
 pub spot-sized : (s : List ℕ) (size size′ : ℕ) (r : Spot) → SpotFits s size r → size ≡ size′ → SpotFits s size′ r
@@ -249,19 +241,3 @@ spot-sized s size size′ r f e = subst (λ k. SpotFits s k r) e f
 
 pub room-whole : (s s₁ w w₁ : List ℕ) (size : ℕ) (r : Spot) → wholeNodes (length s) ≡ true → Roomy s s₁ w w₁ size r → wholeNodes (length s₁) ≡ true
 room-whole s s₁ w w₁ size r whole room = ap wholeNodes (room .length-same) ∙ whole
-
-pub not-put-drop : Change.Drop ≡ Change.Put → ⊥
-not-put-drop e = false≢true (ap is-put e)
-  where
-    is-put : Change → Bool
-    is-put Change.Put = true
-    is-put Change.Drop = false
-    is-put Change.Clear = false
-
-pub not-put-clear : Change.Clear ≡ Change.Put → ⊥
-not-put-clear e = false≢true (ap is-put e)
-  where
-    is-put : Change → Bool
-    is-put Change.Put = true
-    is-put Change.Drop = false
-    is-put Change.Clear = false

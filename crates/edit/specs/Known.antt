@@ -2,14 +2,15 @@
 use Prim.Native.Nat.{ℕ, suc, _+_, _-_, _≤_}
 use mathlib.Core.Path.{_≡_, refl, sym, ap, _∙_}
 use mathlib.Core.List.{List, [], _∷_}
-use mathlib.Core.Bool.{Bool, true, false, cond}
-use mathlib.Core.Option.{none, some}
+use mathlib.Core.Bool.{Bool, true, false, cond, _||_}
+use mathlib.Core.Option.{Option, none, some}
 use native.Mathlib.Omega.{arith}
 use lib.ListN.{length}
-use lib.Dec.{eqb}
-use borrow.Author.Tests.{eqb-true}
+use lib.Dec.{eqb, leb, ltb}
+use borrow.Author.Tests.{eqb-true, le-leb}
 use Rattle.image.specs.Bytes.{same, before, u16}
-use Rattle.image.specs.Table.{Row, find, withRow, without, leads, rising}
+use Rattle.image.specs.Entry.{Message}
+use Rattle.image.specs.Table.{Row, find, withRow, without, leads, rising, isSome}
 use Rattle.image.specs.Image.{wholeNodes, headerOf}
 use Rattle.image.specs.Meaning.{apply}
 use Rattle.image.specs.Sound.{sound, valueIn, tableOf}
@@ -29,9 +30,13 @@ use Rattle.soundness.specs.Judged.{told-live}
 use Rattle.edit.specs.declared.Change.{Change}
 use Rattle.edit.specs.Change.{messageOf}
 
--- r is the number of rows after a change of the path p; or it is more than 65,535, and tells nothing
-unfoldable pub Known : Change → List ℕ → List Row → ℕ → Type 0
-Known c p t r = (v : List ℕ) → r ≤ 65535 → r ≡ length (apply [] (messageOf c p v) t)
+-- r is the number of rows after a message; or it is more than 65,535, and tells nothing
+unfoldable pub Known : Message → List Row → ℕ → Type 0
+Known m t r = r ≤ 65535 → r ≡ length (apply [] m t)
+
+-- r rows once the path p has a value, whichever
+unfoldable pub CountWith : List ℕ → List Row → ℕ → Type 0
+CountWith p t r = (v : List ℕ) → r ≡ length (withRow p v t)
 
 -- a path that the table has is replaced by a put, and taken out once by a drop
 over-same : (p v : List ℕ) (t : List Row) (x : List ℕ) → rising t ≡ true → find p t ≡ some x → length (withRow p v t) ≡ length t
@@ -70,8 +75,8 @@ without-one p (r ∷ t) x e f = go (same p (r .key)) refl (λ g. without-one p t
         rw k (ap suc (without-none p t (find-leads p t (and-right (leads (r .key) t) (rising t) e) l)))
     go false k ih = rw k (ap suc (ih (sym (find-no p r t k) ∙ f)))
 
--- each way out of the count
-module _ (s : List ℕ) (whole : wholeNodes (length s) ≡ true) (ok : sound s ≡ true) (live : ℕ) (l : live ≡ u16 s 10) (p : List ℕ) (r : Found) (f : Finds s (valueIn s p) r) (c : Change) where
+-- each way out of the counts
+module _ (s : List ℕ) (whole : wholeNodes (length s) ≡ true) (ok : sound s ≡ true) (live : ℕ) (l : live ≡ u16 s 10) (p : List ℕ) (r : Found) (f : Finds s (valueIn s p) r) where
   live-is : live ≡ length (tableOf s)
   live-is =
       let parts : Whole (length s) = whole-parts (length s) whole in
@@ -86,30 +91,46 @@ module _ (s : List ℕ) (whole : wholeNodes (length s) ≡ true) (ok : sound s �
   unfolding foundIn
   not-there e = sym (means-table s ok p) ∙ sym (f .meant) ∙ ap (foundIn s) e
 
-  pub put-over : (v : Place) → c ≡ Change.Put → r ≡ Found.Value v → Known c p (tableOf s) live
-  unfolding Known messageOf apply
-  put-over v q e = λ x h. rw q (live-is ∙ sym (over-same p x (tableOf s) (part s v) (table-rises s ok) (there v e)))
+  pub with-over : (v : Place) → r ≡ Found.Value v → CountWith p (tableOf s) live
+  unfolding CountWith
+  with-over v e = λ x. live-is ∙ sym (over-same p x (tableOf s) (part s v) (table-rises s ok) (there v e))
 
-  pub put-new : c ≡ Change.Put → r ≡ Found.Nothing → Known c p (tableOf s) (live + 1)
-  unfolding Known messageOf apply
-  put-new q e = λ x h. rw q (let a = live-is in let b = with-length p x (tableOf s) (not-there e) in omega arith)
+  pub with-new : r ≡ Found.Nothing → CountWith p (tableOf s) (live + 1)
+  unfolding CountWith
+  with-new e = λ x. let a = live-is in let b = with-length p x (tableOf s) (not-there e) in omega arith
 
   pub one-there : (v : Place) → r ≡ Found.Value v → 1 ≤ live
   one-there v e = let a = live-is in let b = without-one p (tableOf s) (part s v) (table-rises s ok) (there v e) in omega arith
 
-  pub drop-one : (v : Place) → c ≡ Change.Drop → r ≡ Found.Value v → Known c p (tableOf s) (live - 1)
-  unfolding Known messageOf apply
-  drop-one v q e = λ x h. rw q (let a = live-is in let b = without-one p (tableOf s) (part s v) (table-rises s ok) (there v e) in omega arith)
+  pub without-it : (v : Place) → r ≡ Found.Value v → live - 1 ≡ length (without p (tableOf s))
+  without-it v e = let a = live-is in let b = without-one p (tableOf s) (part s v) (table-rises s ok) (there v e) in omega arith
 
-  pub drop-none : c ≡ Change.Drop → r ≡ Found.Nothing → Known c p (tableOf s) live
-  unfolding Known messageOf apply
-  drop-none q e = λ x h. rw q (live-is ∙ sym (without-none p (tableOf s) (not-there e)))
+  pub without-it-already : r ≡ Found.Nothing → live ≡ length (without p (tableOf s))
+  without-it-already e = live-is ∙ sym (without-none p (tableOf s) (not-there e))
 
-  pub clear-unknown : Known c p (tableOf s) 65536
-  unfolding Known
-  clear-unknown = λ x h. absurd (omega arith)
+-- what a count says of a change
+pub known-put : (p v : List ℕ) (t : List Row) (r : ℕ) → CountWith p t r → Known (messageOf Change.Put p v) t r
+unfolding Known CountWith messageOf apply
+known-put p v t r f = λ h. f v
+
+pub known-drop : (p v : List ℕ) (t : List Row) (r : ℕ) → r ≡ length (without p t) → Known (messageOf Change.Drop p v) t r
+unfolding Known messageOf apply
+known-drop p v t r e = λ h. e
+
+pub known-not : (m : Message) (t : List Row) → Known m t 65536
+unfolding Known
+known-not m t = λ h. absurd (omega arith)
 
 -- the same, of the table after the change
-pub known-after : (c : Change) (p v : List ℕ) (t u : List Row) (k : ℕ) → Known c p t k → u ≡ apply [] (messageOf c p v) t → k ≤ 65535 → k ≡ length u
+pub known-after : (m : Message) (t u : List Row) (k : ℕ) → Known m t k → u ≡ apply [] m t → k ≤ 65535 → k ≡ length u
 unfolding Known
-known-after c p v t u k f e h = f v h ∙ ap length (sym e)
+known-after m t u k f e h = f h ∙ ap length (sym e)
+
+-- question 10: the path is present or there are fewer than n paths, exactly where there are at most n once it has a value
+pub place-told : (p : List ℕ) (t : List Row) (n r : ℕ) → rising t ≡ true → length t ≤ n → CountWith p t r → leb r n ≡ isSome (find p t) || ltb (length t) n
+unfolding CountWith isSome
+place-told p t n r e few f = go (find p t) refl
+  where
+    go : (x : Option (List ℕ)) → find p t ≡ x → leb r n ≡ isSome (find p t) || ltb (length t) n
+    go (some x) q = let a = f [] in let b = over-same p [] t x e q in rw q (le-leb r n (omega arith))
+    go none q = let a = f [] in let b = with-length p [] t q in rw q (ap (λ k. leb k n) (omega arith))

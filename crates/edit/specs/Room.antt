@@ -1,27 +1,23 @@
 -- Room for a message at the root: what each step of the code leaves, and that after a rebuild there always is room.
-use Prim.Native.Nat.{ℕ, _*_, _/_, _<_, _≤_}
+use Prim.Native.Nat.{ℕ, _+_, _*_, _/_, _<_, _≤_}
 use mathlib.Core.Path.{_≡_, refl, sym, ap, _∙_}
 use mathlib.Core.List.{List}
-use mathlib.Core.Bool.{Bool, true, false, cond}
+use mathlib.Core.Bool.{Bool, true, false}
 use mathlib.Core.Logic.{_⊎_, inl, inr}
 use native.Mathlib.Omega.{arith}
 use lib.ListN.{length, drop, getD}
+use borrow.Author.Tests.{le-leb}
 use Rattle.image.specs.Bytes.{u16}
 use Rattle.image.specs.Image.{nodesOf, wholeNodes, treeOf}
 use Rattle.image.specs.Sound.{sound, tableOf, isIn, numbers}
 use Rattle.image.specs.Calls.{workPerNode}
 use Rattle.node.specs.Whole.{Whole, whole-parts}
-use Rattle.tree_check.specs.declared.Tally.{Tally}
-use Rattle.append.specs.Laws.Append.{roomAtRoot, header-levels}
+use Rattle.tree_check.specs.Whole.{Marks}
+use Rattle.append.specs.Laws.Append.{roomAtRoot, rootAt, room-levels, room-fits, header-levels}
 use Rattle.rebuild.specs.Rebuild.{Rebuilt, cleared}
-use Rattle.questions.specs.Asked.{Fit}
 use Rattle.finish.specs.Finished.{cleared-size, cleared-later}
 use Rattle.edit.specs.Free.{FirstFree}
 use Rattle.edit.specs.declared.Spot.{Spot}
-
--- seen has 1 for each node that the tree reaches, and 0 for the others
-pub record Marks (s seen : List ℕ) : Type 0 where
-  pub marked : (i : ℕ) → i < nodesOf (length s) → getD seen i 0 ≡ cond (isIn i (numbers (treeOf s))) 1 0
 
 -- node i is free, and a root of one level more is allowed
 pub record Free (s : List ℕ) (i : ℕ) : Type 0 where
@@ -36,9 +32,6 @@ pub record Above (s : List ℕ) (r : ℕ) : Type 0 where
 
 pub above-none : (s : List ℕ) → Above s 0
 above-none s = record { some = λ h. absurd (h refl) }
-
-pub fit-marks : (s w : List ℕ) (t : Tally) (seen : List ℕ) → Fit s w t seen → Marks s seen
-fit-marks s w t seen f = record { marked = f .holds .reached }
 
 pub above-found : (s seen : List ℕ) (n r levels : ℕ) → Marks s seen → n ≡ nodesOf (length s) → levels ≡ u16 s 8 → levels ≤ 7 → FirstFree seen n r → Above s r
 above-found s seen n r levels held z l h f =
@@ -77,9 +70,17 @@ pub record Roomy (s s′ w w′ : List ℕ) (size : ℕ) (r : Spot) : Type 0 whe
   pub area : (w′ ≡ w) ⊎ (w′ ≡ cleared (nodesOf (length s)) w)
   pub spot : SpotFits s′ size r
 
-pub roomy-now : (s w : List ℕ) (size : ℕ) (b : Bool) → sound s ≡ true → b ≡ roomAtRoot s size → b ≡ true → Roomy s s w w size Spot.AtRoot
+-- room with a reserve is room
+room-less : (s : List ℕ) (size reserve : ℕ) → roomAtRoot s (size + reserve) ≡ true → roomAtRoot s size ≡ true
+unfolding roomAtRoot
+room-less s size reserve e =
+    let f = room-fits s (size + reserve) e in
+    rw (le-leb 2 (u16 s 8) (room-levels s (size + reserve) e), le-leb (u16 s (rootAt s) + size) 1016 (omega arith))
+
+pub roomy-now : (s w : List ℕ) (size reserve : ℕ) (b : Bool) → sound s ≡ true → b ≡ roomAtRoot s (size + reserve) → b ≡ true → Roomy s s w w size Spot.AtRoot
 unfolding SpotFits
-roomy-now s w size b ok e f = record { is-sound = ok; table = refl; length-same = refl; work-length = refl; work-later = refl; area = inl refl; spot = sym e ∙ f }
+roomy-now s w size reserve b ok e f =
+    record { is-sound = ok; table = refl; length-same = refl; work-length = refl; work-later = refl; area = inl refl; spot = room-less s size reserve (sym e ∙ f) }
 
 pub roomy-above : (s w : List ℕ) (size r : ℕ) → sound s ≡ true → Above s r → (r ≡ 0 → ⊥) → Roomy s s w w size (Spot.Above r)
 unfolding SpotFits
@@ -91,11 +92,6 @@ module _ (s s′ w w′ : List ℕ) (size : ℕ) (whole : wholeNodes (length s) 
 
   same-later : drop (workPerNode * nodesOf (length s)) w′ ≡ drop (workPerNode * nodesOf (length s)) w
   same-later = cleared-later (nodesOf (length s)) w w′ (r .work)
-
-  pub rebuilt-now : (b : Bool) → b ≡ roomAtRoot s′ size → b ≡ true → Roomy s s′ w w′ size Spot.AtRoot
-  unfolding SpotFits
-  rebuilt-now b e f =
-      record { is-sound = r .is-sound; table = r .table; length-same = r .size; work-length = same-work; work-later = same-later; area = inr (r .work); spot = sym e ∙ f }
 
   pub rebuilt-above : (i : ℕ) → i ≡ length s′ / 1024 / 4 → Roomy s s′ w w′ size (Spot.Above i)
   unfolding SpotFits

@@ -1,18 +1,17 @@
 // put, drop and clear: each becomes one message at the root. Where the root has no room, a new root is put above an old one that holds no
-// message; where that cannot be, the store is rebuilt first, and then one of the two always can. The live count follows by one lookup; after
-// a clear it is counted anew. Each call is questions 1 and 2, its part on a store that is fit (put_fit, drop_fit, clear_fit), which uses the work
-// area for a rebuild alone and leaves it zero then, and the area zeroed. Relies on: questions, append (the message), rebuild, live (the count).
+// message; where that cannot be, the store is rebuilt first, and then it always can. The live count follows by one lookup; after a clear it is
+// counted anew. Each call is questions 1 and 2, its part on a store that is fit (put_fit, drop_fit, clear_fit), which uses the work area for a
+// rebuild alone and leaves it zero then, and the area zeroed. Relies on: questions, append (the message), rebuild, live (the count).
 use image::Outcome;
 use image::Refusal;
 use node::search::Found;
-use questions::Ready;
+use questions::Admission;
 ghost use mathlib.Core.Path.{_≡_};
-ghost use mathlib.Core.Bool.{true, _||_};
-ghost use Prim.Native.Nat.{_*_, _/_, _≤_};
+ghost use mathlib.Core.Bool.{true};
+ghost use Prim.Native.Nat.{_+_, _≤_};
 ghost use lib.ListN.{length};
-ghost use lib.Dec.{ltb};
 ghost use Rattle.image.specs.Path.{wellFormed, valueFits};
-ghost use Rattle.image.specs.Table.{find, isSome};
+ghost use Rattle.image.specs.Table.{without};
 ghost use Rattle.image.specs.Image.{nodesOf, wholeNodes};
 ghost use Rattle.image.specs.Sound.{sound, tableOf};
 ghost use Rattle.laws.specs.ButLive.{soundButLive};
@@ -23,9 +22,13 @@ ghost use Rattle.image.specs.Answers.{outcomeAnswer};
 ghost use Rattle.questions.specs.Acted.{Passed, Acted};
 ghost use Rattle.append.specs.Laws.Append.{roomAtRoot, Appended};
 ghost use Rattle.edit.specs.Change.{messageOf, sizeOf, Allowed};
-ghost use Rattle.edit.specs.Known.{Known};
-ghost use Rattle.edit.specs.Room.{Marks, Above, Free, SpotFits, Roomy};
+ghost use Rattle.edit.specs.Known.{Known, CountWith};
+ghost use Rattle.edit.specs.Room.{Above, Free, SpotFits, Roomy};
 ghost use Rattle.edit.specs.Edited.{Counted, Edited};
+
+// Of the root's 1,016 bytes for entries a call leaves so many free, and rebuilds the store before it takes them: a message that waits costs every
+// later judgement, and a rebuild that comes sooner is cheaper. A batch, which judges once, leaves none free.
+pub const RESERVE: usize = 616;
 
 // What is done to a path.
 pub enum Change {
@@ -55,10 +58,9 @@ fn first_free(seen: &[u8; 1024], n: usize) -> usize
     0
 }
 
-// A free node for a new root above the old one, by the marks of the nodes in use; 0 where the root holds a message, there is no level left, or no
-// node is free.
-fn free_above(store: &[u8], seen: &[u8; 1024]) -> usize
-    requires { ⌜ (wholeNodes (length (now store)) ≡ true) × (sound (now store) ≡ true) × Marks (now store) (now seen) ⌝ }
+// A free node for a new root above the old one; 0 where the root holds a message, there is no level left, or no node is free.
+fn free_above(store: &[u8]) -> usize
+    requires { ⌜ (wholeNodes (length (now store)) ≡ true) × (sound (now store) ≡ true) ⌝ }
     ensures { λ r. ⌜ Above (now (store .entry)) r ⌝ }
 {
     if append::has_messages_at_root(store) {
@@ -68,75 +70,27 @@ fn free_above(store: &[u8], seen: &[u8; 1024]) -> usize
     if 7 < levels {
         return 0;
     }
-    first_free(seen, store.len() / image::NODE_SIZE)
+    let mut seen = [0u8; 1024];
+    tree_check::marks::mark_nodes(store, &mut seen);
+    first_free(&seen, store.len() / image::NODE_SIZE)
 }
 
-// The first node that a rebuild is sure to leave free: a packed tree takes none from a quarter of them on.
-fn upper_node(store: &[u8]) -> usize
-    ensures { λ r. ⌜ r ≡ length (now (store .entry)) / 1024 / 4 ⌝ }
-{
-    store.len() / image::NODE_SIZE / 4
-}
-
-// Room for a message of this size in a store that is rebuilt for it.
-fn room_rebuilt(store: &mut [u8], work: &mut [u8], size: usize) -> Spot
-    requires { ⌜ Passed (now store) (now work) × (size ≤ 1010) ⌝ }
+// Makes room for a message of this size, with a reserve left at the root, and tells where. After a rebuild a new root goes above the packed one
+// even where that has room, so that a whole node's worth of messages comes before the next rebuild; a packed tree takes no node from a quarter
+// of them on.
+fn make_room(store: &mut [u8], work: &mut [u8], size: usize, reserve: usize) -> Spot
+    requires { ⌜ Passed (now store) (now work) × (size + reserve ≤ 1016) ⌝ }
     ensures { λ r. ⌜ Roomy (now (store .entry)) (now (store .exit)) (now (work .entry)) (now (work .exit)) size r ⌝ }
 {
-    rebuild::rebuild(store, work);
-    if append::fits_at_root(store, size) {
+    if append::fits_at_root(store, size + reserve) {
         return Spot::AtRoot;
     }
-    Spot::Above(upper_node(store))
-}
-
-// Makes room for a message of this size, and tells where. The marks are those of the store as it is given.
-fn make_room(store: &mut [u8], work: &mut [u8], size: usize, seen: &[u8; 1024]) -> Spot
-    requires { ⌜ Passed (now store) (now work) × (size ≤ 1010) × Marks (now store) (now seen) ⌝ }
-    ensures { λ r. ⌜ Roomy (now (store .entry)) (now (store .exit)) (now (work .entry)) (now (work .exit)) size r ⌝ }
-{
-    if append::fits_at_root(store, size) {
-        return Spot::AtRoot;
-    }
-    let free = free_above(store, seen);
+    let free = free_above(store);
     if free != 0 {
         return Spot::Above(free);
     }
-    room_rebuilt(store, work, size)
-}
-
-// The same in a store whose nodes are not marked, by marks of its own.
-fn room_anew(store: &mut [u8], work: &mut [u8], size: usize) -> Spot
-    requires { ⌜ Passed (now store) (now work) × (size ≤ 1010) ⌝ }
-    ensures { λ r. ⌜ Roomy (now (store .entry)) (now (store .exit)) (now (work .entry)) (now (work .exit)) size r ⌝ }
-{
-    let mut seen = [0u8; 1024];
-    questions::mark(store, &mut seen);
-    make_room(store, work, size, &seen)
-}
-
-// Room for a message of this size: by the marks of the store where it is marked. Else its nodes are marked only where a free node is asked
-// for; a root that is full and holds messages needs none, since the store is rebuilt.
-fn find_room(
-    store: &mut [u8],
-    work: &mut [u8],
-    seen: &[u8; 1024],
-    marked: bool,
-    size: usize,
-) -> Spot
-    requires { ⌜ Passed (now store) (now work) × (marked ≡ true → Marks (now store) (now seen)) × (size ≤ 1010) ⌝ }
-    ensures { λ r. ⌜ Roomy (now (store .entry)) (now (store .exit)) (now (work .entry)) (now (work .exit)) size r ⌝ }
-{
-    if marked {
-        return make_room(store, work, size, seen);
-    }
-    if append::fits_at_root(store, size) {
-        return Spot::AtRoot;
-    }
-    if append::has_messages_at_root(store) {
-        return room_rebuilt(store, work, size);
-    }
-    room_anew(store, work, size)
+    rebuild::rebuild(store, work);
+    Spot::Above(store.len() / image::NODE_SIZE / 4)
 }
 
 // How many bytes the entry of a change has.
@@ -194,28 +148,30 @@ fn add(store: &mut [u8], spot: Spot, change: Change, path: &[u8], value: &[u8])
     }
 }
 
-// How many paths there are after a change, by one lookup; 65,536 where that does not tell.
-fn count_after(store: &[u8], change: Change, path: &[u8]) -> usize
+// How many paths there are once a path has a value, by one lookup.
+fn count_with(store: &[u8], path: &[u8]) -> usize
     requires { ⌜ (wholeNodes (length (now store)) ≡ true) × (sound (now store) ≡ true) ⌝ }
-    ensures { λ r. ⌜ Known change (now (path .entry)) (tableOf (now (store .entry))) r ⌝ }
+    ensures { λ r. ⌜ CountWith (now (path .entry)) (tableOf (now (store .entry))) r ⌝ }
 {
     let live = octets::u16_at(store, image::LIVE_AT);
     let found = lookup::value_of(store, path);
-    match change {
-        Change::Put => {
-            let Found::Nothing = found else {
-                return live;
-            };
-            live + 1
-        }
-        Change::Drop => {
-            let Found::Nothing = found else {
-                return live - 1;
-            };
-            live
-        }
-        Change::Clear => 65536,
-    }
+    let Found::Nothing = found else {
+        return live;
+    };
+    live + 1
+}
+
+// How many paths there are once a path is absent, by one lookup.
+fn count_without(store: &[u8], path: &[u8]) -> usize
+    requires { ⌜ (wholeNodes (length (now store)) ≡ true) × (sound (now store) ≡ true) ⌝ }
+    ensures { λ r. ⌜ r ≡ length (without (now (path .entry)) (tableOf (now (store .entry)))) ⌝ }
+{
+    let live = octets::u16_at(store, image::LIVE_AT);
+    let found = lookup::value_of(store, path);
+    let Found::Nothing = found else {
+        return live - 1;
+    };
+    live
 }
 
 // The live count written: counted anew where 65,536 says that it is not known.
@@ -234,51 +190,37 @@ fn write_count(store: &mut [u8], known: usize)
     append::set_live(store, known);
 }
 
-// A change that the questions allow.
+// A change that the questions allow; `count` is how many paths there are after it, or 65,536 where that is not known.
 fn apply_change(
     store: &mut [u8],
     work: &mut [u8],
-    seen: &[u8; 1024],
-    marked: bool,
     change: Change,
     path: &[u8],
     value: &[u8],
+    count: usize,
+    reserve: usize,
 )
     requires { ⌜ Passed (now store) (now work)
-        × (marked ≡ true → Marks (now store) (now seen))
-        × Allowed change (now path) (now value) (tableOf (now store)) (nodesOf (length (now store))) ⌝ }
+        × (reserve ≤ 900)
+        × Allowed change (now path) (now value) (tableOf (now store)) (nodesOf (length (now store)))
+        × Known (messageOf change (now path) (now value)) (tableOf (now store)) count ⌝ }
     ensures { λ _. ⌜ Edited (now (store .entry)) (now (store .exit)) (now (work .entry)) (now (work .exit)) (messageOf change (now (path .entry)) (now (value .entry))) ⌝ }
 {
-    let known = count_after(store, change, path);
     let size = entry_size(change, path.len(), value.len());
-    let spot = find_room(store, work, seen, marked, size);
+    let spot = make_room(store, work, size, reserve);
     add(store, spot, change, path, value);
-    write_count(store, known);
+    write_count(store, count);
 }
 
-// Question 10: is the path present, or are fewer than n paths?
-fn has_place(store: &[u8], path: &[u8]) -> bool
-    requires { ⌜ (wholeNodes (length (now store)) ≡ true) × (sound (now store) ≡ true) ⌝ }
-    ensures { λ r. ⌜ r ≡ isSome (find (now (path .entry)) (tableOf (now (store .entry)))) || ltb (length (tableOf (now (store .entry)))) (nodesOf (length (now (store .entry)))) ⌝ }
-{
-    let found = lookup::value_of(store, path);
-    let Found::Nothing = found else {
-        return true;
-    };
-    let live = octets::u16_at(store, image::LIVE_AT);
-    live < store.len() / image::NODE_SIZE
-}
-
-// put, on a store and a work area that are fit; `seen` has the marks of the check where the store is marked.
+// put, on a store and a work area that are fit. Question 10 asks whether there is a node for each path.
 pub fn put_fit(
     store: &mut [u8],
     work: &mut [u8],
-    seen: &[u8; 1024],
-    marked: bool,
     path: &[u8],
     value: &[u8],
+    reserve: usize,
 ) -> Outcome
-    requires { ⌜ Passed (now store) (now work) × (marked ≡ true → Marks (now store) (now seen)) ⌝ }
+    requires { ⌜ Passed (now store) (now work) × (reserve ≤ 900) ⌝ }
     ensures { λ r. ⌜ Acted (now (store .entry)) (acts (put (now (path .entry)) (now (value .entry))) (now (work .entry))) r (now (store .exit)) (now (work .entry)) (now (work .exit)) ⌝ }
 {
     if !path::is_path(path) {
@@ -287,10 +229,11 @@ pub fn put_fit(
     if image::VALUE_LIMIT < value.len() {
         return Outcome::Refused(Refusal::LongValue);
     }
-    if !has_place(store, path) {
+    let count = count_with(store, path);
+    if store.len() / image::NODE_SIZE < count {
         return Outcome::Refused(Refusal::Full);
     }
-    apply_change(store, work, seen, marked, Change::Put, path, value);
+    apply_change(store, work, Change::Put, path, value, count, reserve);
     Outcome::Done
 }
 
@@ -301,9 +244,9 @@ pub fn put(store: &mut [u8], work: &mut [u8], path: &[u8], value: &[u8]) -> Outc
     let mut seen = [0u8; 1024];
     let asked = questions::ask(store, work, &mut seen);
     match asked {
-        Ready::Refused(refusal) => Outcome::Refused(refusal),
-        Ready::Fit(_) => {
-            let outcome = put_fit(store, work, &seen, true, path, value);
+        Admission::Refused(refusal) => Outcome::Refused(refusal),
+        Admission::Fit(_) => {
+            let outcome = put_fit(store, work, path, value, RESERVE);
             questions::zero_area(outcome, work, store.len() / image::NODE_SIZE);
             outcome
         }
@@ -311,20 +254,15 @@ pub fn put(store: &mut [u8], work: &mut [u8], path: &[u8], value: &[u8]) -> Outc
 }
 
 // drop, likewise.
-pub fn drop_fit(
-    store: &mut [u8],
-    work: &mut [u8],
-    seen: &[u8; 1024],
-    marked: bool,
-    path: &[u8],
-) -> Outcome
-    requires { ⌜ Passed (now store) (now work) × (marked ≡ true → Marks (now store) (now seen)) ⌝ }
+pub fn drop_fit(store: &mut [u8], work: &mut [u8], path: &[u8], reserve: usize) -> Outcome
+    requires { ⌜ Passed (now store) (now work) × (reserve ≤ 900) ⌝ }
     ensures { λ r. ⌜ Acted (now (store .entry)) (acts (drops (now (path .entry))) (now (work .entry))) r (now (store .exit)) (now (work .entry)) (now (work .exit)) ⌝ }
 {
     if !path::is_path(path) {
         return Outcome::Refused(Refusal::Malformed);
     }
-    apply_change(store, work, seen, marked, Change::Drop, path, &path[0..0]);
+    let count = count_without(store, path);
+    apply_change(store, work, Change::Drop, path, &path[0..0], count, reserve);
     Outcome::Done
 }
 
@@ -335,30 +273,32 @@ pub fn drop(store: &mut [u8], work: &mut [u8], path: &[u8]) -> Outcome
     let mut seen = [0u8; 1024];
     let asked = questions::ask(store, work, &mut seen);
     match asked {
-        Ready::Refused(refusal) => Outcome::Refused(refusal),
-        Ready::Fit(_) => {
-            let outcome = drop_fit(store, work, &seen, true, path);
+        Admission::Refused(refusal) => Outcome::Refused(refusal),
+        Admission::Fit(_) => {
+            let outcome = drop_fit(store, work, path, RESERVE);
             questions::zero_area(outcome, work, store.len() / image::NODE_SIZE);
             outcome
         }
     }
 }
 
-// clear, likewise.
-pub fn clear_fit(
-    store: &mut [u8],
-    work: &mut [u8],
-    seen: &[u8; 1024],
-    marked: bool,
-    path: &[u8],
-) -> Outcome
-    requires { ⌜ Passed (now store) (now work) × (marked ≡ true → Marks (now store) (now seen)) ⌝ }
+// clear, likewise. How many paths there are below the given one is not known.
+pub fn clear_fit(store: &mut [u8], work: &mut [u8], path: &[u8], reserve: usize) -> Outcome
+    requires { ⌜ Passed (now store) (now work) × (reserve ≤ 900) ⌝ }
     ensures { λ r. ⌜ Acted (now (store .entry)) (acts (clear (now (path .entry))) (now (work .entry))) r (now (store .exit)) (now (work .entry)) (now (work .exit)) ⌝ }
 {
     if !path::is_path(path) {
         return Outcome::Refused(Refusal::Malformed);
     }
-    apply_change(store, work, seen, marked, Change::Clear, path, &path[0..0]);
+    apply_change(
+        store,
+        work,
+        Change::Clear,
+        path,
+        &path[0..0],
+        65536,
+        reserve,
+    );
     Outcome::Done
 }
 
@@ -369,9 +309,9 @@ pub fn clear(store: &mut [u8], work: &mut [u8], path: &[u8]) -> Outcome
     let mut seen = [0u8; 1024];
     let asked = questions::ask(store, work, &mut seen);
     match asked {
-        Ready::Refused(refusal) => Outcome::Refused(refusal),
-        Ready::Fit(_) => {
-            let outcome = clear_fit(store, work, &seen, true, path);
+        Admission::Refused(refusal) => Outcome::Refused(refusal),
+        Admission::Fit(_) => {
+            let outcome = clear_fit(store, work, path, RESERVE);
             questions::zero_area(outcome, work, store.len() / image::NODE_SIZE);
             outcome
         }

@@ -96,31 +96,31 @@ messagesOf (pair s v ∷ es) = none
 messagesOf (child i s ∷ es) = none
 messagesOf (message m ∷ es) = messageThen m (messagesOf es)
 
--- in an interior node children, "then messages, oldest first"
-pub record Kid : Type 0 where
+-- in an interior node children, "then messages, oldest first"; a child as its parent has it is a branch: its number and its pivot
+pub record Branch : Type 0 where
   pub number : ℕ
   pub pivot : List ℕ
 
 pub record Inside : Type 0 where
-  pub kids : List Kid
+  pub branches : List Branch
   pub messages : List Message
 
-unfoldable pub noKids : Option (List Message) → Option Inside
-noKids none = none
-noKids (some ms) = some (record { kids = []; messages = ms })
+unfoldable pub noBranches : Option (List Message) → Option Inside
+noBranches none = none
+noBranches (some ms) = some (record { branches = []; messages = ms })
 
-unfoldable pub kidThen : Kid → Option Inside → Option Inside
-kidThen k none = none
-kidThen k (some rest) = some (record { kids = k ∷ rest .kids; messages = rest .messages })
+unfoldable pub branchThen : Branch → Option Inside → Option Inside
+branchThen k none = none
+branchThen k (some rest) = some (record { branches = k ∷ rest .branches; messages = rest .messages })
 
 unfoldable pub insideOf : List Entry → Option Inside
-insideOf [] = some (record { kids = []; messages = [] })
+insideOf [] = some (record { branches = []; messages = [] })
 insideOf (pair s v ∷ es) = none
-insideOf (child i s ∷ es) = kidThen (record { number = i; pivot = s }) (insideOf es)
-insideOf (message m ∷ es) = noKids (messagesOf (message m ∷ es))
+insideOf (child i s ∷ es) = branchThen (record { number = i; pivot = s }) (insideOf es)
+insideOf (message m ∷ es) = noBranches (messagesOf (message m ∷ es))
 
 -- the trees under the children
-unfoldable pub forestOf : (ℕ → Tree) → List Kid → Forest
+unfoldable pub forestOf : (ℕ → Tree) → List Branch → Forest
 forestOf under [] = end
 forestOf under (k ∷ ks) = tree (k .pivot) (under (k .number)) (forestOf under ks)
 
@@ -130,7 +130,7 @@ leafOf i (some rows) = leaf i rows
 
 unfoldable pub interiorOf : (ℕ → Tree) → ℕ → Option Inside → Tree
 interiorOf under i none = unread i
-interiorOf under i (some x) = interior i (forestOf under (x .kids)) (x .messages)
+interiorOf under i (some x) = interior i (forestOf under (x .branches)) (x .messages)
 
 unfoldable pub orNone : {A B : Type 0} → (A → Option B) → Option A → Option B
 orNone f none = none

@@ -5,8 +5,8 @@ use mathlib.Core.List.{List, [], _∷_, _++_}
 use mathlib.Core.Bool.{Bool, true, false, _&&_, not, cond}
 use lib.ListN.{length, drop}
 use Rattle.image.specs.Bytes.{same, before, begins, shared}
-use Rattle.image.specs.Path.{wellFormed, owns, valueFits}
-use Rattle.image.specs.Table.{Row, everyKey, underPrefix, leads, rising, withRow}
+use Rattle.image.specs.Path.{wellFormed, owns, valueFits, below}
+use Rattle.image.specs.Table.{Row, everyKey, underPrefix, leads, rising, withRow, rowsBelow}
 use Rattle.image.specs.Image.{leaf}
 use Rattle.image.specs.Meaning.{rows}
 use Rattle.image.specs.Sound.{soundTree, valuesFit}
@@ -100,6 +100,15 @@ keep-rises test (r ∷ t) e = go (test (r .key)) refl (keep-rises test t (and-ri
     go : (x : Bool) → test (r .key) ≡ x → rising (keep test t) ≡ true → rising (keep test (r ∷ t)) ≡ true
     go true a ih = rw a (both (leads-keep (r .key) test t (and-right (leads (r .key) t) _ e) (and-left _ _ e)) ih)
     go false a ih = rw a ih
+
+-- the rows below a path, as a filter
+pub keep-below : (p : List ℕ) (t : List Row) → rowsBelow p t ≡ keep (begins p) t
+unfolding rowsBelow keep below
+keep-below p [] = refl
+keep-below p (r ∷ t) = ap (λ l. cond (begins p (r .key)) (r ∷ l) l) (keep-below p t)
+
+pub below-rises : (p : List ℕ) (t : List Row) → rising t ≡ true → rising (rowsBelow p t) ≡ true
+below-rises p t e = ap rising (keep-below p t) ∙ keep-rises (begins p) t e
 
 -- the two sides of a cut, one after the other, are the whole
 leads-since : (k : List ℕ) (r : Row) (t : List Row) → before (r .key) k ≡ false → rising (r ∷ t) ≡ true → everyKey (since k) t ≡ true

@@ -7,7 +7,7 @@ use mathlib.Core.Option.{Option, none, some}
 use lib.Dec.{eqb}
 use borrow.Author.Tests.{eq-eqb}
 use Rattle.image.specs.Table.{Row}
-use Rattle.image.specs.Image.{Tree, interior, tree, Kid, Inside, nodeBytes, nodeEntries, pairsOf, insideOf, forestOf, leafOf, interiorOf, orNone, treeAt}
+use Rattle.image.specs.Image.{Tree, interior, tree, Branch, Inside, nodeBytes, nodeEntries, pairsOf, insideOf, forestOf, leafOf, interiorOf, orNone, treeAt}
 use Rattle.image.specs.Sound.{numbers, numbersIn, isIn}
 
 -- two images have the same bytes at these nodes
@@ -53,7 +53,7 @@ keeps-tail s s′ i is k = λ j e. k j (or-right (eqb j i) (isIn j is) e)
 
 -- the children of a node
 pub forest-stays : (s s′ : List ℕ) (u u′ : ℕ → Tree) → ((i : ℕ) → Keeps s s′ (numbers (u i)) → u′ i ≡ u i)
-    → (ks : List Kid) → Keeps s s′ (numbersIn (forestOf u ks)) → forestOf u′ ks ≡ forestOf u ks
+    → (ks : List Branch) → Keeps s s′ (numbersIn (forestOf u ks)) → forestOf u′ ks ≡ forestOf u ks
 unfolding forestOf numbersIn
 forest-stays s s′ u u′ under [] k = refl
 forest-stays s s′ u u′ under (x ∷ ks) k =
@@ -69,14 +69,14 @@ own-leaf s s′ i (some rs) k = keeps-head s s′ i [] k
 own-interior : (s s′ : List ℕ) (u : ℕ → Tree) (i : ℕ) (o : Option Inside) → Keeps s s′ (numbers (interiorOf u i o)) → nodeBytes s′ i ≡ nodeBytes s i
 unfolding interiorOf numbers
 own-interior s s′ u i none k = keeps-head s s′ i [] k
-own-interior s s′ u i (some x) k = keeps-head s s′ i (numbersIn (forestOf u (x .kids))) k
+own-interior s s′ u i (some x) k = keeps-head s s′ i (numbersIn (forestOf u (x .branches))) k
 
 interior-stays : (s s′ : List ℕ) (u u′ : ℕ → Tree) → ((i : ℕ) → Keeps s s′ (numbers (u i)) → u′ i ≡ u i)
     → (i : ℕ) (o : Option Inside) → Keeps s s′ (numbers (interiorOf u i o)) → interiorOf u′ i o ≡ interiorOf u i o
 unfolding interiorOf numbers
 interior-stays s s′ u u′ under i none k = refl
 interior-stays s s′ u u′ under i (some x) k =
-    ap (λ f. interior i f (x .messages)) (forest-stays s s′ u u′ under (x .kids) (keeps-tail s s′ i (numbersIn (forestOf u (x .kids))) k))
+    ap (λ f. interior i f (x .messages)) (forest-stays s s′ u u′ under (x .branches) (keeps-tail s s′ i (numbersIn (forestOf u (x .branches))) k))
 
 -- The tree under node i stays where the bytes of its nodes stay.
 pub tree-stays : (l : ℕ) (s s′ : List ℕ) (i : ℕ) → Keeps s s′ (numbers (treeAt l s i)) → treeAt l s′ i ≡ treeAt l s i

@@ -119,14 +119,14 @@ parts s t f lifted lo hi e =
     }
 
 pub record Inner (f : Forest) (ms : List Message) (lo hi : List ℕ) : Type 0 where
-  pub kids : soundForest f (shared lo hi) lo hi ≡ true
+  pub branches : soundForest f (shared lo hi) lo hi ≡ true
   pub wait : soundMessages lo hi ms ≡ true
 
 pub inner : (i : ℕ) (f : Forest) (ms : List Message) (lo hi : List ℕ) → soundTree (interior i f ms) lo hi ≡ true → Inner f ms lo hi
 unfolding soundTree
 inner i f ms lo hi e =
     record {
-      kids = and-right (firstPivot (shared lo hi) lo f) _ (and-left _ _ e);
+      branches = and-right (firstPivot (shared lo hi) lo f) _ (and-left _ _ e);
       wait = and-right (firstPivot (shared lo hi) lo f && soundForest f (shared lo hi) lo hi) _ e;
     }
 
@@ -149,7 +149,7 @@ mutual
   outside (leaf i rs) lo hi q e n = find-fails (owns lo hi) q (underPrefix (shared lo hi) rs) (leaf-owned i rs lo hi e) n
   outside (interior i f ms) lo hi q e n =
       all-none lo hi q ms (rowsIn f (shared lo hi) hi) (inner i f ms lo hi e .wait) n
-      (outside-in f (shared lo hi) lo hi q (inner i f ms lo hi e .kids) n)
+      (outside-in f (shared lo hi) lo hi q (inner i f ms lo hi e .branches) n)
 
   pub outside-in : (f : Forest) (lifted lo hi q : List ℕ) → soundForest f lifted lo hi ≡ true → owns lo hi q ≡ false → find q (rowsIn f lifted hi) ≡ none
   outside-in end lifted lo hi q e n = find-nil q
@@ -238,7 +238,7 @@ mutual
       ∙ ap (λ q. find q (underPrefix (shared lo hi) rs)) o
   lookup-find (interior i f ms) lo hi p e o =
       lookup-decide i f ms lo hi p
-      ∙ ap (λ d. decide (newest ms (drop (length (shared lo hi)) p)) d) (lookup-find-in f (shared lo hi) lo hi p (inner i f ms lo hi e .kids))
+      ∙ ap (λ d. decide (newest ms (drop (length (shared lo hi)) p)) d) (lookup-find-in f (shared lo hi) lo hi p (inner i f ms lo hi e .branches))
       ∙ ap (λ q. decide (newest ms (drop (length (shared lo hi)) p)) (find q (rowsIn f (shared lo hi) hi))) (sym o)
       ∙ sym (all-find (shared lo hi) (drop (length (shared lo hi)) p) ms (rowsIn f (shared lo hi) hi))
       ∙ ap (λ q. find q (applyAll (shared lo hi) ms (rowsIn f (shared lo hi) hi))) o

@@ -12,7 +12,7 @@ use borrow.Author.Tests.{le-leb, eq-eqb}
 use Rattle.image.specs.Bytes.{u16, zeros, u16Bytes}
 use Rattle.image.specs.Entry.{Entry, pair, child, entriesOf}
 use Rattle.image.specs.Table.{Row}
-use Rattle.image.specs.Image.{Tree, unread, leaf, interior, Forest, end, tree, Kid, laidOut, entryBytes, nodeEntries, pairThen, pairsOf, kidThen, insideOf, treeAt, nodeBytes, leafOf, interiorOf, Inside, orNone, header, headerLaidOut}
+use Rattle.image.specs.Image.{Tree, unread, leaf, interior, Forest, end, tree, Branch, laidOut, entryBytes, nodeEntries, pairThen, pairsOf, branchThen, insideOf, treeAt, nodeBytes, leafOf, interiorOf, Inside, orNone, header, headerLaidOut}
 use Rattle.laws.specs.Encode.{bytesOfAll, allowed, allAllowed, all-back}
 
 -- a node: u16 length of the entries, kind, level, zero, the entries, zeros
@@ -97,9 +97,9 @@ unfoldable pub childEntries : Forest → List Entry
 childEntries end = []
 childEntries (tree s t f) = child (numberOf t) s ∷ childEntries f
 
-unfoldable pub kidsOf : Forest → List Kid
-kidsOf end = []
-kidsOf (tree s t f) = record { number = numberOf t; pivot = s } ∷ kidsOf f
+unfoldable pub branchesOf : Forest → List Branch
+branchesOf end = []
+branchesOf (tree s t f) = record { number = numberOf t; pivot = s } ∷ branchesOf f
 
 pub pairs-back : (rs : List Row) → pairsOf (pairEntries rs) ≡ some rs
 unfolding pairsOf pairEntries pairThen
@@ -111,10 +111,10 @@ unfolding allAllowed allowed pairEntries
 pairs-allowed [] = refl
 pairs-allowed (r ∷ rs) = pairs-allowed rs
 
-pub kids-back : (f : Forest) → insideOf (childEntries f) ≡ some (record { kids = kidsOf f; messages = [] })
-unfolding insideOf childEntries kidThen kidsOf
-kids-back end = refl
-kids-back (tree s t f) = rw (kids-back f)
+pub branches-back : (f : Forest) → insideOf (childEntries f) ≡ some (record { branches = branchesOf f; messages = [] })
+unfolding insideOf childEntries branchThen branchesOf
+branches-back end = refl
+branches-back (tree s t f) = rw (branches-back f)
 
 -- the children of a node that is read are read
 pub number-read : (l : ℕ) (s : List ℕ) (i : ℕ) → numberOf (treeAt l s i) ≡ i

@@ -123,26 +123,26 @@ unfolding levelledIn lower
 level-lower l end h = refl
 level-lower l (tree s t f) h = rw (level-lower l f h)
 
-pub record Kids (h : ℕ) (f : Forest) (lifted lo hi : List ℕ) : Type 0 where
+pub record Branches (h : ℕ) (f : Forest) (lifted lo hi : List ℕ) : Type 0 where
   pub sounds : soundForest f lifted lo hi ≡ true
   pub quiets : stillIn f ≡ true
   pub levels : levelledIn f h ≡ true
 
-pub kid-first : {h : ℕ} (s : List ℕ) (t : Tree) (f : Forest) (lifted lo hi : List ℕ) → Kids h (tree s t f) lifted lo hi → Good h t (lifted ++ s) (highOf lifted hi f)
+pub branch-first : {h : ℕ} (s : List ℕ) (t : Tree) (f : Forest) (lifted lo hi : List ℕ) → Branches h (tree s t f) lifted lo hi → Good h t (lifted ++ s) (highOf lifted hi f)
 unfolding stillIn levelledIn
-kid-first s t f lifted lo hi k =
+branch-first s t f lifted lo hi k =
     record { sound = parts s t f lifted lo hi (k .sounds) .first; holdsNoMessage = and-left _ _ (k .quiets); level = and-left _ _ (k .levels) }
 
-pub kid-later : {h : ℕ} (s : List ℕ) (t : Tree) (f : Forest) (lifted lo hi : List ℕ) → Kids h (tree s t f) lifted lo hi → Kids h f lifted lo hi
+pub branch-later : {h : ℕ} (s : List ℕ) (t : Tree) (f : Forest) (lifted lo hi : List ℕ) → Branches h (tree s t f) lifted lo hi → Branches h f lifted lo hi
 unfolding stillIn levelledIn
-kid-later {h} s t f lifted lo hi k =
+branch-later {h} s t f lifted lo hi k =
     record { sounds = parts s t f lifted lo hi (k .sounds) .later; quiets = and-right (still t) _ (k .quiets); levels = and-right (levelled t h) _ (k .levels) }
 
-pub kids-run : {h : ℕ} (f : Forest) (lifted lo hi : List ℕ) → Kids h f lifted lo hi → Run h (raise lifted f) (highOf lifted hi f) hi
+pub branches-run : {h : ℕ} (f : Forest) (lifted lo hi : List ℕ) → Branches h f lifted lo hi → Run h (raise lifted f) (highOf lifted hi f) hi
 unfolding raise highOf
-kids-run end lifted lo hi k = done
-kids-run (tree s t f) lifted lo hi k =
-    more (parts s t f lifted lo hi (k .sounds) .rises) (kid-first s t f lifted lo hi k) (kids-run f lifted lo hi (kid-later s t f lifted lo hi k))
+branches-run end lifted lo hi k = done
+branches-run (tree s t f) lifted lo hi k =
+    more (parts s t f lifted lo hi (k .sounds) .rises) (branch-first s t f lifted lo hi k) (branches-run f lifted lo hi (branch-later s t f lifted lo hi k))
 
 -- pieces, as the children of a node over [a, b) or more
 later-low : (a m n : List ℕ) → before m a ≡ false → before m n ≡ true → before n a ≡ false
@@ -152,11 +152,11 @@ later-low a m n e f = go (before n a) refl
     go true g = not-so (before-trans m n a f g) e
     go false g = g
 
-pub run-kids : {h : ℕ} {f : Forest} {m b : List ℕ} (a : List ℕ) → before m a ≡ false → Run h f m b → Kids h f [] a b
+pub run-branches : {h : ℕ} {f : Forest} {m b : List ℕ} (a : List ℕ) → before m a ≡ false → Run h f m b → Branches h f [] a b
 unfolding soundForest stillIn levelledIn
-run-kids a e done = record { sounds = refl; quiets = refl; levels = refl }
-run-kids {h} a e (more {a = c} {m} {b} {t} {f} lt g r) =
-    let k : Kids h f [] a b = run-kids a (later-low a c m e lt) r in
+run-branches a e done = record { sounds = refl; quiets = refl; levels = refl }
+run-branches {h} a e (more {a = c} {m} {b} {t} {f} lt g r) =
+    let k : Branches h f [] a b = run-branches a (later-low a c m e lt) r in
     let z : highOf [] b f ≡ m = run-high r in
     record {
       sounds =
@@ -190,7 +190,7 @@ messages-none lo hi = refl
 pub node-good : {h : ℕ} {f : Forest} {a b : List ℕ} (n : ℕ) → before a b ≡ true → Run h f a b → Good (suc h) (node n a b f) a b
 unfolding node soundTree still levelled
 node-good {h} {f} {a} {b} n lt r =
-    let k : Kids h f [] a b = run-kids a (before-irrefl a) r in
+    let k : Branches h f [] a b = run-branches a (before-irrefl a) r in
     let l : List ℕ = shared a b in
     let z : raise l (lower l f) ≡ f = back a (before-irrefl a) r in
     record {
@@ -224,9 +224,9 @@ unfolding firstPivot highOf
 first-high l lo hi end e = absurd (false≢true e)
 first-high l lo hi (tree s t f) e = same-eq (l ++ s) lo e
 
-pub inner-kids : {h : ℕ} (i : ℕ) (f : Forest) (lo hi : List ℕ) → Good (suc h) (interior i f []) lo hi → Kids h f (shared lo hi) lo hi
+pub inner-branches : {h : ℕ} (i : ℕ) (f : Forest) (lo hi : List ℕ) → Good (suc h) (interior i f []) lo hi → Branches h f (shared lo hi) lo hi
 unfolding still levelled
-inner-kids i f lo hi g = record { sounds = inner i f [] lo hi (g .sound) .kids; quiets = g .holdsNoMessage; levels = g .level }
+inner-branches i f lo hi g = record { sounds = inner i f [] lo hi (g .sound) .branches; quiets = g .holdsNoMessage; levels = g .level }
 
 pub inner-first : {h : ℕ} (i : ℕ) (f : Forest) (lo hi : List ℕ) → Good h (interior i f []) lo hi → highOf (shared lo hi) hi f ≡ lo
 unfolding soundTree

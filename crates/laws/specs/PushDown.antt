@@ -62,7 +62,7 @@ cleared-append p (r ∷ t) u = go (below (r .key) p) refl (cleared-append p t u)
     go false e ih = rw e (ap (λ l. r ∷ l) ih)
 
 -- a put before all keys of the second table, or after all keys of the first
-with-first : (p v : List ℕ) (t u : List Row) → everyKey (λ k. before p k) u ≡ true → withRow p v (t ++ u) ≡ withRow p v t ++ u
+pub with-first : (p v : List ℕ) (t u : List Row) → everyKey (λ k. before p k) u ≡ true → withRow p v (t ++ u) ≡ withRow p v t ++ u
 unfolding withRow everyKey
 with-first p v [] [] h = refl
 with-first p v [] (q ∷ u) h =

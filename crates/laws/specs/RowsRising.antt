@@ -94,7 +94,7 @@ mutual
   rows-rise (unread i) lo hi e = nil-rises
   rows-rise (leaf i rs) lo hi e = rising-under (shared lo hi) rs (leaf-rises i rs lo hi e)
   rows-rise (interior i f ms) lo hi e =
-      rising-all (shared lo hi) ms (rowsIn f (shared lo hi) hi) (rows-rise-in f (shared lo hi) lo hi (inner i f ms lo hi e .kids))
+      rising-all (shared lo hi) ms (rowsIn f (shared lo hi) hi) (rows-rise-in f (shared lo hi) lo hi (inner i f ms lo hi e .branches))
 
   pub rows-rise-in : (f : Forest) (lifted lo hi : List ℕ) → soundForest f lifted lo hi ≡ true → rising (rowsIn f lifted hi) ≡ true
   rows-rise-in end lifted lo hi e = nil-rises

@@ -1,13 +1,13 @@
 -- Laws of a table: what is found after each change of it.
 use lib.ListN.{length}
-use Prim.Native.Nat.{ℕ, suc, _≤_}
+use Prim.Native.Nat.{ℕ, suc, _+_, _≤_}
 use mathlib.Core.Path.{_≡_, refl, sym, _∙_}
 use mathlib.Core.List.{List, [], _∷_, _++_}
 use mathlib.Core.Bool.{Bool, true, false, cond}
 use mathlib.Core.Option.{none, some}
 use Rattle.image.specs.Bytes.{same, before, begins}
 use Rattle.image.specs.Path.{below}
-use Rattle.image.specs.Table.{Row, find, withRow, without, withoutBelow, underPrefix, everyKey}
+use Rattle.image.specs.Table.{Row, find, withRow, without, withoutBelow, putAll, underPrefix, everyKey}
 use Rattle.octets.specs.Order.{same-refl, same-eq, before-not-same, same-append, not-so, same-false, and-left, and-right}
 use native.Mathlib.Omega.{arith}
 
@@ -121,7 +121,7 @@ find-fails test q [] e f = refl
 find-fails test q (r ∷ t) e f =
     find-no q r t (same-false q (r .key) (λ z. not-so (rw z (and-left _ _ e)) f)) ∙ find-fails test q t (and-right (test (r .key)) _ e) f
 
--- a move makes no new rows
+-- a put makes at most one row more
 pub with-length : (p v : List ℕ) (t : List Row) → length (withRow p v t) ≤ suc (length t)
 unfolding withRow
 with-length p v [] = omega arith
@@ -132,3 +132,8 @@ with-length p v (r ∷ t) = go (before (r .key) p) (same p (r .key)) (with-lengt
     go true y ih = omega arith
     go false true ih = omega arith
     go false false ih = omega arith
+
+pub put-length : (u t : List Row) → length (putAll u t) ≤ length u + length t
+unfolding putAll
+put-length [] t = omega arith
+put-length (r ∷ u) t = omega (arith, with-length (r .key) (r .value) (putAll u t), put-length u t)

@@ -76,7 +76,7 @@ mutual
   rows-fit (unread i) lo hi e = refl
   rows-fit (leaf i rs) lo hi e = leaf-fit i rs lo hi e
   rows-fit (interior i f ms) lo hi e =
-      applied-fit lo hi ms (rowsIn f (shared lo hi) hi) (inner i f ms lo hi e .wait) (rows-fit-in f (shared lo hi) lo hi (inner i f ms lo hi e .kids))
+      applied-fit lo hi ms (rowsIn f (shared lo hi) hi) (inner i f ms lo hi e .wait) (rows-fit-in f (shared lo hi) lo hi (inner i f ms lo hi e .branches))
 
   pub rows-fit-in : (f : Forest) (lifted lo hi : List ℕ) → soundForest f lifted lo hi ≡ true → valuesFit (rowsIn f lifted hi) ≡ true
   rows-fit-in end lifted lo hi e = refl

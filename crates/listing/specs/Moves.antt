@@ -1,9 +1,9 @@
 -- What an answer of next says of a step: an accepted one moves the place on, a refused one leaves it. One law for each.
--- Relies on: query's list of next's questions, seek's law of the path that next finds.
+-- Relies on: what a contract tells at once (demands), seek's law of the path that next finds.
 use Prim.Native.Nat.{ℕ, zero, suc, _-_, _≤_, _<_}
 use mathlib.Core.Path.{_≡_, refl, sym, ap, subst, _∙_}
 use mathlib.Core.List.{List, [], _∷_, _++_}
-use mathlib.Core.Bool.{Bool, true, false, false≢true}
+use mathlib.Core.Bool.{true, false≢true}
 use mathlib.Core.Option.{Option, none, some}
 use native.Mathlib.Omega.{arith}
 use lib.ListN.{length, take, drop}
@@ -13,13 +13,13 @@ use Rattle.image.specs.Bytes.{before}
 use Rattle.image.specs.Path.{pathLimit}
 use Rattle.image.specs.Table.{Row, isSome, leastAfter}
 use Rattle.image.specs.Sound.{tableOf}
-use Rattle.image.specs.Calls.{asks, Query, next, Answer, filled, numberOf, ask, firstNo, foundBy, fill, accepted, refused, answerAt}
+use Rattle.image.specs.Calls.{asks, next, Answer, filled, numberOf, foundBy, fill, accepted, answerAt}
 use Rattle.image.specs.Contract.{firstNoOn, Meets}
 use Rattle.image.specs.Answers.{refusalNumber, outcomeNumber, foundAnswer}
 use Rattle.image.specs.declared.Refusal.{Refusal}
 use Rattle.image.specs.declared.Outcome.{Outcome}
 use Rattle.image.specs.declared.Found.{Found}
-use Rattle.query.specs.Asked.{number-is}
+use Rattle.demands.specs.Contracts.{number-is, was-found}
 use Rattle.seek.specs.Present.{Next, next-found}
 use Rattle.image.specs.declared.Listing.{Listing}
 use Rattle.image.specs.Listing.{lastPath, blank, stepNo, pathAt, Steps}
@@ -44,19 +44,6 @@ module _ (s below : List ℕ) (p : Listing) (buffer : List ℕ) (a : Answer) whe
       let z : p .len - 0 ≡ p .len = omega arith in
       subst (λ (q : List ℕ). Meets s (asks (next below q) buffer) a s []) (ap (λ (k : ℕ). take k (p .last)) z ∙ sym (last-fits p h)) m
 
--- a query that is answered 0 finds something
-last-yes : (a b c d e : Bool) → firstNo (ask 1 a ∷ ask 2 b ∷ ask 3 c ∷ ask 5 d ∷ ask 8 e ∷ []) ≡ 0 → e ≡ true
-unfolding firstNo
-last-yes a b c d true h = refl
-last-yes true true true true false h = absurd (omega arith)
-last-yes true true true false false h = absurd (omega arith)
-last-yes true true false d false h = absurd (omega arith)
-last-yes true false c d false h = absurd (omega arith)
-last-yes false b c d false h = absurd (omega arith)
-
-finds : (s : List ℕ) (q : Query) (buffer : List ℕ) → firstNoOn s (asks q buffer) ≡ 0 → isSome (foundBy q (tableOf s)) ≡ true
-finds s q buffer h = last-yes _ _ _ _ _ (sym (number-is s q buffer) ∙ h)
-
 -- the number of a refusal is not 0
 refusal-some : (r : Refusal) → refusalNumber r ≡ 0 → ⊥
 unfolding refusalNumber
@@ -70,17 +57,6 @@ refusal-some Refusal.Nested h = omega arith
 refusal-some Refusal.Absent h = omega arith
 refusal-some Refusal.BecomesMalformed h = omega arith
 refusal-some Refusal.Full h = omega arith
-
--- the number of an answer is the number of the first no
-fill-number : (buffer : List ℕ) (o : Option (List ℕ)) → numberOf (fill buffer o) ≡ 0
-unfolding numberOf fill
-fill-number buffer none = refl
-fill-number buffer (some v) = refl
-
-number-at : (k : ℕ) (q : Query) (buffer : List ℕ) (t : List Row) → numberOf (answerAt k (asks q buffer) t) ≡ k
-unfolding answerAt accepted refused numberOf
-number-at zero q buffer t = fill-number buffer (foundBy q t)
-number-at (suc k) q buffer t = refl
 
 -- what stands at the front of a filled buffer is what was found
 front-is : (buffer : List ℕ) (o : Option (List ℕ)) (n : ℕ) (buffer′ : List ℕ) → isSome o ≡ true → filled 0 n buffer′ ≡ fill buffer o
@@ -114,7 +90,7 @@ module _ (s below : List ℕ) (p : Listing) (buffer : List ℕ) (clean : buffer 
   no-is = ap (λ (b : List ℕ). firstNoOn s (asks (next below (lastPath p)) b)) clean
 
   number-told : numberOf (foundAnswer r buffer′) ≡ stepNo s below p
-  number-told = ap numberOf (m .answer) ∙ number-at (firstNoOn s (asks (next below (lastPath p)) buffer)) (next below (lastPath p)) buffer (tableOf s) ∙ no-is
+  number-told = number-is m ∙ no-is
 
   answer-told : (n : ℕ) → r ≡ Found.Length n → firstNoOn s (asks (next below (lastPath p)) buffer) ≡ 0
       → filled 0 n buffer′ ≡ fill buffer (leastAfter below (lastPath p) (tableOf s))
@@ -125,7 +101,7 @@ module _ (s below : List ℕ) (p : Listing) (buffer : List ℕ) (clean : buffer 
 
   there-is : firstNoOn s (asks (next below (lastPath p)) buffer) ≡ 0 → isSome (leastAfter below (lastPath p) (tableOf s)) ≡ true
   unfolding foundBy
-  there-is z = finds s (next below (lastPath p)) buffer z
+  there-is z = was-found s (next below (lastPath p)) buffer z
 
   -- next found a path: the place moves on to it
   pub moves-on : (n : ℕ) → r ≡ Found.Length n → Steps s below p (outcomeNumber Outcome.Done) (record { last = buffer′; len = n })

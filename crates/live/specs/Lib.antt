@@ -11,4 +11,4 @@ pub mod RootSteps
 pub mod PathSteps
 pub mod Noted
 pub mod NotedSteps
-pub mod SilentSteps
+pub mod CoverSteps

@@ -49,9 +49,9 @@ unfoldable mutual
   liveHere (unread i) ok X hi = 0
   liveHere (leaf i rs) ok X hi = countRows ok X rs
   liveHere (interior i f ms) ok X hi =
-      countPuts ok X ms + liveKids f (λ q. ok q && holdsNoMessage (newest ms (drop (length X) q))) X hi
+      countPuts ok X ms + liveBranches f (λ q. ok q && holdsNoMessage (newest ms (drop (length X) q))) X hi
 
-  pub liveKids : Forest → (List ℕ → Bool) → List ℕ → List ℕ → ℕ
-  liveKids end ok X hi = 0
-  liveKids (tree s t f) ok X hi =
-      liveHere t ok (X ++ shared s (highOf [] hi f)) (drop (lifts s (highOf [] hi f)) (highOf [] hi f)) + liveKids f ok X hi
+  pub liveBranches : Forest → (List ℕ → Bool) → List ℕ → List ℕ → ℕ
+  liveBranches end ok X hi = 0
+  liveBranches (tree s t f) ok X hi =
+      liveHere t ok (X ++ shared s (highOf [] hi f)) (drop (lifts s (highOf [] hi f)) (highOf [] hi f)) + liveBranches f ok X hi

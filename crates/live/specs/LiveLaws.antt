@@ -23,7 +23,7 @@ use Rattle.laws.specs.Filter.{keep, keep-append, keep-all, keep-passes}
 use Rattle.laws.specs.Reading.Relative.{lifts}
 use Rattle.laws.specs.Reading.SeekHere.{high-split, high-under}
 use Rattle.laws.specs.Reading.Seek.{every, holds, keys, keys-hold, isKey, present, stands}
-use Rattle.live.specs.Live.{holdsNoMessage, one, short, Shortens, countRows, countPuts, liveHere, liveKids}
+use Rattle.live.specs.Live.{holdsNoMessage, one, short, Shortens, countRows, countPuts, liveHere, liveBranches}
 use Rattle.live.specs.KeepLaws.{keep-ext, with-length, added, quiet-put, quiet-newer, message-keep, owned-apply, all-begin}
 
 keep-length : (test : List ℕ → Bool) (r : Row) (t : List Row) → length (keep test (r ∷ t)) ≡ one (test (r .key)) + length (keep test t)
@@ -127,7 +127,7 @@ unfolding lifts
 child-here t ok X s h = rw (shared-append X s h, length-append X (shared s h), drop-append-add X h (length (shared s h)))
 
 mutual
-  unfolding rows rowsIn liveHere liveKids
+  unfolding rows rowsIn liveHere liveBranches
 
   pub live-here : (t : Tree) (ok : List ℕ → Bool) (lo hi : List ℕ) → soundTree t lo hi ≡ true
       → liveHere t ok (shared lo hi) (drop (lifts lo hi) hi) ≡ length (keep ok (rows t lo hi))
@@ -137,24 +137,24 @@ mutual
       let n = inner i f ms lo hi e in
       let X : List ℕ = shared lo hi in
       let T : List Row = rowsIn f X hi in
-      let kids : liveKids f (λ q. ok q && holdsNoMessage (newest ms (drop (length X) q))) X (drop (lifts lo hi) hi)
+      let branches : liveBranches f (λ q. ok q && holdsNoMessage (newest ms (drop (length X) q))) X (drop (lifts lo hi) hi)
       ≡ length (keep (λ q. ok q && holdsNoMessage (newest ms (drop (length X) q))) T)
-      = live-kids f (λ q. ok q && holdsNoMessage (newest ms (drop (length X) q))) X lo (drop (lifts lo hi) hi) (rw (high-split lo hi) (n .kids))
+      = live-branches f (λ q. ok q && holdsNoMessage (newest ms (drop (length X) q))) X lo (drop (lifts lo hi) hi) (rw (high-split lo hi) (n .branches))
       ∙ ap (λ h. length (keep (λ q. ok q && holdsNoMessage (newest ms (drop (length X) q))) (rowsIn f X h))) (high-split lo hi) in
-      ap (λ z. countPuts ok X ms + z) kids
-      ∙ sym (messages-count ok lo hi ms T (n .wait) (rows-rise-in f X lo hi (n .kids))
-      (every-key (owns lo hi) T (λ q o. outside-in f X lo hi q (n .kids) o)))
+      ap (λ z. countPuts ok X ms + z) branches
+      ∙ sym (messages-count ok lo hi ms T (n .wait) (rows-rise-in f X lo hi (n .branches))
+      (every-key (owns lo hi) T (λ q o. outside-in f X lo hi q (n .branches) o)))
 
-  pub live-kids : (f : Forest) (ok : List ℕ → Bool) (X lo hi : List ℕ) → soundForest f X lo (X ++ hi) ≡ true
-      → liveKids f ok X hi ≡ length (keep ok (rowsIn f X (X ++ hi)))
-  live-kids end ok X lo hi e = nothing-kept ok
-  live-kids (tree s t f) ok X lo hi e =
+  pub live-branches : (f : Forest) (ok : List ℕ → Bool) (X lo hi : List ℕ) → soundForest f X lo (X ++ hi) ≡ true
+      → liveBranches f ok X hi ≡ length (keep ok (rowsIn f X (X ++ hi)))
+  live-branches end ok X lo hi e = nothing-kept ok
+  live-branches (tree s t f) ok X lo hi e =
       let p = parts s t f X lo (X ++ hi) e in
       let h : List ℕ = highOf [] hi f in
       let a : soundTree t (X ++ s) (X ++ h) ≡ true = rw (high-under X hi f) at (p .first) in
       let b : liveHere t ok (X ++ shared s h) (drop (lifts s h) h) ≡ length (keep ok (rows t (X ++ s) (X ++ h)))
       = child-here t ok X s h ∙ live-here t ok (X ++ s) (X ++ h) a in
-      let c : liveKids f ok X hi ≡ length (keep ok (rowsIn f X (X ++ hi))) = live-kids f ok X lo hi (p .later) in
+      let c : liveBranches f ok X hi ≡ length (keep ok (rowsIn f X (X ++ hi))) = live-branches f ok X lo hi (p .later) in
       let d : length (keep ok (rows t (X ++ s) (X ++ h) ++ rowsIn f X (X ++ hi))) ≡ length (keep ok (rows t (X ++ s) (X ++ h))) + length (keep ok (rowsIn f X (X ++ hi)))
       = ap length (keep-append ok (rows t (X ++ s) (X ++ h)) (rowsIn f X (X ++ hi))) ∙ length-append (keep ok (rows t (X ++ s) (X ++ h))) (keep ok (rowsIn f X (X ++ hi))) in
       rw (high-under X hi f) (omega arith)
@@ -215,7 +215,7 @@ unfolding Shortens
 more-short ok more h = λ q l. ap (λ x. x && more q) (h q l)
 
 mutual
-  unfolding liveHere liveKids
+  unfolding liveHere liveBranches
 
   pub too-long : (t : Tree) (ok : List ℕ → Bool) (X hi : List ℕ) → Shortens ok → 64 < length X → liveHere t ok X hi ≡ 0
   too-long (unread i) ok X hi h l = refl
@@ -225,7 +225,7 @@ mutual
       let b = too-long-in f (λ q. ok q && holdsNoMessage (newest ms (drop (length X) q))) X hi (more-short ok (λ q. holdsNoMessage (newest ms (drop (length X) q))) h) l in
       omega arith
 
-  pub too-long-in : (f : Forest) (ok : List ℕ → Bool) (X hi : List ℕ) → Shortens ok → 64 < length X → liveKids f ok X hi ≡ 0
+  pub too-long-in : (f : Forest) (ok : List ℕ → Bool) (X hi : List ℕ) → Shortens ok → 64 < length X → liveBranches f ok X hi ≡ 0
   too-long-in end ok X hi h l = refl
   too-long-in (tree s t f) ok X hi h l =
       let n = length-append X (shared s (highOf [] hi f)) in

@@ -7,30 +7,30 @@ use mathlib.Core.Bool.{Bool, true, _&&_}
 use native.Mathlib.Omega.{arith}
 use lib.ListN.{length, take, drop, length-append}
 use Rattle.image.specs.Bytes.{u16, shared}
-use Rattle.image.specs.Image.{Tree, Kid, nodesOf, forestOf, treeAt}
+use Rattle.image.specs.Image.{Tree, Branch, nodesOf, forestOf, treeAt}
 use Rattle.octets.specs.Cap.{cap, cap-small, cap-add}
 use Rattle.laws.specs.Reading.Relative.{lifts, usable, usableIn}
 use Rattle.node.specs.Places.{part}
 use Rattle.node.specs.Entries.{listed}
 use Rattle.node.specs.declared.Place.{Place}
 use Rattle.node.specs.declared.Cursor.{Cursor}
-use Rattle.node.specs.Search.Hear.{newestE}
-use Rattle.node.specs.Search.Own.{kid, kidsE}
+use Rattle.node.specs.Search.Latest.{newestAmong}
+use Rattle.node.specs.Search.Own.{branch, branchesAmong}
 use Rattle.lookup.specs.Look.{listing, node-inside, part-rest}
-use Rattle.live.specs.Live.{holdsNoMessage, liveHere, liveKids}
+use Rattle.live.specs.Live.{holdsNoMessage, liveHere, liveBranches}
 use Rattle.live.specs.LiveLaws.{too-long}
 use Rattle.live.specs.PathBuffers.{pathIn}
 use Rattle.live.specs.PathSteps.{path-length}
 use Rattle.live.specs.declared.path_buffer.PathBuffer.{PathBuffer}
 use Rattle.live.specs.declared.Trail.{Trail}
-use Rattle.live.specs.Walk.{passing, TrailIn, Above, Deeper, countE, NextChild, Ready, ReadyKids}
+use Rattle.live.specs.Walk.{passing, TrailIn, Above, Deeper, countAmong, NextChild, Ready, ReadyBranches}
 use Rattle.live.specs.Steps.{passes-short}
-use Rattle.live.specs.WalkLaws.{leaf-counts, kids-usable, interior-counts, first-usable}
+use Rattle.live.specs.WalkLaws.{leaf-counts, branches-usable, interior-counts, first-usable}
 use Rattle.octets.specs.Beginnings.{shared-take}
 
-no-kids : (under : ℕ → Tree) (ok : List ℕ → Bool) (X hi : List ℕ) → liveKids (forestOf under []) ok X hi ≡ 0
-unfolding liveKids forestOf
-no-kids under ok X hi = refl
+no-branches : (under : ℕ → Tree) (ok : List ℕ → Bool) (X hi : List ℕ) → liveBranches (forestOf under []) ok X hi ≡ 0
+unfolding liveBranches forestOf
+no-branches under ok X hi = refl
 
 -- A node: its pivots are lo and hi, the prefix and the trail are those of its parent's children.
 module _ (s : List ℕ) (level num : ℕ) (p : PathBuffer) (t : Trail) (ready : Ready s level num p t) (lo hi : List ℕ) where
@@ -58,40 +58,40 @@ module _ (s : List ℕ) (level num : ℕ) (p : PathBuffer) (t : Trail) (ready : 
     whole-is : liveHere (treeAt level s num) (passing s t) (pathIn here) (drop k hi) ≡ Whole
     whole-is = ap₂ (λ X h. liveHere (treeAt level s num) (passing s t) X h) here-is rest-is
 
-    module _ (len own : ℕ) (el : len ≡ u16 s (num * 1024)) (eo : own ≡ countE (passing s t) (pathIn here) (listed s (num * 1024 + 8) (num * 1024 + 8 + len))) where
-      own-is : own ≡ countE (passing s t) (pathIn here) (listing s num)
-      own-is = eo ∙ ap (λ n. countE (passing s t) (pathIn here) (listed s (num * 1024 + 8) (num * 1024 + 8 + n))) el
+    module _ (len own : ℕ) (el : len ≡ u16 s (num * 1024)) (eo : own ≡ countAmong (passing s t) (pathIn here) (listed s (num * 1024 + 8) (num * 1024 + 8 + len))) where
+      own-is : own ≡ countAmong (passing s t) (pathIn here) (listing s num)
+      own-is = eo ∙ ap (λ n. countAmong (passing s t) (pathIn here) (listed s (num * 1024 + 8) (num * 1024 + 8 + n))) el
 
       pub node-leaf : level ≤ 1 → own ≤ 65535 → own ≡ cap Whole
       node-leaf l h = sym (cap-small own h) ∙ ap cap (own-is ∙ leaf-counts s num level (ready .reads) l (passing s t) (pathIn here) (drop k hi) ∙ whole-is)
 
-      kids-are : (ks : List Kid) → kidsE (listed s (num * 1024 + 8) (num * 1024 + 8 + len)) ≡ ks → kidsE (listing s num) ≡ ks
-      kids-are ks e = ap (λ n. kidsE (listed s (num * 1024 + 8) (num * 1024 + 8 + n))) (sym el) ∙ e
+      branches-are : (ks : List Branch) → branchesAmong (listed s (num * 1024 + 8) (num * 1024 + 8 + len)) ≡ ks → branchesAmong (listing s num) ≡ ks
+      branches-are ks e = ap (λ n. branchesAmong (listed s (num * 1024 + 8) (num * 1024 + 8 + n))) (sym el) ∙ e
 
-      pub node-bare : 2 ≤ level → own ≤ 65535 → kidsE (listed s (num * 1024 + 8) (num * 1024 + 8 + len)) ≡ [] → own ≡ cap Whole
+      pub node-bare : 2 ≤ level → own ≤ 65535 → branchesAmong (listed s (num * 1024 + 8) (num * 1024 + 8 + len)) ≡ [] → own ≡ cap Whole
       node-bare l h e =
-          let more : List ℕ → Bool = λ q. passing s t q && holdsNoMessage (newestE (listing s num) (drop (length (pathIn here)) q)) in
-          let a : countE (passing s t) (pathIn here) (listing s num) + liveKids (forestOf (λ j. treeAt (level - 1) s j) (kidsE (listing s num))) more (pathIn here) (drop k hi)
+          let more : List ℕ → Bool = λ q. passing s t q && holdsNoMessage (newestAmong (listing s num) (drop (length (pathIn here)) q)) in
+          let a : countAmong (passing s t) (pathIn here) (listing s num) + liveBranches (forestOf (λ j. treeAt (level - 1) s j) (branchesAmong (listing s num))) more (pathIn here) (drop k hi)
           ≡ liveHere (treeAt level s num) (passing s t) (pathIn here) (drop k hi)
           = interior-counts s num level (ready .reads) l (passing s t) more (pathIn here) (drop k hi) (λ q. refl) in
-          let b : liveKids (forestOf (λ j. treeAt (level - 1) s j) (kidsE (listing s num))) more (pathIn here) (drop k hi) ≡ 0
-          = ap (λ ks. liveKids (forestOf (λ j. treeAt (level - 1) s j) ks) more (pathIn here) (drop k hi)) (kids-are [] e)
-          ∙ no-kids (λ j. treeAt (level - 1) s j) more (pathIn here) (drop k hi) in
+          let b : liveBranches (forestOf (λ j. treeAt (level - 1) s j) (branchesAmong (listing s num))) more (pathIn here) (drop k hi) ≡ 0
+          = ap (λ ks. liveBranches (forestOf (λ j. treeAt (level - 1) s j) ks) more (pathIn here) (drop k hi)) (branches-are [] e)
+          ∙ no-branches (λ j. treeAt (level - 1) s j) more (pathIn here) (drop k hi) in
           let c : own ≡ liveHere (treeAt level s num) (passing s t) (pathIn here) (drop k hi) = let d = own-is in omega arith in
           sym (cap-small own h) ∙ ap cap (c ∙ whole-is)
 
       -- the children, from the first on
       module _ (two : 2 ≤ level) (first : ℕ) (pivot : Place) (next : Cursor)
           (nc : NextChild s (num * 1024 + 8) (num * 1024 + 8 + len) first pivot next) where
-        abbrev kids : List Kid
-        kids = kid first (part s pivot) ∷ kidsE (listed s (next .at) (next .end))
+        abbrev branches : List Branch
+        branches = branch first (part s pivot) ∷ branchesAmong (listed s (next .at) (next .end))
 
         module _ (above : Trail) (deeper : Deeper s num (here .len) t above) where
-          pub kids-ready : next .end ≤ length s → here .len ≤ 64 → ReadyKids s (level - 1) first pivot next here above
-          kids-ready f h =
+          pub branches-ready : next .end ≤ length s → here .len ≤ 64 → ReadyBranches s (level - 1) first pivot next here above
+          branches-ready f h =
               record {
-                reads = ap (λ ks. usableIn (nodesOf (length s)) (forestOf (λ j. treeAt (level - 1) s j) ks)) (sym (kids-are kids (nc .lists)))
-                    ∙ kids-usable s num level (ready .reads) two;
+                reads = ap (λ ks. usableIn (nodesOf (length s)) (forestOf (λ j. treeAt (level - 1) s j) ks)) (sym (branches-are branches (nc .lists)))
+                    ∙ branches-usable s num level (ready .reads) two;
                 ends = f;
                 place = nc .place;
                 room = h;
@@ -100,17 +100,17 @@ module _ (s : List ℕ) (level num : ℕ) (p : PathBuffer) (t : Trail) (ready : 
               }
 
           pub node-inner : (n r : ℕ) → here .len ≤ length (here .bytes)
-              → n ≡ cap (liveKids (forestOf (λ j. treeAt (level - 1) s j) kids) (passing s above) (pathIn here) (take (length hi - k) (drop k hi)))
+              → n ≡ cap (liveBranches (forestOf (λ j. treeAt (level - 1) s j) branches) (passing s above) (pathIn here) (take (length hi - k) (drop k hi)))
               → r ≡ cap (own + n) → r ≡ cap Whole
           node-inner n r w en er =
-              let f : (q : List ℕ) → passing s above q ≡ passing s t q && holdsNoMessage (newestE (listing s num) (drop (length (pathIn here)) q))
-              = λ q. deeper .test q ∙ ap (λ m. passing s t q && holdsNoMessage (newestE (listing s num) (drop m q))) (sym (path-length here w)) in
-              let K : ℕ = liveKids (forestOf (λ j. treeAt (level - 1) s j) (kidsE (listing s num))) (passing s above) (pathIn here) (drop k hi) in
-              let a : countE (passing s t) (pathIn here) (listing s num) + K ≡ liveHere (treeAt level s num) (passing s t) (pathIn here) (drop k hi)
+              let f : (q : List ℕ) → passing s above q ≡ passing s t q && holdsNoMessage (newestAmong (listing s num) (drop (length (pathIn here)) q))
+              = λ q. deeper .test q ∙ ap (λ m. passing s t q && holdsNoMessage (newestAmong (listing s num) (drop m q))) (sym (path-length here w)) in
+              let K : ℕ = liveBranches (forestOf (λ j. treeAt (level - 1) s j) (branchesAmong (listing s num))) (passing s above) (pathIn here) (drop k hi) in
+              let a : countAmong (passing s t) (pathIn here) (listing s num) + K ≡ liveHere (treeAt level s num) (passing s t) (pathIn here) (drop k hi)
               = interior-counts s num level (ready .reads) two (passing s t) (passing s above) (pathIn here) (drop k hi) f in
               let b : n ≡ cap K
-              = en ∙ ap₂ (λ ks h. cap (liveKids (forestOf (λ j. treeAt (level - 1) s j) ks) (passing s above) (pathIn here) h))
-              (sym (kids-are kids (nc .lists))) (part-rest k hi) in
+              = en ∙ ap₂ (λ ks h. cap (liveBranches (forestOf (λ j. treeAt (level - 1) s j) ks) (passing s above) (pathIn here) h))
+              (sym (branches-are branches (nc .lists))) (part-rest k hi) in
               er ∙ ap (λ z. cap (own + z)) b ∙ cap-add own K ∙ ap cap (ap (λ z. z + K) own-is ∙ a ∙ whole-is)
 
 -- a node's own place in the store, and its trail as its own entries and its children see it
@@ -118,8 +118,8 @@ pub node-above : (s : List ℕ) (level num n : ℕ) → usable (nodesOf (length 
 node-above s level num n u = let w = node-inside s num level u in record { inside = w .0; fits = w .1; lifted = omega arith }
 
 -- the child in hand, of the children from it on
-pub child-ready : (s : List ℕ) (level num : ℕ) (low : List ℕ) (ks : List Kid) (p : PathBuffer) (t : Trail)
-    → usableIn (nodesOf (length s)) (forestOf (λ j. treeAt level s j) (kid num low ∷ ks)) ≡ true → p .len ≤ 64 → TrailIn s (p .len) t → t .depth + level ≤ 8
+pub child-ready : (s : List ℕ) (level num : ℕ) (low : List ℕ) (ks : List Branch) (p : PathBuffer) (t : Trail)
+    → usableIn (nodesOf (length s)) (forestOf (λ j. treeAt level s j) (branch num low ∷ ks)) ≡ true → p .len ≤ 64 → TrailIn s (p .len) t → t .depth + level ≤ 8
     → Ready s level num p t
 child-ready s level num low ks p t u r f d =
-    record { reads = first-usable (nodesOf (length s)) (λ j. treeAt level s j) (kid num low) ks u; room = r; trail = f; deep = d }
+    record { reads = first-usable (nodesOf (length s)) (λ j. treeAt level s j) (branch num low) ks u; room = r; trail = f; deep = d }

@@ -13,9 +13,9 @@ use Rattle.node.specs.Places.{part}
 use Rattle.node.specs.Entries.{listed}
 use Rattle.node.specs.declared.Place.{Place}
 use Rattle.node.specs.declared.Cursor.{Cursor}
-use Rattle.node.specs.Search.Own.{kid, kidsE}
+use Rattle.node.specs.Search.Own.{branch, branchesAmong}
 use Rattle.lookup.specs.Look.{listing}
-use Rattle.live.specs.Notes.Notes.{NotesFit, quiet, areSilent}
+use Rattle.live.specs.Notes.Notes.{NotesFit, quiet, noneCovers}
 use Rattle.live.specs.Live.{short}
 use Rattle.live.specs.Walk.{passing}
 use Rattle.live.specs.PathBuffers.{pathIn}
@@ -26,7 +26,7 @@ use Rattle.live.specs.declared.Trail.{Trail}
 unfoldable pub quietAbove : List ℕ → List ℕ → List ℕ → List ℕ → ℕ → List ℕ → Bool
 quietAbove s nodes lifts X zero k = true
 quietAbove s nodes lifts X (suc d) k =
-    quietAbove s nodes lifts X d k && areSilent (listing s (getD nodes d 0)) (drop (getD lifts d 0) X ++ k)
+    quietAbove s nodes lifts X d k && noneCovers (listing s (getD nodes d 0)) (drop (getD lifts d 0) X ++ k)
 
 abbrev pub quietTrail : List ℕ → Trail → List ℕ → List ℕ → Bool
 quietTrail s t X k = quietAbove s (t .nodes) (t .lifts) X (t .depth) k
@@ -56,7 +56,7 @@ pub record Handed (s : List ℕ) (t : Trail) (X w lo hi ns : List ℕ) (n : ℕ)
 pub record Joined (s : List ℕ) (num : ℕ) (lo hi ns : List ℕ) (n : ℕ) (after : List ℕ) (m : ℕ) : Type 0 where
   pub fits : m ≤ 64 → NotesFit s after m
   pub few : m ≤ 64 → n ≤ 64
-  pub told : m ≤ 64 → (k : List ℕ) → owns lo hi k ≡ true → quiet s after m k ≡ quiet s ns n k && areSilent (listing s num) k
+  pub told : m ≤ 64 → (k : List ℕ) → owns lo hi k ≡ true → quiet s after m k ≡ quiet s ns n k && noneCovers (listing s num) k
 
 -- the entries of a leaf under the prefix X, and notes that tell of their keys
 pub record LeafTold (s : List ℕ) (t : Trail) (X : List ℕ) (es : List defined.Entry) (ns : List ℕ) (n : ℕ) : Type 0 where
@@ -66,7 +66,7 @@ pub record LeafTold (s : List ℕ) (t : Trail) (X : List ℕ) (es : List defined
   pub tells : Tells s t X lo hi ns n
 
 -- the children from the one in hand on are sound, and notes tell of all that their node owns
-pub record SoundKids (s : List ℕ) (level first : ℕ) (pivot : Place) (start : Cursor) (p : PathBuffer) (hi : List ℕ) (t : Trail) (ns : List ℕ) (n : ℕ) : Type 0 where
+pub record SoundBranches (s : List ℕ) (level first : ℕ) (pivot : Place) (start : Cursor) (p : PathBuffer) (hi : List ℕ) (t : Trail) (ns : List ℕ) (n : ℕ) : Type 0 where
   pub low : List ℕ
-  pub sound : soundForest (forestOf (λ j. treeAt level s j) (kid first (part s pivot) ∷ kidsE (listed s (start .at) (start .end)))) (pathIn p) (pathIn p ++ low) (pathIn p ++ hi) ≡ true
+  pub sound : soundForest (forestOf (λ j. treeAt level s j) (branch first (part s pivot) ∷ branchesAmong (listed s (start .at) (start .end)))) (pathIn p) (pathIn p ++ low) (pathIn p ++ hi) ≡ true
   pub tells : Tells s t (pathIn p) low hi ns n

@@ -12,7 +12,7 @@ use Rattle.image.specs.Bytes.{u16, shared}
 use Rattle.image.specs.Path.{wellFormed, owns}
 use Rattle.image.specs.Entry as defined
 use Rattle.image.specs.Table.{Row, everyKey, underPrefix}
-use Rattle.image.specs.Image.{Tree, leaf, interior, Forest, tree, Kid, nodesOf, pairThen, pairsOf, forestOf, treeAt, treeOf}
+use Rattle.image.specs.Image.{Tree, leaf, interior, Forest, tree, Branch, nodesOf, pairThen, pairsOf, forestOf, treeAt, treeOf}
 use Rattle.image.specs.Meaning.{Said, nothing, says, newer, highOf}
 use Rattle.image.specs.Sound.{soundTree, soundForest, lowest, highest}
 use Rattle.octets.specs.Beginnings.{shared-left, shared-right, shared-take}
@@ -26,48 +26,48 @@ use Rattle.node.specs.Places.{part}
 use Rattle.node.specs.Entries.{listed}
 use Rattle.node.specs.declared.Place.{Place}
 use Rattle.node.specs.declared.Cursor.{Cursor}
-use Rattle.node.specs.Search.Hear.{newestE, saysE, speaks}
-use Rattle.node.specs.Search.Own.{kid, kidsE}
+use Rattle.node.specs.Search.Latest.{newestAmong, entrySays, covers}
+use Rattle.node.specs.Search.Own.{branch, branchesAmong}
 use Rattle.lookup.specs.Look.{listing, leaf-at, interior-at, inside-splits, part-rest}
 use Rattle.live.specs.Notes.Notes as notes
 use Rattle.live.specs.Live.{holdsNoMessage, one, short}
-use Rattle.live.specs.Walk.{passes, passing, TrailIn, Deeper, decides, countE, NextChild}
-use Rattle.live.specs.Noted.{quietAbove, quietTrail, keyed, Tells, Handed, Joined, LeafTold, SoundNode, SoundKids}
+use Rattle.live.specs.Walk.{passes, passing, TrailIn, Deeper, decides, countAmong, NextChild}
+use Rattle.live.specs.Noted.{quietAbove, quietTrail, keyed, Tells, Handed, Joined, LeafTold, SoundNode, SoundBranches}
 use Rattle.live.specs.PathSteps.{path-length}
 use Rattle.live.specs.Steps.{as-path}
 use Rattle.live.specs.PathBuffers.{pathIn}
 use Rattle.live.specs.declared.path_buffer.PathBuffer.{PathBuffer}
 use Rattle.live.specs.declared.Trail.{Trail}
 
--- messages that say nothing are silent one by one
-no-newer : (a b : Said) → holdsNoMessage (newer a b) ≡ not (speaks a) && holdsNoMessage b
-unfolding holdsNoMessage newer speaks
+-- messages that say nothing cover nothing, one by one
+no-newer : (a b : Said) → holdsNoMessage (newer a b) ≡ not (covers a) && holdsNoMessage b
+unfolding holdsNoMessage newer covers
 no-newer nothing nothing = refl
 no-newer nothing (says v) = refl
 no-newer (says u) nothing = refl
 no-newer (says u) (says v) = refl
 
-pub silent-all : (es : List defined.Entry) (r : List ℕ) → holdsNoMessage (newestE es r) ≡ notes.areSilent es r
-unfolding newestE notes.areSilent
-silent-all [] r = unfold holdsNoMessage in refl
-silent-all (e ∷ es) r = no-newer (saysE e r) (newestE es r) ∙ ap (λ x. not (speaks (saysE e r)) && x) (silent-all es r)
+pub uncovered-all : (es : List defined.Entry) (r : List ℕ) → holdsNoMessage (newestAmong es r) ≡ notes.noneCovers es r
+unfolding newestAmong notes.noneCovers
+uncovered-all [] r = unfold holdsNoMessage in refl
+uncovered-all (e ∷ es) r = no-newer (entrySays e r) (newestAmong es r) ∙ ap (λ x. not (covers (entrySays e r)) && x) (uncovered-all es r)
 
 -- entries held against a rest one by one
-module _ (es : List defined.Entry) (r : List ℕ) (X : Bool) (inv : notes.areSilent es r ≡ X) where
-  pub silent-end : es ≡ [] → true ≡ X
-  unfolding notes.areSilent
-  silent-end q = rw q at inv
+module _ (es : List defined.Entry) (r : List ℕ) (X : Bool) (inv : notes.noneCovers es r ≡ X) where
+  pub uncovered-end : es ≡ [] → true ≡ X
+  unfolding notes.noneCovers
+  uncovered-end q = rw q at inv
 
-  module _ (e : defined.Entry) (ts : List defined.Entry) (q : es ≡ e ∷ ts) (b : Bool) (f : b ≡ speaks (saysE e r)) where
-    here-silent : not (speaks (saysE e r)) && notes.areSilent ts r ≡ X
-    unfolding notes.areSilent
-    here-silent = rw q at inv
+  module _ (e : defined.Entry) (ts : List defined.Entry) (q : es ≡ e ∷ ts) (b : Bool) (f : b ≡ covers (entrySays e r)) where
+    here-uncovered : not (covers (entrySays e r)) && notes.noneCovers ts r ≡ X
+    unfolding notes.noneCovers
+    here-uncovered = rw q at inv
 
-    pub silent-stop : b ≡ true → false ≡ X
-    silent-stop g = rw (sym f ∙ g) at here-silent
+    pub uncovered-stop : b ≡ true → false ≡ X
+    uncovered-stop g = rw (sym f ∙ g) at here-uncovered
 
-    pub silent-on : b ≡ false → notes.areSilent ts r ≡ X
-    silent-on g = rw (sym f ∙ g) at here-silent
+    pub uncovered-on : b ≡ false → notes.noneCovers ts r ≡ X
+    uncovered-on g = rw (sym f ∙ g) at here-uncovered
 
 -- a path under the prefix passes the trail if it is short and nothing above is on its key
 pub passes-quiet : (s nodes ls X : List ℕ) (d : ℕ) (k : List ℕ) → ((i : ℕ) → i < d → getD ls i 0 ≤ length X)
@@ -76,12 +76,12 @@ unfolding passes quietAbove
 passes-quiet s nodes ls X zero k h = sym (and-true (short (X ++ k)))
 passes-quiet s nodes ls X (suc d) k h =
     ap₂ (λ a b. a && b) (passes-quiet s nodes ls X d k (λ i l. h i (omega arith)))
-    (ap (λ r. holdsNoMessage (newestE (listing s (getD nodes d 0)) r)) (drop-append-le (getD ls d 0) X k (h d (omega arith)))
-    ∙ silent-all (listing s (getD nodes d 0)) (drop (getD ls d 0) X ++ k))
-    ∙ and-assoc (short (X ++ k)) (quietAbove s nodes ls X d k) (notes.areSilent (listing s (getD nodes d 0)) (drop (getD ls d 0) X ++ k))
+    (ap (λ r. holdsNoMessage (newestAmong (listing s (getD nodes d 0)) r)) (drop-append-le (getD ls d 0) X k (h d (omega arith)))
+    ∙ uncovered-all (listing s (getD nodes d 0)) (drop (getD ls d 0) X ++ k))
+    ∙ and-assoc (short (X ++ k)) (quietAbove s nodes ls X d k) (notes.noneCovers (listing s (getD nodes d 0)) (drop (getD ls d 0) X ++ k))
 
 above-step : (s nodes ls X k : List ℕ) (d : ℕ) → 0 < d → quietAbove s nodes ls X d k
-    ≡ quietAbove s nodes ls X (d - 1) k && notes.areSilent (listing s (getD nodes (d - 1) 0)) (drop (getD ls (d - 1) 0) X ++ k)
+    ≡ quietAbove s nodes ls X (d - 1) k && notes.noneCovers (listing s (getD nodes (d - 1) 0)) (drop (getD ls (d - 1) 0) X ++ k)
 unfolding quietAbove
 above-step s nodes ls X k zero h = absurd (omega arith)
 above-step s nodes ls X k (suc d) h = let z : suc d - 1 ≡ d = omega arith in rw z
@@ -118,7 +118,7 @@ module _ (s lo hi nodes ls X : List ℕ) (d₀ : ℕ) where
     moved false a b = refl
 
     pub trailing-on : (len : ℕ) (w after : List ℕ) (r : ℕ) → 0 < d → len ≡ u16 s (getD nodes (d - 1) 0 * 1024) → w ≡ drop (getD ls (d - 1) 0) X
-        → notes.Gathered s lo hi (λ k. notes.areSilent (listed s (getD nodes (d - 1) 0 * 1024 + 8) (getD nodes (d - 1) 0 * 1024 + 8 + len)) (w ++ k)) ns n after r
+        → notes.Gathered s lo hi (λ k. notes.noneCovers (listed s (getD nodes (d - 1) 0 * 1024 + 8) (getD nodes (d - 1) 0 * 1024 + 8 + len)) (w ++ k)) ns n after r
         → r ≤ 64 → Trailing s lo hi nodes ls X d₀ after r (d - 1)
     trailing-on len w after r h el ew g l =
         record {
@@ -126,15 +126,15 @@ module _ (s lo hi nodes ls X : List ℕ) (d₀ : ℕ) where
           fits = g .fits l;
           tells = λ k o.
               ap (λ x. x && quietAbove s nodes ls X (d - 1) k) (g .tells l k o ∙ here k)
-              ∙ moved (notes.quiet s ns n k) (quietAbove s nodes ls X (d - 1) k) (notes.areSilent (listing s (getD nodes (d - 1) 0)) (drop (getD ls (d - 1) 0) X ++ k))
+              ∙ moved (notes.quiet s ns n k) (quietAbove s nodes ls X (d - 1) k) (notes.noneCovers (listing s (getD nodes (d - 1) 0)) (drop (getD ls (d - 1) 0) X ++ k))
               ∙ ap (λ x. notes.quiet s ns n k && x) (sym (above-step s nodes ls X k d h))
               ∙ inv .tells k o;
         }
       where
-        here : (k : List ℕ) → notes.quiet s ns n k && notes.areSilent (listed s (getD nodes (d - 1) 0 * 1024 + 8) (getD nodes (d - 1) 0 * 1024 + 8 + len)) (w ++ k)
-            ≡ notes.quiet s ns n k && notes.areSilent (listing s (getD nodes (d - 1) 0)) (drop (getD ls (d - 1) 0) X ++ k)
+        here : (k : List ℕ) → notes.quiet s ns n k && notes.noneCovers (listed s (getD nodes (d - 1) 0 * 1024 + 8) (getD nodes (d - 1) 0 * 1024 + 8 + len)) (w ++ k)
+            ≡ notes.quiet s ns n k && notes.noneCovers (listing s (getD nodes (d - 1) 0)) (drop (getD ls (d - 1) 0) X ++ k)
         here k =
-            ap₂ (λ e v. notes.quiet s ns n k && notes.areSilent (listed s (getD nodes (d - 1) 0 * 1024 + 8) (getD nodes (d - 1) 0 * 1024 + 8 + e)) (v ++ k)) el ew
+            ap₂ (λ e v. notes.quiet s ns n k && notes.noneCovers (listed s (getD nodes (d - 1) 0 * 1024 + 8) (getD nodes (d - 1) 0 * 1024 + 8 + e)) (v ++ k)) el ew
 
 -- the prefix without its first bytes, as a part is made
 pub prefix-rest : (p : PathBuffer) (k : ℕ) → k ≤ p .len → take (p .len - k) (drop k (p .bytes)) ≡ drop k (pathIn p)
@@ -149,8 +149,8 @@ same-one true = refl
 same-one false = refl
 
 pub quiet-count : (X lo hi : List ℕ) (ok test : List ℕ → Bool) (es : List defined.Entry) → keyed X lo hi es ≡ true
-    → ((k : List ℕ) → owns lo hi k ≡ true → ok (X ++ k) ≡ short (X ++ k) && test k) → notes.countQuiet test es ≡ countE ok X es
-unfolding keyed notes.countQuiet countE decides
+    → ((k : List ℕ) → owns lo hi k ≡ true → ok (X ++ k) ≡ short (X ++ k) && test k) → notes.countQuiet test es ≡ countAmong ok X es
+unfolding keyed notes.countQuiet countAmong decides
 quiet-count X lo hi ok test [] h f = refl
 quiet-count X lo hi ok test (defined.pair k v ∷ es) h f =
     let a : owns lo hi k && short (X ++ k) ≡ true = and-left _ _ h in
@@ -160,7 +160,7 @@ quiet-count X lo hi ok test (defined.child i k ∷ es) h f = absurd (false≢tru
 quiet-count X lo hi ok test (defined.message m ∷ es) h f = absurd (false≢true h)
 
 pub leaf-counted : (s : List ℕ) (t : Trail) (X : List ℕ) (es : List defined.Entry) (ns : List ℕ) (n r : ℕ) → LeafTold s t X es ns n → n ≤ 64
-    → r ≡ notes.countQuiet (λ k. notes.quiet s ns n k) es → r ≡ countE (passing s t) X es
+    → r ≡ notes.countQuiet (λ k. notes.quiet s ns n k) es → r ≡ countAmong (passing s t) X es
 leaf-counted s t X es ns n r h l e = e ∙ quiet-count X (h .lo) (h .hi) (passing s t) (λ k. notes.quiet s ns n k) es (h .keys) (h .tells .told l)
 
 -- NOTES HANDED DOWN
@@ -193,12 +193,12 @@ module _ (s : List ℕ) (num : ℕ) (lo hi ns : List ℕ) (n : ℕ) where
   joined-full h after = record { fits = λ l. absurd (omega arith); few = λ l. absurd (omega arith); told = λ l. absurd (omega arith) }
 
   pub joined-own : (len : ℕ) (w after : List ℕ) (m : ℕ) → n ≤ 64 → len ≡ u16 s (num * 1024) → w ≡ []
-      → notes.Gathered s lo hi (λ k. notes.areSilent (listed s (num * 1024 + 8) (num * 1024 + 8 + len)) (w ++ k)) ns n after m → Joined s num lo hi ns n after m
+      → notes.Gathered s lo hi (λ k. notes.noneCovers (listed s (num * 1024 + 8) (num * 1024 + 8 + len)) (w ++ k)) ns n after m → Joined s num lo hi ns n after m
   joined-own len w after m h el ew g =
       record {
         fits = g .fits;
         few = λ l. h;
-        told = λ l k o. g .tells l k o ∙ ap₂ (λ e v. notes.quiet s ns n k && notes.areSilent (listed s (num * 1024 + 8) (num * 1024 + 8 + e)) (v ++ k)) el ew;
+        told = λ l k o. g .tells l k o ∙ ap₂ (λ e v. notes.quiet s ns n k && notes.noneCovers (listed s (num * 1024 + 8) (num * 1024 + 8 + e)) (v ++ k)) el ew;
       }
 
   pub told-joined : (here : PathBuffer) (t r : Trail) (after : List ℕ) (m : ℕ) → here .len ≤ length (here .bytes) → Deeper s num (here .len) t r
@@ -208,9 +208,9 @@ module _ (s : List ℕ) (num : ℕ) (lo hi ns : List ℕ) (n : ℕ) where
         fits = j .fits;
         told = λ l k o.
             d .test (pathIn here ++ k)
-            ∙ ap₂ (λ x y. x && holdsNoMessage (newestE (listing s num) y)) (h .told (j .few l) k o) (drop-at (pathIn here) k (here .len) (path-length here w))
-            ∙ ap (λ y. (short (pathIn here ++ k) && notes.quiet s ns n k) && y) (silent-all (listing s num) k)
-            ∙ and-assoc (short (pathIn here ++ k)) (notes.quiet s ns n k) (notes.areSilent (listing s num) k)
+            ∙ ap₂ (λ x y. x && holdsNoMessage (newestAmong (listing s num) y)) (h .told (j .few l) k o) (drop-at (pathIn here) k (here .len) (path-length here w))
+            ∙ ap (λ y. (short (pathIn here ++ k) && notes.quiet s ns n k) && y) (uncovered-all (listing s num) k)
+            ∙ and-assoc (short (pathIn here ++ k)) (notes.quiet s ns n k) (notes.noneCovers (listing s num) k)
             ∙ ap (λ x. short (pathIn here ++ k) && x) (sym (j .told l k o));
       }
 
@@ -332,35 +332,35 @@ module _ (p : PathBuffer) (lo hi : List ℕ) (k : ℕ) (ek : k ≡ length (share
     leaf-told l t ns n h = record { lo = take (length lo - k) (drop k lo); hi = take (length hi - k) (drop k hi); keys = leaf-keyed l; tells = h }
 
     -- the children of an interior node
-    pub kids-sound : 2 ≤ level → (first : ℕ) (pivot : Place) (next : Cursor) → NextChild s (num * 1024 + 8) (num * 1024 + 8 + len) first pivot next
+    pub branches-sound : 2 ≤ level → (first : ℕ) (pivot : Place) (next : Cursor) → NextChild s (num * 1024 + 8) (num * 1024 + 8 + len) first pivot next
         → (t : Trail) (ns : List ℕ) (m : ℕ) → Tells s t (pathIn here) (take (length lo - k) (drop k lo)) (take (length hi - k) (drop k hi)) ns m
-        → SoundKids s (level - 1) first pivot next here (take (length hi - k) (drop k hi)) t ns m
-    kids-sound l first pivot next nc t ns m h =
+        → SoundBranches s (level - 1) first pivot next here (take (length hi - k) (drop k hi)) t ns m
+    branches-sound l first pivot next nc t ns m h =
         let n = interior-at s num level l u in
         let q = inside-splits (n .es) (n .x) (n .splits) in
-        let a : soundTree (interior num (forestOf (λ j. treeAt (level - 1) s j) (n .x .kids)) (n .x .messages)) (pathIn p ++ lo) (pathIn p ++ hi) ≡ true
+        let a : soundTree (interior num (forestOf (λ j. treeAt (level - 1) s j) (n .x .branches)) (n .x .messages)) (pathIn p ++ lo) (pathIn p ++ hi) ≡ true
         = ap (λ t. soundTree t (pathIn p ++ lo) (pathIn p ++ hi)) (sym (n .tree)) ∙ e in
-        let b = inner num (forestOf (λ j. treeAt (level - 1) s j) (n .x .kids)) (n .x .messages) (pathIn p ++ lo) (pathIn p ++ hi) a in
+        let b = inner num (forestOf (λ j. treeAt (level - 1) s j) (n .x .branches)) (n .x .messages) (pathIn p ++ lo) (pathIn p ++ hi) a in
         let g : listed s (num * 1024 + 8) (num * 1024 + 8 + len) ≡ n .es = ap (λ m. listed s (num * 1024 + 8) (num * 1024 + 8 + m)) el ∙ n .node .lists in
-        let c : kid first (part s pivot) ∷ kidsE (listed s (next .at) (next .end)) ≡ n .x .kids = sym (nc .lists) ∙ ap (λ es. kidsE es) g ∙ q .kids in
+        let c : branch first (part s pivot) ∷ branchesAmong (listed s (next .at) (next .end)) ≡ n .x .branches = sym (nc .lists) ∙ ap (λ es. branchesAmong es) g ∙ q .branches in
         record {
           low = take (length lo - k) (drop k lo);
           sound =
               ap (λ ks. soundForest (forestOf (λ j. treeAt (level - 1) s j) ks) (pathIn here) (pathIn here ++ take (length lo - k) (drop k lo)) (pathIn here ++ take (length hi - k) (drop k hi))) c
-              ∙ ap₂ (λ x h. soundForest (forestOf (λ j. treeAt (level - 1) s j) (n .x .kids)) (pathIn here) (pathIn here ++ x) (pathIn here ++ h)) (part-rest k lo) (part-rest k hi)
-              ∙ ap₂ (λ x h. soundForest (forestOf (λ j. treeAt (level - 1) s j) (n .x .kids)) (pathIn here) x h) (sym low-is) (sym high-is)
-              ∙ ap (λ x. soundForest (forestOf (λ j. treeAt (level - 1) s j) (n .x .kids)) x (pathIn p ++ lo) (pathIn p ++ hi)) (sym lifted-is)
-              ∙ b .kids;
+              ∙ ap₂ (λ x h. soundForest (forestOf (λ j. treeAt (level - 1) s j) (n .x .branches)) (pathIn here) (pathIn here ++ x) (pathIn here ++ h)) (part-rest k lo) (part-rest k hi)
+              ∙ ap₂ (λ x h. soundForest (forestOf (λ j. treeAt (level - 1) s j) (n .x .branches)) (pathIn here) x h) (sym low-is) (sym high-is)
+              ∙ ap (λ x. soundForest (forestOf (λ j. treeAt (level - 1) s j) (n .x .branches)) x (pathIn p ++ lo) (pathIn p ++ hi)) (sym lifted-is)
+              ∙ b .branches;
           tells = h;
         }
 
 -- the child in hand, the last one or with one after it, and those after it
-module _ (s : List ℕ) (level num : ℕ) (low : Place) (c : Cursor) (p : PathBuffer) (hi : List ℕ) (t : Trail) (ns : List ℕ) (n : ℕ) (h : SoundKids s level num low c p hi t ns n) where
+module _ (s : List ℕ) (level num : ℕ) (low : Place) (c : Cursor) (p : PathBuffer) (hi : List ℕ) (t : Trail) (ns : List ℕ) (n : ℕ) (h : SoundBranches s level num low c p hi t ns n) where
   abbrev At : ℕ → Tree
   At j = treeAt level s j
 
   -- notes that tell of the node tell of the child
-  told-child : (us : List Kid) (b : List ℕ) → soundForest (forestOf At (kid num (part s low) ∷ us)) (pathIn p) (pathIn p ++ h .low) (pathIn p ++ hi) ≡ true
+  told-child : (us : List Branch) (b : List ℕ) → soundForest (forestOf At (branch num (part s low) ∷ us)) (pathIn p) (pathIn p ++ h .low) (pathIn p ++ hi) ≡ true
       → highOf (pathIn p) (pathIn p ++ hi) (forestOf At us) ≡ pathIn p ++ b → Tells s t (pathIn p) (part s low) b ns n
   unfolding forestOf
   told-child us b e q = tells-within s t (pathIn p) (h .low) hi (part s low) b ns n mine (h .tells)
@@ -371,9 +371,9 @@ module _ (s : List ℕ) (level num : ℕ) (low : Place) (c : Cursor) (p : PathBu
           ∙ child-within (part s low) (At num) (forestOf At us) (pathIn p) (pathIn p ++ h .low) (pathIn p ++ hi) e (pathIn p ++ k)
           (ap (λ x. owns (pathIn p ++ part s low) x (pathIn p ++ k)) q ∙ owns-under (pathIn p) (part s low) b k ∙ o)
 
-  module _ (e : kidsE (listed s (c .at) (c .end)) ≡ []) where
-    last-forest : soundForest (forestOf At (kid num (part s low) ∷ [])) (pathIn p) (pathIn p ++ h .low) (pathIn p ++ hi) ≡ true
-    last-forest = ap (λ ks. soundForest (forestOf At (kid num (part s low) ∷ ks)) (pathIn p) (pathIn p ++ h .low) (pathIn p ++ hi)) (sym e) ∙ h .sound
+  module _ (e : branchesAmong (listed s (c .at) (c .end)) ≡ []) where
+    last-forest : soundForest (forestOf At (branch num (part s low) ∷ [])) (pathIn p) (pathIn p ++ h .low) (pathIn p ++ hi) ≡ true
+    last-forest = ap (λ ks. soundForest (forestOf At (branch num (part s low) ∷ ks)) (pathIn p) (pathIn p ++ h .low) (pathIn p ++ hi)) (sym e) ∙ h .sound
 
     pub last-sound : SoundNode s level num p (part s low) hi
     unfolding forestOf highOf
@@ -383,27 +383,27 @@ module _ (s : List ℕ) (level num : ℕ) (low : Place) (c : Cursor) (p : PathBu
     unfolding forestOf highOf
     last-told = told-child [] hi last-forest refl
 
-  module _ (k : ℕ) (q : Place) (next : Cursor) (e : kidsE (listed s (c .at) (c .end)) ≡ kid k (part s q) ∷ kidsE (listed s (next .at) (next .end))) where
-    abbrev us : List Kid
-    us = kidsE (listed s (next .at) (next .end))
+  module _ (k : ℕ) (q : Place) (next : Cursor) (e : branchesAmong (listed s (c .at) (c .end)) ≡ branch k (part s q) ∷ branchesAmong (listed s (next .at) (next .end))) where
+    abbrev us : List Branch
+    us = branchesAmong (listed s (next .at) (next .end))
 
-    forest : soundForest (forestOf At (kid num (part s low) ∷ kid k (part s q) ∷ us)) (pathIn p) (pathIn p ++ h .low) (pathIn p ++ hi) ≡ true
-    forest = ap (λ ks. soundForest (forestOf At (kid num (part s low) ∷ ks)) (pathIn p) (pathIn p ++ h .low) (pathIn p ++ hi)) (sym e) ∙ h .sound
+    forest : soundForest (forestOf At (branch num (part s low) ∷ branch k (part s q) ∷ us)) (pathIn p) (pathIn p ++ h .low) (pathIn p ++ hi) ≡ true
+    forest = ap (λ ks. soundForest (forestOf At (branch num (part s low) ∷ ks)) (pathIn p) (pathIn p ++ h .low) (pathIn p ++ hi)) (sym e) ∙ h .sound
 
     pub next-sound : SoundNode s level num p (part s low) (part s q)
     unfolding forestOf highOf
-    next-sound = parts (part s low) (treeAt level s num) (forestOf At (kid k (part s q) ∷ us)) (pathIn p) (pathIn p ++ h .low) (pathIn p ++ hi) forest .first
+    next-sound = parts (part s low) (treeAt level s num) (forestOf At (branch k (part s q) ∷ us)) (pathIn p) (pathIn p ++ h .low) (pathIn p ++ hi) forest .first
 
     pub next-told : Tells s t (pathIn p) (part s low) (part s q) ns n
     unfolding forestOf highOf
-    next-told = told-child (kid k (part s q) ∷ us) (part s q) forest refl
+    next-told = told-child (branch k (part s q) ∷ us) (part s q) forest refl
 
-    pub later-sound : SoundKids s level k q next p hi t ns n
+    pub later-sound : SoundBranches s level k q next p hi t ns n
     unfolding forestOf
     later-sound =
         record {
           low = h .low;
-          sound = parts (part s low) (treeAt level s num) (forestOf At (kid k (part s q) ∷ us)) (pathIn p) (pathIn p ++ h .low) (pathIn p ++ hi) forest .later;
+          sound = parts (part s low) (treeAt level s num) (forestOf At (branch k (part s q) ∷ us)) (pathIn p) (pathIn p ++ h .low) (pathIn p ++ hi) forest .later;
           tells = h .tells;
         }
 

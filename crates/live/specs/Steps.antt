@@ -20,9 +20,9 @@ use Rattle.node.specs.Entries.{listed}
 use Rattle.node.specs.declared.Place.{Place}
 use Rattle.node.specs.declared.Message.{Message}
 use Rattle.node.specs.declared.Entry.{Entry}
-use Rattle.node.specs.declared.search.Kid.{Kid}
-use Rattle.node.specs.Search.Own.{kidIs, kidsE, kid-place, kids-none, kids-other, kids-more}
-use Rattle.node.specs.Search.Hear.{saysE, newestE, newer-nothing}
+use Rattle.node.specs.declared.search.Branch.{Branch}
+use Rattle.node.specs.Search.Own.{branchIs, branchesAmong, branch-place, branches-none, branches-other, branches-more}
+use Rattle.node.specs.Search.Latest.{entrySays, newestAmong, newer-nothing}
 use Rattle.lookup.specs.Look.{listing, part-rest}
 use Rattle.live.specs.Live.{holdsNoMessage, one, short, Shortens}
 use Rattle.live.specs.PathBuffers.{pathIn}
@@ -30,33 +30,33 @@ use Rattle.live.specs.PathSteps.{path-length}
 use Rattle.live.specs.declared.path_buffer.PathBuffer.{PathBuffer}
 use Rattle.live.specs.declared.Trail.{Trail}
 use Rattle.live.specs.declared.Pending.{Pending}
-use Rattle.live.specs.Walk.{passes, passing, TrailIn, Above, Deeper, pushed, decides, countE, isMessage, hasMessage, NextChild, Pends}
+use Rattle.live.specs.Walk.{passes, passing, TrailIn, Above, Deeper, pushed, decides, countAmong, isMessage, hasMessage, NextChild, Pends}
 
-pub node-silent : (s : List ℕ) (num len : ℕ) (rest : List ℕ) (r : Bool) → len ≡ u16 s (num * 1024)
-    → r ≡ holdsNoMessage (newestE (listed s (num * 1024 + 8) (num * 1024 + 8 + len)) rest) → r ≡ holdsNoMessage (newestE (listing s num) rest)
-node-silent s num len rest r e h = h ∙ ap (λ n. holdsNoMessage (newestE (listed s (num * 1024 + 8) (num * 1024 + 8 + n)) rest)) e
+pub node-uncovered : (s : List ℕ) (num len : ℕ) (rest : List ℕ) (r : Bool) → len ≡ u16 s (num * 1024)
+    → r ≡ holdsNoMessage (newestAmong (listed s (num * 1024 + 8) (num * 1024 + 8 + len)) rest) → r ≡ holdsNoMessage (newestAmong (listing s num) rest)
+node-uncovered s num len rest r e h = h ∙ ap (λ n. holdsNoMessage (newestAmong (listed s (num * 1024 + 8) (num * 1024 + 8 + n)) rest)) e
 
 -- the trail, from its last node up
 module _ (s nodes lifts : List ℕ) (q : List ℕ) where
   passes-step : (d : ℕ) → 0 < d → passes s nodes lifts d q
-      ≡ passes s nodes lifts (d - 1) q && holdsNoMessage (newestE (listing s (getD nodes (d - 1) 0)) (drop (getD lifts (d - 1) 0) q))
+      ≡ passes s nodes lifts (d - 1) q && holdsNoMessage (newestAmong (listing s (getD nodes (d - 1) 0)) (drop (getD lifts (d - 1) 0) q))
   unfolding passes
   passes-step zero h = absurd (omega arith)
   passes-step (suc d) h = let e : suc d - 1 ≡ d = omega arith in rw e
 
-  heard-at : (d : ℕ) (r : Bool) → r ≡ holdsNoMessage (newestE (listing s (getD nodes (d - 1) 0)) (take (length q - getD lifts (d - 1) 0) (drop (getD lifts (d - 1) 0) q)))
-      → holdsNoMessage (newestE (listing s (getD nodes (d - 1) 0)) (drop (getD lifts (d - 1) 0) q)) ≡ r
-  heard-at d r h = ap (λ z. holdsNoMessage (newestE (listing s (getD nodes (d - 1) 0)) z)) (sym (part-rest (getD lifts (d - 1) 0) q)) ∙ sym h
+  latest-at : (d : ℕ) (r : Bool) → r ≡ holdsNoMessage (newestAmong (listing s (getD nodes (d - 1) 0)) (take (length q - getD lifts (d - 1) 0) (drop (getD lifts (d - 1) 0) q)))
+      → holdsNoMessage (newestAmong (listing s (getD nodes (d - 1) 0)) (drop (getD lifts (d - 1) 0) q)) ≡ r
+  latest-at d r h = ap (λ z. holdsNoMessage (newestAmong (listing s (getD nodes (d - 1) 0)) z)) (sym (part-rest (getD lifts (d - 1) 0) q)) ∙ sym h
 
-  pub trail-hears : (d : ℕ) (r : Bool) (P : Bool) → 0 < d → P ≡ passes s nodes lifts d q
-      → r ≡ holdsNoMessage (newestE (listing s (getD nodes (d - 1) 0)) (take (length q - getD lifts (d - 1) 0) (drop (getD lifts (d - 1) 0) q))) → not r ≡ true → false ≡ P
-  trail-hears d r P h inv e n =
-      sym (inv ∙ passes-step d h ∙ ap (λ x. passes s nodes lifts (d - 1) q && x) (heard-at d r e ∙ not-true r n) ∙ and-false (passes s nodes lifts (d - 1) q))
+  pub trail-latest : (d : ℕ) (r : Bool) (P : Bool) → 0 < d → P ≡ passes s nodes lifts d q
+      → r ≡ holdsNoMessage (newestAmong (listing s (getD nodes (d - 1) 0)) (take (length q - getD lifts (d - 1) 0) (drop (getD lifts (d - 1) 0) q))) → not r ≡ true → false ≡ P
+  trail-latest d r P h inv e n =
+      sym (inv ∙ passes-step d h ∙ ap (λ x. passes s nodes lifts (d - 1) q && x) (latest-at d r e ∙ not-true r n) ∙ and-false (passes s nodes lifts (d - 1) q))
 
   pub trail-quiet : (d : ℕ) (r : Bool) (P : Bool) → 0 < d → P ≡ passes s nodes lifts d q
-      → r ≡ holdsNoMessage (newestE (listing s (getD nodes (d - 1) 0)) (take (length q - getD lifts (d - 1) 0) (drop (getD lifts (d - 1) 0) q))) → not r ≡ false
+      → r ≡ holdsNoMessage (newestAmong (listing s (getD nodes (d - 1) 0)) (take (length q - getD lifts (d - 1) 0) (drop (getD lifts (d - 1) 0) q))) → not r ≡ false
       → P ≡ passes s nodes lifts (d - 1) q
-  trail-quiet d r P h inv e n = inv ∙ passes-step d h ∙ ap (λ x. passes s nodes lifts (d - 1) q && x) (heard-at d r e ∙ not-false r n) ∙ and-true (passes s nodes lifts (d - 1) q)
+  trail-quiet d r P h inv e n = inv ∙ passes-step d h ∙ ap (λ x. passes s nodes lifts (d - 1) q && x) (latest-at d r e ∙ not-false r n) ∙ and-true (passes s nodes lifts (d - 1) q)
 
   pub trail-over : (d : ℕ) (P : Bool) → d ≤ 0 → length q ≤ 64 → P ≡ passes s nodes lifts d q → true ≡ P
   unfolding passes short pathLimit
@@ -118,12 +118,12 @@ module _ (ok : List ℕ → Bool) (X s : List ℕ) (es : List defined.Entry) whe
   pub message-decides : (e : Entry) (m : Message) (r : Bool) → e ≡ Entry.Message m → r ≡ decides ok X (defined.message (messageIn s m)) es → r ≡ decides ok X (entryIn s e) es
   message-decides e m r q h = rw q h
 
-  pub put-hidden : (m : Message) (p v : Place) (b : Bool) → m ≡ Message.Put p v → b ≡ holdsNoMessage (newestE es (part s p)) → not b ≡ true
+  pub put-hidden : (m : Message) (p v : Place) (b : Bool) → m ≡ Message.Put p v → b ≡ holdsNoMessage (newestAmong es (part s p)) → not b ≡ true
       → false ≡ decides ok X (defined.message (messageIn s m)) es
   unfolding decides
   put-hidden m p v b q h n = rw (q, ← h, not-true b n)
 
-  pub put-decides : (m : Message) (p v : Place) (b r : Bool) → m ≡ Message.Put p v → b ≡ holdsNoMessage (newestE es (part s p)) → not b ≡ false
+  pub put-decides : (m : Message) (p v : Place) (b r : Bool) → m ≡ Message.Put p v → b ≡ holdsNoMessage (newestAmong es (part s p)) → not b ≡ false
       → r ≡ ok (X ++ part s p) → r ≡ decides ok X (defined.message (messageIn s m)) es
   unfolding decides
   put-decides m p v b r q h n g = rw (q, ← h, not-false b n) g
@@ -138,15 +138,15 @@ module _ (ok : List ℕ → Bool) (X s : List ℕ) (es : List defined.Entry) whe
 
 -- the loop over a node's entries
 module _ (ok : List ℕ → Bool) (X : List ℕ) where
-  pub count-end : (es : List defined.Entry) (n N : ℕ) → es ≡ [] → n + countE ok X es ≡ N → n ≡ N
-  unfolding countE
+  pub count-end : (es : List defined.Entry) (n N : ℕ) → es ≡ [] → n + countAmong ok X es ≡ N → n ≡ N
+  unfolding countAmong
   count-end es n N q inv = let z : n + 0 ≡ N = rw q at inv in omega arith
 
   pub count-step : (s : List ℕ) (e : Entry) (es ts : List defined.Entry) (n d N : ℕ) (b : Bool) → es ≡ entryIn s e ∷ ts → b ≡ decides ok X (entryIn s e) ts → d ≡ one b
-      → n + countE ok X es ≡ N → n + d + countE ok X ts ≡ N
-  unfolding countE
+      → n + countAmong ok X es ≡ N → n + d + countAmong ok X ts ≡ N
+  unfolding countAmong
   count-step s e es ts n d N b q h f inv =
-      let z : n + (one (decides ok X (entryIn s e) ts) + countE ok X ts) ≡ N = rw q at inv in
+      let z : n + (one (decides ok X (entryIn s e) ts) + countAmong ok X ts) ≡ N = rw q at inv in
       let w : d ≡ one (decides ok X (entryIn s e) ts) = f ∙ ap one h in
       omega arith
 
@@ -168,11 +168,11 @@ module _ (s : List ℕ) (e : Entry) (es ts : List defined.Entry) (b P : Bool) (q
       let z : cond (isMessage (entryIn s e)) true (hasMessage ts) ≡ P = rw q at inv in
       rw (sym h ∙ t) at z
 
-no-message : (es : List defined.Entry) (r : List ℕ) → hasMessage es ≡ false → holdsNoMessage (newestE es r) ≡ true
-unfolding hasMessage newestE saysE isMessage holdsNoMessage
+no-message : (es : List defined.Entry) (r : List ℕ) → hasMessage es ≡ false → holdsNoMessage (newestAmong es r) ≡ true
+unfolding hasMessage newestAmong entrySays isMessage holdsNoMessage
 no-message [] r h = refl
-no-message (defined.pair k v ∷ es) r h = ap holdsNoMessage (newer-nothing (newestE es r)) ∙ no-message es r h
-no-message (defined.child i k ∷ es) r h = ap holdsNoMessage (newer-nothing (newestE es r)) ∙ no-message es r h
+no-message (defined.pair k v ∷ es) r h = ap holdsNoMessage (newer-nothing (newestAmong es r)) ∙ no-message es r h
+no-message (defined.child i k ∷ es) r h = ap holdsNoMessage (newer-nothing (newestAmong es r)) ∙ no-message es r h
 no-message (defined.message m ∷ es) r h = absurd (true≢false h)
 
 -- the trail for a node's children
@@ -180,7 +180,7 @@ module _ (s : List ℕ) (num lift : ℕ) (t : Trail) (fit : TrailIn s lift t) (f
   pub same-trail : (len : ℕ) (b : Bool) → len ≡ u16 s (num * 1024) → b ≡ hasMessage (listed s (num * 1024 + 8) (num * 1024 + 8 + len)) → not b ≡ true → Deeper s num lift t t
   same-trail len b e h n =
       let f : hasMessage (listing s num) ≡ false = ap (λ k. hasMessage (listed s (num * 1024 + 8) (num * 1024 + 8 + k))) (sym e) ∙ sym h ∙ not-true b n in
-      record { test = λ q. joined (passing s t q) (holdsNoMessage (newestE (listing s num) (drop lift q))) (no-message (listing s num) (drop lift q) f); fits = fit; depth = omega arith }
+      record { test = λ q. joined (passing s t q) (holdsNoMessage (newestAmong (listing s num) (drop lift q))) (no-message (listing s num) (drop lift q) f); fits = fit; depth = omega arith }
     where
       joined : (x y : Bool) → y ≡ true → x ≡ x && y
       joined true y e = sym e
@@ -209,7 +209,7 @@ module _ (s : List ℕ) (num lift : ℕ) (t : Trail) (fit : TrailIn s lift t) (f
           step-same d q x y w = unfold passes in rw (x, y, w)
 
       one-more : (q : List ℕ) → passes s (set (t .nodes) (t .depth) num) (set (t .lifts) (t .depth) lift) (suc (t .depth)) q
-          ≡ passes s (t .nodes) (t .lifts) (t .depth) q && holdsNoMessage (newestE (listing s num) (drop lift q))
+          ≡ passes s (t .nodes) (t .lifts) (t .depth) q && holdsNoMessage (newestAmong (listing s num) (drop lift q))
       one-more q = unfold passes in rw (at-last, lift-last, before-last (t .depth) (omega arith) q)
 
       above : (i : ℕ) → i < t .depth + 1 → Above s lift (getD (set (t .nodes) (t .depth) num) i 0) (getD (set (t .lifts) (t .depth) lift) i 0)
@@ -236,19 +236,19 @@ module _ (s : List ℕ) (num lift : ℕ) (t : Trail) (fit : TrailIn s lift t) (f
 -- the next child
 pub child-bad : (s : List ℕ) (at end : ℕ) → listed s at end ≡ [] → Pends s at end Pending.End
 unfolding Pends
-child-bad s at end h = kids-none (listed s at end) h
+child-bad s at end h = branches-none (listed s at end) h
 
-pub child-other : (s : List ℕ) (at end : ℕ) (e : Entry) (c : Cursor) → Next s at end e c → kidIs e ≡ Kid.Other → Pends s at end Pending.End
+pub child-other : (s : List ℕ) (at end : ℕ) (e : Entry) (c : Cursor) → Next s at end e c → branchIs e ≡ Branch.Other → Pends s at end Pending.End
 unfolding Pends
-child-other s at end e c n h = kids-other e s (listed s at end) (listed s (c .at) (c .end)) (n .lists) h
+child-other s at end e c n h = branches-other e s (listed s at end) (listed s (c .at) (c .end)) (n .lists) h
 
-pub child-next : (s : List ℕ) (at end : ℕ) (e : Entry) (c : Cursor) (k : ℕ) (p : Place) → end ≤ length s → Next s at end e c → kidIs e ≡ Kid.Of k p
+pub child-next : (s : List ℕ) (at end : ℕ) (e : Entry) (c : Cursor) (k : ℕ) (p : Place) → end ≤ length s → Next s at end e c → branchIs e ≡ Branch.Of k p
     → Pends s at end (Pending.Child k p c)
 unfolding Pends
 child-next s at end e c k p f n h =
-    let w = kid-place at end e k p h (n .reachable) in
+    let w = branch-place at end e k p h (n .reachable) in
     record {
-      lists = kids-more e k p s (listed s at end) (listed s (c .at) (c .end)) (n .lists) h;
+      lists = branches-more e k p s (listed s at end) (listed s (c .at) (c .end)) (n .lists) h;
       moves = n .moves;
       stays = n .stays;
       ends = n .ends;
@@ -259,7 +259,7 @@ pub pends-child : (s : List ℕ) (at end : ℕ) (r : Pending) (k : ℕ) (p : Pla
 unfolding Pends
 pends-child s at end r k p c h e = subst (Pends s at end) e h
 
-pub pends-end : (s : List ℕ) (at end : ℕ) (r : Pending) → Pends s at end r → r ≡ Pending.End → kidsE (listed s at end) ≡ []
+pub pends-end : (s : List ℕ) (at end : ℕ) (r : Pending) → Pends s at end r → r ≡ Pending.End → branchesAmong (listed s at end) ≡ []
 unfolding Pends
 pends-end s at end r h e = subst (Pends s at end) e h
 

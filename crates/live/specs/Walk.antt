@@ -13,8 +13,8 @@ use Rattle.node.specs.Places.{part, Within}
 use Rattle.node.specs.Entries.{listed}
 use Rattle.node.specs.declared.Place.{Place}
 use Rattle.node.specs.declared.Cursor.{Cursor}
-use Rattle.node.specs.Search.Hear.{newestE}
-use Rattle.node.specs.Search.Own.{kid, kidsE}
+use Rattle.node.specs.Search.Latest.{newestAmong}
+use Rattle.node.specs.Search.Own.{branch, branchesAmong}
 use Rattle.lookup.specs.Look.{listing}
 use Rattle.live.specs.Live.{holdsNoMessage, one, short}
 use Rattle.live.specs.declared.path_buffer.PathBuffer.{PathBuffer}
@@ -25,7 +25,7 @@ use Rattle.live.specs.declared.Pending.{Pending}
 unfoldable pub passes : List ℕ → List ℕ → List ℕ → ℕ → List ℕ → Bool
 passes s nodes lifts zero q = short q
 passes s nodes lifts (suc d) q =
-    passes s nodes lifts d q && holdsNoMessage (newestE (listing s (getD nodes d 0)) (drop (getD lifts d 0) q))
+    passes s nodes lifts d q && holdsNoMessage (newestAmong (listing s (getD nodes d 0)) (drop (getD lifts d 0) q))
 
 abbrev pub passing : List ℕ → Trail → List ℕ → Bool
 passing s t q = passes s (t .nodes) (t .lifts) (t .depth) q
@@ -47,7 +47,7 @@ pushed t num lift =
 
 -- the trail r for the children of a node whose trail is t: a path passes r if it passes t and the node's messages say nothing of it
 pub record Deeper (s : List ℕ) (num lift : ℕ) (t r : Trail) : Type 0 where
-  pub test : (q : List ℕ) → passing s r q ≡ passing s t q && holdsNoMessage (newestE (listing s num) (drop lift q))
+  pub test : (q : List ℕ) → passing s r q ≡ passing s t q && holdsNoMessage (newestAmong (listing s num) (drop lift q))
   pub fits : TrailIn s lift r
   pub depth : r .depth ≤ t .depth + 1
 
@@ -55,13 +55,13 @@ pub record Deeper (s : List ℕ) (num lift : ℕ) (t r : Trail) : Type 0 where
 unfoldable pub decides : (List ℕ → Bool) → List ℕ → defined.Entry → List defined.Entry → Bool
 decides ok X (defined.pair k v) es = ok (X ++ k)
 decides ok X (defined.child i k) es = false
-decides ok X (defined.message (defined.puts k v)) es = holdsNoMessage (newestE es k) && ok (X ++ k)
+decides ok X (defined.message (defined.puts k v)) es = holdsNoMessage (newestAmong es k) && ok (X ++ k)
 decides ok X (defined.message (defined.drops k)) es = false
 decides ok X (defined.message (defined.clears k)) es = false
 
-unfoldable pub countE : (List ℕ → Bool) → List ℕ → List defined.Entry → ℕ
-countE ok X [] = 0
-countE ok X (e ∷ es) = one (decides ok X e es) + countE ok X es
+unfoldable pub countAmong : (List ℕ → Bool) → List ℕ → List defined.Entry → ℕ
+countAmong ok X [] = 0
+countAmong ok X (e ∷ es) = one (decides ok X e es) + countAmong ok X es
 
 unfoldable pub isMessage : defined.Entry → Bool
 isMessage (defined.pair k v) = false
@@ -74,7 +74,7 @@ hasMessage (e ∷ es) = cond (isMessage e) true (hasMessage es)
 
 -- The child at a cursor and the cursor after it, or that no child is there.
 pub record NextChild (s : List ℕ) (at end k : ℕ) (p : Place) (c : Cursor) : Type 0 where
-  pub lists : kidsE (listed s at end) ≡ kid k (part s p) ∷ kidsE (listed s (c .at) (c .end))
+  pub lists : branchesAmong (listed s at end) ≡ branch k (part s p) ∷ branchesAmong (listed s (c .at) (c .end))
   pub moves : at + 4 ≤ c .at
   pub stays : c .at ≤ end
   pub ends : c .end ≡ end
@@ -82,7 +82,7 @@ pub record NextChild (s : List ℕ) (at end k : ℕ) (p : Place) (c : Cursor) : 
 
 unfoldable pub Pends : List ℕ → ℕ → ℕ → Pending → Type 0
 Pends s at end (Pending.Child k p c) = NextChild s at end k p c
-Pends s at end Pending.End = kidsE (listed s at end) ≡ []
+Pends s at end Pending.End = branchesAmong (listed s at end) ≡ []
 
 -- What the walk relies on at a node of a level, under a prefix and a trail; and at the children of a node from the one in hand on.
 pub record Ready (s : List ℕ) (level num : ℕ) (p : PathBuffer) (t : Trail) : Type 0 where
@@ -91,8 +91,8 @@ pub record Ready (s : List ℕ) (level num : ℕ) (p : PathBuffer) (t : Trail) :
   pub trail : TrailIn s (p .len) t
   pub deep : t .depth + level ≤ 8
 
-pub record ReadyKids (s : List ℕ) (level first : ℕ) (pivot : Place) (start : Cursor) (p : PathBuffer) (t : Trail) : Type 0 where
-  pub reads : usableIn (nodesOf (length s)) (forestOf (λ j. treeAt level s j) (kid first (part s pivot) ∷ kidsE (listed s (start .at) (start .end)))) ≡ true
+pub record ReadyBranches (s : List ℕ) (level first : ℕ) (pivot : Place) (start : Cursor) (p : PathBuffer) (t : Trail) : Type 0 where
+  pub reads : usableIn (nodesOf (length s)) (forestOf (λ j. treeAt level s j) (branch first (part s pivot) ∷ branchesAmong (listed s (start .at) (start .end)))) ≡ true
   pub ends : start .end ≤ length s
   pub place : Within 0 (length s) pivot
   pub room : p .len ≤ 64

@@ -9,7 +9,7 @@ use node::Message;
 use node::Place;
 use node::Split;
 use node::Step;
-use node::search::Kid;
+use node::search::Branch;
 use path_buffer::PathBuffer;
 ghost use mathlib.Core.Path.{_≡_};
 ghost use mathlib.Core.Bool.{true};
@@ -24,21 +24,43 @@ ghost use Rattle.octets.specs.Cap.{cap};
 ghost use Rattle.laws.specs.Reading.Relative.{lifts};
 ghost use Rattle.node.specs.Places.{EntryWithin, MessageWithin, part, entryIn, messageIn};
 ghost use Rattle.node.specs.Entries.{listed};
-ghost use Rattle.node.specs.Search.Hear.{newestE};
-ghost use Rattle.node.specs.Search.Own.{kid, kidsE};
+ghost use Rattle.node.specs.Search.Latest.{newestAmong};
+ghost use Rattle.node.specs.Search.Own.{branch, branchesAmong};
+ghost use Rattle.node.specs.Whole.{HasNode};
 ghost use Rattle.lookup.specs.Look.{listing};
 ghost use Rattle.live.specs.Notes.Notes.{NotesFit, Gathered};
-ghost use Rattle.live.specs.Noted.{quietTrail, Tells, Handed, Joined, LeafTold, SoundNode, SoundKids};
-ghost use Rattle.live.specs.Live.{holdsNoMessage, one, liveHere, liveKids};
+ghost use Rattle.live.specs.Noted.{quietTrail, Tells, Handed, Joined, LeafTold, SoundNode, SoundBranches};
+ghost use Rattle.live.specs.Live.{holdsNoMessage, one, liveHere, liveBranches};
 ghost use Rattle.live.specs.PathBuffers.{pathIn};
-ghost use Rattle.live.specs.SilentSteps.{Passed, Passing};
-ghost use Rattle.live.specs.Walk.{passing, TrailIn, Above, decides, countE, isMessage, hasMessage, Pends, Deeper, pushed, Ready, ReadyKids, Countable};
+ghost use Rattle.live.specs.CoverSteps.{Passed, Passing};
+ghost use Rattle.live.specs.Walk.{passing, TrailIn, Above, decides, countAmong, isMessage, hasMessage, Pends, Deeper, pushed, Ready, ReadyBranches, Countable};
 
 // The nodes above that hold messages, from the root down: each with how many bytes it lifts.
 pub struct Trail {
     pub nodes: [usize; 8],
     pub lifts: [usize; 8],
     pub depth: usize,
+}
+
+// Where a walk stands: what all paths there begin with, the nodes above that hold messages, and how many notes tell what these say. More
+// than 64 notes tell nothing.
+pub struct Position {
+    pub prefix: PathBuffer,
+    pub trail: Trail,
+    pub noted: usize,
+}
+
+// A node that a walk comes to, by its number and level, and where the walk stands above it: at what its parent lifts.
+pub struct Visit {
+    pub num: usize,
+    pub level: usize,
+    pub position: Position,
+}
+
+// The children of a node from one on: the place of its low pivot, and the cursor past it.
+pub struct Run {
+    pub low: Place,
+    pub rest: Cursor,
 }
 
 // The next child of an interior node, and the cursor after it.
@@ -86,7 +108,7 @@ fn pass_any(s: &[u8], at: usize, end: usize, rest: &[u8]) -> usize
     let Step::Read(e, next) = c.step(s) else {
         return end;
     };
-    if node::search::entry_speaks(s, e, rest) {
+    if node::search::entry_covers(s, e, rest) {
         return 0;
     }
     next.at
@@ -105,9 +127,9 @@ fn pass_entry(s: &[u8], at: usize, end: usize, rest: &[u8]) -> usize
 }
 
 // Whether the entries from a place up to another say nothing of a rest.
-pub fn is_silent(store: &[u8], from: usize, end: usize, rest: &[u8]) -> bool
+pub fn none_covers(store: &[u8], from: usize, end: usize, rest: &[u8]) -> bool
     requires { ⌜ end ≤ length (now store) ⌝ }
-    ensures { λ r. ⌜ r ≡ holdsNoMessage (newestE (listed (now (store .entry)) from end) (now (rest .entry))) ⌝ }
+    ensures { λ r. ⌜ r ≡ holdsNoMessage (newestAmong (listed (now (store .entry)) from end) (now (rest .entry))) ⌝ }
 {
     let mut at = from;
     while at < end {
@@ -120,14 +142,14 @@ pub fn is_silent(store: &[u8], from: usize, end: usize, rest: &[u8]) -> bool
 }
 
 // Whether the messages of a node say nothing of a rest.
-pub fn is_node_silent(store: &[u8], num: usize, rest: &[u8]) -> bool
-    requires { ⌜ (num * 1024 + 1024 ≤ length (now store)) × (u16 (now store) (num * 1024) ≤ 1016) ⌝ }
-    ensures { λ r. ⌜ r ≡ holdsNoMessage (newestE (listing (now (store .entry)) num) (now (rest .entry))) ⌝ }
+pub fn none_in_node_covers(store: &[u8], num: usize, rest: &[u8]) -> bool
+    requires { ⌜ HasNode (now store) num × (u16 (now store) (num * 1024) ≤ 1016) ⌝ }
+    ensures { λ r. ⌜ r ≡ holdsNoMessage (newestAmong (listing (now (store .entry)) num) (now (rest .entry))) ⌝ }
 {
     let at = num * image::NODE_SIZE;
     let len = octets::u16_at(store, at);
     let from = at + image::ENTRIES_AT;
-    is_silent(store, from, from + len, rest)
+    none_covers(store, from, from + len, rest)
 }
 
 // Whether no node of the trail has a message on a path.
@@ -142,7 +164,7 @@ pub fn is_visible(store: &[u8], trail: Trail, path: &[u8]) -> bool
         d -= 1;
         let num = nodes[d];
         let k = lifts[d];
-        if !is_node_silent(store, num, &path[k..]) {
+        if !none_in_node_covers(store, num, &path[k..]) {
             return false;
         }
     }
@@ -184,7 +206,7 @@ pub fn message_decides(
             let b = p.stop;
             let from = next.at;
             let end = next.end;
-            if !is_silent(store, from, end, &store[a..b]) {
+            if !none_covers(store, from, end, &store[a..b]) {
                 return false;
             }
             is_live(store, prefix, trail, &store[a..b])
@@ -228,7 +250,7 @@ pub fn count_entries(
     trail: Trail,
 ) -> usize
     requires { ⌜ (from ≤ end) × (end ≤ length (now store)) × (prefix .len ≤ 64) × TrailIn (now store) (prefix .len) trail ⌝ }
-    ensures { λ r. ⌜ (r ≡ countE (passing (now (store .entry)) trail) (pathIn prefix) (listed (now (store .entry)) from end)) × (r + from ≤ end) ⌝ }
+    ensures { λ r. ⌜ (r ≡ countAmong (passing (now (store .entry)) trail) (pathIn prefix) (listed (now (store .entry)) from end)) × (r + from ≤ end) ⌝ }
 {
     let mut c = Cursor { at: from, end };
     let mut n: usize = 0;
@@ -267,7 +289,9 @@ fn note_trail(
         let at = num * image::NODE_SIZE;
         let len = octets::u16_at(store, at);
         let from = at + image::ENTRIES_AT;
-        n = notes::note_entries(store, from, from + len, &bytes[k..stop], lo, hi, notes, n);
+        let end = from + len;
+        let c = Cursor { at: from, end };
+        n = notes::note_entries(store, c, &bytes[k..stop], lo, hi, notes, n);
         if 64 < n {
             return 65;
         }
@@ -279,22 +303,22 @@ fn note_trail(
 // after w, and where it has none to hand down, of the trail. Gives how many; 65 where there is no room.
 pub fn note_above(
     store: &[u8],
-    here: PathBuffer,
-    trail: Trail,
+    here: Position,
     w: &[u8],
     lo: &[u8],
     hi: &[u8],
     above: &[usize; 64],
-    many: usize,
     notes: &mut [usize],
 ) -> usize
-    requires { ⌜ (here .len ≤ 64) × TrailIn (now store) (here .len) trail × Handed (now store) trail (pathIn here) (now w) (now lo) (now hi) (now above) many ⌝ }
-    ensures { λ r. ⌜ Tells (now (store .entry)) trail (pathIn here) (now (lo .entry)) (now (hi .entry)) (now (notes .exit)) r ⌝ }
+    requires { ⌜ (here .prefix .len ≤ 64)
+        × TrailIn (now store) (here .prefix .len) (here .trail)
+        × Handed (now store) (here .trail) (pathIn (here .prefix)) (now w) (now lo) (now hi) (now above) (here .noted) ⌝ }
+    ensures { λ r. ⌜ Tells (now (store .entry)) (here .trail) (pathIn (here .prefix)) (now (lo .entry)) (now (hi .entry)) (now (notes .exit)) r ⌝ }
 {
-    if 64 < many {
-        return note_trail(store, here, trail, lo, hi, notes);
+    if 64 < here.noted {
+        return note_trail(store, here.prefix, here.trail, lo, hi, notes);
     }
-    notes::narrow(store, above, many, w, lo, hi, notes)
+    notes::narrow(store, above, here.noted, w, lo, hi, notes)
 }
 
 // A node's own messages that can be on a key from lo up to hi, noted after the n notes that it was handed. Gives how many there are then.
@@ -306,7 +330,7 @@ pub fn note_own(
     notes: &mut [usize],
     n: usize,
 ) -> usize
-    requires { ⌜ (num * 1024 + 1024 ≤ length (now store)) × (u16 (now store) (num * 1024) ≤ 1016) × (n ≤ 64 → NotesFit (now store) (now notes) n) ⌝ }
+    requires { ⌜ HasNode (now store) num × (u16 (now store) (num * 1024) ≤ 1016) × (n ≤ 64 → NotesFit (now store) (now notes) n) ⌝ }
     ensures { λ r. ⌜ Joined (now (store .entry)) num (now (lo .entry)) (now (hi .entry)) (now (notes .entry)) n (now (notes .exit)) r ⌝ }
 {
     if 64 < n {
@@ -315,7 +339,8 @@ pub fn note_own(
     let at = num * image::NODE_SIZE;
     let len = octets::u16_at(store, at);
     let from = at + image::ENTRIES_AT;
-    notes::note_entries(store, from, from + len, &lo[0..0], lo, hi, notes, n)
+    let end = from + len;
+    notes::note_entries(store, Cursor { at: from, end }, &lo[0..0], lo, hi, notes, n)
 }
 
 // How many pairs of a leaf no node of the trail has a message on: each pair is held against the notes alone, and where these had no room,
@@ -334,7 +359,7 @@ pub fn count_leaf(
         × (prefix .len ≤ 64)
         × TrailIn (now store) (prefix .len) trail
         × LeafTold (now store) trail (pathIn prefix) (listed (now store) from end) (now notes) n ⌝ }
-    ensures { λ r. ⌜ (r ≡ countE (passing (now (store .entry)) trail) (pathIn prefix) (listed (now (store .entry)) from end)) × (r + from ≤ end) ⌝ }
+    ensures { λ r. ⌜ (r ≡ countAmong (passing (now (store .entry)) trail) (pathIn prefix) (listed (now (store .entry)) from end)) × (r + from ≤ end) ⌝ }
 {
     if 64 < n {
         return count_entries(store, from, end, prefix, trail);
@@ -402,32 +427,30 @@ pub fn read_child(store: &[u8], c: Cursor) -> Pending
     let Step::Read(e, next) = c.step(store) else {
         return Pending::End;
     };
-    let Kid::Of(k, p) = node::search::kid_of(e) else {
+    let Branch::Of(k, p) = node::search::branch_of(e) else {
         return Pending::End;
     };
     Pending::Child(k, p, next)
 }
 
 // How many entries under a node decide a path that passes the trail. The pivots lack what the parent lifts, which is the prefix; `above` has
-// `many` notes of the parent, which tell what the trail tells.
-pub fn count_node(
-    store: &[u8],
-    num: usize,
-    level: usize,
-    prefix: PathBuffer,
-    lo: &[u8],
-    hi: &[u8],
-    trail: Trail,
-    above: &[usize; 64],
-    many: usize,
-) -> usize
-    requires { ⌜ Ready (now store) level num prefix trail × SoundNode (now store) level num prefix (now lo) (now hi) × Tells (now store) trail (pathIn prefix) (now lo) (now hi) (now above) many ⌝ }
+// the notes of the parent, which tell what the trail tells.
+pub fn count_node(store: &[u8], node: Visit, lo: &[u8], hi: &[u8], above: &[usize; 64]) -> usize
+    requires { ⌜ Ready (now store) (node .level) (node .num) (node .position .prefix) (node .position .trail)
+        × SoundNode (now store) (node .level) (node .num) (node .position .prefix) (now lo) (now hi)
+        × Tells (now store) (node .position .trail) (pathIn (node .position .prefix)) (now lo) (now hi) (now above) (node .position .noted) ⌝ }
     ensures { λ r. ⌜ (r
         ≡ cap
-        (liveHere (treeAt level (now (store .entry)) num) (passing (now (store .entry)) trail)
-        (pathIn prefix ++ shared (now (lo .entry)) (now (hi .entry))) (drop (lifts (now (lo .entry)) (now (hi .entry))) (now (hi .entry)))))
+        (liveHere (treeAt (node .level) (now (store .entry)) (node .num)) (passing (now (store .entry)) (node .position .trail))
+        (pathIn (node .position .prefix) ++ shared (now (lo .entry)) (now (hi .entry)))
+        (drop (lifts (now (lo .entry)) (now (hi .entry))) (now (hi .entry)))))
         × (r ≤ 65535) ⌝ }
 {
+    let num = node.num;
+    let level = node.level;
+    let prefix = node.position.prefix;
+    let trail = node.position.trail;
+    let noted = node.position.noted;
     let k = octets::common_length(lo, hi);
     let room = 64 - prefix.len;
     if room < k {
@@ -435,15 +458,18 @@ pub fn count_node(
     }
     let here = path_buffer::extend(prefix, &lo[0..k]);
     let mut notes = [0usize; 64];
+    let position = Position {
+        prefix: here,
+        trail,
+        noted,
+    };
     let n = note_above(
         store,
-        here,
-        trail,
+        position,
         &lo[0..k],
         &lo[k..],
         &hi[k..],
         above,
-        many,
         &mut notes,
     );
     let at = num * image::NODE_SIZE;
@@ -454,73 +480,62 @@ pub fn count_node(
         return count_leaf(store, from, end, here, trail, &notes, n);
     }
     let own = count_entries(store, from, end, here, trail);
-    let Pending::Child(first, pivot, next) = read_child(store, Cursor { at: from, end }) else {
+    let Pending::Child(first, low, rest) = read_child(store, Cursor { at: from, end }) else {
         return own;
     };
     let lift = here.len;
     let deeper = lengthen_trail(store, trail, num, lift);
     let m = note_own(store, num, &lo[k..], &hi[k..], &mut notes, n);
-    let under = count_children(
-        store,
-        first,
-        pivot,
-        next,
-        level - 1,
-        here,
-        &hi[k..],
-        deeper,
-        &notes,
-        m,
-    );
+    let below = level - 1;
+    let position = Position {
+        prefix: here,
+        trail: deeper,
+        noted: m,
+    };
+    let child = Visit {
+        num: first,
+        level: below,
+        position,
+    };
+    let under = count_children(store, child, Run { low, rest }, &hi[k..], &notes);
     octets::capped_sum(own, under)
 }
 
-// The same for a child and those that follow from the cursor on; a child's high pivot is the next one's low pivot, or else hi.
-pub fn count_children(
-    store: &[u8],
-    first: usize,
-    pivot: Place,
-    start: Cursor,
-    level: usize,
-    prefix: PathBuffer,
-    hi: &[u8],
-    trail: Trail,
-    notes: &[usize; 64],
-    n: usize,
-) -> usize
-    requires { ⌜ ReadyKids (now store) level first pivot start prefix trail × SoundKids (now store) level first pivot start prefix (now hi) trail (now notes) n ⌝ }
+// The same for the child that is visited and those that follow from the cursor on; a child's high pivot is the next one's low pivot, or
+// else hi.
+pub fn count_children(store: &[u8], first: Visit, run: Run, hi: &[u8], notes: &[usize; 64]) -> usize
+    requires { ⌜ ReadyBranches (now store) (first .level) (first .num) (run .low) (run .rest) (first .position .prefix) (first .position .trail)
+        × SoundBranches (now store) (first .level) (first .num) (run .low) (run .rest) (first .position .prefix) (now hi) (first .position .trail)
+        (now notes) (first .position .noted) ⌝ }
     ensures { λ r. ⌜ (r
         ≡ cap
-        (liveKids
-        (forestOf (λ j. treeAt level (now (store .entry)) j)
-        (kid first (part (now (store .entry)) pivot) ∷ kidsE (listed (now (store .entry)) (start .at) (start .end))))
-        (passing (now (store .entry)) trail) (pathIn prefix) (now (hi .entry))))
+        (liveBranches
+        (forestOf (λ j. treeAt (first .level) (now (store .entry)) j)
+        (branch (first .num) (part (now (store .entry)) (run .low)) ∷ branchesAmong (listed (now (store .entry)) (run .rest .at) (run .rest .end))))
+        (passing (now (store .entry)) (first .position .trail)) (pathIn (first .position .prefix)) (now (hi .entry))))
         × (r ≤ 65535) ⌝ }
 {
-    let mut c = start;
-    let mut num = first;
-    let mut low = pivot;
+    let level = first.level;
+    let position = first.position;
+    let mut c = run.rest;
+    let mut num = first.num;
+    let mut low = run.low;
     let mut total: usize = 0;
     loop {
         let a = low.start;
         let b = low.stop;
+        let node = Visit {
+            num,
+            level,
+            position,
+        };
         let Pending::Child(k, p, next) = read_child(store, c) else {
-            let last = count_node(store, num, level, prefix, &store[a..b], hi, trail, notes, n);
+            let last = count_node(store, node, &store[a..b], hi, notes);
             return octets::capped_sum(total, last);
         };
         let x = p.start;
         let y = p.stop;
-        let one = count_node(
-            store,
-            num,
-            level,
-            prefix,
-            &store[a..b],
-            &store[x..y],
-            trail,
-            notes,
-            n,
-        );
+        let one = count_node(store, node, &store[a..b], &store[x..y], notes);
         total = octets::capped_sum(total, one);
         num = k;
         low = p;
@@ -547,15 +562,14 @@ pub fn live_count(store: &[u8]) -> usize
         depth: 0,
     };
     let notes = [0usize; 64];
-    count_node(
-        store,
-        root,
-        levels,
-        prefix,
-        &lo[0..0],
-        &hi,
-        trail,
-        &notes,
-        0,
-    )
+    let node = Visit {
+        num: root,
+        level: levels,
+        position: Position {
+            prefix,
+            trail,
+            noted: 0,
+        },
+    };
+    count_node(store, node, &lo[0..0], &hi, &notes)
 }

@@ -14,7 +14,7 @@ ghost use lib.ListN.{length};
 ghost use Rattle.node.specs.Cut.{cut};
 ghost use Rattle.node.specs.Places.{EntryWithin, MessageWithin, entryIn, messageIn};
 ghost use Rattle.node.specs.Entries.{listed};
-ghost use Rattle.live.specs.Notes.Notes.{noteSpeaks, quiet, NotesFit, Concerns, Concerned, Alike, Repeats, Gathered, Kept, one, isSilent, isSilentE, areSilent, countQuiet};
+ghost use Rattle.live.specs.Notes.Notes.{noteCovers, quiet, NotesFit, Concerns, Concerned, Alike, Repeats, Gathered, Kept, one, notCovers, entryNotCovers, noneCovers, countQuiet};
 
 // What a message is to the keys of a leaf: it is on none of them; or where it is told by a note; or it has no note.
 pub enum Concern {
@@ -24,9 +24,9 @@ pub enum Concern {
 }
 
 // Whether a note is on a key.
-fn note_speaks(s: &[u8], v: usize, key: &[u8]) -> bool
+fn note_covers(s: &[u8], v: usize, key: &[u8]) -> bool
     requires { ⌜ v / 4096 + v % 2048 ≤ length (now s) ⌝ }
-    ensures { λ r. ⌜ r ≡ noteSpeaks (now (s .entry)) v (now (key .entry)) ⌝ }
+    ensures { λ r. ⌜ r ≡ noteCovers (now (s .entry)) v (now (key .entry)) ⌝ }
 {
     let a = v / 4096;
     let b = a + v % 2048;
@@ -44,7 +44,7 @@ pub fn is_quiet(s: &[u8], notes: &[usize; 64], count: usize, key: &[u8]) -> bool
     let mut i = count;
     while 0 < i {
         i -= 1;
-        if note_speaks(s, notes[i], key) {
+        if note_covers(s, notes[i], key) {
             return false;
         }
     }
@@ -96,7 +96,7 @@ pub fn concern_of(
 // The same of a message.
 pub fn concern_of_message(s: &[u8], m: Message, w: &[u8], lo: &[u8], hi: &[u8]) -> Concern
     requires { ⌜ MessageWithin 0 (length (now s)) m ⌝ }
-    ensures { λ r. ⌜ Concerned (now (s .entry)) (now (w .entry)) (now (lo .entry)) (now (hi .entry)) (λ x. isSilent (messageIn (now (s .entry)) m) x) r ⌝ }
+    ensures { λ r. ⌜ Concerned (now (s .entry)) (now (w .entry)) (now (lo .entry)) (now (hi .entry)) (λ x. notCovers (messageIn (now (s .entry)) m) x) r ⌝ }
 {
     match m {
         Message::Put(p, _) => concern_of(s, p.start, p.stop, false, w, lo, hi),
@@ -166,7 +166,7 @@ pub fn note_message(
     count: usize,
 ) -> usize
     requires { ⌜ MessageWithin 0 (length (now s)) m × (count ≤ 64) × NotesFit (now s) (now notes) count ⌝ }
-    ensures { λ r. ⌜ Gathered (now (s .entry)) (now (lo .entry)) (now (hi .entry)) (λ k. isSilent (messageIn (now (s .entry)) m) (now (w .entry) ++ k))
+    ensures { λ r. ⌜ Gathered (now (s .entry)) (now (lo .entry)) (now (hi .entry)) (λ k. notCovers (messageIn (now (s .entry)) m) (now (w .entry) ++ k))
         (now (notes .entry)) count (now (notes .exit)) r ⌝ }
 {
     let c = concern_of_message(s, m, w, lo, hi);
@@ -184,7 +184,8 @@ fn narrow_note(
     count: usize,
 ) -> usize
     requires { ⌜ (v / 4096 + v % 2048 ≤ length (now s)) × (count ≤ 64) × NotesFit (now s) (now notes) count ⌝ }
-    ensures { λ r. ⌜ Gathered (now (s .entry)) (now (lo .entry)) (now (hi .entry)) (λ k. not (noteSpeaks (now (s .entry)) v (now (w .entry) ++ k))) (now (notes .entry)) count (now (notes .exit)) r ⌝ }
+    ensures { λ r. ⌜ Gathered (now (s .entry)) (now (lo .entry)) (now (hi .entry)) (λ k. not (noteCovers (now (s .entry)) v (now (w .entry) ++ k)))
+        (now (notes .entry)) count (now (notes .exit)) r ⌝ }
 {
     let a = v / 4096;
     let b = a + v % 2048;
@@ -229,7 +230,7 @@ pub fn note_entry(
     count: usize,
 ) -> usize
     requires { ⌜ EntryWithin 0 (length (now s)) e × (count ≤ 64) × NotesFit (now s) (now notes) count ⌝ }
-    ensures { λ r. ⌜ Gathered (now (s .entry)) (now (lo .entry)) (now (hi .entry)) (λ k. isSilentE (entryIn (now (s .entry)) e) (now (w .entry) ++ k))
+    ensures { λ r. ⌜ Gathered (now (s .entry)) (now (lo .entry)) (now (hi .entry)) (λ k. entryNotCovers (entryIn (now (s .entry)) e) (now (w .entry) ++ k))
         (now (notes .entry)) count (now (notes .exit)) r ⌝ }
 {
     match e {
@@ -239,22 +240,22 @@ pub fn note_entry(
     }
 }
 
-// The same of the entries from a place up to another.
+// The same of the entries from the cursor on.
 pub fn note_entries(
     s: &[u8],
-    from: usize,
-    end: usize,
+    start: Cursor,
     w: &[u8],
     lo: &[u8],
     hi: &[u8],
     notes: &mut [usize],
     count: usize,
 ) -> usize
-    requires { ⌜ (end ≤ length (now s)) × (count ≤ 64) × NotesFit (now s) (now notes) count ⌝ }
-    ensures { λ r. ⌜ Gathered (now (s .entry)) (now (lo .entry)) (now (hi .entry)) (λ k. areSilent (listed (now (s .entry)) from end) (now (w .entry) ++ k))
-        (now (notes .entry)) count (now (notes .exit)) r ⌝ }
+    requires { ⌜ (start .end ≤ length (now s)) × (count ≤ 64) × NotesFit (now s) (now notes) count ⌝ }
+    ensures { λ r. ⌜ Gathered (now (s .entry)) (now (lo .entry)) (now (hi .entry))
+        (λ k. noneCovers (listed (now (s .entry)) (start .at) (start .end)) (now (w .entry) ++ k)) (now (notes .entry)) count (now (notes .exit)) r ⌝ }
 {
-    let mut c = Cursor { at: from, end };
+    let end = start.end;
+    let mut c = start;
     let mut n = count;
     while c.at < end {
         let Step::Read(e, next) = c.step(s) else {

@@ -14,21 +14,21 @@ use Rattle.image.specs.Bytes.{u16, shared}
 use Rattle.image.specs.Path.{owns}
 use Rattle.image.specs.Entry as defined
 use Rattle.image.specs.Table.{Row, find}
-use Rattle.image.specs.Image.{Tree, unread, leaf, interior, Forest, tree, Kid, Inside, nodeBytes, nodesOf, laidOut, entryBytes, nodeEntries, pairThen, pairsOf, messageThen, messagesOf, noKids, kidThen, insideOf, orNone, forestOf, leafOf, interiorOf, treeAt}
+use Rattle.image.specs.Image.{Tree, unread, leaf, interior, Forest, tree, Branch, Inside, nodeBytes, nodesOf, laidOut, entryBytes, nodeEntries, pairThen, pairsOf, messageThen, messagesOf, noBranches, branchThen, insideOf, orNone, forestOf, leafOf, interiorOf, treeAt}
 use Rattle.image.specs.Meaning.{Said, nothing, says, newer, newest, decide}
 use Rattle.octets.specs.Order.{and-left, and-right}
 use Rattle.laws.specs.LookupTable.{split}
-use Rattle.laws.specs.Reading.Relative.{lifts, fromHere, fromKids, kidHigh, high-at, usable, usableIn}
+use Rattle.laws.specs.Reading.Relative.{lifts, fromHere, fromBranches, branchHigh, high-at, usable, usableIn}
 use Rattle.node.specs.Cut.{cut, cut-drop, cut-take, cut-u16}
 use Rattle.node.specs.Entries.{listed, listOf, all-listed}
 use Rattle.node.specs.Places.{part, Within}
 use Rattle.node.specs.declared.Place.{Place}
-use Rattle.node.specs.declared.search.Heard.{Heard}
+use Rattle.node.specs.declared.search.Latest.{Latest}
 use Rattle.node.specs.declared.search.Found.{Found}
 use Rattle.node.specs.declared.search.Owner.{Owner}
-use Rattle.node.specs.Search.Hear.{heardIn, HeardFits, saysE, newestE, Hears}
-use Rattle.node.specs.Search.Pairs.{foundIn, FoundFits, findE, Finds, nothing-is}
-use Rattle.node.specs.Search.Own.{kid, kidsE, Range, range, ownerOf, ownerIn, OwnerFits, Owned}
+use Rattle.node.specs.Search.Latest.{latestIn, LatestFits, entrySays, newestAmong, LatestIs}
+use Rattle.node.specs.Search.Pairs.{foundIn, FoundFits, findAmong, Finds, nothing-is}
+use Rattle.node.specs.Search.Own.{branch, branchesAmong, Range, range, ownerOf, ownerIn, OwnerFits, Owned}
 
 -- a node's bytes in the store
 module _ (s : List ℕ) (i : ℕ) (inside : i * 1024 + 1024 ≤ length s) where
@@ -102,8 +102,8 @@ pub record InteriorAt (s : List ℕ) (i level lower : ℕ) : Type 0 where
   pub x : Inside
   pub node : NodeAt s i es
   pub splits : insideOf es ≡ some x
-  pub tree : treeAt level s i ≡ interior i (forestOf (λ j. treeAt lower s j) (x .kids)) (x .messages)
-  pub kids : usableIn (nodesOf (length s)) (forestOf (λ j. treeAt lower s j) (x .kids)) ≡ true
+  pub tree : treeAt level s i ≡ interior i (forestOf (λ j. treeAt lower s j) (x .branches)) (x .messages)
+  pub branches : usableIn (nodesOf (length s)) (forestOf (λ j. treeAt lower s j) (x .branches)) ≡ true
 
 no-unread : (n i : ℕ) → usable n (unread i) ≡ true → ⊥
 unfolding usable
@@ -117,9 +117,9 @@ interior-number : (n i : ℕ) (f : Forest) (ms : List defined.Message) → usabl
 unfolding usable
 interior-number n i f ms h = and-left _ _ h
 
-interior-kids : (n i : ℕ) (f : Forest) (ms : List defined.Message) → usable n (interior i f ms) ≡ true → usableIn n f ≡ true
+interior-branches : (n i : ℕ) (f : Forest) (ms : List defined.Message) → usable n (interior i f ms) ≡ true → usableIn n f ≡ true
 unfolding usable
-interior-kids n i f ms h = and-right (ltb i n) _ h
+interior-branches n i f ms h = and-right (ltb i n) _ h
 
 pub leaf-at : (s : List ℕ) (i level : ℕ) → level ≤ 1 → usable (nodesOf (length s)) (treeAt level s i) ≡ true → LeafAt s i level
 unfolding treeAt
@@ -157,10 +157,10 @@ interior-at s i (suc (suc level)) l u =
         record {
           es = es;
           x = x;
-          node = node-at s i 0x0002 (suc (suc level)) es (interior-number (nodesOf (length s)) i (forestOf (λ j. treeAt (suc level) s j) (x .kids)) (x .messages) (unfold interiorOf in v)) e;
+          node = node-at s i 0x0002 (suc (suc level)) es (interior-number (nodesOf (length s)) i (forestOf (λ j. treeAt (suc level) s j) (x .branches)) (x .messages) (unfold interiorOf in v)) e;
           splits = f;
           tree = unfold interiorOf orNone in rw (e, f) refl;
-          kids = interior-kids (nodesOf (length s)) i (forestOf (λ j. treeAt (suc level) s j) (x .kids)) (x .messages) (unfold interiorOf in v);
+          branches = interior-branches (nodesOf (length s)) i (forestOf (λ j. treeAt (suc level) s j) (x .branches)) (x .messages) (unfold interiorOf in v);
         }
 
     go : (o : Option (List defined.Entry)) → nodeEntries 0x0002 (suc (suc level)) (nodeBytes s i) ≡ o → InteriorAt s i (suc (suc level)) (suc level)
@@ -175,12 +175,12 @@ node-inside s i (suc zero) u = let n = leaf-at s i 1 (omega arith) u .node in (n
 node-inside s i (suc (suc level)) u = let n = interior-at s i (suc (suc level)) (omega arith) u .node in (n .inside, n .short)
 
 -- the entries of a leaf and of an interior node
-pairs-find : (es : List defined.Entry) (rs : List Row) (rest : List ℕ) → pairsOf es ≡ some rs → findE es rest ≡ find rest rs
-unfolding pairsOf findE find
+pairs-find : (es : List defined.Entry) (rs : List Row) (rest : List ℕ) → pairsOf es ≡ some rs → findAmong es rest ≡ find rest rs
+unfolding pairsOf findAmong find
 pairs-find [] rs rest h = let q : rs ≡ [] = cc in rw q
 pairs-find (defined.pair k v ∷ es) rs rest h = go (pairsOf es) refl (pairs-find es)
   where
-    go : (o : Option (List Row)) → pairsOf es ≡ o → ((ts : List Row) (r : List ℕ) → pairsOf es ≡ some ts → findE es r ≡ find r ts) → findE (defined.pair k v ∷ es) rest ≡ find rest rs
+    go : (o : Option (List Row)) → pairsOf es ≡ o → ((ts : List Row) (r : List ℕ) → pairsOf es ≡ some ts → findAmong es r ≡ find r ts) → findAmong (defined.pair k v ∷ es) rest ≡ find rest rs
     go none e ih = let q : none ≡ some rs = unfold pairThen in rw e at h in let z : _≡_ {A = ℕ} 0 1 = cc in absurd (omega arith)
     go (some ts) e ih =
         let q : some (record { key = k; value = v } ∷ ts) ≡ some rs = unfold pairThen in rw e at h in
@@ -189,19 +189,19 @@ pairs-find (defined.pair k v ∷ es) rs rest h = go (pairsOf es) refl (pairs-fin
 pairs-find (defined.child i k ∷ es) rs rest h = let q : none ≡ some rs = unfold pairThen in h in let z : _≡_ {A = ℕ} 0 1 = cc in absurd (omega arith)
 pairs-find (defined.message m ∷ es) rs rest h = let q : none ≡ some rs = unfold pairThen in h in let z : _≡_ {A = ℕ} 0 1 = cc in absurd (omega arith)
 
-nil-newest : (rest : List ℕ) → newestE [] rest ≡ newest [] rest
-unfolding newestE newest
+nil-newest : (rest : List ℕ) → newestAmong [] rest ≡ newest [] rest
+unfolding newestAmong newest
 nil-newest rest = refl
 
-pub messages-newest : (es : List defined.Entry) (ms : List defined.Message) (rest : List ℕ) → messagesOf es ≡ some ms → newestE es rest ≡ newest ms rest
-unfolding messagesOf newestE newest saysE
+pub messages-newest : (es : List defined.Entry) (ms : List defined.Message) (rest : List ℕ) → messagesOf es ≡ some ms → newestAmong es rest ≡ newest ms rest
+unfolding messagesOf newestAmong newest entrySays
 messages-newest [] ms rest h = let q : ms ≡ [] = cc in rw q
 messages-newest (defined.pair k v ∷ es) ms rest h = let q : none ≡ some ms = h in let z : _≡_ {A = ℕ} 0 1 = cc in absurd (omega arith)
 messages-newest (defined.child i k ∷ es) ms rest h = let q : none ≡ some ms = h in let z : _≡_ {A = ℕ} 0 1 = cc in absurd (omega arith)
 messages-newest (defined.message m ∷ es) ms rest h = go (messagesOf es) refl (messages-newest es)
   where
-    go : (o : Option (List defined.Message)) → messagesOf es ≡ o → ((ts : List defined.Message) (r : List ℕ) → messagesOf es ≡ some ts → newestE es r ≡ newest ts r)
-        → newestE (defined.message m ∷ es) rest ≡ newest ms rest
+    go : (o : Option (List defined.Message)) → messagesOf es ≡ o → ((ts : List defined.Message) (r : List ℕ) → messagesOf es ≡ some ts → newestAmong es r ≡ newest ts r)
+        → newestAmong (defined.message m ∷ es) rest ≡ newest ms rest
     go none e ih = let q : none ≡ some ms = unfold messageThen in rw e at h in let z : _≡_ {A = ℕ} 0 1 = cc in absurd (omega arith)
     go (some ts) e ih =
         let q : some (m ∷ ts) ≡ some ms = unfold messageThen in rw e at h in
@@ -209,19 +209,19 @@ messages-newest (defined.message m ∷ es) ms rest h = go (messagesOf es) refl (
         rw (p, ih ts rest e)
 
 pub record Splits (es : List defined.Entry) (x : Inside) : Type 0 where
-  pub kids : kidsE es ≡ x .kids
-  pub newest : (rest : List ℕ) → newestE es rest ≡ newest (x .messages) rest
+  pub branches : branchesAmong es ≡ x .branches
+  pub newest : (rest : List ℕ) → newestAmong es rest ≡ newest (x .messages) rest
 
 only-messages : (m : defined.Message) (es : List defined.Entry) (x : Inside) → insideOf (defined.message m ∷ es) ≡ some x → Splits (defined.message m ∷ es) x
 unfolding insideOf
 only-messages m es x h = go (messagesOf (defined.message m ∷ es)) refl
   where
     go : (o : Option (List defined.Message)) → messagesOf (defined.message m ∷ es) ≡ o → Splits (defined.message m ∷ es) x
-    go none e = let q : none ≡ some x = unfold noKids in rw e at h in let z : _≡_ {A = ℕ} 0 1 = cc in absurd (omega arith)
+    go none e = let q : none ≡ some x = unfold noBranches in rw e at h in let z : _≡_ {A = ℕ} 0 1 = cc in absurd (omega arith)
     go (some ms) e =
-        let q : some (record { kids = []; messages = ms }) ≡ some x = unfold noKids in rw e at h in
-        let p : (record { kids = []; messages = ms }) ≡ x = cc in
-        subst (Splits (defined.message m ∷ es)) p (record { kids = unfold kidsE in refl; newest = λ rest. messages-newest (defined.message m ∷ es) ms rest e })
+        let q : some (record { branches = []; messages = ms }) ≡ some x = unfold noBranches in rw e at h in
+        let p : (record { branches = []; messages = ms }) ≡ x = cc in
+        subst (Splits (defined.message m ∷ es)) p (record { branches = unfold branchesAmong in refl; newest = λ rest. messages-newest (defined.message m ∷ es) ms rest e })
 
 newer-nothing : (x : Said) → newer nothing x ≡ x
 unfolding newer
@@ -231,18 +231,18 @@ newer-nothing (says v) = refl
 pub inside-splits : (es : List defined.Entry) (x : Inside) → insideOf es ≡ some x → Splits es x
 unfolding insideOf
 inside-splits [] x h =
-    let p : (record { kids = []; messages = [] }) ≡ x = cc in
-    subst (Splits []) p (record { kids = unfold kidsE in refl; newest = λ rest. nil-newest rest })
+    let p : (record { branches = []; messages = [] }) ≡ x = cc in
+    subst (Splits []) p (record { branches = unfold branchesAmong in refl; newest = λ rest. nil-newest rest })
 inside-splits (defined.pair k v ∷ es) x h = let q : none ≡ some x = h in let z : _≡_ {A = ℕ} 0 1 = cc in absurd (omega arith)
 inside-splits (defined.child i k ∷ es) x h = go (insideOf es) refl (inside-splits es)
   where
     go : (o : Option Inside) → insideOf es ≡ o → ((y : Inside) → insideOf es ≡ some y → Splits es y) → Splits (defined.child i k ∷ es) x
-    go none e ih = let q : none ≡ some x = unfold kidThen in rw e at h in let z : _≡_ {A = ℕ} 0 1 = cc in absurd (omega arith)
+    go none e ih = let q : none ≡ some x = unfold branchThen in rw e at h in let z : _≡_ {A = ℕ} 0 1 = cc in absurd (omega arith)
     go (some y) e ih =
-        let q : some (record { kids = record { number = i; pivot = k } ∷ y .kids; messages = y .messages }) ≡ some x = unfold kidThen in rw e at h in
-        let p : (record { kids = record { number = i; pivot = k } ∷ y .kids; messages = y .messages }) ≡ x = cc in
+        let q : some (record { branches = record { number = i; pivot = k } ∷ y .branches; messages = y .messages }) ≡ some x = unfold branchThen in rw e at h in
+        let p : (record { branches = record { number = i; pivot = k } ∷ y .branches; messages = y .messages }) ≡ x = cc in
         subst (Splits (defined.child i k ∷ es)) p
-        (record { kids = unfold kidsE in ap (λ l. kid i k ∷ l) (ih y e .kids); newest = λ rest. unfold newestE saysE in newer-nothing (newestE es rest) ∙ ih y e .newest rest })
+        (record { branches = unfold branchesAmong in ap (λ l. branch i k ∷ l) (ih y e .branches); newest = λ rest. unfold newestAmong entrySays in newer-nothing (newestAmong es rest) ∙ ih y e .newest rest })
 inside-splits (defined.message m ∷ es) x h = only-messages m es x h
 
 -- the child that owns the rest answers
@@ -254,39 +254,39 @@ no-range : (under : ℕ → Tree) (rest : List ℕ) → onRange under rest none 
 unfolding onRange
 no-range under rest = refl
 
-pub kids-range : (under : ℕ → Tree) (ks : List Kid) (hi rest : List ℕ) → fromKids (forestOf under ks) hi rest ≡ onRange under rest (ownerOf ks hi rest)
-unfolding fromKids forestOf ownerOf onRange
-kids-range under [] hi rest = refl
-kids-range under (k ∷ ks) hi rest = go (owns (k .pivot) (kidHigh hi ks) rest) refl (kids-range under ks hi rest)
+pub branches-range : (under : ℕ → Tree) (ks : List Branch) (hi rest : List ℕ) → fromBranches (forestOf under ks) hi rest ≡ onRange under rest (ownerOf ks hi rest)
+unfolding fromBranches forestOf ownerOf onRange
+branches-range under [] hi rest = refl
+branches-range under (k ∷ ks) hi rest = go (owns (k .pivot) (branchHigh hi ks) rest) refl (branches-range under ks hi rest)
   where
-    go : (b : Bool) → owns (k .pivot) (kidHigh hi ks) rest ≡ b → fromKids (forestOf under ks) hi rest ≡ onRange under rest (ownerOf ks hi rest)
-        → fromKids (forestOf under (k ∷ ks)) hi rest ≡ onRange under rest (ownerOf (k ∷ ks) hi rest)
+    go : (b : Bool) → owns (k .pivot) (branchHigh hi ks) rest ≡ b → fromBranches (forestOf under ks) hi rest ≡ onRange under rest (ownerOf ks hi rest)
+        → fromBranches (forestOf under (k ∷ ks)) hi rest ≡ onRange under rest (ownerOf (k ∷ ks) hi rest)
     go true e ih = rw (high-at under hi ks, e)
     go false e ih = rw (high-at under hi ks, e) ih
 
-pub range-owns : (ks : List Kid) (hi rest : List ℕ) (o : Range) → ownerOf ks hi rest ≡ some o → owns (o .low) (o .high) rest ≡ true
+pub range-owns : (ks : List Branch) (hi rest : List ℕ) (o : Range) → ownerOf ks hi rest ≡ some o → owns (o .low) (o .high) rest ≡ true
 unfolding ownerOf
 range-owns [] hi rest o h = let q : none ≡ some o = h in let z : _≡_ {A = ℕ} 0 1 = cc in absurd (omega arith)
-range-owns (k ∷ ks) hi rest o h = go (owns (k .pivot) (kidHigh hi ks) rest) refl (range-owns ks hi rest o)
+range-owns (k ∷ ks) hi rest o h = go (owns (k .pivot) (branchHigh hi ks) rest) refl (range-owns ks hi rest o)
   where
-    go : (b : Bool) → owns (k .pivot) (kidHigh hi ks) rest ≡ b → (ownerOf ks hi rest ≡ some o → owns (o .low) (o .high) rest ≡ true) → owns (o .low) (o .high) rest ≡ true
+    go : (b : Bool) → owns (k .pivot) (branchHigh hi ks) rest ≡ b → (ownerOf ks hi rest ≡ some o → owns (o .low) (o .high) rest ≡ true) → owns (o .low) (o .high) rest ≡ true
     go true e ih =
-        let q : some (range (k .number) (k .pivot) (kidHigh hi ks)) ≡ some o = rw e at h in
-        let p : range (k .number) (k .pivot) (kidHigh hi ks) ≡ o = cc in
+        let q : some (range (k .number) (k .pivot) (branchHigh hi ks)) ≡ some o = rw e at h in
+        let p : range (k .number) (k .pivot) (branchHigh hi ks) ≡ o = cc in
         subst (λ (y : Range). owns (y .low) (y .high) rest ≡ true) p e
     go false e ih = ih (rw e at h)
 
-pub range-usable : (n : ℕ) (under : ℕ → Tree) (ks : List Kid) (hi rest : List ℕ) (o : Range) → usableIn n (forestOf under ks) ≡ true → ownerOf ks hi rest ≡ some o
+pub range-usable : (n : ℕ) (under : ℕ → Tree) (ks : List Branch) (hi rest : List ℕ) (o : Range) → usableIn n (forestOf under ks) ≡ true → ownerOf ks hi rest ≡ some o
     → usable n (under (o .number)) ≡ true
 unfolding ownerOf forestOf usableIn
 range-usable n under [] hi rest o u h = let q : none ≡ some o = h in let z : _≡_ {A = ℕ} 0 1 = cc in absurd (omega arith)
 range-usable n under (k ∷ ks) hi rest o u h =
-    go (owns (k .pivot) (kidHigh hi ks) rest) refl (range-usable n under ks hi rest o (and-right (usable n (under (k .number))) _ u))
+    go (owns (k .pivot) (branchHigh hi ks) rest) refl (range-usable n under ks hi rest o (and-right (usable n (under (k .number))) _ u))
   where
-    go : (b : Bool) → owns (k .pivot) (kidHigh hi ks) rest ≡ b → (ownerOf ks hi rest ≡ some o → usable n (under (o .number)) ≡ true) → usable n (under (o .number)) ≡ true
+    go : (b : Bool) → owns (k .pivot) (branchHigh hi ks) rest ≡ b → (ownerOf ks hi rest ≡ some o → usable n (under (o .number)) ≡ true) → usable n (under (o .number)) ≡ true
     go true e ih =
-        let q : some (range (k .number) (k .pivot) (kidHigh hi ks)) ≡ some o = rw e at h in
-        let p : range (k .number) (k .pivot) (kidHigh hi ks) ≡ o = cc in
+        let q : some (range (k .number) (k .pivot) (branchHigh hi ks)) ≡ some o = rw e at h in
+        let p : range (k .number) (k .pivot) (branchHigh hi ks) ≡ o = cc in
         subst (λ (y : Range). usable n (under (y .number)) ≡ true) p (and-left (usable n (under (k .number))) (usableIn n (forestOf under ks)) u)
     go false e ih = ih (rw e at h)
 
@@ -300,35 +300,35 @@ lifts-rest lo hi rest o =
 
 -- A leaf and an interior node, by what the readers list.
 module _ (s : List ℕ) (i level : ℕ) (u : usable (nodesOf (length s)) (treeAt level s i) ≡ true) (hi rest : List ℕ) where
-  pub at-leaf : level ≤ 1 → findE (listing s i) rest ≡ fromHere (treeAt level s i) hi rest
+  pub at-leaf : level ≤ 1 → findAmong (listing s i) rest ≡ fromHere (treeAt level s i) hi rest
   at-leaf l =
       let n = leaf-at s i level l u in
-      ap (λ es. findE es rest) (n .node .lists) ∙ pairs-find (n .es) (n .rs) rest (n .pairs) ∙ leaf-is (n .rs) ∙ ap (λ t. fromHere t hi rest) (sym (n .tree))
+      ap (λ es. findAmong es rest) (n .node .lists) ∙ pairs-find (n .es) (n .rs) rest (n .pairs) ∙ leaf-is (n .rs) ∙ ap (λ t. fromHere t hi rest) (sym (n .tree))
     where
       leaf-is : (rs : List Row) → find rest rs ≡ fromHere (leaf i rs) hi rest
       leaf-is rs = unfold fromHere in refl
 
   pub at-interior : 2 ≤ level
-      → decide (newestE (listing s i) rest) (onRange (λ j. treeAt (level - 1) s j) rest (ownerOf (kidsE (listing s i)) hi rest)) ≡ fromHere (treeAt level s i) hi rest
+      → decide (newestAmong (listing s i) rest) (onRange (λ j. treeAt (level - 1) s j) rest (ownerOf (branchesAmong (listing s i)) hi rest)) ≡ fromHere (treeAt level s i) hi rest
   at-interior l =
       let n = interior-at s i level l u in
       let p = inside-splits (n .es) (n .x) (n .splits) in
-      let a : newestE (listing s i) rest ≡ newest (n .x .messages) rest = ap (λ es. newestE es rest) (n .node .lists) ∙ p .newest rest in
-      let b : kidsE (listing s i) ≡ n .x .kids = ap (λ es. kidsE es) (n .node .lists) ∙ p .kids in
+      let a : newestAmong (listing s i) rest ≡ newest (n .x .messages) rest = ap (λ es. newestAmong es rest) (n .node .lists) ∙ p .newest rest in
+      let b : branchesAmong (listing s i) ≡ n .x .branches = ap (λ es. branchesAmong es) (n .node .lists) ∙ p .branches in
       ap₂ (λ y ks. decide y (onRange (λ j. treeAt (level - 1) s j) rest (ownerOf ks hi rest))) a b
-      ∙ ap (λ d. decide (newest (n .x .messages) rest) d) (sym (kids-range (λ j. treeAt (level - 1) s j) (n .x .kids) hi rest))
-      ∙ interior-is (forestOf (λ j. treeAt (level - 1) s j) (n .x .kids)) (n .x .messages)
+      ∙ ap (λ d. decide (newest (n .x .messages) rest) d) (sym (branches-range (λ j. treeAt (level - 1) s j) (n .x .branches) hi rest))
+      ∙ interior-is (forestOf (λ j. treeAt (level - 1) s j) (n .x .branches)) (n .x .messages)
       ∙ ap (λ t. fromHere t hi rest) (sym (n .tree))
     where
-      interior-is : (f : Forest) (ms : List defined.Message) → decide (newest ms rest) (fromKids f hi rest) ≡ fromHere (interior i f ms) hi rest
+      interior-is : (f : Forest) (ms : List defined.Message) → decide (newest ms rest) (fromBranches f hi rest) ≡ fromHere (interior i f ms) hi rest
       interior-is f ms = unfold fromHere in refl
 
-  pub child-usable : 2 ≤ level → (o : Range) → ownerOf (kidsE (listing s i)) hi rest ≡ some o → usable (nodesOf (length s)) (treeAt (level - 1) s (o .number)) ≡ true
+  pub child-usable : 2 ≤ level → (o : Range) → ownerOf (branchesAmong (listing s i)) hi rest ≡ some o → usable (nodesOf (length s)) (treeAt (level - 1) s (o .number)) ≡ true
   child-usable l o h =
       let n = interior-at s i level l u in
       let p = inside-splits (n .es) (n .x) (n .splits) in
-      let b : kidsE (listing s i) ≡ n .x .kids = ap (λ es. kidsE es) (n .node .lists) ∙ p .kids in
-      range-usable (nodesOf (length s)) (λ j. treeAt (level - 1) s j) (n .x .kids) hi rest o (n .kids) (ap (λ ks. ownerOf ks hi rest) (sym b) ∙ h)
+      let b : branchesAmong (listing s i) ≡ n .x .branches = ap (λ es. branchesAmong es) (n .node .lists) ∙ p .branches in
+      range-usable (nodesOf (length s)) (λ j. treeAt (level - 1) s j) (n .x .branches) hi rest o (n .branches) (ap (λ ks. ownerOf ks hi rest) (sym b) ∙ h)
 
 -- what is left of a list from a place on, as a part is made
 pub part-rest : (k : ℕ) (xs : List ℕ) → take (length xs - k) (drop k xs) ≡ drop k xs
@@ -337,22 +337,22 @@ part-rest k xs = take-all (length xs - k) (drop k xs) (omega (arith, length-drop
 pub finds-as : (s : List ℕ) (x y : Option (List ℕ)) (r : Found) → x ≡ y → Finds s x r → Finds s y r
 finds-as s x y r e h = record { meant = h .meant ∙ e; fits = h .fits }
 
-heard-value : (s : List ℕ) (x : Said) (d : Option (List ℕ)) (m : Heard) (p : Place) → Hears s x m → m ≡ Heard.Value p → Finds s (decide x d) (Found.Value p)
-unfolding foundIn FoundFits heardIn HeardFits decide
-heard-value s x d m p h e =
+latest-value : (s : List ℕ) (x : Said) (d : Option (List ℕ)) (m : Latest) (p : Place) → LatestIs s x m → m ≡ Latest.Value p → Finds s (decide x d) (Found.Value p)
+unfolding foundIn FoundFits latestIn LatestFits decide
+latest-value s x d m p h e =
     let q : says (some (part s p)) ≡ x = rw e at (h .meant) in
-    let w : Within 0 (length s) p = subst (HeardFits (length s)) e (h .fits) in
+    let w : Within 0 (length s) p = subst (LatestFits (length s)) e (h .fits) in
     record { meant = ap (λ y. decide y d) q; fits = w }
 
-heard-gone : (s : List ℕ) (x : Said) (d : Option (List ℕ)) (m : Heard) → Hears s x m → m ≡ Heard.Gone → Finds s (decide x d) Found.Nothing
-unfolding foundIn FoundFits heardIn decide
-heard-gone s x d m h e =
+latest-gone : (s : List ℕ) (x : Said) (d : Option (List ℕ)) (m : Latest) → LatestIs s x m → m ≡ Latest.Gone → Finds s (decide x d) Found.Nothing
+unfolding foundIn FoundFits latestIn decide
+latest-gone s x d m h e =
     let q : says none ≡ x = rw e at (h .meant) in
     record { meant = ap (λ y. decide y d) q; fits = tt }
 
-heard-silent : (s : List ℕ) (x : Said) (d : Option (List ℕ)) (m : Heard) → Hears s x m → m ≡ Heard.Silent → d ≡ decide x d
-unfolding heardIn decide
-heard-silent s x d m h e =
+latest-uncovered : (s : List ℕ) (x : Said) (d : Option (List ℕ)) (m : Latest) → LatestIs s x m → m ≡ Latest.Nothing → d ≡ decide x d
+unfolding latestIn decide
+latest-uncovered s x d m h e =
     let q : nothing ≡ x = rw e at (h .meant) in
     ap (λ y. decide y d) q
 
@@ -385,35 +385,35 @@ module _ (s : List ℕ) (i level : ℕ) (u : usable (nodesOf (length s)) (treeAt
   same-list : L ≡ listing s i
   same-list = ap (λ n. listed s (i * 1024 + 8) (i * 1024 + 8 + n)) el
 
-  pub look-leaf : level ≤ 1 → (r : Found) → Finds s (findE L rest) r → Finds s (fromHere (treeAt level s i) hi rest) r
-  look-leaf l r h = finds-as s _ _ r (ap (λ es. findE es rest) same-list ∙ at-leaf s i level u hi rest l) h
+  pub look-leaf : level ≤ 1 → (r : Found) → Finds s (findAmong L rest) r → Finds s (fromHere (treeAt level s i) hi rest) r
+  look-leaf l r h = finds-as s _ _ r (ap (λ es. findAmong es rest) same-list ∙ at-leaf s i level u hi rest l) h
 
-  module _ (two : 2 ≤ level) (m : Heard) (hm : Hears s (newestE L rest) m) where
-    whole : decide (newestE L rest) (onRange (λ j. treeAt (level - 1) s j) rest (ownerOf (kidsE L) hi rest)) ≡ fromHere (treeAt level s i) hi rest
-    whole = ap (λ es. decide (newestE es rest) (onRange (λ j. treeAt (level - 1) s j) rest (ownerOf (kidsE es) hi rest))) same-list ∙ at-interior s i level u hi rest two
+  module _ (two : 2 ≤ level) (m : Latest) (hm : LatestIs s (newestAmong L rest) m) where
+    whole : decide (newestAmong L rest) (onRange (λ j. treeAt (level - 1) s j) rest (ownerOf (branchesAmong L) hi rest)) ≡ fromHere (treeAt level s i) hi rest
+    whole = ap (λ es. decide (newestAmong es rest) (onRange (λ j. treeAt (level - 1) s j) rest (ownerOf (branchesAmong es) hi rest))) same-list ∙ at-interior s i level u hi rest two
 
-    pub look-value : (p : Place) → m ≡ Heard.Value p → Finds s (fromHere (treeAt level s i) hi rest) (Found.Value p)
-    look-value p e = finds-as s _ _ _ whole (heard-value s (newestE L rest) _ m p hm e)
+    pub look-value : (p : Place) → m ≡ Latest.Value p → Finds s (fromHere (treeAt level s i) hi rest) (Found.Value p)
+    look-value p e = finds-as s _ _ _ whole (latest-value s (newestAmong L rest) _ m p hm e)
 
-    pub look-gone : m ≡ Heard.Gone → Finds s (fromHere (treeAt level s i) hi rest) Found.Nothing
-    look-gone e = finds-as s _ _ _ whole (heard-gone s (newestE L rest) _ m hm e)
+    pub look-gone : m ≡ Latest.Gone → Finds s (fromHere (treeAt level s i) hi rest) Found.Nothing
+    look-gone e = finds-as s _ _ _ whole (latest-gone s (newestAmong L rest) _ m hm e)
 
-    module _ (silent : m ≡ Heard.Silent) (o : Owner) (ho : Owned s hi (ownerOf (kidsE L) hi rest) o) where
-      below : onRange (λ j. treeAt (level - 1) s j) rest (ownerOf (kidsE L) hi rest) ≡ fromHere (treeAt level s i) hi rest
-      below = heard-silent s (newestE L rest) _ m hm silent ∙ whole
+    module _ (uncovered : m ≡ Latest.Nothing) (o : Owner) (ho : Owned s hi (ownerOf (branchesAmong L) hi rest) o) where
+      below : onRange (λ j. treeAt (level - 1) s j) rest (ownerOf (branchesAmong L) hi rest) ≡ fromHere (treeAt level s i) hi rest
+      below = latest-uncovered s (newestAmong L rest) _ m hm uncovered ∙ whole
 
-      in-list : (x : Option Range) → ownerOf (kidsE L) hi rest ≡ x → ownerOf (kidsE (listing s i)) hi rest ≡ x
-      in-list x e = ap (λ es. ownerOf (kidsE es) hi rest) (sym same-list) ∙ e
+      in-list : (x : Option Range) → ownerOf (branchesAmong L) hi rest ≡ x → ownerOf (branchesAmong (listing s i)) hi rest ≡ x
+      in-list x e = ap (λ es. ownerOf (branchesAmong es) hi rest) (sym same-list) ∙ e
 
       pub look-nobody : o ≡ Owner.Nobody → Finds s (fromHere (treeAt level s i) hi rest) Found.Nothing
       look-nobody e =
-          let n : ownerOf (kidsE L) hi rest ≡ none = owned-nobody s hi (ownerOf (kidsE L) hi rest) o ho e in
+          let n : ownerOf (branchesAmong L) hi rest ≡ none = owned-nobody s hi (ownerOf (branchesAmong L) hi rest) o ho e in
           nothing-is s (fromHere (treeAt level s i) hi rest)
           (sym below ∙ ap (λ x. onRange (λ j. treeAt (level - 1) s j) rest x) n ∙ no-range (λ j. treeAt (level - 1) s j) rest)
 
       module _ (c : ℕ) (low high : Place) (e : o ≡ Owner.Inner c low high) where
-        abbrev inn : ownerOf (kidsE L) hi rest ≡ some (range c (part s low) (part s high))
-        inn = owned-inner s hi (ownerOf (kidsE L) hi rest) o c low high ho e
+        abbrev inn : ownerOf (branchesAmong L) hi rest ≡ some (range c (part s low) (part s high))
+        inn = owned-inner s hi (ownerOf (branchesAmong L) hi rest) o c low high ho e
 
         pub inner-usable : usable (nodesOf (length s)) (treeAt (level - 1) s c) ≡ true
         inner-usable = child-usable s i level u hi rest two (range c (part s low) (part s high)) (in-list _ inn)
@@ -421,7 +421,7 @@ module _ (s : List ℕ) (i level : ℕ) (u : usable (nodesOf (length s)) (treeAt
         pub inner-short : (k : ℕ) → k ≡ length (shared (part s low) (part s high)) → k ≤ length rest
         inner-short k ek =
             let l : k ≡ lifts (part s low) (part s high) = unfold lifts in ek in
-            let h : lifts (part s low) (part s high) ≤ length rest = lifts-rest (part s low) (part s high) rest (range-owns (kidsE L) hi rest _ inn) in
+            let h : lifts (part s low) (part s high) ≤ length rest = lifts-rest (part s low) (part s high) rest (range-owns (branchesAmong L) hi rest _ inn) in
             omega arith
 
         pub look-inner : (k : ℕ) → k ≡ length (shared (part s low) (part s high)) → high .start + k ≤ high .stop → (r : Found)
@@ -436,8 +436,8 @@ module _ (s : List ℕ) (i level : ℕ) (u : usable (nodesOf (length s)) (treeAt
             (ap₂ (λ a z. fromHere (treeAt (level - 1) s c) a z) (sym (cut-drop s (high .start) (high .stop) k f)) (part-rest k rest) ∙ b2) h
 
       module _ (c : ℕ) (low : Place) (e : o ≡ Owner.Last c low) where
-        abbrev ins : ownerOf (kidsE L) hi rest ≡ some (range c (part s low) hi)
-        ins = owned-last s hi (ownerOf (kidsE L) hi rest) o c low ho e
+        abbrev ins : ownerOf (branchesAmong L) hi rest ≡ some (range c (part s low) hi)
+        ins = owned-last s hi (ownerOf (branchesAmong L) hi rest) o c low ho e
 
         pub last-usable : usable (nodesOf (length s)) (treeAt (level - 1) s c) ≡ true
         last-usable = child-usable s i level u hi rest two (range c (part s low) hi) (in-list _ ins)
@@ -445,7 +445,7 @@ module _ (s : List ℕ) (i level : ℕ) (u : usable (nodesOf (length s)) (treeAt
         pub last-short : (k : ℕ) → k ≡ length (shared (part s low) hi) → k ≤ length rest
         last-short k ek =
             let l : k ≡ lifts (part s low) hi = unfold lifts in ek in
-            let h : lifts (part s low) hi ≤ length rest = lifts-rest (part s low) hi rest (range-owns (kidsE L) hi rest _ ins) in
+            let h : lifts (part s low) hi ≤ length rest = lifts-rest (part s low) hi rest (range-owns (branchesAmong L) hi rest _ ins) in
             omega arith
 
         pub look-last : (k : ℕ) → k ≡ length (shared (part s low) hi) → (r : Found)

@@ -2,7 +2,7 @@
 // Relies on node's search; the caller knows that the store is sound.
 use node::Place;
 use node::search::Found;
-use node::search::Heard;
+use node::search::Latest;
 use node::search::Owner;
 ghost use mathlib.Core.Path.{_≡_};
 ghost use mathlib.Core.Bool.{true};
@@ -26,9 +26,9 @@ pub fn lookup(store: &[u8], num: usize, level: usize, hi: &[u8], rest: &[u8]) ->
     }
     let m = node::search::newest(store, from, end, rest);
     match m {
-        Heard::Value(p) => Found::Value(p),
-        Heard::Gone => Found::Nothing,
-        Heard::Silent => {
+        Latest::Value(p) => Found::Value(p),
+        Latest::Gone => Found::Nothing,
+        Latest::Nothing => {
             let o = node::search::owner_of(store, from, end, hi, rest);
             match o {
                 Owner::Inner(child, low, high) => {

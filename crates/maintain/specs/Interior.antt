@@ -1,4 +1,4 @@
--- Question 6 by the bytes: a number is that of a reachable interior node exactly where the check has marked it and its node's kind is 2.
+-- Question 6 by the bytes: a number is that of a reachable interior node exactly where it is marked and its node's kind is 2.
 -- Relies on laws/Upkeep's Bridge (a reachable node is found by its number) and on the layout that `treeAt` asks for.
 use Prim.Native.Nat.{ℕ, zero, suc, _+_, _*_, _-_, _/_, _<_, _≤_}
 use mathlib.Core.Path.{_≡_, refl, sym, ap, _∙_}
@@ -12,7 +12,7 @@ use borrow.Author.Tests.{eqb-true}
 use Rattle.image.specs.Bytes.{u16, shared}
 use Rattle.image.specs.Entry.{Entry}
 use Rattle.image.specs.Table.{Row}
-use Rattle.image.specs.Image.{Tree, end, tree, Kid, Inside, nodeBytes, nodesOf, laidOut, nodeEntries, pairsOf, insideOf, forestOf, leafOf, interiorOf, orNone, treeAt, headerOf, treeOf}
+use Rattle.image.specs.Image.{Tree, end, tree, Branch, Inside, nodeBytes, nodesOf, wholeNodes, laidOut, nodeEntries, pairsOf, insideOf, forestOf, leafOf, interiorOf, orNone, treeAt, headerOf, treeOf}
 use Rattle.image.specs.Meaning.{highOf}
 use Rattle.image.specs.Sound.{sound, soundTree, soundForest, firstPivot, numbers, isIn, lowest, highest}
 use Rattle.image.specs.Upkeep.{Reachable, reachable, reachableIn, reachableNodes, reachableAt, every}
@@ -28,8 +28,8 @@ use Rattle.laws.specs.Upkeep.Kept.{numbersOf, numbers-places}
 use Rattle.laws.specs.Upkeep.Healed.{place-number, place-test}
 use Rattle.laws.specs.Upkeep.Bridge.{found-in, not-found}
 use Rattle.laws.specs.Upkeep.HealWrite.{range-of}
-use Rattle.maintain.specs.Upkept.{Reached}
 use Rattle.laws.specs.LiveCount.{every-both}
+use Rattle.tree_check.specs.Whole.{Marks}
 
 -- THE KIND OF A REACHABLE NODE
 -- the node's kind tells whether it has children
@@ -48,10 +48,10 @@ with-children : (s : List ℕ) (x : Reachable) → u16 (nodeBytes s (x .number))
 unfolding kindTells
 with-children s x k h = rw (k, h) refl
 
-some-kid : (under : ℕ → Tree) (ks : List Kid) (lifted lo : List ℕ) → firstPivot lifted lo (forestOf under ks) ≡ true → hasChildren (forestOf under ks) ≡ true
+some-branch : (under : ℕ → Tree) (ks : List Branch) (lifted lo : List ℕ) → firstPivot lifted lo (forestOf under ks) ≡ true → hasChildren (forestOf under ks) ≡ true
 unfolding forestOf firstPivot hasChildren
-some-kid under [] lifted lo e = absurd (false≢true e)
-some-kid under (k ∷ ks) lifted lo e = refl
+some-branch under [] lifted lo e = absurd (false≢true e)
+some-branch under (k ∷ ks) lifted lo e = refl
 
 module _ (s : List ℕ) where
   leaf-tells : (i m : ℕ) (lo hi : List ℕ) (o : Option (List Entry)) → nodeEntries 0x0001 1 (nodeBytes s i) ≡ o
@@ -70,7 +70,7 @@ module _ (s : List ℕ) where
       go (some rs) = both tells refl
 
   forest-tells : (under : ℕ → Tree) (m : ℕ) → ((j : ℕ) (lo hi : List ℕ) → soundTree (under j) lo hi ≡ true → every (kindTells s) (reachable (under j) m lo hi) ≡ true)
-      → (ks : List Kid) (lifted lo hi : List ℕ) → soundForest (forestOf under ks) lifted lo hi ≡ true
+      → (ks : List Branch) (lifted lo hi : List ℕ) → soundForest (forestOf under ks) lifted lo hi ≡ true
       → every (kindTells s) (reachableIn (forestOf under ks) m lifted hi) ≡ true
   unfolding forestOf reachableIn every
   forest-tells under m law [] lifted lo hi e = refl
@@ -91,9 +91,9 @@ module _ (s : List ℕ) where
       go none h = refl
       go (some x) h =
           let k : u16 (nodeBytes s i) 2 ≡ 2 = kind-is 2 l (nodeBytes s i) (read-of 2 l (nodeBytes s i) es e .0) in
-          let f : hasChildren (forestOf under (x .kids)) ≡ true = some-kid under (x .kids) (shared lo hi) lo (and-left _ _ (and-left _ _ h)) in
-          both (with-children s (record { number = i; level = m; low = lo; high = hi; messages = x .messages; children = forestOf under (x .kids) }) k f)
-          (forest-tells under (m - 1) law (x .kids) (shared lo hi) lo hi (inner i (forestOf under (x .kids)) (x .messages) lo hi h .kids))
+          let f : hasChildren (forestOf under (x .branches)) ≡ true = some-branch under (x .branches) (shared lo hi) lo (and-left _ _ (and-left _ _ h)) in
+          both (with-children s (record { number = i; level = m; low = lo; high = hi; messages = x .messages; children = forestOf under (x .branches) }) k f)
+          (forest-tells under (m - 1) law (x .branches) (shared lo hi) lo hi (inner i (forestOf under (x .branches)) (x .messages) lo hi h .branches))
 
   tree-tells : (l i m : ℕ) (lo hi : List ℕ) → soundTree (treeAt l s i) lo hi ≡ true → every (kindTells s) (reachable (treeAt l s i) m lo hi) ≡ true
   unfolding treeAt soundTree
@@ -135,9 +135,9 @@ interior-is s i ok = go (reachableAt i (reachableNodes s)) refl
         ∙ ap (λ b. b && eqb (u16 (nodeBytes s i) 2) 2) (sym a)
 
 -- THE WAYS OUT OF THE CODE
-module _ (s seen : List ℕ) (i : ℕ) (r : Reached s seen) where
+module _ (s seen : List ℕ) (i : ℕ) (whole : wholeNodes (length s) ≡ true) (ok : sound s ≡ true) (r : Marks s seen) where
   unreached : isIn i (numbers (treeOf s)) ≡ false → false ≡ isInterior (reachableAt i (reachableNodes s))
-  unreached e = sym (interior-is s i (r .is-sound) ∙ rw e refl)
+  unreached e = sym (interior-is s i ok ∙ rw e refl)
 
   pub past-end : length s / 1024 ≤ i → false ≡ isInterior (reachableAt i (reachableNodes s))
   past-end h = go (isIn i (numbers (treeOf s))) refl
@@ -147,14 +147,14 @@ module _ (s seen : List ℕ) (i : ℕ) (r : Reached s seen) where
 
       go : (b : Bool) → isIn i (numbers (treeOf s)) ≡ b → false ≡ isInterior (reachableAt i (reachableNodes s))
       go true e =
-          let k = range-of (nodesOf (length s)) i (numbers (treeOf s)) (starts s (r .is-sound) .range) e in
+          let k = range-of (nodesOf (length s)) i (numbers (treeOf s)) (starts s ok .range) e in
           absurd (omega (arith, far))
       go false e = unreached e
 
   module _ (h : i < length s / 1024) where
     mark : getD seen i 0 ≡ cond (isIn i (numbers (treeOf s))) 1 0
     unfolding nodesOf
-    mark = r .marks i h
+    mark = r .marked i h
 
     pub unmarked : (getD seen i 0 ≡ 1 → ⊥) → false ≡ isInterior (reachableAt i (reachableNodes s))
     unmarked d = go (isIn i (numbers (treeOf s))) refl
@@ -165,7 +165,7 @@ module _ (s seen : List ℕ) (i : ℕ) (r : Reached s seen) where
 
     pub inside : i * 1024 + 1024 ≤ length s
     unfolding nodesOf
-    inside = let f : 1024 * (length s / 1024) ≡ length s = whole-parts (length s) (r .whole) .filled in omega arith
+    inside = let f : 1024 * (length s / 1024) ≡ length s = whole-parts (length s) whole .filled in omega arith
 
     pub marked : getD seen i 0 ≡ 1 → (k : ℕ) → k ≡ u16 s (i * 1024 + 2) → eqb k 2 ≡ isInterior (reachableAt i (reachableNodes s))
     marked m k e =
@@ -173,5 +173,5 @@ module _ (s seen : List ℕ) (i : ℕ) (r : Reached s seen) where
         go (isIn i (numbers (treeOf s))) refl kind
       where
         go : (b : Bool) → isIn i (numbers (treeOf s)) ≡ b → u16 (nodeBytes s i) 2 ≡ k → eqb k 2 ≡ isInterior (reachableAt i (reachableNodes s))
-        go true f kind = sym (interior-is s i (r .is-sound) ∙ rw (f, kind) refl)
+        go true f kind = sym (interior-is s i ok ∙ rw (f, kind) refl)
         go false f kind = let z : _≡_ {A = ℕ} 1 0 = sym m ∙ mark ∙ rw f refl in absurd (omega arith)

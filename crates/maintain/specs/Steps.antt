@@ -1,5 +1,5 @@
 -- The steps of settle, tidy, flush and heal: one law for each way out of the code.
--- Relies on questions (questions 1 and 2), on questions' Callers (the contract from what was done) and on tree_check's tally of messages.
+-- Relies on questions (Passed), and on questions' Callers (the contract from what was done).
 use Prim.Native.Nat.{ℕ, suc, _*_, _/_, _≤_}
 use mathlib.Core.Path.{_≡_, refl, sym, ap, subst, _∙_}
 use mathlib.Core.List.{List, [], _∷_, _++_}
@@ -24,23 +24,12 @@ use Rattle.laws.specs.Frame.{or-right}
 use Rattle.packed.specs.Form.Tidy.{zerosOf}
 use Rattle.laws.specs.Upkeep.Kept.{gains-none-empty}
 use Rattle.laws.specs.Upkeep.Healed.{place-test}
-use Rattle.tree_check.specs.declared.Tally.{Tally}
-use Rattle.tree_check.specs.Callers.{Holds, messages-settled}
 use Rattle.rebuild.specs.Rebuild.{Rebuilt, cleared}
 use Rattle.questions.specs.Callers.{to-act, to-keep, laterNo, later-number, act-meets, act-refused, plain-settle, plain-number, settle-meets, tidy-meets}
-use Rattle.questions.specs.Asked.{Fit}
 use Rattle.push.specs.Laws.PushedDown.{PushedDown}
 use Rattle.merge.specs.Laws.Mended.{HealedNode}
 use Rattle.questions.specs.Acted.{Passed}
-use Rattle.maintain.specs.Upkept.{Reached, Stayed, Upkept, Upheld}
-
--- the marks that questions 1 and 2 leave
-pub reached : (s w seen : List ℕ) (t : Tally) → Fit s w t seen → Reached s seen
-reached s w seen t f = record { whole = f .whole; is-sound = f .is-sound; marks = f .holds .reached }
-
--- whether no message waits, by the tally of the check
-pub quiet : (s seen : List ℕ) (t : Tally) → Holds s t seen → eqb (t .messages) 0 ≡ settled s
-quiet s seen t h = messages-settled s t seen h
+use Rattle.maintain.specs.Upkept.{Stayed, Upkept, Upheld}
 
 -- REBUILD, OR NOT
 pub stayed : (done : Bool) (s w w′ : List ℕ) (len : ℕ) → done ≡ true → len ≡ 128 * (length s / 1024) → w′ ≡ zerosOf len ++ drop len w → Upkept done s s w w′

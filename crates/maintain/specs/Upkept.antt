@@ -1,22 +1,16 @@
--- What the upkeep calls ask of a store that passed questions 1 and 2, and what their parts leave.
--- Relies on the paper's definitions, on tree_check's Holds (the marks of the check) and on what a rebuild promises.
-use Prim.Native.Nat.{ℕ, _<_}
+-- What the parts of the upkeep calls leave of a store that passed questions 1 and 2.
+-- Relies on the paper's definitions and on what a rebuild promises. Definitions only.
+use Prim.Native.Nat.{ℕ}
 use mathlib.Core.Path.{_≡_}
 use mathlib.Core.List.{List}
-use mathlib.Core.Bool.{Bool, true, false, cond}
-use lib.ListN.{length, getD}
-use Rattle.image.specs.Image.{nodesOf, wholeNodes, treeOf}
-use Rattle.image.specs.Sound.{sound, tableOf, isIn, numbers}
+use mathlib.Core.Bool.{Bool, true, false}
+use lib.ListN.{length}
+use Rattle.image.specs.Image.{nodesOf}
+use Rattle.image.specs.Sound.{sound, tableOf}
 use Rattle.image.specs.Upkeep.{reachableNodes, reachableAt}
 use Rattle.image.specs.Calls.{Upkeep}
 use Rattle.image.specs.Contract.{upkeepRule}
 use Rattle.rebuild.specs.Rebuild.{Rebuilt, cleared}
-
--- the marks of the nodes that are reached
-pub record Reached (s seen : List ℕ) : Type 0 where
-  pub whole : wholeNodes (length s) ≡ true
-  pub is-sound : sound s ≡ true
-  pub marks : (i : ℕ) → i < nodesOf (length s) → getD seen i 0 ≡ cond (isIn i (numbers (treeOf s))) 1 0
 
 -- a store that was as asked stays; another is rebuilt
 pub record Stayed (s s′ w w′ : List ℕ) : Type 0 where

@@ -5,16 +5,20 @@
 use image::Outcome;
 use image::Refusal;
 use push::Pushed;
-use questions::Ready;
+use questions::Admission;
 ghost use mathlib.Core.Path.{_≡_};
 ghost use mathlib.Core.Bool.{true};
+ghost use lib.ListN.{length};
+ghost use Rattle.image.specs.Image.{wholeNodes};
+ghost use Rattle.image.specs.Sound.{sound};
 ghost use Rattle.image.specs.Upkeep.{reachableNodes, reachableAt};
 ghost use Rattle.image.specs.Calls.{acts, settle, tidy, keeps, flush, heal};
 ghost use Rattle.image.specs.Contract.{isInterior, Meets};
 ghost use Rattle.image.specs.Answers.{outcomeAnswer};
 ghost use Rattle.image.specs.Upkeep.{settled};
+ghost use Rattle.tree_check.specs.Whole.{Marks};
 ghost use Rattle.questions.specs.Acted.{Passed};
-ghost use Rattle.maintain.specs.Upkept.{Reached, Upkept, Upheld};
+ghost use Rattle.maintain.specs.Upkept.{Upkept, Upheld};
 
 // Ends an accepted call. Where the store already is as the call asks, only the work area is cleared; else the store is rebuilt.
 fn rebuild_unless(done: bool, store: &mut [u8], work: &mut [u8])
@@ -45,8 +49,8 @@ pub fn settle(store: &mut [u8], work: &mut [u8]) -> Outcome
     let mut seen = [0u8; 1024];
     let ready = questions::ask(store, work, &mut seen);
     match ready {
-        Ready::Refused(refusal) => Outcome::Refused(refusal),
-        Ready::Fit(tally) => settle_fit(store, work, tally.messages == 0),
+        Admission::Refused(refusal) => Outcome::Refused(refusal),
+        Admission::Fit(tally) => settle_fit(store, work, tally.messages == 0),
     }
 }
 
@@ -66,14 +70,14 @@ pub fn tidy(store: &mut [u8], work: &mut [u8]) -> Outcome
     let mut seen = [0u8; 1024];
     let ready = questions::ask(store, work, &mut seen);
     match ready {
-        Ready::Refused(refusal) => Outcome::Refused(refusal),
-        Ready::Fit(_) => tidy_fit(store, work),
+        Admission::Refused(refusal) => Outcome::Refused(refusal),
+        Admission::Fit(_) => tidy_fit(store, work),
     }
 }
 
-// Question 6: whether the number is that of a reachable interior node. `seen` has the marks of the check.
+// Question 6: whether the number is that of a reachable interior node. `seen` has the marks of the nodes in use.
 pub fn is_interior(store: &[u8], seen: &[u8; 1024], node: usize) -> bool
-    requires { ⌜ Reached (now store) (now seen) ⌝ }
+    requires { ⌜ (wholeNodes (length (now store)) ≡ true) × (sound (now store) ≡ true) × Marks (now store) (now seen) ⌝ }
     ensures { λ r. ⌜ r ≡ isInterior (reachableAt node (reachableNodes (now (store .entry)))) ⌝ }
 {
     if store.len() / image::NODE_SIZE <= node {
@@ -98,9 +102,9 @@ fn act_flush(store: &mut [u8], work: &mut [u8], node: usize)
     }
 }
 
-// flush, on a store and a work area that are fit; `seen` has the marks of the check.
+// flush, on a store and a work area that are fit; `seen` has the marks of the nodes in use.
 pub fn flush_fit(store: &mut [u8], work: &mut [u8], seen: &[u8; 1024], node: usize) -> Outcome
-    requires { ⌜ Passed (now store) (now work) × Reached (now store) (now seen) ⌝ }
+    requires { ⌜ Passed (now store) (now work) × Marks (now store) (now seen) ⌝ }
     ensures { λ r. ⌜ Meets (now (store .entry)) (keeps flush node (now (work .entry))) (outcomeAnswer r) (now (store .exit)) (now (work .exit)) ⌝ }
 {
     if !is_interior(store, seen, node) {
@@ -117,8 +121,8 @@ pub fn flush(store: &mut [u8], work: &mut [u8], node: usize) -> Outcome
     let mut seen = [0u8; 1024];
     let ready = questions::ask(store, work, &mut seen);
     match ready {
-        Ready::Refused(refusal) => Outcome::Refused(refusal),
-        Ready::Fit(_) => flush_fit(store, work, &seen, node),
+        Admission::Refused(refusal) => Outcome::Refused(refusal),
+        Admission::Fit(_) => flush_fit(store, work, &seen, node),
     }
 }
 
@@ -131,9 +135,9 @@ fn act_heal(store: &mut [u8], work: &mut [u8], node: usize)
     rebuild_unless(true, store, work);
 }
 
-// heal, on a store and a work area that are fit; `seen` has the marks of the check.
+// heal, on a store and a work area that are fit; `seen` has the marks of the nodes in use.
 pub fn heal_fit(store: &mut [u8], work: &mut [u8], seen: &[u8; 1024], node: usize) -> Outcome
-    requires { ⌜ Passed (now store) (now work) × Reached (now store) (now seen) ⌝ }
+    requires { ⌜ Passed (now store) (now work) × Marks (now store) (now seen) ⌝ }
     ensures { λ r. ⌜ Meets (now (store .entry)) (keeps heal node (now (work .entry))) (outcomeAnswer r) (now (store .exit)) (now (work .exit)) ⌝ }
 {
     if !is_interior(store, seen, node) {
@@ -150,7 +154,7 @@ pub fn heal(store: &mut [u8], work: &mut [u8], node: usize) -> Outcome
     let mut seen = [0u8; 1024];
     let ready = questions::ask(store, work, &mut seen);
     match ready {
-        Ready::Refused(refusal) => Outcome::Refused(refusal),
-        Ready::Fit(_) => heal_fit(store, work, &seen, node),
+        Admission::Refused(refusal) => Outcome::Refused(refusal),
+        Admission::Fit(_) => heal_fit(store, work, &seen, node),
     }
 }

@@ -19,7 +19,7 @@ use Rattle.laws.specs.Encode.{bytesOfAll}
 use Rattle.packed.specs.Form.Tidy.{zerosOf}
 use Rattle.node.specs.Cut.{cut, cut-drop, cut-take, cut-length}
 use Rattle.node.specs.Entries.{listed, listOf}
-use Rattle.node.specs.Search.Own.{kidsE}
+use Rattle.node.specs.Search.Own.{branchesAmong}
 use Rattle.lookup.specs.Look.{listing}
 use Rattle.push.specs.Laws.High.{highHere}
 use Rattle.push.specs.Laws.PushedDown.{few-nodes}
@@ -78,22 +78,22 @@ module _ (s : List ℕ) (n : ℕ) (hi : List ℕ) (m : Mendable s n hi) where
           fits = omega arith;
         }
 
-    pub once-done : level ≡ u16 s (n * 1024 + 4) → (s′ : List ℕ) (r : Bool) → s′ ≡ firstJoined n level (listed node 8 (8 + len)) (kidsE (listed node 8 (8 + len))) hi s
-        → r ≡ anyFits (kidsE (listed node 8 (8 + len))) hi s
-        → (s′ ≡ firstJoined n (u16 s (n * 1024 + 4)) (listing s n) (kidsE (listing s n)) hi s) × (r ≡ anyFits (kidsE (listing s n)) hi s)
+    pub once-done : level ≡ u16 s (n * 1024 + 4) → (s′ : List ℕ) (r : Bool) → s′ ≡ firstJoined n level (listed node 8 (8 + len)) (branchesAmong (listed node 8 (8 + len))) hi s
+        → r ≡ anyFits (branchesAmong (listed node 8 (8 + len))) hi s
+        → (s′ ≡ firstJoined n (u16 s (n * 1024 + 4)) (listing s n) (branchesAmong (listing s n)) hi s) × (r ≡ anyFits (branchesAmong (listing s n)) hi s)
     once-done ev s′ r a b =
-        (a ∙ ap₂ (λ v es. firstJoined n v es (kidsE es) hi s) ev lists, b ∙ ap (λ es. anyFits (kidsE es) hi s) lists)
+        (a ∙ ap₂ (λ v es. firstJoined n v es (branchesAmong es) hi s) ev lists, b ∙ ap (λ es. anyFits (branchesAmong es) hi s) lists)
 
 -- THE LOOP
 module _ (s₀ : List ℕ) (n : ℕ) (hi s s′ : List ℕ) (b : Bool) (m : Mendable s n hi) (r : SoFar s₀ n s)
-    (e : s′ ≡ firstJoined n (u16 s (n * 1024 + 4)) (listing s n) (kidsE (listing s n)) hi s) (q : b ≡ anyFits (kidsE (listing s n)) hi s) where
+    (e : s′ ≡ firstJoined n (u16 s (n * 1024 + 4)) (listing s n) (branchesAmong (listing s n)) hi s) (q : b ≡ anyFits (branchesAmong (listing s n)) hi s) where
   pub goes : not b ≡ false → Step s₀ n hi s s′
   goes h = steps-on s n hi m (sym q ∙ is-true b h) (u16 s (n * 1024 + 4)) refl s′ e s₀ r
 
   pub is-done : Mendable s₀ n hi → not b ≡ true → HealedNode s₀ n s′
   is-done m₀ h =
-      let z : anyFits (kidsE (listing s n)) hi s ≡ false = sym q ∙ not-true b h in
-      let w : s ≡ s′ = sym (e ∙ none-joined n (u16 s (n * 1024 + 4)) (listing s n) (kidsE (listing s n)) hi s z) in
+      let z : anyFits (branchesAmong (listing s n)) hi s ≡ false = sym q ∙ not-true b h in
+      let w : s ≡ s′ = sym (e ∙ none-joined n (u16 s (n * 1024 + 4)) (listing s n) (branchesAmong (listing s n)) hi s z) in
       subst (HealedNode s₀ n) w (ends s₀ n hi s m₀ m r z)
 
 -- THE HIGH PIVOT

@@ -14,6 +14,7 @@ ghost use Rattle.laws.specs.Encode.{bytesOf, bytesOfAll};
 ghost use Rattle.octets.specs.Put.{put};
 ghost use Rattle.node.specs.Places.{EntryWithin, entryIn};
 ghost use Rattle.node.specs.Entries.{listed};
+ghost use Rattle.node.specs.Whole.{HasNode};
 ghost use Rattle.lookup.specs.Look.{listing};
 ghost use Rattle.merge.specs.Laws.Joined.{prefixed, prefixedAll, isChild, withoutChild, smallEntry, smallEntries};
 
@@ -76,7 +77,7 @@ fn emit_entries(
 
 // The entries of a node of the store, each with more bytes in front of its suffix. Gives the place behind them.
 pub fn emit_node(page: &mut [u8], at: usize, store: &[u8], num: usize, more: &[u8]) -> usize
-    requires { ⌜ (num * 1024 + 1024 ≤ length (now store))
+    requires { ⌜ HasNode (now store) num
         × (u16 (now store) (num * 1024) ≤ 1016)
         × (smallEntries (listing (now store) num) ≡ true)
         × (at + length (bytesOfAll (prefixedAll (now more) (listing (now store) num))) ≤ length (now page))

@@ -18,7 +18,7 @@ ghost use Rattle.image.specs.Upkeep.{reachableAt, reachableNodes};
 ghost use Rattle.image.specs.Contract.{isInterior};
 ghost use Rattle.octets.specs.Put.{put};
 ghost use Rattle.node.specs.Entries.{listed};
-ghost use Rattle.node.specs.Search.Own.{kidsE};
+ghost use Rattle.node.specs.Search.Own.{branchesAmong};
 ghost use Rattle.lookup.specs.Look.{listing};
 ghost use Rattle.merge.specs.Laws.Mended.{Mendable, HealedNode};
 ghost use Rattle.merge.specs.Laws.Joined.{pairFits, bothEntries, leftWritten, nodeWithout, joinedIf, firstJoined, anyFits};
@@ -78,53 +78,58 @@ fn write_without(store: &mut [u8], num: usize, level: usize, node: &[u8], stop: 
     );
 }
 
+// The node whose children are joined: its number, its level, and where its entries end in the copy of its page.
+struct Parent {
+    num: usize,
+    level: usize,
+    stop: usize,
+}
+
+// The numbers of two neighbours.
+struct Neighbours {
+    left: usize,
+    right: usize,
+}
+
 // Two neighbours joined, if one node holds both. Answers whether it does.
 fn join_fitting(
     store: &mut [u8],
-    num: usize,
-    level: usize,
+    parent: Parent,
     node: &[u8],
-    stop: usize,
-    left: usize,
+    pair: Neighbours,
     lo: &[u8],
-    right: usize,
     mid: &[u8],
     hi: &[u8],
 ) -> bool
-    requires { ⌜ Room (now store) num level (now node) stop × (length (now lo) ≤ 2000000) × (length (now mid) ≤ 2000000) ⌝ }
+    requires { ⌜ Room (now store) (parent .num) (parent .level) (now node) (parent .stop) × (length (now lo) ≤ 2000000) × (length (now mid) ≤ 2000000) ⌝ }
     ensures { λ r. ⌜ (now (store .exit)
-        ≡ joinedIf num level (listed (now (node .entry)) 8 stop) left right (now (lo .entry)) (now (mid .entry)) (now (hi .entry))
+        ≡ joinedIf (parent .num) (parent .level) (listed (now (node .entry)) 8 (parent .stop)) (pair .left) (pair .right) (now (lo .entry)) (now (mid .entry)) (now (hi .entry))
         (now (store .entry)))
-        × (r ≡ pairFits (now (store .entry)) left right (now (lo .entry)) (now (mid .entry)) (now (hi .entry))) ⌝ }
+        × (r ≡ pairFits (now (store .entry)) (pair .left) (pair .right) (now (lo .entry)) (now (mid .entry)) (now (hi .entry))) ⌝ }
 {
+    let left = pair.left;
+    let right = pair.right;
     if !weigh::pair_fits(store, left, right, lo, mid, hi) {
         return false;
     }
     write_left(store, left, right, lo, mid, hi);
-    write_without(store, num, level, node, stop, right);
+    write_without(store, parent.num, parent.level, node, parent.stop, right);
     true
 }
 
 // The first two neighbours that one node holds, joined. Answers whether there were any.
-fn join_first(
-    store: &mut [u8],
-    num: usize,
-    level: usize,
-    node: &[u8],
-    stop: usize,
-    hi: &[u8],
-) -> bool
-    requires { ⌜ Room (now store) num level (now node) stop ⌝ }
+fn join_first(store: &mut [u8], parent: Parent, node: &[u8], hi: &[u8]) -> bool
+    requires { ⌜ Room (now store) (parent .num) (parent .level) (now node) (parent .stop) ⌝ }
     ensures { λ r. ⌜ (now (store .exit)
-        ≡ firstJoined num level (listed (now (node .entry)) 8 stop) (kidsE (listed (now (node .entry)) 8 stop)) (now (hi .entry))
+        ≡ firstJoined (parent .num) (parent .level) (listed (now (node .entry)) 8 (parent .stop)) (branchesAmong (listed (now (node .entry)) 8 (parent .stop))) (now (hi .entry))
         (now (store .entry)))
-        × (r ≡ anyFits (kidsE (listed (now (node .entry)) 8 stop)) (now (hi .entry)) (now (store .entry))) ⌝ }
+        × (r ≡ anyFits (branchesAmong (listed (now (node .entry)) 8 (parent .stop))) (now (hi .entry)) (now (store .entry))) ⌝ }
 {
     let Pending::Child(first, pivot, start) = live::read_child(
         node,
         Cursor {
             at: image::ENTRIES_AT,
-            end: stop,
+            end: parent.stop,
         },
     ) else {
         return false;
@@ -142,31 +147,18 @@ fn join_first(
         let b = low.stop;
         let x = mid.start;
         let y = mid.stop;
+        let pair = Neighbours { left, right };
         let Pending::Child(k, p, next) = live::read_child(node, c) else {
-            return join_fitting(
-                store,
-                num,
-                level,
-                node,
-                stop,
-                left,
-                &node[a..b],
-                right,
-                &node[x..y],
-                hi,
-            );
+            return join_fitting(store, parent, node, pair, &node[a..b], &node[x..y], hi);
         };
         let v = p.start;
         let w = p.stop;
         if join_fitting(
             store,
-            num,
-            level,
+            parent,
             node,
-            stop,
-            left,
+            pair,
             &node[a..b],
-            right,
             &node[x..y],
             &node[v..w],
         ) {
@@ -185,8 +177,8 @@ fn mend_once(store: &mut [u8], num: usize, hi: &[u8]) -> bool
     requires { ⌜ Mendable (now store) num (now hi) ⌝ }
     ensures { λ r. ⌜ (now (store .exit)
         ≡ firstJoined num (u16 (now (store .entry)) (num * 1024 + 4)) (listing (now (store .entry)) num)
-        (kidsE (listing (now (store .entry)) num)) (now (hi .entry)) (now (store .entry)))
-        × (r ≡ anyFits (kidsE (listing (now (store .entry)) num)) (now (hi .entry)) (now (store .entry))) ⌝ }
+        (branchesAmong (listing (now (store .entry)) num)) (now (hi .entry)) (now (store .entry)))
+        × (r ≡ anyFits (branchesAmong (listing (now (store .entry)) num)) (now (hi .entry)) (now (store .entry))) ⌝ }
 {
     let at = num * image::NODE_SIZE;
     let len = octets::u16_at(store, at);
@@ -195,7 +187,7 @@ fn mend_once(store: &mut [u8], num: usize, hi: &[u8]) -> bool
     let end = at + image::NODE_SIZE;
     let mut node = [0u8; 1024];
     octets::copy_at(&mut node, 0, &store[at..end]);
-    join_first(store, num, level, &node, stop, hi)
+    join_first(store, Parent { num, level, stop }, &node, hi)
 }
 
 // Steps until no two neighbouring children of the node fit in one; each step leaves a child less.

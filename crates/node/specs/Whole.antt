@@ -1,7 +1,9 @@
 -- The steps of whole_nodes: each test that it makes, against the definition.
-use Prim.Native.Nat.{ℕ, _*_, _/_, _<_, _≤_}
+use Prim.Native.Nat.{ℕ, _+_, _*_, _/_, _<_, _≤_}
 use mathlib.Core.Path.{_≡_}
+use mathlib.Core.List.{List}
 use mathlib.Core.Bool.{true, false, _&&_}
+use lib.ListN.{length}
 use lib.Dec.{leb, eqb}
 use borrow.Author.Tests.{eq-eqb, ne-eqb, lt-leb, le-leb, eqb-true, leb-true}
 use Rattle.octets.specs.Order.{and-left, and-right}
@@ -34,3 +36,7 @@ whole-parts len e =
       enough = leb-true 32 (nodesOf len) (and-right (eqb (1024 * nodesOf len) len) _ first);
       few = leb-true (nodesOf len) 1024 (and-right (eqb (1024 * nodesOf len) len && leb 32 (nodesOf len)) _ e);
     }
+
+-- node i lies in the store s
+abbrev pub HasNode : List ℕ → ℕ → Type 0
+HasNode s i = i * 1024 + 1024 ≤ length s

@@ -12,23 +12,23 @@ ghost use lib.ListN.{length};
 ghost use mathlib.Core.List.{[], _∷_};
 ghost use Rattle.node.specs.Places.{EntryWithin, MessageWithin, Within, part, entryIn, messageIn};
 ghost use Rattle.image.specs.Meaning.{saysOf};
-ghost use Rattle.node.specs.Search.Own.{kidIs, kid, kidsE, ownerOf, Owned};
+ghost use Rattle.node.specs.Search.Own.{branchIs, branch, branchesAmong, ownerOf, Owned};
 ghost use Rattle.node.specs.Entries.{listed};
-ghost use Rattle.node.specs.Search.Hear.{Hears, HeardFits, said, saidBy, saysE, newestE, speaks};
-ghost use Rattle.node.specs.Search.Pairs.{Finds, findE, pairIs};
+ghost use Rattle.node.specs.Search.Latest.{LatestIs, LatestFits, said, saidBy, entrySays, newestAmong, covers};
+ghost use Rattle.node.specs.Search.Pairs.{Finds, findAmong, pairIs};
 ghost use Rattle.node.specs.Search.PairSteps.{Stands, PairStepped};
 
-// What the messages of a node say of a path.
-pub enum Heard {
-    Silent,
+// The latest word of a node's messages on a path.
+pub enum Latest {
+    Nothing,
     Gone,
     Value(Place),
 }
 
 // Whether a message is on a rest.
-pub fn message_speaks(s: &[u8], m: Message, rest: &[u8]) -> bool
+pub fn message_covers(s: &[u8], m: Message, rest: &[u8]) -> bool
     requires { ⌜ MessageWithin 0 (length (now s)) m ⌝ }
-    ensures { λ r. ⌜ r ≡ speaks (saysOf (messageIn (now (s .entry)) m) (now (rest .entry))) ⌝ }
+    ensures { λ r. ⌜ r ≡ covers (saysOf (messageIn (now (s .entry)) m) (now (rest .entry))) ⌝ }
 {
     match m {
         Message::Put(p, _) => {
@@ -49,28 +49,28 @@ pub fn message_speaks(s: &[u8], m: Message, rest: &[u8]) -> bool
     }
 }
 
-pub fn entry_speaks(s: &[u8], e: Entry, rest: &[u8]) -> bool
+pub fn entry_covers(s: &[u8], e: Entry, rest: &[u8]) -> bool
     requires { ⌜ EntryWithin 0 (length (now s)) e ⌝ }
-    ensures { λ r. ⌜ r ≡ speaks (saysE (entryIn (now (s .entry)) e) (now (rest .entry))) ⌝ }
+    ensures { λ r. ⌜ r ≡ covers (entrySays (entryIn (now (s .entry)) e) (now (rest .entry))) ⌝ }
 {
     match e {
         Entry::Pair(_, _) => false,
         Entry::Child(_, _) => false,
-        Entry::Message(m) => message_speaks(s, m, rest),
+        Entry::Message(m) => message_covers(s, m, rest),
     }
 }
 
-// One message, after what was heard before it.
-pub fn hear_message(s: &[u8], best: Heard, m: Message, rest: &[u8]) -> Heard
-    requires { ⌜ HeardFits (length (now s)) best × MessageWithin 0 (length (now s)) m ⌝ }
-    ensures { λ r. ⌜ Hears (now (s .entry)) (saidBy (now (s .entry)) best m (now (rest .entry))) r ⌝ }
+// The latest after one message more.
+pub fn latest_with_message(s: &[u8], best: Latest, m: Message, rest: &[u8]) -> Latest
+    requires { ⌜ LatestFits (length (now s)) best × MessageWithin 0 (length (now s)) m ⌝ }
+    ensures { λ r. ⌜ LatestIs (now (s .entry)) (saidBy (now (s .entry)) best m (now (rest .entry))) r ⌝ }
 {
     match m {
         Message::Put(p, v) => {
             let a = p.start;
             let b = p.stop;
             if octets::equal(&s[a..b], rest) {
-                Heard::Value(v)
+                Latest::Value(v)
             } else {
                 best
             }
@@ -79,7 +79,7 @@ pub fn hear_message(s: &[u8], best: Heard, m: Message, rest: &[u8]) -> Heard
             let a = p.start;
             let b = p.stop;
             if octets::equal(&s[a..b], rest) {
-                Heard::Gone
+                Latest::Gone
             } else {
                 best
             }
@@ -88,7 +88,7 @@ pub fn hear_message(s: &[u8], best: Heard, m: Message, rest: &[u8]) -> Heard
             let a = p.start;
             let b = p.stop;
             if octets::begins_with(&s[a..b], rest) {
-                Heard::Gone
+                Latest::Gone
             } else {
                 best
             }
@@ -96,34 +96,34 @@ pub fn hear_message(s: &[u8], best: Heard, m: Message, rest: &[u8]) -> Heard
     }
 }
 
-pub fn hear(s: &[u8], best: Heard, e: Entry, rest: &[u8]) -> Heard
-    requires { ⌜ HeardFits (length (now s)) best × EntryWithin 0 (length (now s)) e ⌝ }
-    ensures { λ r. ⌜ Hears (now (s .entry)) (said (now (s .entry)) best e (now (rest .entry))) r ⌝ }
+pub fn latest_with(s: &[u8], best: Latest, e: Entry, rest: &[u8]) -> Latest
+    requires { ⌜ LatestFits (length (now s)) best × EntryWithin 0 (length (now s)) e ⌝ }
+    ensures { λ r. ⌜ LatestIs (now (s .entry)) (said (now (s .entry)) best e (now (rest .entry))) r ⌝ }
 {
     match e {
         Entry::Pair(_, _) => best,
         Entry::Child(_, _) => best,
-        Entry::Message(m) => hear_message(s, best, m, rest),
+        Entry::Message(m) => latest_with_message(s, best, m, rest),
     }
 }
 
 // The newest message on a rest, of the entries from a place up to another.
-pub fn newest(s: &[u8], from: usize, end: usize, rest: &[u8]) -> Heard
+pub fn newest(s: &[u8], from: usize, end: usize, rest: &[u8]) -> Latest
     requires { ⌜ end ≤ length (now s) ⌝ }
-    ensures { λ r. ⌜ Hears (now (s .entry)) (newestE (listed (now (s .entry)) from end) (now (rest .entry))) r ⌝ }
+    ensures { λ r. ⌜ LatestIs (now (s .entry)) (newestAmong (listed (now (s .entry)) from end) (now (rest .entry))) r ⌝ }
 {
     let mut c = Cursor { at: from, end };
-    let mut best = Heard::Silent;
+    let mut best = Latest::Nothing;
     while c.at < end {
         let Step::Read(e, next) = c.step(s) else {
             return best;
         };
-        // Few entries speak; to copy what was heard past each of the others would take most of the time.
-        if !entry_speaks(s, e, rest) {
+        // Few entries cover the rest; to copy the latest past each of the others would take most of the time.
+        if !entry_covers(s, e, rest) {
             c = next;
             continue;
         }
-        best = hear(s, best, e, rest);
+        best = latest_with(s, best, e, rest);
         c = next;
     }
     best
@@ -152,7 +152,7 @@ pub fn pair_of(e: Entry) -> Pair
 // The pair of a leaf on a rest.
 pub fn find(s: &[u8], from: usize, end: usize, rest: &[u8]) -> Found
     requires { ⌜ end ≤ length (now s) ⌝ }
-    ensures { λ r. ⌜ Finds (now (s .entry)) (findE (listed (now (s .entry)) from end) (now (rest .entry))) r ⌝ }
+    ensures { λ r. ⌜ Finds (now (s .entry)) (findAmong (listed (now (s .entry)) from end) (now (rest .entry))) r ⌝ }
 {
     let mut c = Cursor { at: from, end };
     while c.at < end {
@@ -179,25 +179,25 @@ pub enum Owner {
     Nobody,
 }
 
-pub enum Kid {
+pub enum Branch {
     Of(usize, Place),
     Other,
 }
 
-pub fn kid_of(e: Entry) -> Kid
-    ensures { λ r. ⌜ r ≡ kidIs e ⌝ }
+pub fn branch_of(e: Entry) -> Branch
+    ensures { λ r. ⌜ r ≡ branchIs e ⌝ }
 {
     match e {
-        Entry::Pair(_, _) => Kid::Other,
-        Entry::Child(k, p) => Kid::Of(k, p),
-        Entry::Message(_) => Kid::Other,
+        Entry::Pair(_, _) => Branch::Other,
+        Entry::Child(k, p) => Branch::Of(k, p),
+        Entry::Message(_) => Branch::Other,
     }
 }
 
 // The last child, if it owns the rest.
 pub fn last_of(s: &[u8], num: usize, low: Place, hi: &[u8], rest: &[u8]) -> Owner
     requires { ⌜ Within 0 (length (now s)) low ⌝ }
-    ensures { λ r. ⌜ Owned (now (s .entry)) (now (hi .entry)) (ownerOf (kid num (part (now (s .entry)) low) ∷ []) (now (hi .entry)) (now (rest .entry))) r ⌝ }
+    ensures { λ r. ⌜ Owned (now (s .entry)) (now (hi .entry)) (ownerOf (branch num (part (now (s .entry)) low) ∷ []) (now (hi .entry)) (now (rest .entry))) r ⌝ }
 {
     let a = low.start;
     let b = low.stop;
@@ -218,7 +218,7 @@ pub fn owner_after(
 ) -> Owner
     requires { ⌜ (start .end ≤ length (now s)) × Within 0 (length (now s)) pivot ⌝ }
     ensures { λ r. ⌜ Owned (now (s .entry)) (now (hi .entry))
-        (ownerOf (kid first (part (now (s .entry)) pivot) ∷ kidsE (listed (now (s .entry)) (start .at) (start .end))) (now (hi .entry))
+        (ownerOf (branch first (part (now (s .entry)) pivot) ∷ branchesAmong (listed (now (s .entry)) (start .at) (start .end))) (now (hi .entry))
         (now (rest .entry))) r ⌝ }
 {
     let end = start.end;
@@ -229,7 +229,7 @@ pub fn owner_after(
         let Step::Read(e, next) = c.step(s) else {
             return last_of(s, num, low, hi, rest);
         };
-        let Kid::Of(k, p) = kid_of(e) else {
+        let Branch::Of(k, p) = branch_of(e) else {
             return last_of(s, num, low, hi, rest);
         };
         let a = low.start;
@@ -249,13 +249,13 @@ pub fn owner_after(
 // The child that owns a rest, of the entries from a place up to another.
 pub fn owner_of(s: &[u8], from: usize, end: usize, hi: &[u8], rest: &[u8]) -> Owner
     requires { ⌜ end ≤ length (now s) ⌝ }
-    ensures { λ r. ⌜ Owned (now (s .entry)) (now (hi .entry)) (ownerOf (kidsE (listed (now (s .entry)) from end)) (now (hi .entry)) (now (rest .entry))) r ⌝ }
+    ensures { λ r. ⌜ Owned (now (s .entry)) (now (hi .entry)) (ownerOf (branchesAmong (listed (now (s .entry)) from end)) (now (hi .entry)) (now (rest .entry))) r ⌝ }
 {
     let c = Cursor { at: from, end };
     let Step::Read(e, next) = c.step(s) else {
         return Owner::Nobody;
     };
-    let Kid::Of(k, p) = kid_of(e) else {
+    let Branch::Of(k, p) = branch_of(e) else {
         return Owner::Nobody;
     };
     owner_after(s, k, p, next, hi, rest)

@@ -1,3 +1,4 @@
+pub mod Emitting
 pub mod Entries
 pub mod Nodes
 pub mod Raise

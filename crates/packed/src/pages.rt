@@ -5,13 +5,14 @@ ghost use Prim.Native.Nat.{_+_, _*_, _-_, _<_, _≤_};
 ghost use lib.ListN.{length};
 ghost use Rattle.image.specs.Bytes.{shared};
 ghost use Rattle.packed.specs.Rows.Area.{RowsFit};
-ghost use Rattle.packed.specs.Rows.Kids.{markAt, lowOfRow, highOfRow, nodePage};
+ghost use Rattle.packed.specs.Rows.Branches.{markAt, lowOfRow, highOfRow, nodePage};
 ghost use Rattle.laws.specs.WriteNode.{writeNode};
 ghost use Rattle.octets.specs.Put.{put};
+ghost use Rattle.node.specs.Whole.{HasNode};
 ghost use Rattle.packed.specs.Pages.Nodes.{nodeBytesOf};
-ghost use Rattle.packed.specs.Pages.Entries.{kidBytes, endAt, startAt};
+ghost use Rattle.packed.specs.Pages.Entries.{branchBytes, endAt, startAt};
 
-pub fn kid_end(area: &[u8], t: usize) -> usize
+pub fn branch_end(area: &[u8], t: usize) -> usize
     requires { ⌜ (t * 128 + 4 ≤ length (now area)) × (t < 1024) ⌝ }
     ensures { λ r. ⌜ r ≡ endAt (now (area .entry)) t ⌝ }
 {
@@ -22,7 +23,7 @@ pub fn kid_end(area: &[u8], t: usize) -> usize
     b + 4 + octets::wide(area[b])
 }
 
-pub fn kid_start(area: &[u8], t: usize, k: usize) -> usize
+pub fn branch_start(area: &[u8], t: usize, k: usize) -> usize
     requires { ⌜ (t * 128 + 4 ≤ length (now area)) × (t < 1024) ⌝ }
     ensures { λ r. ⌜ r ≡ startAt k (now (area .entry)) t ⌝ }
 {
@@ -38,21 +39,21 @@ pub fn kid_start(area: &[u8], t: usize, k: usize) -> usize
 }
 
 // The child entry of row `t`, if it is marked, without the first `k` bytes of its pivot. Gives the place behind it.
-fn emit_kid(page: &mut [u8], area: &[u8], m: usize, t: usize, k: usize, at: usize) -> usize
-    requires { ⌜ RowsFit m (now area) × (m ≤ 1024) × (t < m) × (at + length (kidBytes k 1 (now area) t) ≤ length (now page)) × (length (now page) ≤ 1024) ⌝ }
-    ensures { λ r. ⌜ (now (page .exit) ≡ put (now (page .entry)) at (kidBytes k 1 (now (area .entry)) t)) × (r ≡ at + length (kidBytes k 1 (now (area .entry)) t)) ⌝ }
+fn emit_branch(page: &mut [u8], area: &[u8], m: usize, t: usize, k: usize, at: usize) -> usize
+    requires { ⌜ RowsFit m (now area) × (m ≤ 1024) × (t < m) × (at + length (branchBytes k 1 (now area) t) ≤ length (now page)) × (length (now page) ≤ 1024) ⌝ }
+    ensures { λ r. ⌜ (now (page .exit) ≡ put (now (page .entry)) at (branchBytes k 1 (now (area .entry)) t)) × (r ≡ at + length (branchBytes k 1 (now (area .entry)) t)) ⌝ }
 {
     let num = crate::rows::mark_at(area, t);
     if num == 0 {
         return at;
     }
-    let s = kid_start(area, t, k);
-    let e = kid_end(area, t);
+    let s = branch_start(area, t, k);
+    let e = branch_end(area, t);
     node::writer::write_child(page, at, num, &area[s..e])
 }
 
 // The child entries of the marked rows from `from` up to `to`. Gives the place behind them.
-pub fn emit_kids(
+pub fn emit_branches(
     page: &mut [u8],
     area: &[u8],
     m: usize,
@@ -61,13 +62,13 @@ pub fn emit_kids(
     k: usize,
     at: usize,
 ) -> usize
-    requires { ⌜ RowsFit m (now area) × (m ≤ 1024) × (from ≤ to) × (to ≤ m) × (at + length (kidBytes k (to - from) (now area) from) ≤ length (now page)) × (length (now page) ≤ 1024) ⌝ }
-    ensures { λ r. ⌜ (now (page .exit) ≡ put (now (page .entry)) at (kidBytes k (to - from) (now (area .entry)) from)) × (r ≡ at + length (kidBytes k (to - from) (now (area .entry)) from)) ⌝ }
+    requires { ⌜ RowsFit m (now area) × (m ≤ 1024) × (from ≤ to) × (to ≤ m) × (at + length (branchBytes k (to - from) (now area) from) ≤ length (now page)) × (length (now page) ≤ 1024) ⌝ }
+    ensures { λ r. ⌜ (now (page .exit) ≡ put (now (page .entry)) at (branchBytes k (to - from) (now (area .entry)) from)) × (r ≡ at + length (branchBytes k (to - from) (now (area .entry)) from)) ⌝ }
 {
     let mut t = from;
     let mut p = at;
     while t < to {
-        p = emit_kid(page, area, m, t, k, p);
+        p = emit_branch(page, area, m, t, k, p);
         t = t + 1;
     }
     p
@@ -78,14 +79,14 @@ pub fn lifted(area: &[u8], m: usize, i: usize, j: usize) -> usize
     requires { ⌜ RowsFit m (now area) × (m ≤ 1024) × (i < j) × (j ≤ m) × (j < m → 1 ≤ markAt (now area) j) ⌝ }
     ensures { λ r. ⌜ r ≡ length (shared (lowOfRow (now (area .entry)) i) (highOfRow m (now (area .entry)) j)) ⌝ }
 {
-    let s = kid_start(area, i, 0);
-    let e = kid_end(area, i);
+    let s = branch_start(area, i, 0);
+    let e = branch_end(area, i);
     if j == m {
         let ff = [255u8; 1];
         return octets::common_length(&area[s..e], &ff);
     }
-    let p = kid_start(area, j, 0);
-    let q = kid_end(area, j);
+    let p = branch_start(area, j, 0);
+    let q = branch_end(area, j);
     octets::common_length(&area[s..e], &area[p..q])
 }
 
@@ -105,13 +106,13 @@ pub fn write_node(
         × (j ≤ m)
         × (j < m → 1 ≤ markAt (now area) j)
         × (nodeBytesOf m (now area) i j ≤ 1016)
-        × (num * 1024 + 1024 ≤ length (now store))
+        × HasNode (now store) num
         × (length (now store) ≤ 2000000)
         × (level ≤ 8) ⌝ }
     ensures { λ _. ⌜ now (store .exit) ≡ writeNode (now (store .entry)) num (nodePage level m (now (area .entry)) i j) ⌝ }
 {
     let mut page = [0u8; 1024];
     let k = lifted(area, m, i, j);
-    let end = emit_kids(&mut page, area, m, i, j, k, 8);
+    let end = emit_branches(&mut page, area, m, i, j, k, 8);
     node::writer::write_page(store, num, &mut page, image::INTERIOR, level, end - 8);
 }

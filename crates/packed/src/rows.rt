@@ -4,7 +4,7 @@ ghost use mathlib.Core.Path.{_≡_};
 ghost use Prim.Native.Nat.{_+_, _*_, _-_, _<_, _≤_};
 ghost use lib.ListN.{length};
 ghost use Rattle.packed.specs.Rows.Area.{RowsFit, leafEnd};
-ghost use Rattle.packed.specs.Rows.Kids.{markAt, nodeEnd, weightAt};
+ghost use Rattle.packed.specs.Rows.Branches.{markAt, nodeEnd, weightAt};
 ghost use Rattle.packed.specs.Rows.Puts.{putMark};
 ghost use Rattle.packed.specs.Rows.Remark.{clearMarks, startWeight};
 

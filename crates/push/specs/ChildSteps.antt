@@ -5,48 +5,48 @@ use mathlib.Core.Path.{_≡_, sym, ap, _∙_}
 use mathlib.Core.List.{List, [], _∷_}
 use mathlib.Core.Bool.{true}
 use Rattle.image.specs.Entry.{Entry}
-use Rattle.image.specs.Image.{Kid}
+use Rattle.image.specs.Image.{Branch}
 use Rattle.image.specs.Sound.{once}
-use Rattle.laws.specs.Reading.Relative.{kidHigh}
-use Rattle.node.specs.Search.Own.{kid}
-use Rattle.push.specs.Laws.Written.{childTakes, eachTakes, hasRoom, allHaveRoom, kidNumbers}
+use Rattle.laws.specs.Reading.Relative.{branchHigh}
+use Rattle.node.specs.Search.Own.{branch}
+use Rattle.push.specs.Laws.Written.{childTakes, eachTakes, hasRoom, allHaveRoom, branchNumbers}
 use Rattle.push.specs.Laws.Only.{room-first, once-first}
 use Rattle.push.specs.Laws.LeafRoom.{rooms-on}
 
-pub takes-none : (es : List Entry) (ks : List Kid) (hi s : List ℕ) → ks ≡ [] → s ≡ eachTakes (childTakes es) ks hi s
+pub takes-none : (es : List Entry) (ks : List Branch) (hi s : List ℕ) → ks ≡ [] → s ≡ eachTakes (childTakes es) ks hi s
 unfolding eachTakes
 takes-none es ks hi s e = ap (λ l. eachTakes (childTakes es) l hi s) (sym e)
 
 -- the child in hand is i, with the low pivot lo; ks follow
-module _ (es : List Entry) (hi s s′ : List ℕ) (i : ℕ) (lo : List ℕ) (ks : List Kid) where
-  pub last-room : ks ≡ [] → allHaveRoom es (kid i lo ∷ ks) hi s ≡ true → hasRoom es i lo hi s ≡ true
-  unfolding kidHigh
-  last-room e h = room-first es (kid i lo) [] hi s (ap (λ l. allHaveRoom es (kid i lo ∷ l) hi s) (sym e) ∙ h)
+module _ (es : List Entry) (hi s s′ : List ℕ) (i : ℕ) (lo : List ℕ) (ks : List Branch) where
+  pub last-room : ks ≡ [] → allHaveRoom es (branch i lo ∷ ks) hi s ≡ true → hasRoom es i lo hi s ≡ true
+  unfolding branchHigh
+  last-room e h = room-first es (branch i lo) [] hi s (ap (λ l. allHaveRoom es (branch i lo ∷ l) hi s) (sym e) ∙ h)
 
-  pub last-takes : (X : List ℕ) → ks ≡ [] → s′ ≡ childTakes es i lo hi s → eachTakes (childTakes es) (kid i lo ∷ ks) hi s ≡ X → s′ ≡ X
-  unfolding eachTakes kidHigh
-  last-takes X e q inv = q ∙ ap (λ l. eachTakes (childTakes es) (kid i lo ∷ l) hi s) (sym e) ∙ inv
+  pub last-takes : (X : List ℕ) → ks ≡ [] → s′ ≡ childTakes es i lo hi s → eachTakes (childTakes es) (branch i lo ∷ ks) hi s ≡ X → s′ ≡ X
+  unfolding eachTakes branchHigh
+  last-takes X e q inv = q ∙ ap (λ l. eachTakes (childTakes es) (branch i lo ∷ l) hi s) (sym e) ∙ inv
 
-  module _ (k : ℕ) (p : List ℕ) (us : List Kid) (e : ks ≡ kid k p ∷ us) where
-    all-room : allHaveRoom es (kid i lo ∷ ks) hi s ≡ true → allHaveRoom es (kid i lo ∷ kid k p ∷ us) hi s ≡ true
-    all-room h = ap (λ l. allHaveRoom es (kid i lo ∷ l) hi s) (sym e) ∙ h
+  module _ (k : ℕ) (p : List ℕ) (us : List Branch) (e : ks ≡ branch k p ∷ us) where
+    all-room : allHaveRoom es (branch i lo ∷ ks) hi s ≡ true → allHaveRoom es (branch i lo ∷ branch k p ∷ us) hi s ≡ true
+    all-room h = ap (λ l. allHaveRoom es (branch i lo ∷ l) hi s) (sym e) ∙ h
 
-    pub next-room : allHaveRoom es (kid i lo ∷ ks) hi s ≡ true → hasRoom es i lo p s ≡ true
-    unfolding kidHigh
-    next-room h = room-first es (kid i lo) (kid k p ∷ us) hi s (all-room h)
+    pub next-room : allHaveRoom es (branch i lo ∷ ks) hi s ≡ true → hasRoom es i lo p s ≡ true
+    unfolding branchHigh
+    next-room h = room-first es (branch i lo) (branch k p ∷ us) hi s (all-room h)
 
-    apart : once (kidNumbers (kid i lo ∷ ks)) ≡ true → once (kidNumbers (kid i lo ∷ kid k p ∷ us)) ≡ true
-    apart o = ap (λ l. once (kidNumbers (kid i lo ∷ l))) (sym e) ∙ o
+    apart : once (branchNumbers (branch i lo ∷ ks)) ≡ true → once (branchNumbers (branch i lo ∷ branch k p ∷ us)) ≡ true
+    apart o = ap (λ l. once (branchNumbers (branch i lo ∷ l))) (sym e) ∙ o
 
-    pub next-once : once (kidNumbers (kid i lo ∷ ks)) ≡ true → once (kidNumbers (kid k p ∷ us)) ≡ true
-    next-once o = once-first (kid i lo) (kid k p ∷ us) (apart o) .1
+    pub next-once : once (branchNumbers (branch i lo ∷ ks)) ≡ true → once (branchNumbers (branch k p ∷ us)) ≡ true
+    next-once o = once-first (branch i lo) (branch k p ∷ us) (apart o) .1
 
-    pub next-rooms : once (kidNumbers (kid i lo ∷ ks)) ≡ true → allHaveRoom es (kid i lo ∷ ks) hi s ≡ true → s′ ≡ childTakes es i lo p s
-        → allHaveRoom es (kid k p ∷ us) hi s′ ≡ true
-    unfolding kidHigh
-    next-rooms o h q = ap (allHaveRoom es (kid k p ∷ us) hi) q ∙ rooms-on es (kid i lo) (kid k p ∷ us) hi s (apart o) (all-room h)
+    pub next-rooms : once (branchNumbers (branch i lo ∷ ks)) ≡ true → allHaveRoom es (branch i lo ∷ ks) hi s ≡ true → s′ ≡ childTakes es i lo p s
+        → allHaveRoom es (branch k p ∷ us) hi s′ ≡ true
+    unfolding branchHigh
+    next-rooms o h q = ap (allHaveRoom es (branch k p ∷ us) hi) q ∙ rooms-on es (branch i lo) (branch k p ∷ us) hi s (apart o) (all-room h)
 
-    pub next-takes : (X : List ℕ) → s′ ≡ childTakes es i lo p s → eachTakes (childTakes es) (kid i lo ∷ ks) hi s ≡ X
-        → eachTakes (childTakes es) (kid k p ∷ us) hi s′ ≡ X
-    unfolding eachTakes kidHigh
-    next-takes X q inv = ap (eachTakes (childTakes es) (kid k p ∷ us) hi) q ∙ ap (λ l. eachTakes (childTakes es) (kid i lo ∷ l) hi s) (sym e) ∙ inv
+    pub next-takes : (X : List ℕ) → s′ ≡ childTakes es i lo p s → eachTakes (childTakes es) (branch i lo ∷ ks) hi s ≡ X
+        → eachTakes (childTakes es) (branch k p ∷ us) hi s′ ≡ X
+    unfolding eachTakes branchHigh
+    next-takes X q inv = ap (eachTakes (childTakes es) (branch k p ∷ us) hi) q ∙ ap (λ l. eachTakes (childTakes es) (branch i lo ∷ l) hi s) (sym e) ∙ inv

@@ -9,7 +9,7 @@ use native.Mathlib.Omega.{arith}
 use lib.ListN.{length, take, drop}
 use Rattle.image.specs.Bytes.{u16, u16Bytes}
 use Rattle.image.specs.Entry as defined
-use Rattle.image.specs.Image.{Kid, treeOf, wholeNodes}
+use Rattle.image.specs.Image.{Branch, treeOf, wholeNodes}
 use Rattle.image.specs.Sound.{sound, once, highest}
 use Rattle.image.specs.Upkeep.{Reachable, reachableAt, reachableNodes}
 use Rattle.image.specs.Contract.{hasChildren, isInterior}
@@ -21,14 +21,14 @@ use Rattle.packed.specs.Form.Tidy.{zerosOf, drop-zeros}
 use Rattle.packed.specs.Pages.Nodes.{page-is, node-written}
 use Rattle.node.specs.Cut.{cut, cut-drop, cut-take, cut-length}
 use Rattle.node.specs.Entries.{listed, listOf}
-use Rattle.node.specs.Search.Own.{kidsE}
+use Rattle.node.specs.Search.Own.{branchesAmong}
 use Rattle.lookup.specs.Look.{listing}
 use Rattle.live.specs.Walk.{isMessage, hasMessage}
 use Rattle.push.specs.Laws.Arriving.{waiting}
 use Rattle.push.specs.Laws.High.{highHere}
-use Rattle.push.specs.Laws.Written.{childTakes, eachTakes, allHaveRoom, kidNumbers, smallNumbers, childBytes, emptied}
+use Rattle.push.specs.Laws.Written.{childTakes, eachTakes, allHaveRoom, branchNumbers, smallNumbers, childBytes, emptied}
 use Rattle.push.specs.Laws.TakesLaws.{each-size}
-use Rattle.push.specs.Laws.PushedDown.{PushedDown, interior-place, two-levels, inside, short, stored-level, kids-once, children-fit, small-kids, few-nodes, nothing-waits, pushed-down}
+use Rattle.push.specs.Laws.PushedDown.{PushedDown, interior-place, two-levels, inside, short, stored-level, branches-once, children-fit, small-branches, few-nodes, nothing-waits, pushed-down}
 use Rattle.push.specs.High.Sought.{Seen}
 use Rattle.push.specs.High.Steps.{found-is}
 use Rattle.push.specs.declared.high.Sought.{Sought}
@@ -36,7 +36,7 @@ use Rattle.push.specs.declared.Pushed.{Pushed}
 use Rattle.push.specs.Outcome.{Outcome, Pushable}
 
 -- THE NODE WITH ITS CHILDREN ALONE
-pub node-emptied : (s s′ p₁ : List ℕ) (n level e : ℕ) (ks : List Kid) → length (childBytes ks) ≤ 1016 → p₁ ≡ put (zerosOf 1024) 8 (childBytes ks) → e ≡ 8 + length (childBytes ks)
+pub node-emptied : (s s′ p₁ : List ℕ) (n level e : ℕ) (ks : List Branch) → length (childBytes ks) ≤ 1016 → p₁ ≡ put (zerosOf 1024) 8 (childBytes ks) → e ≡ 8 + length (childBytes ks)
     → s′ ≡ put s (n * 1024) (put (put (put p₁ 0 (u16Bytes (e - 8))) 2 (u16Bytes 2)) 4 (u16Bytes level)) → s′ ≡ emptied s n level ks
 unfolding emptied
 node-emptied s s′ p₁ n level e ks h a b d =
@@ -98,39 +98,39 @@ module _ (s : List ℕ) (n : ℕ) (hi : List ℕ) (pre : Pushable s n hi) where
     unfolding listed
     lists = ap listOf same-part
 
-    pub apart : once (kidNumbers (kidsE (listed node 8 (8 + len)))) ≡ true
-    apart = ap (λ es. once (kidNumbers (kidsE es))) lists ∙ kids-once s n x (pre .is-sound) (found .1 .0) (found .1 .1)
+    pub apart : once (branchNumbers (branchesAmong (listed node 8 (8 + len)))) ≡ true
+    apart = ap (λ es. once (branchNumbers (branchesAmong es))) lists ∙ branches-once s n x (pre .is-sound) (found .1 .0) (found .1 .1)
 
-    pub children-short : length (childBytes (kidsE (listed node 8 (8 + len)))) ≤ 1016
-    children-short = let a = children-fit s n x (pre .is-sound) (found .1 .0) (found .1 .1) in let b = ap (λ es. length (childBytes (kidsE es))) lists in omega arith
+    pub children-short : length (childBytes (branchesAmong (listed node 8 (8 + len)))) ≤ 1016
+    children-short = let a = children-fit s n x (pre .is-sound) (found .1 .0) (found .1 .1) in let b = ap (λ es. length (childBytes (branchesAmong es))) lists in omega arith
 
-    pub silent : (b : Bool) → b ≡ hasMessage (listed node 8 (8 + len)) → not b ≡ true → Outcome s n Pushed.Done s
-    silent b e q =
+    pub uncovered : (b : Bool) → b ≡ hasMessage (listed node 8 (8 + len)) → not b ≡ true → Outcome s n Pushed.Done s
+    uncovered b e q =
         is-done s n s (nothing-waits s n x (pre .is-sound) (found .1 .0) (found .1 .1)
         (none-waits (listing s n) (ap hasMessage (sym lists) ∙ sym e ∙ not-true b q)))
 
-    module _ (b : Bool) (eb : b ≡ allHaveRoom (listed node 8 (8 + len)) (kidsE (listed node 8 (8 + len))) hi s) (fits : not b ≡ false) where
-      pub rooms : allHaveRoom (listed node 8 (8 + len)) (kidsE (listed node 8 (8 + len))) hi s ≡ true
+    module _ (b : Bool) (eb : b ≡ allHaveRoom (listed node 8 (8 + len)) (branchesAmong (listed node 8 (8 + len))) hi s) (fits : not b ≡ false) where
+      pub rooms : allHaveRoom (listed node 8 (8 + len)) (branchesAmong (listed node 8 (8 + len))) hi s ≡ true
       rooms = sym eb ∙ is-true b fits
 
-      pub small : smallNumbers (kidsE (listed node 8 (8 + len))) ≡ true
-      small = small-kids (listed node 8 (8 + len)) (kidsE (listed node 8 (8 + len))) hi s (few-nodes (length s) (pre .whole)) rooms
+      pub small : smallNumbers (branchesAmong (listed node 8 (8 + len))) ≡ true
+      small = small-branches (listed node 8 (8 + len)) (branchesAmong (listed node 8 (8 + len))) hi s (few-nodes (length s) (pre .whole)) rooms
 
-      pub stays-long : (s₁ : List ℕ) → s₁ ≡ eachTakes (childTakes (listed node 8 (8 + len))) (kidsE (listed node 8 (8 + len))) hi s → length s₁ ≡ length s
-      stays-long s₁ e = ap length e ∙ each-size (listed node 8 (8 + len)) (kidsE (listed node 8 (8 + len))) hi s apart rooms
+      pub stays-long : (s₁ : List ℕ) → s₁ ≡ eachTakes (childTakes (listed node 8 (8 + len))) (branchesAmong (listed node 8 (8 + len))) hi s → length s₁ ≡ length s
+      stays-long s₁ e = ap length e ∙ each-size (listed node 8 (8 + len)) (branchesAmong (listed node 8 (8 + len))) hi s apart rooms
 
-      pub all-done : (level : ℕ) → level ≡ u16 s (n * 1024 + 4) → (s₁ s₂ : List ℕ) → s₁ ≡ eachTakes (childTakes (listed node 8 (8 + len))) (kidsE (listed node 8 (8 + len))) hi s
-          → s₂ ≡ emptied s₁ n level (kidsE (listed node 8 (8 + len))) → Outcome s n Pushed.Done s₂
+      pub all-done : (level : ℕ) → level ≡ u16 s (n * 1024 + 4) → (s₁ s₂ : List ℕ) → s₁ ≡ eachTakes (childTakes (listed node 8 (8 + len))) (branchesAmong (listed node 8 (8 + len))) hi s
+          → s₂ ≡ emptied s₁ n level (branchesAmong (listed node 8 (8 + len))) → Outcome s n Pushed.Done s₂
       all-done level ev s₁ s₂ a d =
           let two = two-levels s n x (pre .is-sound) (found .1 .0) (found .1 .1) in
           let v : level ≡ x .level = ev ∙ stored-level s n x (pre .is-sound) (found .1 .0) (found .1 .1) in
           let w : level ≡ suc (suc (x .level - 2)) = omega arith in
-          let r : allHaveRoom (listing s n) (kidsE (listing s n)) hi s ≡ true = ap (λ es. allHaveRoom es (kidsE es) hi s) (sym lists) ∙ rooms in
-          let a′ : s₁ ≡ eachTakes (childTakes (listing s n)) (kidsE (listing s n)) hi s = a ∙ ap (λ es. eachTakes (childTakes es) (kidsE es) hi s) lists in
-          let d′ : s₂ ≡ emptied (eachTakes (childTakes (listing s n)) (kidsE (listing s n)) hi s) n (suc (suc (x .level - 2))) (kidsE (listing s n)) =
-          d ∙ ap₂ (λ m es. emptied s₁ n m (kidsE es)) w lists ∙ ap (λ q. emptied q n (suc (suc (x .level - 2))) (kidsE (listing s n))) a′ in
+          let r : allHaveRoom (listing s n) (branchesAmong (listing s n)) hi s ≡ true = ap (λ es. allHaveRoom es (branchesAmong es) hi s) (sym lists) ∙ rooms in
+          let a′ : s₁ ≡ eachTakes (childTakes (listing s n)) (branchesAmong (listing s n)) hi s = a ∙ ap (λ es. eachTakes (childTakes es) (branchesAmong es) hi s) lists in
+          let d′ : s₂ ≡ emptied (eachTakes (childTakes (listing s n)) (branchesAmong (listing s n)) hi s) n (suc (suc (x .level - 2))) (branchesAmong (listing s n)) =
+          d ∙ ap₂ (λ m es. emptied s₁ n m (branchesAmong es)) w lists ∙ ap (λ q. emptied q n (suc (suc (x .level - 2))) (branchesAmong (listing s n))) a′ in
           subst (Outcome s n Pushed.Done) (sym d′)
-          (is-done s n (emptied (eachTakes (childTakes (listing s n)) (kidsE (listing s n)) hi s) n (suc (suc (x .level - 2))) (kidsE (listing s n)))
+          (is-done s n (emptied (eachTakes (childTakes (listing s n)) (branchesAmong (listing s n)) hi s) n (suc (suc (x .level - 2))) (branchesAmong (listing s n)))
           (pushed-down s n x (pre .is-sound) (found .1 .0) (found .1 .1) hi (pre .high) r))
 
 -- THE HIGH PIVOT AS IT WAS FOUND

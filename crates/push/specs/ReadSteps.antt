@@ -11,19 +11,19 @@ use borrow.Author.Tests.{lt-leb, le-ltb, lt-ltb}
 use Rattle.image.specs.Bytes.{u16, begins, shared}
 use Rattle.image.specs.Path.{owns}
 use Rattle.image.specs.Entry as defined
-use Rattle.image.specs.Image.{Kid, nodesOf}
+use Rattle.image.specs.Image.{Branch, nodesOf}
 use Rattle.octets.specs.Order.{not-true}
 use Rattle.laws.specs.Encode.{bytesOf}
 use Rattle.laws.specs.RowsRising.{is-true}
 use Rattle.laws.specs.PushDown.{touches}
 use Rattle.laws.specs.Upkeep.Size.{put-size, drop-size, clear-size}
-use Rattle.laws.specs.Reading.Relative.{kidHigh}
+use Rattle.laws.specs.Reading.Relative.{branchHigh}
 use Rattle.node.specs.Cut.{cut, cut-drop, cut-length, cut-nil}
 use Rattle.node.specs.Places.{part, messageIn, entryIn, Within}
 use Rattle.node.specs.declared.Place.{Place}
 use Rattle.node.specs.declared.Message.{Message}
 use Rattle.node.specs.declared.Entry.{Entry}
-use Rattle.node.specs.Search.Own.{kid}
+use Rattle.node.specs.Search.Own.{branch}
 use Rattle.push.specs.Laws.Arriving.{loweredBy, brought, broughtAll}
 use Rattle.push.specs.Laws.Written.{hasRoom, allHaveRoom}
 use Rattle.octets.specs.Beginnings.{shared-take}
@@ -155,25 +155,25 @@ unfolding hasRoom
 room-is es i lo hi s used b h u e = e ∙ ap (λ n. leb (n + length (broughtAll es lo hi)) 1016) u ∙ sym (ap (λ z. z && leb (u16 s (i * 1024) + length (broughtAll es lo hi)) 1016) (lt-ltb i (nodesOf (length s)) h))
 
 module _ (es : List defined.Entry) (hi s : List ℕ) (X : Bool) where
-  pub rooms-none : (ks : List Kid) → ks ≡ [] → allHaveRoom es ks hi s ≡ X → true ≡ X
+  pub rooms-none : (ks : List Branch) → ks ≡ [] → allHaveRoom es ks hi s ≡ X → true ≡ X
   unfolding allHaveRoom
   rooms-none ks e inv = ap (λ l. allHaveRoom es l hi s) (sym e) ∙ inv
 
-  module _ (i : ℕ) (lo : List ℕ) (ks : List Kid) (inv : allHaveRoom es (kid i lo ∷ ks) hi s ≡ X) (b : Bool) where
+  module _ (i : ℕ) (lo : List ℕ) (ks : List Branch) (inv : allHaveRoom es (branch i lo ∷ ks) hi s ≡ X) (b : Bool) where
     pub rooms-last : ks ≡ [] → b ≡ hasRoom es i lo hi s → b ≡ X
-    unfolding allHaveRoom kidHigh
-    rooms-last e h = h ∙ and-nil (hasRoom es i lo hi s) ∙ ap (λ l. allHaveRoom es (kid i lo ∷ l) hi s) (sym e) ∙ inv
+    unfolding allHaveRoom branchHigh
+    rooms-last e h = h ∙ and-nil (hasRoom es i lo hi s) ∙ ap (λ l. allHaveRoom es (branch i lo ∷ l) hi s) (sym e) ∙ inv
       where
         and-nil : (x : Bool) → x ≡ x && true
         and-nil true = refl
         and-nil false = refl
 
-    pub rooms-no : (k : ℕ) (p : List ℕ) (us : List Kid) → ks ≡ kid k p ∷ us → b ≡ hasRoom es i lo p s → not b ≡ true → false ≡ X
-    unfolding allHaveRoom kidHigh
+    pub rooms-no : (k : ℕ) (p : List ℕ) (us : List Branch) → ks ≡ branch k p ∷ us → b ≡ hasRoom es i lo p s → not b ≡ true → false ≡ X
+    unfolding allHaveRoom branchHigh
     rooms-no k p us e h n =
-        ap (λ x. x && allHaveRoom es (kid k p ∷ us) hi s) (sym (not-true b n) ∙ h) ∙ ap (λ l. allHaveRoom es (kid i lo ∷ l) hi s) (sym e) ∙ inv
+        ap (λ x. x && allHaveRoom es (branch k p ∷ us) hi s) (sym (not-true b n) ∙ h) ∙ ap (λ l. allHaveRoom es (branch i lo ∷ l) hi s) (sym e) ∙ inv
 
-    pub rooms-on : (k : ℕ) (p : List ℕ) (us : List Kid) → ks ≡ kid k p ∷ us → b ≡ hasRoom es i lo p s → not b ≡ false → allHaveRoom es (kid k p ∷ us) hi s ≡ X
-    unfolding allHaveRoom kidHigh
+    pub rooms-on : (k : ℕ) (p : List ℕ) (us : List Branch) → ks ≡ branch k p ∷ us → b ≡ hasRoom es i lo p s → not b ≡ false → allHaveRoom es (branch k p ∷ us) hi s ≡ X
+    unfolding allHaveRoom branchHigh
     rooms-on k p us e h n =
-        ap (λ x. x && allHaveRoom es (kid k p ∷ us) hi s) (sym (is-true b n) ∙ h) ∙ ap (λ l. allHaveRoom es (kid i lo ∷ l) hi s) (sym e) ∙ inv
+        ap (λ x. x && allHaveRoom es (branch k p ∷ us) hi s) (sym (is-true b n) ∙ h) ∙ ap (λ l. allHaveRoom es (branch i lo ∷ l) hi s) (sym e) ∙ inv

@@ -16,7 +16,7 @@ use Rattle.node.specs.Cut.{cut, cut-length}
 use Rattle.node.specs.Places.{part, messageIn}
 use Rattle.node.specs.declared.Place.{Place}
 use Rattle.node.specs.declared.Message.{Message}
-use Rattle.image.specs.Image.{Kid}
+use Rattle.image.specs.Image.{Branch}
 use Rattle.octets.specs.Order.{and-left, and-right}
 use Rattle.laws.specs.WriteNode.{writeNode}
 use Rattle.laws.specs.Page.{page, page-length}
@@ -94,19 +94,19 @@ unfolding broughtAll
 brought-none lo hi es q = ap (λ l. broughtAll l lo hi) q
 
 -- THE ENTRIES OF CHILDREN
-pub children-cons : (ks us : List Kid) (k : Kid) → ks ≡ k ∷ us → childBytes ks ≡ bytesOf (defined.child (k .number) (k .pivot)) ++ childBytes us
+pub children-cons : (ks us : List Branch) (k : Branch) → ks ≡ k ∷ us → childBytes ks ≡ bytesOf (defined.child (k .number) (k .pivot)) ++ childBytes us
 unfolding childBytes
 children-cons ks us k q = ap childBytes q
 
-pub children-none : (ks : List Kid) → ks ≡ [] → childBytes ks ≡ []
+pub children-none : (ks : List Branch) → ks ≡ [] → childBytes ks ≡ []
 unfolding childBytes
 children-none ks q = ap childBytes q
 
-pub small-first : (ks us : List Kid) (k : Kid) → ks ≡ k ∷ us → smallNumbers ks ≡ true → k .number < 65536
+pub small-first : (ks us : List Branch) (k : Branch) → ks ≡ k ∷ us → smallNumbers ks ≡ true → k .number < 65536
 unfolding smallNumbers
 small-first ks us k q e = ltb-true (k .number) 65536 (and-left _ _ (ap smallNumbers (sym q) ∙ e))
 
-pub small-later : (ks us : List Kid) (k : Kid) → ks ≡ k ∷ us → smallNumbers ks ≡ true → smallNumbers us ≡ true
+pub small-later : (ks us : List Branch) (k : Branch) → ks ≡ k ∷ us → smallNumbers ks ≡ true → smallNumbers us ≡ true
 unfolding smallNumbers
 small-later ks us k q e = and-right (ltb (k .number) 65536) _ (ap smallNumbers (sym q) ∙ e)
 

@@ -12,14 +12,22 @@ ghost use Rattle.image.specs.Sound.{sound, highest};
 ghost use Rattle.laws.specs.Reading.Relative.{usable};
 ghost use Rattle.node.specs.Places.{part};
 ghost use Rattle.node.specs.Entries.{listed};
-ghost use Rattle.node.specs.Search.Own.{kid, kidsE};
+ghost use Rattle.node.specs.Search.Own.{branch, branchesAmong};
 ghost use Rattle.push.specs.Laws.High.{highHere, highIn};
-ghost use Rattle.push.specs.High.Sought.{Held, Seen, SeekKids};
+ghost use Rattle.push.specs.High.Sought.{Held, Seen, SeekBranches};
 
 // How many bytes the pivot has that was sought; it stands at the front of the buffer if it fits.
 pub enum Sought {
     Found(usize),
     Missing,
+}
+
+// The children of a node from one on: its number and the place of its low pivot, the cursor past it, and their level.
+pub struct Run {
+    pub first: usize,
+    pub low: Place,
+    pub rest: Cursor,
+    pub level: usize,
 }
 
 // A pivot to the front of the buffer, if it fits. Gives its length.
@@ -61,39 +69,38 @@ pub fn search_node(
     else {
         return Sought::Missing;
     };
-    search_children(store, first, pivot, next, level - 1, &hi[k..], num, out)
+    let down = level - 1;
+    let run = Run {
+        first,
+        low: pivot,
+        rest: next,
+        level: down,
+    };
+    search_children(store, run, &hi[k..], num, out)
 }
 
-// The same in the tree of a child and of those that follow from the cursor on; a child's high pivot is the next one's low, or else hi.
-pub fn search_children(
-    store: &[u8],
-    first: usize,
-    pivot: Place,
-    start: Cursor,
-    level: usize,
-    hi: &[u8],
-    num: usize,
-    out: &mut [u8],
-) -> Sought
-    requires { ⌜ SeekKids (now store) level first pivot start ⌝ }
+// The same in the trees of these children; a child's high pivot is the next one's low, or else hi.
+pub fn search_children(store: &[u8], run: Run, hi: &[u8], num: usize, out: &mut [u8]) -> Sought
+    requires { ⌜ SeekBranches (now store) (run .level) (run .first) (run .low) (run .rest) ⌝ }
     ensures { λ r. ⌜ Seen
         (highIn num
-        (forestOf (λ j. treeAt level (now (store .entry)) j)
-        (kid first (part (now (store .entry)) pivot) ∷ kidsE (listed (now (store .entry)) (start .at) (start .end)))) (now (hi .entry))) r
+        (forestOf (λ j. treeAt (run .level) (now (store .entry)) j)
+        (branch (run .first) (part (now (store .entry)) (run .low)) ∷ branchesAmong (listed (now (store .entry)) (run .rest .at) (run .rest .end))))
+        (now (hi .entry))) r
         (now (out .exit)) ⌝ }
 {
-    let mut c = start;
-    let mut cur = first;
-    let mut low = pivot;
+    let mut c = run.rest;
+    let mut cur = run.first;
+    let mut low = run.low;
     loop {
         let a = low.start;
         let b = low.stop;
         let Pending::Child(k, p, next) = live::read_child(store, c) else {
-            return search_node(store, cur, level, &store[a..b], hi, num, out);
+            return search_node(store, cur, run.level, &store[a..b], hi, num, out);
         };
         let x = p.start;
         let y = p.stop;
-        let r = search_node(store, cur, level, &store[a..b], &store[x..y], num, out);
+        let r = search_node(store, cur, run.level, &store[a..b], &store[x..y], num, out);
         let Sought::Missing = r else {
             return r;
         };

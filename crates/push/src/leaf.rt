@@ -17,6 +17,7 @@ ghost use Rattle.laws.specs.Encode.{bytesOf, bytesOfAll};
 ghost use Rattle.octets.specs.Put.{put};
 ghost use Rattle.node.specs.Places.{EntryWithin, MessageWithin, entryIn, messageIn};
 ghost use Rattle.node.specs.Entries.{listed};
+ghost use Rattle.node.specs.Whole.{HasNode};
 ghost use Rattle.push.specs.Laws.Arriving.{loweredBy, brought};
 ghost use Rattle.push.specs.Laws.Leaves.{pairsAfter, applied, leafTakesOne, leafTakes};
 ghost use Rattle.push.specs.Laws.Written.{hasRoom};
@@ -168,7 +169,7 @@ fn emit_leaf(
 // A leaf applies a message that loses its first k bytes there.
 fn apply_message(store: &mut [u8], num: usize, node: &[u8], m: Message, k: usize)
     requires { ⌜ MessageWithin 0 (length (now node)) m
-        × (num * 1024 + 1024 ≤ length (now store))
+        × HasNode (now store) num
         × (u16 (now store) (num * 1024) + length (bytesOf (message (loweredBy k (messageIn (now node) m)))) ≤ 1016) ⌝ }
     ensures { λ _. ⌜ now (store .exit) ≡ applied (loweredBy k (messageIn (now (node .entry)) m)) num (now (store .entry)) ⌝ }
 {
@@ -189,7 +190,7 @@ fn apply_message(store: &mut [u8], num: usize, node: &[u8], m: Message, k: usize
 
 // A leaf with these pivots takes what an entry of the node brings.
 fn take_entry(store: &mut [u8], num: usize, node: &[u8], e: Entry, lo: &[u8], hi: &[u8])
-    requires { ⌜ EntryWithin 0 (length (now node)) e × (num * 1024 + 1024 ≤ length (now store)) × (u16 (now store) (num * 1024) + length (brought (entryIn (now node) e) (now lo) (now hi)) ≤ 1016) ⌝ }
+    requires { ⌜ EntryWithin 0 (length (now node)) e × HasNode (now store) num × (u16 (now store) (num * 1024) + length (brought (entryIn (now node) e) (now lo) (now hi)) ≤ 1016) ⌝ }
     ensures { λ _. ⌜ now (store .exit) ≡ leafTakesOne (entryIn (now (node .entry)) e) num (now (lo .entry)) (now (hi .entry)) (now (store .entry)) ⌝ }
 {
     match e {

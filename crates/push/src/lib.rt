@@ -17,12 +17,13 @@ ghost use lib.ListN.{length};
 ghost use Rattle.image.specs.Sound.{once, sound};
 ghost use Rattle.octets.specs.Put.{put};
 ghost use Rattle.node.specs.Entries.{listed};
-ghost use Rattle.node.specs.Search.Own.{kidsE};
-ghost use Rattle.push.specs.Laws.Written.{childTakes, eachTakes, hasRoom, allHaveRoom, kidNumbers, childBytes, smallNumbers, emptied};
+ghost use Rattle.node.specs.Search.Own.{branchesAmong};
+ghost use Rattle.push.specs.Laws.Written.{childTakes, eachTakes, hasRoom, allHaveRoom, branchNumbers, childBytes, smallNumbers, emptied};
 ghost use Rattle.push.specs.Outcome.{Pushable, Outcome};
 ghost use Rattle.image.specs.Image.{wholeNodes};
 ghost use Rattle.image.specs.Upkeep.{reachableAt, reachableNodes};
 ghost use Rattle.image.specs.Contract.{isInterior};
+ghost use Rattle.node.specs.Whole.{HasNode};
 
 // What came of a flush by one level: all messages are with the children, or a child has no room and nothing is changed.
 pub enum Pushed {
@@ -47,9 +48,9 @@ fn push_child(store: &mut [u8], num: usize, node: &[u8], stop: usize, lo: &[u8],
 fn push_children(store: &mut [u8], node: &[u8], stop: usize, hi: &[u8])
     requires { ⌜ (stop ≤ length (now node))
         × (length (now node) ≤ 1024)
-        × (allHaveRoom (listed (now node) 8 stop) (kidsE (listed (now node) 8 stop)) (now hi) (now store) ≡ true)
-        × (once (kidNumbers (kidsE (listed (now node) 8 stop))) ≡ true) ⌝ }
-    ensures { λ _. ⌜ now (store .exit) ≡ eachTakes (childTakes (listed (now (node .entry)) 8 stop)) (kidsE (listed (now (node .entry)) 8 stop)) (now (hi .entry)) (now (store .entry)) ⌝ }
+        × (allHaveRoom (listed (now node) 8 stop) (branchesAmong (listed (now node) 8 stop)) (now hi) (now store) ≡ true)
+        × (once (branchNumbers (branchesAmong (listed (now node) 8 stop))) ≡ true) ⌝ }
+    ensures { λ _. ⌜ now (store .exit) ≡ eachTakes (childTakes (listed (now (node .entry)) 8 stop)) (branchesAmong (listed (now (node .entry)) 8 stop)) (now (hi .entry)) (now (store .entry)) ⌝ }
 {
     let Pending::Child(first, pivot, start) = live::read_child(
         node,
@@ -82,11 +83,11 @@ fn push_children(store: &mut [u8], node: &[u8], stop: usize, hi: &[u8])
 // The child entries of the node. Gives the place behind them.
 fn emit_children(page: &mut [u8], at: usize, node: &[u8], stop: usize) -> usize
     requires { ⌜ (stop ≤ length (now node))
-        × (at + length (childBytes (kidsE (listed (now node) 8 stop))) ≤ length (now page))
+        × (at + length (childBytes (branchesAmong (listed (now node) 8 stop))) ≤ length (now page))
         × (length (now page) ≤ 1024)
-        × (smallNumbers (kidsE (listed (now node) 8 stop)) ≡ true) ⌝ }
-    ensures { λ r. ⌜ (now (page .exit) ≡ put (now (page .entry)) at (childBytes (kidsE (listed (now (node .entry)) 8 stop))))
-        × (r ≡ at + length (childBytes (kidsE (listed (now (node .entry)) 8 stop)))) ⌝ }
+        × (smallNumbers (branchesAmong (listed (now node) 8 stop)) ≡ true) ⌝ }
+    ensures { λ r. ⌜ (now (page .exit) ≡ put (now (page .entry)) at (childBytes (branchesAmong (listed (now (node .entry)) 8 stop))))
+        × (r ≡ at + length (childBytes (branchesAmong (listed (now (node .entry)) 8 stop)))) ⌝ }
 {
     let mut c = Cursor {
         at: image::ENTRIES_AT,
@@ -107,11 +108,11 @@ fn emit_children(page: &mut [u8], at: usize, node: &[u8], stop: usize) -> usize
 // The node with its children alone.
 fn clear_messages(store: &mut [u8], num: usize, node: &[u8], stop: usize, level: usize)
     requires { ⌜ (stop ≤ length (now node))
-        × (num * 1024 + 1024 ≤ length (now store))
+        × HasNode (now store) num
         × (level < 65536)
-        × (length (childBytes (kidsE (listed (now node) 8 stop))) ≤ 1016)
-        × (smallNumbers (kidsE (listed (now node) 8 stop)) ≡ true) ⌝ }
-    ensures { λ _. ⌜ now (store .exit) ≡ emptied (now (store .entry)) num level (kidsE (listed (now (node .entry)) 8 stop)) ⌝ }
+        × (length (childBytes (branchesAmong (listed (now node) 8 stop))) ≤ 1016)
+        × (smallNumbers (branchesAmong (listed (now node) 8 stop)) ≡ true) ⌝ }
+    ensures { λ _. ⌜ now (store .exit) ≡ emptied (now (store .entry)) num level (branchesAmong (listed (now (node .entry)) 8 stop)) ⌝ }
 {
     let mut page = [0u8; 1024];
     let end = emit_children(&mut page, image::ENTRIES_AT, node, stop);

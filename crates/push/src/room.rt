@@ -17,7 +17,7 @@ ghost use Rattle.laws.specs.PushDown.{touches};
 ghost use Rattle.node.specs.Cut.{cut};
 ghost use Rattle.node.specs.Places.{EntryWithin, MessageWithin, entryIn, messageIn};
 ghost use Rattle.node.specs.Entries.{listed};
-ghost use Rattle.node.specs.Search.Own.{kidsE};
+ghost use Rattle.node.specs.Search.Own.{branchesAmong};
 ghost use Rattle.push.specs.Laws.Arriving.{loweredBy, brought, broughtAll};
 ghost use Rattle.push.specs.Laws.Written.{hasRoom, allHaveRoom};
 
@@ -139,7 +139,7 @@ fn child_fits(store: &[u8], num: usize, node: &[u8], stop: usize, lo: &[u8], hi:
 // Whether each child does.
 pub fn all_fit(store: &[u8], node: &[u8], stop: usize, hi: &[u8]) -> bool
     requires { ⌜ (stop ≤ length (now node)) × (length (now node) ≤ 1024) ⌝ }
-    ensures { λ r. ⌜ r ≡ allHaveRoom (listed (now (node .entry)) 8 stop) (kidsE (listed (now (node .entry)) 8 stop)) (now (hi .entry)) (now (store .entry)) ⌝ }
+    ensures { λ r. ⌜ r ≡ allHaveRoom (listed (now (node .entry)) 8 stop) (branchesAmong (listed (now (node .entry)) 8 stop)) (now (hi .entry)) (now (store .entry)) ⌝ }
 {
     let Pending::Child(first, pivot, start) = live::read_child(
         node,

@@ -3,7 +3,7 @@
 use Prim.Native.Nat.{ℕ, _*_, _/_, _≤_}
 use mathlib.Core.Path.{_≡_, refl, sym, ap, subst, _∙_}
 use mathlib.Core.List.{List, _++_}
-use mathlib.Core.Bool.{true, false≢true}
+use mathlib.Core.Bool.{true}
 use mathlib.Core.Logic.{_⊎_, inl, ⊎-elim}
 use native.Mathlib.Omega.{arith}
 use lib.ListN.{length, drop}
@@ -14,12 +14,8 @@ use Rattle.image.specs.Contract.{firstNoOn, Besides, Meets}
 use Rattle.image.specs.Answers.{refusalNumber, outcomeAnswer}
 use Rattle.image.specs.declared.Refusal.{Refusal}
 use Rattle.image.specs.declared.Outcome.{Outcome}
-use Rattle.laws.specs.ButLive.{sound-but-live}
 use Rattle.packed.specs.Form.Tidy.{zerosOf}
-use Rattle.node.specs.Whole.{Whole, whole-parts}
-use Rattle.tree_check.specs.declared.Checked.{Checked}
-use Rattle.tree_check.specs.Whole.{Verified}
-use Rattle.tree_check.specs.Callers.{Holds, verified-no}
+use Rattle.node.specs.Whole.{whole-parts}
 use Rattle.rebuild.specs.Rebuild.{cleared}
 use Rattle.questions.specs.Callers.{Lent, act-meets, act-refused}
 use Rattle.finish.specs.Finished.{cleared-size, cleared-later, cleared-again}
@@ -34,10 +30,6 @@ pub record Passed (s w : List ℕ) : Type 0 where
 
 pub passed : (s w seen : List ℕ) (t : Tally) → Fit s w t seen → Passed s w
 passed s w seen t f = record { whole = f .whole; long = f .long; is-sound = f .is-sound }
-
--- what the check asks of a store
-pub check-asks : (s : List ℕ) → wholeNodes (length s) ≡ true → (1024 ≤ length s) × (nodesOf (length s) ≤ 1024)
-check-asks s e = let p : Whole (length s) = whole-parts (length s) e in (omega (arith, p .filled, p .enough), p .few)
 
 -- the work area as a call with this answer must leave it
 unfoldable pub areaAfter : Outcome → ℕ → List ℕ → List ℕ
@@ -77,7 +69,7 @@ module _ (s : List ℕ) (c : Call) (r : Outcome) (s′ w w′ : List ℕ) (p : P
   unfolding nodesOf
   acted-long = (
     subst (λ k. 128 * (k / 1024) ≤ length w′) (sym (a .met .size)) (subst (λ k. workPerNode * nodesOf (length s) ≤ k) (sym same-size) (p .long)),
-    subst (λ k. k / 1024 ≤ 1024) (sym (a .met .size)) (check-asks s (p .whole) .1),
+    subst (λ k. k / 1024 ≤ 1024) (sym (a .met .size)) (whole-parts (length s) (p .whole) .few),
   )
 
   -- and then the call's contract holds
@@ -111,7 +103,3 @@ zeroed-done r n len w w′ e l f = f ∙ rw (e, l) refl
 pub zeroed-not : (r : Outcome) (q : Refusal) (n : ℕ) (w : List ℕ) → r ≡ Outcome.Refused q → w ≡ areaAfter r n w
 unfolding areaAfter
 zeroed-not r q n w e = rw e refl
-
--- the answer of the check on a store that is sound
-pub never-unsound : (s seen : List ℕ) (c : Checked) (t : Tally) → sound s ≡ true → Verified s c seen → c ≡ Checked.Unsound → Holds s t seen
-never-unsound s seen c t ok v e = absurd (false≢true (sym (verified-no s c seen v e) ∙ sound-but-live s ok))

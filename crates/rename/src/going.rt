@@ -1,23 +1,22 @@
 // The questions of move from 3 on, in order, and what is to be done when all are a yes. Nothing is written here.
 // Relies on path (3) and asks (7, 8 and 9).
 use image::Refusal;
-use tree_check::Tally;
 ghost use mathlib.Core.Path.{_≡_};
 ghost use mathlib.Core.Bool.{true};
 ghost use Rattle.image.specs.Sound.{sound, tableOf};
 ghost use Rattle.rename.specs.Going.Going.{goingOf};
 
-// A move is refused, or leaves every byte of the store (from equals to), or goes: with what the check of the image has counted.
+// A move is refused, or leaves every byte of the store (from equals to), or goes.
 pub enum Going {
     Refused(Refusal),
     Stays,
-    Goes(Tally),
+    Goes,
 }
 
 // The questions from 3 on, of a sound store.
-pub fn ask_later(store: &[u8], from: &[u8], to: &[u8], tally: Tally) -> Going
+pub fn ask_later(store: &[u8], from: &[u8], to: &[u8]) -> Going
     requires { ⌜ sound (now store) ≡ true ⌝ }
-    ensures { λ r. ⌜ r ≡ goingOf (now (from .entry)) (now (to .entry)) (tableOf (now (store .entry))) tally ⌝ }
+    ensures { λ r. ⌜ r ≡ goingOf (now (from .entry)) (now (to .entry)) (tableOf (now (store .entry))) ⌝ }
 {
     if !path::is_path(from) {
         return Going::Refused(Refusal::Malformed);
@@ -37,5 +36,5 @@ pub fn ask_later(store: &[u8], from: &[u8], to: &[u8], tally: Tally) -> Going
     if octets::equal(from, to) {
         return Going::Stays;
     }
-    Going::Goes(tally)
+    Going::Goes
 }

@@ -7,48 +7,49 @@ pub mod prepare;
 
 use going::Going;
 use image::Outcome;
-use questions::Ready;
-use tree_check::Tally;
+use questions::Admission;
 ghost use mathlib.Core.Path.{_≡_};
+ghost use Rattle.image.specs.Upkeep.{settled};
 ghost use Rattle.image.specs.Calls.{acts, move};
 ghost use Rattle.image.specs.Contract.{Meets};
 ghost use Rattle.image.specs.Answers.{outcomeAnswer};
 ghost use Rattle.image.specs.declared.Outcome.{Outcome};
-ghost use Rattle.questions.specs.Asked.{Fit};
+ghost use Rattle.tree_check.specs.Whole.{Marks};
+ghost use Rattle.questions.specs.Acted.{Passed};
 ghost use Rattle.rename.specs.Apply.{Differ};
 
 // The act of an accepted move of two paths that differ.
 fn apply_move(
     store: &mut [u8],
     work: &mut [u8],
-    tally: Tally,
+    quiet: bool,
     seen: &[u8; 1024],
     from: &[u8],
     to: &[u8],
 )
-    requires { ⌜ Differ (now store) (now work) (now from) (now to) (now seen) tally ⌝ }
+    requires { ⌜ Differ (now store) (now work) (now from) (now to) (now seen) quiet ⌝ }
     ensures { λ _. ⌜ Meets (now (store .entry)) (acts (move (now (from .entry)) (now (to .entry))) (now (work .entry))) (outcomeAnswer Outcome.Done) (now (store .exit)) (now (work .exit)) ⌝ }
 {
     let mut numbers = [0u8; 2048];
-    let count = prepare::make_ready(store, work, tally, seen, &mut numbers);
+    let count = prepare::make_ready(store, work, quiet, seen, &mut numbers);
     let end = count * 2;
     swing::swing(store, &numbers[0..end], from, to);
     finish::finish(store, work);
 }
 
-// move, on a store and a work area that are fit; with what the check of the image has counted, and its marks.
+// move, on a store and a work area that are fit; `quiet` tells whether no message waits, and `seen` has the marks of the nodes in use.
 pub fn move_fit(
     store: &mut [u8],
     work: &mut [u8],
-    tally: Tally,
+    quiet: bool,
     seen: &[u8; 1024],
     from: &[u8],
     to: &[u8],
 ) -> Outcome
-    requires { ⌜ Fit (now store) (now work) tally (now seen) ⌝ }
+    requires { ⌜ Passed (now store) (now work) × Marks (now store) (now seen) × (quiet ≡ settled (now store)) ⌝ }
     ensures { λ r. ⌜ Meets (now (store .entry)) (acts (move (now (from .entry)) (now (to .entry))) (now (work .entry))) (outcomeAnswer r) (now (store .exit)) (now (work .exit)) ⌝ }
 {
-    let asked = going::ask_later(store, from, to, tally);
+    let asked = going::ask_later(store, from, to);
     match asked {
         Going::Refused(refusal) => Outcome::Refused(refusal),
         Going::Stays => {
@@ -56,8 +57,8 @@ pub fn move_fit(
             packed::clear_area(work, len);
             Outcome::Done
         }
-        Going::Goes(counted) => {
-            apply_move(store, work, counted, seen, from, to);
+        Going::Goes => {
+            apply_move(store, work, quiet, seen, from, to);
             Outcome::Done
         }
     }
@@ -70,7 +71,7 @@ pub fn move_paths(store: &mut [u8], work: &mut [u8], from: &[u8], to: &[u8]) -> 
     let mut seen = [0u8; 1024];
     let asked = questions::ask(store, work, &mut seen);
     match asked {
-        Ready::Refused(refusal) => Outcome::Refused(refusal),
-        Ready::Fit(tally) => move_fit(store, work, tally, &seen, from, to),
+        Admission::Refused(refusal) => Outcome::Refused(refusal),
+        Admission::Fit(tally) => move_fit(store, work, tally.messages == 0, &seen, from, to),
     }
 }

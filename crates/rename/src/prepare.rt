@@ -1,22 +1,22 @@
 // A store made ready for the swing of a move: settled, a level left for the new root, and its free nodes listed. Where it is not so, it is
 // rebuilt first, and then it always is.
-// Relies on questions (what questions 1 and 2 leave), spare (the free nodes from the marks of the check) and rebuild (which leaves the upper
-// nodes free).
-use tree_check::Checked;
-use tree_check::Tally;
+// Relies on questions (what questions 1 and 2 leave), spare (the free nodes from the marks of those in use) and rebuild (which leaves the
+// upper nodes free).
 ghost use mathlib.Core.Path.{_≡_};
 ghost use Prim.Native.Nat.{_-_, _/_, _≤_};
 ghost use lib.ListN.{length};
+ghost use Rattle.image.specs.Upkeep.{settled};
 ghost use Rattle.packed.specs.Form.Packed.{numbersFrom};
 ghost use Rattle.packed.specs.Build.Handed.{listed};
-ghost use Rattle.questions.specs.Asked.{Fit};
+ghost use Rattle.tree_check.specs.Whole.{Marks};
+ghost use Rattle.questions.specs.Acted.{Passed};
 ghost use Rattle.rename.specs.Prepare.Prepared.{maySwing, Prepared};
 
 // Whether the swing goes: no message waits, a level is left, and enough nodes are free.
-pub fn may_swing(messages: usize, levels: usize, free: usize) -> bool
-    ensures { λ r. ⌜ r ≡ maySwing messages levels free ⌝ }
+pub fn may_swing(quiet: bool, levels: usize, free: usize) -> bool
+    ensures { λ r. ⌜ r ≡ maySwing quiet levels free ⌝ }
 {
-    if messages != 0 {
+    if !quiet {
         return false;
     }
     if 7 < levels {
@@ -37,20 +37,20 @@ fn list_upper(n: usize, numbers: &mut [u8]) -> usize
     r
 }
 
-// Makes the store ready and lists free nodes, enough for the swing; answers how many.
+// Makes the store ready and lists free nodes, enough for the swing; answers how many. `quiet` tells whether no message waits.
 pub fn make_ready(
     store: &mut [u8],
     work: &mut [u8],
-    tally: Tally,
+    quiet: bool,
     seen: &[u8; 1024],
     numbers: &mut [u8],
 ) -> usize
-    requires { ⌜ Fit (now store) (now work) tally (now seen) × (length (now numbers) ≡ 2048) ⌝ }
+    requires { ⌜ Passed (now store) (now work) × Marks (now store) (now seen) × (quiet ≡ settled (now store)) × (length (now numbers) ≡ 2048) ⌝ }
     ensures { λ r. ⌜ Prepared (now (store .entry)) (now (store .exit)) (now (work .entry)) (now (work .exit)) (now (numbers .exit)) r ⌝ }
 {
     let free = swing::spare::free_list(seen, store.len() / image::NODE_SIZE, numbers);
     let levels = octets::u16_at(store, image::LEVELS_AT);
-    if may_swing(tally.messages, levels, free) {
+    if may_swing(quiet, levels, free) {
         return free;
     }
     rebuild::rebuild(store, work);

@@ -4,7 +4,7 @@ use Rattle.image.specs.Bytes.{same, before, begins, shared, zeros, u16}
 use Rattle.image.specs.Path.{letter, readsOn, wellFormed, below, owns, valueLimit, valueFits, pathLimit}
 use Rattle.image.specs.Entry.{keyed, pointer, entryOf, entryThen, readAll, entriesOf}
 use Rattle.image.specs.Table.{withRow, without, withoutBelow, everyKey, leads, rising, underPrefix}
-use Rattle.image.specs.Image.{nodesOf, nodeBytes, header, headerOf, headerLaidOut, laidOut, entryBytes, nodeEntries, pairThen, pairsOf, messageThen, messagesOf, noKids, kidThen, insideOf, forestOf, leafOf, interiorOf, orNone, treeAt, treeOf}
+use Rattle.image.specs.Image.{nodesOf, nodeBytes, header, headerOf, headerLaidOut, laidOut, entryBytes, nodeEntries, pairThen, pairsOf, messageThen, messagesOf, noBranches, branchThen, insideOf, forestOf, leafOf, interiorOf, orNone, treeAt, treeOf}
 use Rattle.image.specs.Meaning.{highOf, apply, applyAll, rows}
 use Rattle.image.specs.Sound.{valuesFit, soundMessage, soundMessages, firstPivot, soundTree, numbers, isIn, once, inRange, soundHeader, soundRoot, sound, tableOf}
 use Rattle.image.specs.Upkeep.{reachable, reachableNodes, holdsNoMessage, every, settled, used, freeNodes}
@@ -33,7 +33,7 @@ pub record Judged : Type 0 where
   bad-node-zeros : verdictOf outside.bad-node-zeros ≡ outside.bad-node-zeros-says
 
 pub judged : Judged
-unfolding same before begins shared zeros u16 letter readsOn wellFormed below owns valueLimit valueFits pathLimit keyed pointer entryOf entryThen readAll entriesOf withRow without withoutBelow everyKey leads rising underPrefix nodesOf nodeBytes header headerOf headerLaidOut laidOut entryBytes nodeEntries pairThen pairsOf messageThen messagesOf noKids kidThen insideOf forestOf leafOf interiorOf orNone treeAt treeOf highOf apply applyAll rows valuesFit soundMessage soundMessages firstPivot soundTree numbers isIn once inRange soundHeader soundRoot sound tableOf reachable reachableNodes holdsNoMessage every settled used freeNodes verdictOf
+unfolding same before begins shared zeros u16 letter readsOn wellFormed below owns valueLimit valueFits pathLimit keyed pointer entryOf entryThen readAll entriesOf withRow without withoutBelow everyKey leads rising underPrefix nodesOf nodeBytes header headerOf headerLaidOut laidOut entryBytes nodeEntries pairThen pairsOf messageThen messagesOf noBranches branchThen insideOf forestOf leafOf interiorOf orNone treeAt treeOf highOf apply applyAll rows valuesFit soundMessage soundMessages firstPivot soundTree numbers isIn once inRange soundHeader soundRoot sound tableOf reachable reachableNodes holdsNoMessage every settled used freeNodes verdictOf
 judged =
     record {
       made = refl;

@@ -1,6 +1,6 @@
 -- What a call's contract says of the text of a line: the store's answers are the plain map's, where the store is sound and of 64 nodes.
 -- Relies on: the contract Meets, and the list of a query's questions (query).
-use Prim.Native.Nat.{ℕ, zero, suc, _+_, _*_, _≤_}
+use Prim.Native.Nat.{ℕ, zero, suc, _*_, _≤_}
 use mathlib.Core.Path.{_≡_, refl, sym, ap, subst, _∙_}
 use mathlib.Core.List.{List, [], _∷_, _++_}
 use mathlib.Core.Bool.{true, _&&_}

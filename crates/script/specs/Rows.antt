@@ -9,7 +9,7 @@ use native.Mathlib.Omega.{arith}
 use lib.ListN.{length, take, drop, length-append}
 use lib.Seq.{length-take-le}
 use Rattle.image.specs.Bytes.{same, before, begins}
-use Rattle.image.specs.Path.{wellFormed, readsOn, below, pathLimit, valueLimit}
+use Rattle.image.specs.Path.{wellFormed, readsOn, pathLimit, valueLimit}
 use Rattle.image.specs.Table.{Row, find, isSome, rowsBelow, rowsAfter, firstKey, leastAfter, leads, rising}
 use Rattle.image.specs.Image.{nodesOf}
 use Rattle.image.specs.Sound.{sound, tableOf}
@@ -23,7 +23,7 @@ use Rattle.laws.specs.Tables.{find-yes, find-no}
 use Rattle.laws.specs.ValuesFit.{table-fits, found-fits}
 use Rattle.laws.specs.Rising.{find-leads}
 use Rattle.laws.specs.Follow.{after-step, table-rises}
-use Rattle.laws.specs.Filter.{keep, keep-rises}
+use Rattle.laws.specs.Filter.{keep, keep-below, below-rises}
 use Rattle.seek.specs.Present.{Next, next-found}
 use Rattle.query.specs.Asked.{pathsFit}
 use Rattle.image.specs.Program.{space, slash, lineFeed, exchanged, pathText, valueText, endText, refusedText, rowText, rowsText, listText, listing, commandText, commandTable}
@@ -34,19 +34,10 @@ use Rattle.query.specs.Steps.{get-room, next-room}
 use Rattle.laws.specs.ButLive.{sound-parts, live-is}
 
 -- THE TABLE
--- the rows below a path are a filter of the table
-below-keep : (p : List ℕ) (t : List Row) → rowsBelow p t ≡ keep (begins p) t
-unfolding rowsBelow below keep
-below-keep p [] = refl
-below-keep p (r ∷ t) = ap (λ u. cond (begins p (r .key)) (r ∷ u) u) (below-keep p t)
-
 after-keep : (q : List ℕ) (t : List Row) → rowsAfter q t ≡ keep (before q) t
 unfolding rowsAfter keep
 after-keep q [] = refl
 after-keep q (r ∷ t) = ap (λ u. cond (before q (r .key)) (r ∷ u) u) (after-keep q t)
-
-pub below-rises : (p : List ℕ) (t : List Row) → rising t ≡ true → rising (rowsBelow p t) ≡ true
-below-rises p t e = ap rising (below-keep p t) ∙ keep-rises (begins p) t e
 
 -- what a filter of a rising table finds, the table finds
 find-keep : (test : List ℕ → Bool) (k v : List ℕ) (t : List Row) → rising t ≡ true → find k (keep test t) ≡ some v → find k t ≡ some v
@@ -79,7 +70,7 @@ row-found p q t r u e f =
     let a : find (r .key) (keep (before q) (rowsBelow p t)) ≡ some (r .value)
     = ap (find (r .key)) (sym (after-keep q (rowsBelow p t)) ∙ f) ∙ find-yes (r .key) r u (same-refl (r .key)) in
     let b : find (r .key) (rowsBelow p t) ≡ some (r .value) = find-keep (before q) (r .key) (r .value) (rowsBelow p t) (below-rises p t e) a in
-    find-keep (begins p) (r .key) (r .value) t e (ap (find (r .key)) (sym (below-keep p t)) ∙ b)
+    find-keep (begins p) (r .key) (r .value) t e (ap (find (r .key)) (sym (keep-below p t)) ∙ b)
 
 -- below a path every row is greater than the empty one
 formed-begins : (p k : List ℕ) → wellFormed p ≡ true → begins p k ≡ true → before [] k ≡ true
@@ -88,7 +79,7 @@ formed-begins (b ∷ p) [] f h = absurd (false≢true (unfold begins in h))
 formed-begins (b ∷ p) (c ∷ k) f h = unfold before in refl
 
 all-ahead : (p : List ℕ) (t : List Row) → wellFormed p ≡ true → ahead p [] t ≡ rowsBelow p t
-all-ahead p t f = after-keep [] (rowsBelow p t) ∙ ap (keep (before [])) (below-keep p t) ∙ go t ∙ sym (below-keep p t)
+all-ahead p t f = after-keep [] (rowsBelow p t) ∙ ap (keep (before [])) (keep-below p t) ∙ go t ∙ sym (keep-below p t)
   where
     go : (t : List Row) → keep (before []) (keep (begins p) t) ≡ keep (begins p) t
     go [] = unfold keep in refl
@@ -120,7 +111,7 @@ below-few : (s p : List ℕ) → length s ≡ 65536 → sound s ≡ true → len
 below-few s p n e =
     let a = few-rows s n e in
     let b = keep-fewer (begins p) (tableOf s) in
-    let c = ap length (below-keep p (tableOf s)) in
+    let c = ap length (keep-below p (tableOf s)) in
     omega arith
 
 -- ONE ROW

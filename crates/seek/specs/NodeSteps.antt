@@ -1,5 +1,5 @@
 -- The steps of the functions that walk a child, a run of children, and a node: one law for each return and each call.
--- Relies on: WalkLaws, BufferSteps, tree's kids.
+-- Relies on: WalkLaws, BufferSteps, tree's branches.
 use Prim.Native.Nat.{ℕ, _+_, _-_, _*_, _<_, _≤_}
 use mathlib.Core.Path.{_≡_, refl, sym, ap, ap₂, subst, _∙_}
 use mathlib.Core.List.{List, [], _∷_, _++_}
@@ -20,22 +20,22 @@ use Rattle.laws.specs.Filter.{keep}
 use Rattle.path.specs.Shape.{Shape}
 use Rattle.path.specs.Fed.{shapeIs}
 use Rattle.path.specs.declared.Shape as path
-use Rattle.laws.specs.Reading.Relative.{lifts, kidHigh}
+use Rattle.laws.specs.Reading.Relative.{lifts, branchHigh}
 use Rattle.laws.specs.Reading.Far.{farFrom}
-use Rattle.laws.specs.Reading.SeekHere.{under, keysHere, keysKids}
+use Rattle.laws.specs.Reading.SeekHere.{under, keysHere, keysBranches}
 use Rattle.node.specs.Places.{part, entryIn}
 use Rattle.node.specs.Entries.{listed}
 use Rattle.node.specs.declared.Place.{Place}
 use Rattle.node.specs.declared.Entry.{Entry}
-use Rattle.node.specs.declared.search.Kid.{Kid}
-use Rattle.node.specs.Search.Own.{kid, kidIs, kidsE, kids-more}
+use Rattle.node.specs.declared.search.Branch.{Branch}
+use Rattle.node.specs.Search.Own.{branch, branchIs, branchesAmong, branches-more}
 use Rattle.lookup.specs.Look.{listing, part-rest}
 use Rattle.seek.specs.declared.PathBuffer.{PathBuffer}
 use Rattle.seek.specs.Buffer.{bufferIs, fitted}
 use Rattle.seek.specs.BufferSteps.{empty-handed, fitted-held, fitted-not}
 use Rattle.seek.specs.Present.{root-walk, dead-keeps}
-use Rattle.seek.specs.Walk.{unfit, walkIn, pathOf, pathsOf, childPaths, runPaths, ChildReady, NodeReady, KidsReady}
-use Rattle.seek.specs.WalkLaws.{walk-more, run-last, run-more, child-skipped, child-too-long, child-entered, child-ready, kids-first, kids-later, leaf-paths, interior-paths, kids-ready}
+use Rattle.seek.specs.Walk.{unfit, walkIn, pathOf, pathsOf, childPaths, runPaths, ChildReady, NodeReady, BranchesReady}
+use Rattle.seek.specs.WalkLaws.{walk-more, run-last, run-more, child-skipped, child-too-long, child-entered, child-ready, branches-first, branches-later, leaf-paths, interior-paths, branches-ready}
 use Rattle.octets.specs.Put.{front-is}
 
 -- 1. A child.
@@ -77,66 +77,66 @@ module _ (s X low high : List ℕ) (level num : ℕ) (c : ChildReady s X low hig
 -- 2. The last child, and what follows it.
 pub last-child : (s : List ℕ) (sh : Shape) (P Q X hi : List ℕ) (best : Option (List ℕ)) (level num : ℕ) (low : Place) (es : List defined.Entry) (f r : Option (List ℕ))
     → f ≡ walkIn s sh P Q best (under X (childPaths level s num (part s low) hi)) → r ≡ walkIn s sh P Q f (under X (pathsOf es))
-    → r ≡ walkIn s sh P Q best (under X (runPaths level s hi (kid num (part s low) ∷ []) es))
+    → r ≡ walkIn s sh P Q best (under X (runPaths level s hi (branch num (part s low) ∷ []) es))
 last-child s sh P Q X hi best level num low es f r e g =
     g ∙ ap (λ b. walkIn s sh P Q b (under X (pathsOf es))) e
     ∙ sym (walk-more s sh P Q best X (childPaths level s num (part s low) hi) (pathsOf es))
-    ∙ ap (λ ks. walkIn s sh P Q best (under X ks)) (sym (run-last level s hi (kid num (part s low)) es))
+    ∙ ap (λ ks. walkIn s sh P Q best (under X ks)) (sym (run-last level s hi (branch num (part s low)) es))
 
 -- 3. The loop over children: the child in hand, and those among the entries es that are left.
-child-path : (e : Entry) (i : ℕ) (p : Place) (s : List ℕ) → kidIs e ≡ Kid.Of i p → pathOf (entryIn s e) ≡ []
-unfolding kidIs pathOf
+child-path : (e : Entry) (i : ℕ) (p : Place) (s : List ℕ) → branchIs e ≡ Branch.Of i p → pathOf (entryIn s e) ≡ []
+unfolding branchIs pathOf
 child-path (Entry.Pair q v) i p s h = let z : _≡_ {A = ℕ} 0 1 = cc in absurd (omega arith)
 child-path (Entry.Child j q) i p s h = refl
 child-path (Entry.Message m) i p s h = let z : _≡_ {A = ℕ} 0 1 = cc in absurd (omega arith)
 
-child-paths : (e : Entry) (i : ℕ) (p : Place) (s : List ℕ) (es ts : List defined.Entry) → es ≡ entryIn s e ∷ ts → kidIs e ≡ Kid.Of i p → pathsOf es ≡ pathsOf ts
+child-paths : (e : Entry) (i : ℕ) (p : Place) (s : List ℕ) (es ts : List defined.Entry) → es ≡ entryIn s e ∷ ts → branchIs e ≡ Branch.Of i p → pathsOf es ≡ pathsOf ts
 unfolding pathsOf
 child-paths e i p s es ts q h = ap (λ l. pathsOf l) q ∙ ap (λ l. l ++ pathsOf ts) (child-path e i p s h)
 
-run-same : (level : ℕ) (s hi : List ℕ) (ks : List image.Kid) (es ts : List defined.Entry) → pathsOf es ≡ pathsOf ts → runPaths level s hi ks es ≡ runPaths level s hi ks ts
+run-same : (level : ℕ) (s hi : List ℕ) (ks : List image.Branch) (es ts : List defined.Entry) → pathsOf es ≡ pathsOf ts → runPaths level s hi ks es ≡ runPaths level s hi ks ts
 unfolding runPaths
-run-same level s hi ks es ts e = ap (λ l. keysKids (image.forestOf (λ j. treeAt level s j) ks) hi ++ l) e
+run-same level s hi ks es ts e = ap (λ l. keysBranches (image.forestOf (λ j. treeAt level s j) ks) hi ++ l) e
 
-module _ (s : List ℕ) (sh : Shape) (P Q X hi : List ℕ) (level num : ℕ) (low : Place) (best : Option (List ℕ)) (es : List defined.Entry) (ready : KidsReady s level X hi (kid num (part s low) ∷ kidsE es)) where
-  pub last-ready : kidsE es ≡ [] → ChildReady s X (part s low) hi level num
-  unfolding kidHigh
-  last-ready q = kids-first s level X hi (kid num (part s low)) [] (subst (λ (ks : List image.Kid). KidsReady s level X hi (kid num (part s low) ∷ ks)) q ready)
+module _ (s : List ℕ) (sh : Shape) (P Q X hi : List ℕ) (level num : ℕ) (low : Place) (best : Option (List ℕ)) (es : List defined.Entry) (ready : BranchesReady s level X hi (branch num (part s low) ∷ branchesAmong es)) where
+  pub last-ready : branchesAmong es ≡ [] → ChildReady s X (part s low) hi level num
+  unfolding branchHigh
+  last-ready q = branches-first s level X hi (branch num (part s low)) [] (subst (λ (ks : List image.Branch). BranchesReady s level X hi (branch num (part s low) ∷ ks)) q ready)
 
-  module _ (R : Option (List ℕ)) (inv : walkIn s sh P Q best (under X (runPaths level s hi (kid num (part s low) ∷ kidsE es) es)) ≡ R) where
-    pub run-ends : kidsE es ≡ [] → (r : Option (List ℕ)) → r ≡ walkIn s sh P Q best (under X (runPaths level s hi (kid num (part s low) ∷ []) es)) → r ≡ R
-    run-ends q r e = e ∙ ap (λ ks. walkIn s sh P Q best (under X (runPaths level s hi (kid num (part s low) ∷ ks) es))) (sym q) ∙ inv
+  module _ (R : Option (List ℕ)) (inv : walkIn s sh P Q best (under X (runPaths level s hi (branch num (part s low) ∷ branchesAmong es) es)) ≡ R) where
+    pub run-ends : branchesAmong es ≡ [] → (r : Option (List ℕ)) → r ≡ walkIn s sh P Q best (under X (runPaths level s hi (branch num (part s low) ∷ []) es)) → r ≡ R
+    run-ends q r e = e ∙ ap (λ ks. walkIn s sh P Q best (under X (runPaths level s hi (branch num (part s low) ∷ ks) es))) (sym q) ∙ inv
 
-  module _ (e : Entry) (i : ℕ) (p : Place) (ts : List defined.Entry) (q : es ≡ entryIn s e ∷ ts) (h : kidIs e ≡ Kid.Of i p) where
-    more : kidsE es ≡ kid i (part s p) ∷ kidsE ts
-    more = kids-more e i p s es ts q h
+  module _ (e : Entry) (i : ℕ) (p : Place) (ts : List defined.Entry) (q : es ≡ entryIn s e ∷ ts) (h : branchIs e ≡ Branch.Of i p) where
+    more : branchesAmong es ≡ branch i (part s p) ∷ branchesAmong ts
+    more = branches-more e i p s es ts q h
 
-    ready-more : KidsReady s level X hi (kid num (part s low) ∷ kid i (part s p) ∷ kidsE ts)
-    ready-more = subst (λ (ks : List image.Kid). KidsReady s level X hi (kid num (part s low) ∷ ks)) more ready
+    ready-more : BranchesReady s level X hi (branch num (part s low) ∷ branch i (part s p) ∷ branchesAmong ts)
+    ready-more = subst (λ (ks : List image.Branch). BranchesReady s level X hi (branch num (part s low) ∷ ks)) more ready
 
     pub inner-ready : ChildReady s X (part s low) (part s p) level num
-    unfolding kidHigh
-    inner-ready = kids-first s level X hi (kid num (part s low)) (kid i (part s p) ∷ kidsE ts) ready-more
+    unfolding branchHigh
+    inner-ready = branches-first s level X hi (branch num (part s low)) (branch i (part s p) ∷ branchesAmong ts) ready-more
 
-    pub later-ready : KidsReady s level X hi (kid i (part s p) ∷ kidsE ts)
-    later-ready = kids-later s level X hi (kid num (part s low)) (kid i (part s p) ∷ kidsE ts) ready-more
+    pub later-ready : BranchesReady s level X hi (branch i (part s p) ∷ branchesAmong ts)
+    later-ready = branches-later s level X hi (branch num (part s low)) (branch i (part s p) ∷ branchesAmong ts) ready-more
 
-    pub run-step : (R : Option (List ℕ)) → walkIn s sh P Q best (under X (runPaths level s hi (kid num (part s low) ∷ kidsE es) es)) ≡ R
+    pub run-step : (R : Option (List ℕ)) → walkIn s sh P Q best (under X (runPaths level s hi (branch num (part s low) ∷ branchesAmong es) es)) ≡ R
         → (r : Option (List ℕ)) → r ≡ walkIn s sh P Q best (under X (childPaths level s num (part s low) (part s p)))
-        → walkIn s sh P Q r (under X (runPaths level s hi (kid i (part s p) ∷ kidsE ts) ts)) ≡ R
+        → walkIn s sh P Q r (under X (runPaths level s hi (branch i (part s p) ∷ branchesAmong ts) ts)) ≡ R
     run-step R inv r f =
-        ap (λ b. walkIn s sh P Q b (under X (runPaths level s hi (kid i (part s p) ∷ kidsE ts) ts))) f
-        ∙ sym (walk-more s sh P Q best X (childPaths level s num (part s low) (part s p)) (runPaths level s hi (kid i (part s p) ∷ kidsE ts) ts))
+        ap (λ b. walkIn s sh P Q b (under X (runPaths level s hi (branch i (part s p) ∷ branchesAmong ts) ts))) f
+        ∙ sym (walk-more s sh P Q best X (childPaths level s num (part s low) (part s p)) (runPaths level s hi (branch i (part s p) ∷ branchesAmong ts) ts))
         ∙ ap (λ ks. walkIn s sh P Q best (under X ks))
-        (sym (run-more level s hi (kid num (part s low)) (kid i (part s p)) (kidsE ts) ts)
-        ∙ sym (run-same level s hi (kid num (part s low) ∷ kid i (part s p) ∷ kidsE ts) es ts (child-paths e i p s es ts q h))
-        ∙ ap (λ ks. runPaths level s hi (kid num (part s low) ∷ ks) es) (sym more))
+        (sym (run-more level s hi (branch num (part s low)) (branch i (part s p)) (branchesAmong ts) ts)
+        ∙ sym (run-same level s hi (branch num (part s low) ∷ branch i (part s p) ∷ branchesAmong ts) es ts (child-paths e i p s es ts q h))
+        ∙ ap (λ ks. runPaths level s hi (branch num (part s low) ∷ ks) es) (sym more))
         ∙ inv
 
 -- 4. A node, by what the readers list: L is the entries up to the number of bytes that was read.
-no-kids : (level : ℕ) (s hi : List ℕ) (es : List defined.Entry) → runPaths level s hi [] es ≡ pathsOf es
-unfolding runPaths image.forestOf keysKids
-no-kids level s hi es = refl
+no-branches : (level : ℕ) (s hi : List ℕ) (es : List defined.Entry) → runPaths level s hi [] es ≡ pathsOf es
+unfolding runPaths image.forestOf keysBranches
+no-branches level s hi es = refl
 
 module _ (s X hi : List ℕ) (level num : ℕ) (n : NodeReady s X hi level num) (sh : Shape) (P Q : List ℕ) (best : Option (List ℕ)) (len : ℕ) (el : len ≡ u16 s (num * 1024)) where
   abbrev L : List defined.Entry
@@ -149,27 +149,27 @@ module _ (s X hi : List ℕ) (level num : ℕ) (n : NodeReady s X hi level num) 
   node-leaf l r e = e ∙ ap (λ ks. walkIn s sh P Q best (under X ks)) (ap (λ es. pathsOf es) same-list ∙ sym (leaf-paths s X hi level num n l))
 
   module _ (two : 2 ≤ level) where
-    whole : walkIn s sh P Q best (under X (runPaths (level - 1) s hi (kidsE L) L)) ≡ walkIn s sh P Q best (under X (keysHere (treeAt level s num) hi))
+    whole : walkIn s sh P Q best (under X (runPaths (level - 1) s hi (branchesAmong L) L)) ≡ walkIn s sh P Q best (under X (keysHere (treeAt level s num) hi))
     whole =
         ap (λ ks. walkIn s sh P Q best (under X ks))
-        (ap (λ es. runPaths (level - 1) s hi (kidsE es) es) same-list ∙ sym (interior-paths s X hi level num n two))
+        (ap (λ es. runPaths (level - 1) s hi (branchesAmong es) es) same-list ∙ sym (interior-paths s X hi level num n two))
 
-    pub node-childless : kidsE L ≡ [] → (r : Option (List ℕ)) → r ≡ walkIn s sh P Q best (under X (pathsOf L)) → r ≡ walkIn s sh P Q best (under X (keysHere (treeAt level s num) hi))
+    pub node-childless : branchesAmong L ≡ [] → (r : Option (List ℕ)) → r ≡ walkIn s sh P Q best (under X (pathsOf L)) → r ≡ walkIn s sh P Q best (under X (keysHere (treeAt level s num) hi))
     node-childless q r e =
-        e ∙ ap (λ ks. walkIn s sh P Q best (under X ks)) (sym (no-kids (level - 1) s hi L) ∙ ap (λ ks. runPaths (level - 1) s hi ks L) (sym q)) ∙ whole
+        e ∙ ap (λ ks. walkIn s sh P Q best (under X ks)) (sym (no-branches (level - 1) s hi L) ∙ ap (λ ks. runPaths (level - 1) s hi ks L) (sym q)) ∙ whole
 
-    module _ (e : Entry) (i : ℕ) (p : Place) (ts : List defined.Entry) (q : L ≡ entryIn s e ∷ ts) (h : kidIs e ≡ Kid.Of i p) where
-      pub node-ready : KidsReady s (level - 1) X hi (kid i (part s p) ∷ kidsE ts)
+    module _ (e : Entry) (i : ℕ) (p : Place) (ts : List defined.Entry) (q : L ≡ entryIn s e ∷ ts) (h : branchIs e ≡ Branch.Of i p) where
+      pub node-ready : BranchesReady s (level - 1) X hi (branch i (part s p) ∷ branchesAmong ts)
       node-ready =
-          subst (λ (ks : List image.Kid). KidsReady s (level - 1) X hi ks) (ap (λ es. kidsE es) (sym same-list) ∙ kids-more e i p s L ts q h)
-          (kids-ready s X hi level num n two)
+          subst (λ (ks : List image.Branch). BranchesReady s (level - 1) X hi ks) (ap (λ es. branchesAmong es) (sym same-list) ∙ branches-more e i p s L ts q h)
+          (branches-ready s X hi level num n two)
 
-      pub node-children : (r : Option (List ℕ)) → r ≡ walkIn s sh P Q best (under X (runPaths (level - 1) s hi (kid i (part s p) ∷ kidsE ts) ts))
+      pub node-children : (r : Option (List ℕ)) → r ≡ walkIn s sh P Q best (under X (runPaths (level - 1) s hi (branch i (part s p) ∷ branchesAmong ts) ts))
           → r ≡ walkIn s sh P Q best (under X (keysHere (treeAt level s num) hi))
       node-children r f =
           f ∙ ap (λ ks. walkIn s sh P Q best (under X ks))
-          (sym (run-same (level - 1) s hi (kid i (part s p) ∷ kidsE ts) L ts (child-paths e i p s L ts q h))
-          ∙ ap (λ ks. runPaths (level - 1) s hi ks L) (sym (kids-more e i p s L ts q h)))
+          (sym (run-same (level - 1) s hi (branch i (part s p) ∷ branchesAmong ts) L ts (child-paths e i p s L ts q h))
+          ∙ ap (λ ks. runPaths (level - 1) s hi ks L) (sym (branches-more e i p s L ts q h)))
           ∙ whole
 
 -- 5. The root, from a buffer that holds no path.

@@ -9,12 +9,12 @@ use lib.ListN.{length, drop}
 use Rattle.image.specs.Bytes.{shared}
 use Rattle.image.specs.Entry.{puts, drops, clears, Entry, pair, child, message}
 use Rattle.image.specs.Table.{isSome}
-use Rattle.image.specs.Image.{Kid, nodesOf, forestOf, treeAt}
+use Rattle.image.specs.Image.{Branch, nodesOf, forestOf, treeAt}
 use Rattle.image.specs.Sound.{sound, soundTree, valueIn}
 use Rattle.path.specs.Shape.{Shape, goesOn}
-use Rattle.laws.specs.Reading.Relative.{lifts, kidHigh, usable}
+use Rattle.laws.specs.Reading.Relative.{lifts, branchHigh, usable}
 use Rattle.laws.specs.Reading.Seek.{try, walk}
-use Rattle.laws.specs.Reading.SeekHere.{under, keysHere, keysKids}
+use Rattle.laws.specs.Reading.SeekHere.{under, keysHere, keysBranches}
 
 -- a path is present in the image
 unfoldable pub isPresent : List ℕ → List ℕ → Bool
@@ -51,8 +51,8 @@ pathsOf (e ∷ es) = pathOf e ++ pathsOf es
 unfoldable pub childPaths : ℕ → List ℕ → ℕ → List ℕ → List ℕ → List (List ℕ)
 childPaths level s num low high = under (shared low high) (keysHere (treeAt level s num) (drop (lifts low high) high))
 
-unfoldable pub runPaths : ℕ → List ℕ → List ℕ → List Kid → List Entry → List (List ℕ)
-runPaths level s hi ks es = keysKids (forestOf (λ j. treeAt level s j) ks) hi ++ pathsOf es
+unfoldable pub runPaths : ℕ → List ℕ → List ℕ → List Branch → List Entry → List (List ℕ)
+runPaths level s hi ks es = keysBranches (forestOf (λ j. treeAt level s j) ks) hi ++ pathsOf es
 
 -- A child under the prefix X with the pivots low and high, without X.
 pub record ChildReady (s X low high : List ℕ) (level num : ℕ) : Type 0 where
@@ -69,6 +69,6 @@ pub record NodeReady (s X hi : List ℕ) (level num : ℕ) : Type 0 where
   pub tree : soundTree (treeAt level s num) (X ++ lo) (X ++ hi) ≡ true
 
 -- each of these children, the last of which ends at hi
-unfoldable pub KidsReady : List ℕ → ℕ → List ℕ → List ℕ → List Kid → Type 0
-KidsReady s level X hi [] = Unit
-KidsReady s level X hi (k ∷ ks) = ChildReady s X (k .pivot) (kidHigh hi ks) level (k .number) × KidsReady s level X hi ks
+unfoldable pub BranchesReady : List ℕ → ℕ → List ℕ → List ℕ → List Branch → Type 0
+BranchesReady s level X hi [] = Unit
+BranchesReady s level X hi (k ∷ ks) = ChildReady s X (k .pivot) (branchHigh hi ks) level (k .number) × BranchesReady s level X hi ks

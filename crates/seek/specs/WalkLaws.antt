@@ -10,7 +10,7 @@ use lib.ListN.{length, drop, length-append}
 use Rattle.image.specs.Bytes.{shared}
 use Rattle.image.specs.Entry as defined
 use Rattle.image.specs.Table.{Row}
-use Rattle.image.specs.Image.{Tree, leaf, interior, Forest, tree, Kid, Inside, nodesOf, pairThen, pairsOf, messageThen, messagesOf, noKids, kidThen, insideOf, forestOf, treeAt}
+use Rattle.image.specs.Image.{leaf, interior, Forest, tree, Branch, Inside, nodesOf, pairThen, pairsOf, messageThen, messagesOf, noBranches, branchThen, insideOf, forestOf, treeAt}
 use Rattle.image.specs.Meaning.{highOf}
 use Rattle.image.specs.Sound.{sound, soundTree, soundForest}
 use Rattle.octets.specs.Order.{and-left, and-right, begins-split, shared-append}
@@ -18,13 +18,13 @@ use Rattle.octets.specs.Beginnings.{shared-left, strip-shared}
 use Rattle.laws.specs.LookupTable.{parts, inner}
 use Rattle.octets.specs.Beginnings.{shared-right}
 use Rattle.path.specs.Shape.{Shape}
-use Rattle.laws.specs.Reading.Relative.{lifts, kidHigh, usable, usableIn}
+use Rattle.laws.specs.Reading.Relative.{lifts, branchHigh, high-joined, usable, usableIn}
 use Rattle.laws.specs.Reading.Far.{farFrom}
 use Rattle.laws.specs.Reading.Seek.{walk, walk-append, every, holds, keys-hold, keysOf, putsOf}
-use Rattle.laws.specs.Reading.SeekHere.{under, keysHere, keysKids, under-append, under-under, child-under, keys-here, skip-here}
-use Rattle.node.specs.Search.Own.{kidsE}
+use Rattle.laws.specs.Reading.SeekHere.{under, keysHere, keysBranches, under-append, under-under, child-under, keys-here, skip-here}
+use Rattle.node.specs.Search.Own.{branchesAmong}
 use Rattle.lookup.specs.Look.{listing, leaf-at, interior-at, inside-splits}
-use Rattle.seek.specs.Walk.{tryIn, walkIn, pathOf, pathsOf, childPaths, runPaths, ChildReady, NodeReady, KidsReady, isSought}
+use Rattle.seek.specs.Walk.{tryIn, walkIn, pathOf, pathsOf, childPaths, runPaths, ChildReady, NodeReady, BranchesReady, isSought}
 use Rattle.seek.specs.Present.{formed-of}
 use Rattle.laws.specs.Follow.{formed-length}
 
@@ -43,18 +43,18 @@ module _ (s : List ℕ) (sh : Shape) (P Q : List ℕ) (best : Option (List ℕ))
   walk-more a b = ap (λ ks. walk (isSought s sh P) P Q best ks) (under-append X a b) ∙ walk-append (isSought s sh P) P Q best (under X a) (under X b)
 
 -- 2. The paths of a run of children, a child at a time.
-module _ (level : ℕ) (s hi : List ℕ) (k : Kid) where
+module _ (level : ℕ) (s hi : List ℕ) (k : Branch) where
   pub run-last : (es : List defined.Entry) → runPaths level s hi (k ∷ []) es ≡ childPaths level s (k .number) (k .pivot) hi ++ pathsOf es
-  unfolding runPaths childPaths keysKids forestOf highOf
+  unfolding runPaths childPaths keysBranches forestOf highOf
   run-last es =
       ap (λ l. l ++ pathsOf es) (append-nil (under (shared (k .pivot) hi) (keysHere (treeAt level s (k .number)) (drop (lifts (k .pivot) hi) hi))))
 
-  pub run-more : (m : Kid) (ks : List Kid) (es : List defined.Entry)
+  pub run-more : (m : Branch) (ks : List Branch) (es : List defined.Entry)
       → runPaths level s hi (k ∷ m ∷ ks) es ≡ childPaths level s (k .number) (k .pivot) (m .pivot) ++ runPaths level s hi (m ∷ ks) es
-  unfolding runPaths childPaths keysKids forestOf highOf
+  unfolding runPaths childPaths keysBranches forestOf highOf
   run-more m ks es =
       append-assoc (under (shared (k .pivot) (m .pivot)) (keysHere (treeAt level s (k .number)) (drop (lifts (k .pivot) (m .pivot)) (m .pivot))))
-      (keysKids (forestOf (λ j. treeAt level s j) (m ∷ ks)) hi) (pathsOf es)
+      (keysBranches (forestOf (λ j. treeAt level s j) (m ∷ ks)) hi) (pathsOf es)
 
 shared-rest : (a b : List ℕ) → shared a b ++ drop (length (shared a b)) a ≡ a
 shared-rest a b = begins-split (shared a b) a (shared-left a b)
@@ -103,22 +103,17 @@ module _ (s X low high : List ℕ) (level num : ℕ) (c : ChildReady s X low hig
       }
 
 -- 4. A node: its children are ready, and its paths are those of its entries.
-pub kids-first : (s : List ℕ) (level : ℕ) (X hi : List ℕ) (k : Kid) (ks : List Kid) → KidsReady s level X hi (k ∷ ks) → ChildReady s X (k .pivot) (kidHigh hi ks) level (k .number)
-unfolding KidsReady
-kids-first s level X hi k ks h = h .0
+pub branches-first : (s : List ℕ) (level : ℕ) (X hi : List ℕ) (k : Branch) (ks : List Branch) → BranchesReady s level X hi (k ∷ ks) → ChildReady s X (k .pivot) (branchHigh hi ks) level (k .number)
+unfolding BranchesReady
+branches-first s level X hi k ks h = h .0
 
-pub kids-later : (s : List ℕ) (level : ℕ) (X hi : List ℕ) (k : Kid) (ks : List Kid) → KidsReady s level X hi (k ∷ ks) → KidsReady s level X hi ks
-unfolding KidsReady
-kids-later s level X hi k ks h = h .1
+pub branches-later : (s : List ℕ) (level : ℕ) (X hi : List ℕ) (k : Branch) (ks : List Branch) → BranchesReady s level X hi (k ∷ ks) → BranchesReady s level X hi ks
+unfolding BranchesReady
+branches-later s level X hi k ks h = h .1
 
-high-joined : (under : ℕ → Tree) (X hi : List ℕ) (ks : List Kid) → highOf X (X ++ hi) (forestOf under ks) ≡ X ++ kidHigh hi ks
-unfolding highOf forestOf kidHigh
-high-joined under X hi [] = refl
-high-joined under X hi (k ∷ ks) = refl
-
-forest-ready : (s : List ℕ) (level : ℕ) (X lo hi : List ℕ) (ks : List Kid) → sound s ≡ true → usableIn (nodesOf (length s)) (forestOf (λ j. treeAt level s j) ks) ≡ true
-    → soundForest (forestOf (λ j. treeAt level s j) ks) X lo (X ++ hi) ≡ true → KidsReady s level X hi ks
-unfolding KidsReady forestOf usableIn
+forest-ready : (s : List ℕ) (level : ℕ) (X lo hi : List ℕ) (ks : List Branch) → sound s ≡ true → usableIn (nodesOf (length s)) (forestOf (λ j. treeAt level s j) ks) ≡ true
+    → soundForest (forestOf (λ j. treeAt level s j) ks) X lo (X ++ hi) ≡ true → BranchesReady s level X hi ks
+unfolding BranchesReady forestOf usableIn
 forest-ready s level X lo hi [] e u f = tt
 forest-ready s level X lo hi (k ∷ ks) e u f =
     let p = parts (k .pivot) (treeAt level s (k .number)) (forestOf (λ j. treeAt level s j) ks) X lo (X ++ hi) f in (
@@ -173,25 +168,25 @@ unfolding insideOf
 only-messages m es x h = go (messagesOf (defined.message m ∷ es)) refl
   where
     go : (o : Option (List defined.Message)) → messagesOf (defined.message m ∷ es) ≡ o → pathsOf (defined.message m ∷ es) ≡ putsOf [] (x .messages)
-    go none e = let q : none ≡ some x = unfold noKids in rw e at h in let z : _≡_ {A = ℕ} 0 1 = cc in absurd (omega arith)
+    go none e = let q : none ≡ some x = unfold noBranches in rw e at h in let z : _≡_ {A = ℕ} 0 1 = cc in absurd (omega arith)
     go (some ms) e =
-        let q : some (record { kids = []; messages = ms }) ≡ some x = unfold noKids in rw e at h in
-        let p : (record { kids = []; messages = ms }) ≡ x = cc in
+        let q : some (record { branches = []; messages = ms }) ≡ some x = unfold noBranches in rw e at h in
+        let p : (record { branches = []; messages = ms }) ≡ x = cc in
         subst (λ (y : Inside). pathsOf (defined.message m ∷ es) ≡ putsOf [] (y .messages)) p (messages-paths (defined.message m ∷ es) ms e)
 
 inside-paths : (es : List defined.Entry) (x : Inside) → insideOf es ≡ some x → pathsOf es ≡ putsOf [] (x .messages)
 unfolding insideOf
 inside-paths [] x h =
-    let p : (record { kids = []; messages = [] }) ≡ x = cc in
+    let p : (record { branches = []; messages = [] }) ≡ x = cc in
     subst (λ (y : Inside). pathsOf [] ≡ putsOf [] (y .messages)) p (unfold pathsOf putsOf in refl)
 inside-paths (defined.pair k v ∷ es) x h = let q : none ≡ some x = h in let z : _≡_ {A = ℕ} 0 1 = cc in absurd (omega arith)
 inside-paths (defined.child i k ∷ es) x h = go (insideOf es) refl (inside-paths es)
   where
     go : (o : Option Inside) → insideOf es ≡ o → ((y : Inside) → insideOf es ≡ some y → pathsOf es ≡ putsOf [] (y .messages)) → pathsOf (defined.child i k ∷ es) ≡ putsOf [] (x .messages)
-    go none e ih = let q : none ≡ some x = unfold kidThen in rw e at h in let z : _≡_ {A = ℕ} 0 1 = cc in absurd (omega arith)
+    go none e ih = let q : none ≡ some x = unfold branchThen in rw e at h in let z : _≡_ {A = ℕ} 0 1 = cc in absurd (omega arith)
     go (some y) e ih =
-        let q : some (record { kids = record { number = i; pivot = k } ∷ y .kids; messages = y .messages }) ≡ some x = unfold kidThen in rw e at h in
-        let p : (record { kids = record { number = i; pivot = k } ∷ y .kids; messages = y .messages }) ≡ x = cc in
+        let q : some (record { branches = record { number = i; pivot = k } ∷ y .branches; messages = y .messages }) ≡ some x = unfold branchThen in rw e at h in
+        let p : (record { branches = record { number = i; pivot = k } ∷ y .branches; messages = y .messages }) ≡ x = cc in
         subst (λ (z : Inside). pathsOf (defined.child i k ∷ es) ≡ putsOf [] (z .messages)) p (unfold pathsOf pathOf in ih y e)
 inside-paths (defined.message m ∷ es) x h = only-messages m es x h
 
@@ -204,30 +199,30 @@ module _ (s X hi : List ℕ) (level num : ℕ) (n : NodeReady s X hi level num) 
       leaf-keys : (rs : List Row) → keysHere (leaf num rs) hi ≡ keysOf rs
       leaf-keys rs = unfold keysHere in refl
 
-  pub interior-paths : 2 ≤ level → keysHere (treeAt level s num) hi ≡ runPaths (level - 1) s hi (kidsE (listing s num)) (listing s num)
+  pub interior-paths : 2 ≤ level → keysHere (treeAt level s num) hi ≡ runPaths (level - 1) s hi (branchesAmong (listing s num)) (listing s num)
   unfolding runPaths
   interior-paths l =
       let f = interior-at s num level l (n .usable) in
-      let b : kidsE (listing s num) ≡ f .x .kids = ap (λ es. kidsE es) (f .node .lists) ∙ inside-splits (f .es) (f .x) (f .splits) .kids in
+      let b : branchesAmong (listing s num) ≡ f .x .branches = ap (λ es. branchesAmong es) (f .node .lists) ∙ inside-splits (f .es) (f .x) (f .splits) .branches in
       let p : pathsOf (listing s num) ≡ putsOf [] (f .x .messages) = ap (λ es. pathsOf es) (f .node .lists) ∙ inside-paths (f .es) (f .x) (f .splits) in
-      ap (λ t. keysHere t hi) (f .tree) ∙ interior-keys (forestOf (λ j. treeAt (level - 1) s j) (f .x .kids)) (f .x .messages)
-      ∙ ap₂ (λ ks l. keysKids (forestOf (λ j. treeAt (level - 1) s j) ks) hi ++ l) (sym b) (sym p)
+      ap (λ t. keysHere t hi) (f .tree) ∙ interior-keys (forestOf (λ j. treeAt (level - 1) s j) (f .x .branches)) (f .x .messages)
+      ∙ ap₂ (λ ks l. keysBranches (forestOf (λ j. treeAt (level - 1) s j) ks) hi ++ l) (sym b) (sym p)
     where
-      interior-keys : (f : Forest) (ms : List defined.Message) → keysHere (interior num f ms) hi ≡ keysKids f hi ++ putsOf [] ms
+      interior-keys : (f : Forest) (ms : List defined.Message) → keysHere (interior num f ms) hi ≡ keysBranches f hi ++ putsOf [] ms
       interior-keys f ms = unfold keysHere in refl
 
   lifted : shared (X ++ n .lo) (X ++ hi) ≡ X
   lifted = shared-append X (n .lo) hi ∙ ap (λ l. X ++ l) (n .apart) ∙ append-nil X
 
-  pub kids-ready : 2 ≤ level → KidsReady s (level - 1) X hi (kidsE (listing s num))
-  kids-ready l =
+  pub branches-ready : 2 ≤ level → BranchesReady s (level - 1) X hi (branchesAmong (listing s num))
+  branches-ready l =
       let f = interior-at s num level l (n .usable) in
-      let b : kidsE (listing s num) ≡ f .x .kids = ap (λ es. kidsE es) (f .node .lists) ∙ inside-splits (f .es) (f .x) (f .splits) .kids in
-      let w : soundTree (interior num (forestOf (λ j. treeAt (level - 1) s j) (f .x .kids)) (f .x .messages)) (X ++ n .lo) (X ++ hi) ≡ true
+      let b : branchesAmong (listing s num) ≡ f .x .branches = ap (λ es. branchesAmong es) (f .node .lists) ∙ inside-splits (f .es) (f .x) (f .splits) .branches in
+      let w : soundTree (interior num (forestOf (λ j. treeAt (level - 1) s j) (f .x .branches)) (f .x .messages)) (X ++ n .lo) (X ++ hi) ≡ true
       = ap (λ t. soundTree t (X ++ n .lo) (X ++ hi)) (sym (f .tree)) ∙ n .tree in
-      let k : soundForest (forestOf (λ j. treeAt (level - 1) s j) (f .x .kids)) (shared (X ++ n .lo) (X ++ hi)) (X ++ n .lo) (X ++ hi) ≡ true
-      = inner num (forestOf (λ j. treeAt (level - 1) s j) (f .x .kids)) (f .x .messages) (X ++ n .lo) (X ++ hi) w .kids in
-      let z : soundForest (forestOf (λ j. treeAt (level - 1) s j) (f .x .kids)) X (X ++ n .lo) (X ++ hi) ≡ true
-      = ap (λ y. soundForest (forestOf (λ j. treeAt (level - 1) s j) (f .x .kids)) y (X ++ n .lo) (X ++ hi)) (sym lifted) ∙ k in
-      subst (λ (ks : List Kid). KidsReady s (level - 1) X hi ks) (sym b)
-      (forest-ready s (level - 1) X (X ++ n .lo) hi (f .x .kids) (n .whole) (f .kids) z)
+      let k : soundForest (forestOf (λ j. treeAt (level - 1) s j) (f .x .branches)) (shared (X ++ n .lo) (X ++ hi)) (X ++ n .lo) (X ++ hi) ≡ true
+      = inner num (forestOf (λ j. treeAt (level - 1) s j) (f .x .branches)) (f .x .messages) (X ++ n .lo) (X ++ hi) w .branches in
+      let z : soundForest (forestOf (λ j. treeAt (level - 1) s j) (f .x .branches)) X (X ++ n .lo) (X ++ hi) ≡ true
+      = ap (λ y. soundForest (forestOf (λ j. treeAt (level - 1) s j) (f .x .branches)) y (X ++ n .lo) (X ++ hi)) (sym lifted) ∙ k in
+      subst (λ (ks : List Branch). BranchesReady s (level - 1) X hi ks) (sym b)
+      (forest-ready s (level - 1) X (X ++ n .lo) hi (f .x .branches) (n .whole) (f .branches) z)

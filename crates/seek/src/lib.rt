@@ -6,8 +6,8 @@ use node::Entry;
 use node::Message;
 use node::Place;
 use node::Step;
+use node::search::Branch;
 use node::search::Found;
-use node::search::Kid;
 use path::Shape;
 ghost use mathlib.Core.Path.{_≡_};
 ghost use mathlib.Core.Bool.{true};
@@ -25,9 +25,9 @@ ghost use Rattle.laws.specs.Reading.SeekHere.{under, keysHere};
 ghost use Rattle.image.specs.Image.{treeAt};
 ghost use Rattle.node.specs.Places.{EntryWithin, Within, part, entryIn};
 ghost use Rattle.node.specs.Entries.{listed};
-ghost use Rattle.node.specs.Search.Own.{kid, kidsE};
+ghost use Rattle.node.specs.Search.Own.{branch, branchesAmong};
 ghost use Rattle.seek.specs.Buffer.{bufferIs, fitted, appended};
-ghost use Rattle.seek.specs.Walk.{unfit, tryIn, walkIn, pathOf, pathsOf, childPaths, runPaths, ChildReady, NodeReady, KidsReady};
+ghost use Rattle.seek.specs.Walk.{unfit, tryIn, walkIn, pathOf, pathsOf, childPaths, runPaths, ChildReady, NodeReady, BranchesReady};
 ghost use Rattle.seek.specs.Suffixes.{suffixIs, putIs};
 
 // A path by value: the first len bytes, or none where len is over 64.
@@ -249,22 +249,37 @@ pub fn try_entry(
     try_path(store, pre, &store[a..b], below, after, sh, best)
 }
 
-// The pairs and puts among the entries from a place up to another, each tried.
+// A node that the walk comes to, by its number and level, and what it seeks there: the shape, and the best path so far.
+pub struct Visit {
+    pub num: usize,
+    pub level: usize,
+    pub shape: Shape,
+    pub best: PathBuffer,
+}
+
+// The children of a node from one on: the place of its low pivot, and the cursor past it.
+pub struct Run {
+    pub low: Place,
+    pub rest: Cursor,
+}
+
+// The pairs and puts among the entries from the cursor on, each tried.
 pub fn seek_entries(
     store: &[u8],
-    from: usize,
-    end: usize,
+    from: Cursor,
     pre: &[u8],
     below: &[u8],
     after: &[u8],
     sh: Shape,
     start: PathBuffer,
 ) -> PathBuffer
-    requires { ⌜ (sound (now store) ≡ true) × (end ≤ length (now store)) ⌝ }
+    requires { ⌜ (sound (now store) ≡ true) × (from .end ≤ length (now store)) ⌝ }
     ensures { λ r. ⌜ bufferIs r
-        ≡ walkIn (now (store .entry)) (shapeIs sh) (now (below .entry)) (now (after .entry)) (bufferIs start) (under (now (pre .entry)) (pathsOf (listed (now (store .entry)) from end))) ⌝ }
+        ≡ walkIn (now (store .entry)) (shapeIs sh) (now (below .entry)) (now (after .entry)) (bufferIs start)
+        (under (now (pre .entry)) (pathsOf (listed (now (store .entry)) (from .at) (from .end)))) ⌝ }
 {
-    let mut c = Cursor { at: from, end };
+    let end = from.end;
+    let mut c = from;
     let mut best = start;
     while c.at < end {
         let Step::Read(e, next) = c.step(store) else {
@@ -276,190 +291,154 @@ pub fn seek_entries(
     best
 }
 
-// The child num, whose pivots are pre ++ low and pre ++ high. It is entered only if it can hold a wanted path: a lifted prefix that is
-// too long for any path leaves it none.
+// The child that is visited, whose pivots are pre ++ low and pre ++ high. It is entered only if it can hold a wanted path: a lifted
+// prefix that is too long for any path leaves it none.
 pub fn seek_child(
     store: &[u8],
-    num: usize,
-    level: usize,
+    child: Visit,
     low: &[u8],
     high: &[u8],
     pre: &[u8],
     below: &[u8],
     after: &[u8],
-    sh: Shape,
-    best: PathBuffer,
 ) -> PathBuffer
-    requires { ⌜ ChildReady (now store) (now pre) (now low) (now high) level num ⌝ }
+    requires { ⌜ ChildReady (now store) (now pre) (now low) (now high) (child .level) (child .num) ⌝ }
     ensures { λ r. ⌜ bufferIs r
-        ≡ walkIn (now (store .entry)) (shapeIs sh) (now (below .entry)) (now (after .entry)) (bufferIs best)
-        (under (now (pre .entry)) (childPaths level (now (store .entry)) num (now (low .entry)) (now (high .entry)))) ⌝ }
+        ≡ walkIn (now (store .entry)) (shapeIs (child .shape)) (now (below .entry)) (now (after .entry)) (bufferIs (child .best))
+        (under (now (pre .entry)) (childPaths (child .level) (now (store .entry)) (child .num) (now (low .entry)) (now (high .entry)))) ⌝ }
 {
-    if is_far(pre, low, high, below, after, best) {
-        return best;
+    if is_far(pre, low, high, below, after, child.best) {
+        return child.best;
     }
     let k = octets::common_length(low, high);
     let lifted = join(pre, &low[0..k]);
     let n = lifted.len;
     if 64 < n {
-        return best;
+        return child.best;
     }
     let b = lifted.bytes;
-    seek_node(
-        store,
-        num,
-        level,
-        &b[0..n],
-        &high[k..],
-        below,
-        after,
-        sh,
-        best,
-    )
+    seek_node(store, child, &b[0..n], &high[k..], below, after)
 }
 
 // The last child of a node, and the messages that follow it.
 pub fn seek_last(
     store: &[u8],
-    num: usize,
-    low: Place,
-    c: Cursor,
-    level: usize,
+    child: Visit,
+    run: Run,
     hi: &[u8],
     pre: &[u8],
     below: &[u8],
     after: &[u8],
-    sh: Shape,
-    best: PathBuffer,
 ) -> PathBuffer
-    requires { ⌜ (c .end ≤ length (now store)) × Within 0 (length (now store)) low × ChildReady (now store) (now pre) (part (now store) low) (now hi) level num ⌝ }
+    requires { ⌜ (run .rest .end ≤ length (now store))
+        × Within 0 (length (now store)) (run .low)
+        × ChildReady (now store) (now pre) (part (now store) (run .low)) (now hi) (child .level) (child .num) ⌝ }
     ensures { λ r. ⌜ bufferIs r
-        ≡ walkIn (now (store .entry)) (shapeIs sh) (now (below .entry)) (now (after .entry)) (bufferIs best)
+        ≡ walkIn (now (store .entry)) (shapeIs (child .shape)) (now (below .entry)) (now (after .entry)) (bufferIs (child .best))
         (under (now (pre .entry))
-        (runPaths level (now (store .entry)) (now (hi .entry)) (kid num (part (now (store .entry)) low) ∷ [])
-        (listed (now (store .entry)) (c .at) (c .end)))) ⌝ }
+        (runPaths (child .level) (now (store .entry)) (now (hi .entry)) (branch (child .num) (part (now (store .entry)) (run .low)) ∷ [])
+        (listed (now (store .entry)) (run .rest .at) (run .rest .end)))) ⌝ }
 {
+    let low = run.low;
+    let rest = run.rest;
+    let shape = child.shape;
     let a = low.start;
     let b = low.stop;
-    let found = seek_child(
-        store,
-        num,
-        level,
-        &store[a..b],
-        hi,
-        pre,
-        below,
-        after,
-        sh,
-        best,
-    );
-    let at = c.at;
-    let end = c.end;
-    seek_entries(store, at, end, pre, below, after, sh, found)
+    let found = seek_child(store, child, &store[a..b], hi, pre, below, after);
+    seek_entries(store, rest, pre, below, after, shape, found)
 }
 
-// A child, those that follow from the cursor on, and the messages after them.
+// The child that is visited, those that follow from the cursor on, and the messages after them.
 pub fn seek_children(
     store: &[u8],
-    first: usize,
-    pivot: Place,
-    start: Cursor,
-    level: usize,
+    first: Visit,
+    run: Run,
     hi: &[u8],
     pre: &[u8],
     below: &[u8],
     after: &[u8],
-    sh: Shape,
-    held: PathBuffer,
 ) -> PathBuffer
-    requires { ⌜ (start .end ≤ length (now store))
-        × Within 0 (length (now store)) pivot
-        × KidsReady (now store) level (now pre) (now hi) (kid first (part (now store) pivot) ∷ kidsE (listed (now store) (start .at) (start .end))) ⌝ }
+    requires { ⌜ (run .rest .end ≤ length (now store))
+        × Within 0 (length (now store)) (run .low)
+        × BranchesReady (now store) (first .level) (now pre) (now hi)
+        (branch (first .num) (part (now store) (run .low)) ∷ branchesAmong (listed (now store) (run .rest .at) (run .rest .end))) ⌝ }
     ensures { λ r. ⌜ bufferIs r
-        ≡ walkIn (now (store .entry)) (shapeIs sh) (now (below .entry)) (now (after .entry)) (bufferIs held)
+        ≡ walkIn (now (store .entry)) (shapeIs (first .shape)) (now (below .entry)) (now (after .entry)) (bufferIs (first .best))
         (under (now (pre .entry))
-        (runPaths level (now (store .entry)) (now (hi .entry))
-        (kid first (part (now (store .entry)) pivot) ∷ kidsE (listed (now (store .entry)) (start .at) (start .end)))
-        (listed (now (store .entry)) (start .at) (start .end)))) ⌝ }
+        (runPaths (first .level) (now (store .entry)) (now (hi .entry))
+        (branch (first .num) (part (now (store .entry)) (run .low)) ∷ branchesAmong (listed (now (store .entry)) (run .rest .at) (run .rest .end)))
+        (listed (now (store .entry)) (run .rest .at) (run .rest .end)))) ⌝ }
 {
-    let end = start.end;
-    let mut c = start;
-    let mut num = first;
-    let mut low = pivot;
-    let mut best = held;
+    let mut c = run.rest;
+    let mut low = run.low;
+    let mut v = first;
+    let end = c.end;
     while c.at < end {
         let Step::Read(e, next) = c.step(store) else {
-            return seek_last(store, num, low, c, level, hi, pre, below, after, sh, best);
+            return seek_last(store, v, Run { low, rest: c }, hi, pre, below, after);
         };
-        let Kid::Of(k, p) = node::search::kid_of(e) else {
-            return seek_last(store, num, low, c, level, hi, pre, below, after, sh, best);
+        let Branch::Of(k, p) = node::search::branch_of(e) else {
+            return seek_last(store, v, Run { low, rest: c }, hi, pre, below, after);
         };
         let a = low.start;
         let b = low.stop;
         let x = p.start;
         let y = p.stop;
-        best = seek_child(
-            store,
-            num,
-            level,
-            &store[a..b],
-            &store[x..y],
-            pre,
-            below,
-            after,
-            sh,
-            best,
-        );
-        num = k;
+        let best = seek_child(store, v, &store[a..b], &store[x..y], pre, below, after);
+        v.num = k;
+        v.best = best;
         low = p;
         c = next;
     }
-    seek_last(store, num, low, c, level, hi, pre, below, after, sh, best)
+    seek_last(store, v, Run { low, rest: c }, hi, pre, below, after)
 }
 
-// The node num of this level, which lifts pre; hi is its high pivot without pre.
+// The node that is visited, which lifts pre; hi is its high pivot without pre.
 pub fn seek_node(
     store: &[u8],
-    num: usize,
-    level: usize,
+    node: Visit,
     pre: &[u8],
     hi: &[u8],
     below: &[u8],
     after: &[u8],
-    sh: Shape,
-    best: PathBuffer,
 ) -> PathBuffer
-    requires { ⌜ NodeReady (now store) (now pre) (now hi) level num ⌝ }
+    requires { ⌜ NodeReady (now store) (now pre) (now hi) (node .level) (node .num) ⌝ }
     ensures { λ r. ⌜ bufferIs r
-        ≡ walkIn (now (store .entry)) (shapeIs sh) (now (below .entry)) (now (after .entry)) (bufferIs best)
-        (under (now (pre .entry)) (keysHere (treeAt level (now (store .entry)) num) (now (hi .entry)))) ⌝ }
+        ≡ walkIn (now (store .entry)) (shapeIs (node .shape)) (now (below .entry)) (now (after .entry)) (bufferIs (node .best))
+        (under (now (pre .entry)) (keysHere (treeAt (node .level) (now (store .entry)) (node .num)) (now (hi .entry)))) ⌝ }
 {
-    let at = num * image::NODE_SIZE;
+    let level = node.level;
+    let shape = node.shape;
+    let best = node.best;
+    let at = node.num * image::NODE_SIZE;
     let len = octets::u16_at(store, at);
     let from = at + image::ENTRIES_AT;
     let end = from + len;
-    if level <= 1 {
-        return seek_entries(store, from, end, pre, below, after, sh, best);
-    }
     let c = Cursor { at: from, end };
+    if level <= 1 {
+        return seek_entries(store, c, pre, below, after, shape, best);
+    }
     let Step::Read(e, next) = c.step(store) else {
-        return seek_entries(store, from, end, pre, below, after, sh, best);
+        return seek_entries(store, c, pre, below, after, shape, best);
     };
-    let Kid::Of(k, p) = node::search::kid_of(e) else {
-        return seek_entries(store, from, end, pre, below, after, sh, best);
+    let Branch::Of(k, p) = node::search::branch_of(e) else {
+        return seek_entries(store, c, pre, below, after, shape, best);
+    };
+    let down = level - 1;
+    let first = Visit {
+        num: k,
+        level: down,
+        shape,
+        best,
     };
     seek_children(
         store,
-        k,
-        p,
-        next,
-        level - 1,
+        first,
+        Run { low: p, rest: next },
         hi,
         pre,
         below,
         after,
-        sh,
-        best,
     )
 }
 
@@ -476,17 +455,13 @@ pub fn next_unfit(store: &[u8], below: &[u8], after: &[u8], shape: Shape) -> Pat
         bytes: [0u8; 64],
         len: 65,
     };
-    seek_node(
-        store,
-        root,
-        levels,
-        &below[0..0],
-        &hi,
-        below,
-        after,
+    let top = Visit {
+        num: root,
+        level: levels,
         shape,
-        none,
-    )
+        best: none,
+    };
+    seek_node(store, top, &below[0..0], &hi, below, after)
 }
 
 // The least path of a sound store that is below `below` and after `after`; both may be empty.

@@ -11,7 +11,7 @@ use borrow.Author.Tests.{leb-true, lt-ltb}
 use Rattle.image.specs.Bytes.{u16, before, shared}
 use Rattle.image.specs.Entry as defined
 use Rattle.image.specs.Table.{Row}
-use Rattle.image.specs.Image.{Tree, leaf, interior, Forest, tree, Kid, nodesOf, nodeBytes, entryBytes, treeAt, forestOf}
+use Rattle.image.specs.Image.{Tree, leaf, interior, Forest, tree, Branch, nodesOf, nodeBytes, entryBytes, treeAt, forestOf}
 use Rattle.octets.specs.Order.{and-left, and-right, before-append}
 use Rattle.octets.specs.Put.{put}
 use Rattle.laws.specs.Rising.{both}
@@ -20,10 +20,10 @@ use Rattle.laws.specs.Filter.{keep, upTo, lowerRows}
 use Rattle.laws.specs.Pieces.{lower, node}
 use Rattle.laws.specs.Page.{page, numberOf, pairEntries, childEntries, number-read}
 use Rattle.laws.specs.WriteNode.{writeNode}
-use Rattle.laws.specs.Reading.Relative.{kidHigh, high-at, usable, usableIn, number-under}
+use Rattle.laws.specs.Reading.Relative.{branchHigh, high-at, usable, usableIn, number-under}
 use Rattle.slice.specs.Slicing.Slice.{leftOf, leftIn}
-use Rattle.slice.specs.Slicing.SliceFits.{pairsSize, kidsSize, shortIn, fits, fitsIn}
-use Rattle.slice.specs.Slicing.ReadBack.{pairs-size, kids-size}
+use Rattle.slice.specs.Slicing.SliceFits.{pairsSize, branchesSize, shortIn, fits, fitsIn}
+use Rattle.slice.specs.Slicing.ReadBack.{pairs-size, branches-size}
 use Rattle.slice.specs.Slicing.SliceStrip.{split-low, split-high, split-cut, left-strip, left-leaf-bare, left-node-bare}
 use Rattle.slice.specs.Slicing.SliceWrite.{pageOf, leftWrite, leftWriteIn}
 use Rattle.slice.specs.Slicing.WriteStrip.{left-write-strip}
@@ -31,22 +31,22 @@ use Rattle.node.specs.Cut.{cut, cut-length}
 use Rattle.node.specs.Entries.{listed, listOf}
 use Rattle.node.specs.Places.{part, Within}
 use Rattle.node.specs.declared.Place.{Place}
-use Rattle.node.specs.Search.Own.{kidsE}
+use Rattle.node.specs.Search.Own.{branchesAmong}
 use Rattle.lookup.specs.Look.{node-is, count-is, bytes-is, listing, LeafAt, InteriorAt, leaf-at, interior-at, node-inside, inside-splits}
 use Rattle.push.specs.Laws.Written.{smallNumbers}
 use Rattle.slice.specs.declared.Cut.{Cut}
-use Rattle.slice.specs.Point.{Point, within, between, nowhere, freshIn, pointOf, countOf, wholes, pointIn, CutFits, CutAs, kidLine, cutLine, leftLine, leftAt, onSide, sideLine}
+use Rattle.slice.specs.Point.{Point, within, between, nowhere, freshIn, pointOf, countOf, wholes, pointIn, CutFits, CutAs, branchLine, cutLine, leftLine, leftAt, onSide, sideLine}
 use Rattle.slice.specs.PointLaws.{point-count, left-line, left-write, side-line}
 use Rattle.slice.specs.Left.{LeftAsks, PointAsks}
 use Rattle.octets.specs.Beginnings.{strip-shared}
 
-pub small-kids : (n : ℕ) (under : ℕ → Tree) (ks : List Kid) → n ≤ 1024 → ((j : ℕ) → numberOf (under j) ≡ j) → usableIn n (forestOf under ks) ≡ true → smallNumbers ks ≡ true
+pub small-branches : (n : ℕ) (under : ℕ → Tree) (ks : List Branch) → n ≤ 1024 → ((j : ℕ) → numberOf (under j) ≡ j) → usableIn n (forestOf under ks) ≡ true → smallNumbers ks ≡ true
 unfolding usableIn forestOf smallNumbers
-small-kids n under [] h num e = refl
-small-kids n under (k ∷ ks) h num e =
+small-branches n under [] h num e = refl
+small-branches n under (k ∷ ks) h num e =
     let a = number-under n (under (k .number)) (and-left _ _ e) in
     let b = num (k .number) in
-    both (lt-ltb (k .number) 65536 (omega arith)) (small-kids n under ks h num (and-right (usable n (under (k .number))) _ e))
+    both (lt-ltb (k .number) 65536 (omega arith)) (small-branches n under ks h num (and-right (usable n (under (k .number))) _ e))
 
 -- THE CHILD THAT HOLDS THE CUT
 unfoldable PointIs : (ℕ → ℕ) → (ℕ → Tree) → ℕ → List ℕ → ℕ → Point → Type 0
@@ -56,17 +56,17 @@ PointIs fresh under m k at (between n low) = Unit
 PointIs fresh under m k at (nowhere n) = Unit
 
 module _ (fresh : ℕ → ℕ) (under : ℕ → Tree) (hi k l : List ℕ) (m at : ℕ) where
-  point-is : (ks : List Kid) (n : ℕ) → usableIn m (forestOf under ks) ≡ true → fitsIn (lower l (leftIn fresh (forestOf under ks) [] hi k at)) ≡ true
+  point-is : (ks : List Branch) (n : ℕ) → usableIn m (forestOf under ks) ≡ true → fitsIn (lower l (leftIn fresh (forestOf under ks) [] hi k at)) ≡ true
       → PointIs fresh under m k at (pointOf n ks hi k)
   unfolding leftIn forestOf lower fitsIn pointOf PointIs usableIn
   point-is [] n u e = tt
   point-is (c ∷ cs) n u e =
-      go (before k (kidHigh hi cs)) refl (before (c .pivot) k) refl (λ f. point-is cs (n + 1) (and-right (usable m (under (c .number))) _ u) f)
+      go (before k (branchHigh hi cs)) refl (before (c .pivot) k) refl (λ f. point-is cs (n + 1) (and-right (usable m (under (c .number))) _ u) f)
     where
       t : Tree
       t = under (c .number)
 
-      go : (x : Bool) → before k (kidHigh hi cs) ≡ x → (y : Bool) → before (c .pivot) k ≡ y
+      go : (x : Bool) → before k (branchHigh hi cs) ≡ x → (y : Bool) → before (c .pivot) k ≡ y
           → (fitsIn (lower l (leftIn fresh (forestOf under cs) [] hi k at)) ≡ true → PointIs fresh under m k at (pointOf (n + 1) cs hi k))
           → PointIs fresh under m k at (pointOf n (c ∷ cs) hi k)
       go true a true b ih = rw (a, b) (and-left _ _ u, and-left _ _ (rw (high-at under hi cs, a, b) at e), b, a)
@@ -74,7 +74,7 @@ module _ (fresh : ℕ → ℕ) (under : ℕ → Tree) (hi k l : List ℕ) (m at 
       go false a y b ih = rw a (ih (and-right (fits t) _ (rw (high-at under hi cs, a) at e)))
 
 -- THE ENTRIES OF THE PART, WHATEVER THE HIGH PIVOT
-pub line-high : (s hi : List ℕ) (d m : ℕ) (ks : List Kid) (c : Cut) → leftLine d m ks (pointIn s [] c) ≡ leftLine d m ks (pointIn s hi c)
+pub line-high : (s hi : List ℕ) (d m : ℕ) (ks : List Branch) (c : Cut) → leftLine d m ks (pointIn s [] c) ≡ leftLine d m ks (pointIn s hi c)
 unfolding leftLine pointIn countOf cutLine
 line-high s hi d m ks (Cut.Inner n i p q) = refl
 line-high s hi d m ks (Cut.Last n i p) = refl
@@ -166,36 +166,36 @@ module _ (s : List ℕ) (num level : ℕ) (lo hi k : List ℕ) (at : ℕ) (free 
       inner′ : InteriorAt s num level (level - 1)
       inner′ = interior-at s num level inner (pre .reads)
 
-      kids-are : inner′ .x .kids ≡ kidsE (listed node′ 8 (8 + len))
-      kids-are = sym (ap kidsE (lists ∙ inner′ .node .lists) ∙ inside-splits (inner′ .es) (inner′ .x) (inner′ .splits) .kids)
+      branches-are : inner′ .x .branches ≡ branchesAmong (listed node′ 8 (8 + len))
+      branches-are = sym (ap branchesAmong (lists ∙ inner′ .node .lists) ∙ inside-splits (inner′ .es) (inner′ .x) (inner′ .splits) .branches)
 
-      usables : usableIn (nodesOf (length s)) (forestOf (λ j. treeAt (level - 1) s j) (kidsE (listed node′ 8 (8 + len)))) ≡ true
-      usables = ap (λ l. usableIn (nodesOf (length s)) (forestOf (λ j. treeAt (level - 1) s j) l)) (sym kids-are) ∙ inner′ .kids
+      usables : usableIn (nodesOf (length s)) (forestOf (λ j. treeAt (level - 1) s j) (branchesAmong (listed node′ 8 (8 + len)))) ≡ true
+      usables = ap (λ l. usableIn (nodesOf (length s)) (forestOf (λ j. treeAt (level - 1) s j) l)) (sym branches-are) ∙ inner′ .branches
 
-      tree-is : treeAt level s num ≡ interior num (forestOf (λ j. treeAt (level - 1) s j) (kidsE (listed node′ 8 (8 + len)))) (inner′ .x .messages)
-      tree-is = inner′ .tree ∙ ap (λ l. interior num (forestOf (λ j. treeAt (level - 1) s j) l) (inner′ .x .messages)) kids-are
+      tree-is : treeAt level s num ≡ interior num (forestOf (λ j. treeAt (level - 1) s j) (branchesAmong (listed node′ 8 (8 + len)))) (inner′ .x .messages)
+      tree-is = inner′ .tree ∙ ap (λ l. interior num (forestOf (λ j. treeAt (level - 1) s j) l) (inner′ .x .messages)) branches-are
 
-      pub kids-small : smallNumbers (kidsE (listed node′ 8 (8 + len))) ≡ true
-      kids-small = small-kids (nodesOf (length s)) (λ j. treeAt (level - 1) s j) (kidsE (listed node′ 8 (8 + len))) (pre .few) (λ j. number-read (level - 1) s j) usables
+      pub branches-small : smallNumbers (branchesAmong (listed node′ 8 (8 + len))) ≡ true
+      branches-small = small-branches (nodesOf (length s)) (λ j. treeAt (level - 1) s j) (branchesAmong (listed node′ 8 (8 + len))) (pre .few) (λ j. number-read (level - 1) s j) usables
 
       abbrev pieces : Forest
-      pieces = leftIn (freshIn free) (forestOf (λ j. treeAt (level - 1) s j) (kidsE (listed node′ 8 (8 + len)))) [] hi k (suc at)
+      pieces = leftIn (freshIn free) (forestOf (λ j. treeAt (level - 1) s j) (branchesAmong (listed node′ 8 (8 + len)))) [] hi k (suc at)
 
       part-is′ : leftOf (freshIn free) (treeAt level s num) lo hi k at ≡ node (freshIn free at) lo k pieces
       part-is′ =
           ap (λ t. leftOf (freshIn free) t lo hi k at) tree-is
-          ∙ left-node-bare (freshIn free) num (forestOf (λ j. treeAt (level - 1) s j) (kidsE (listed node′ 8 (8 + len)))) (inner′ .x .messages) lo hi k at bare
+          ∙ left-node-bare (freshIn free) num (forestOf (λ j. treeAt (level - 1) s j) (branchesAmong (listed node′ 8 (8 + len)))) (inner′ .x .messages) lo hi k at bare
 
       fit : fits (node (freshIn free at) lo k pieces) ≡ true
       fit = ap fits (sym part-is′) ∙ pre .small
 
-      size-fits : kidsSize (lower (shared lo k) pieces) ≤ 1016
+      size-fits : branchesSize (lower (shared lo k) pieces) ≤ 1016
       unfolding fits node
-      size-fits = leb-true (kidsSize (lower (shared lo k) pieces)) 1016 (and-left _ _ (and-left _ _ fit))
+      size-fits = leb-true (branchesSize (lower (shared lo k) pieces)) 1016 (and-left _ _ (and-left _ _ fit))
 
       pieces-fit : fitsIn (lower (shared lo k) pieces) ≡ true
       unfolding fits node
-      pieces-fit = and-right (leb (kidsSize (lower (shared lo k) pieces)) 1016 && shortIn (lower (shared lo k) pieces)) _ fit
+      pieces-fit = and-right (leb (branchesSize (lower (shared lo k) pieces)) 1016 && shortIn (lower (shared lo k) pieces)) _ fit
 
       asks-of : (x : Point) → PointIs (freshIn free) (λ j. treeAt (level - 1) s j) (nodesOf (length s)) k (suc at) x → PointAsks s (level - 1) k (at + 1) free x
       unfolding PointIs PointAsks
@@ -214,44 +214,44 @@ module _ (s : List ℕ) (num level : ℕ) (lo hi k : List ℕ) (at : ℕ) (free 
       asks-of (between n low) h = tt
       asks-of (nowhere n) h = tt
 
-      module _ (c : Cut) (as-cut : CutAs node′ hi (pointOf 0 (kidsE (listed node′ 8 (8 + len))) hi k) c) (m : ℕ) (em : m ≡ u16 free ((at + 1) * 2)) where
+      module _ (c : Cut) (as-cut : CutAs node′ hi (pointOf 0 (branchesAmong (listed node′ 8 (8 + len))) hi k) c) (m : ℕ) (em : m ≡ u16 free ((at + 1) * 2)) where
         number-is : m ≡ freshIn free (suc at)
         unfolding freshIn
         number-is = let z : at + 1 ≡ suc at = omega arith in em ∙ ap (λ n. u16 free (n * 2)) z
 
-        line-is′ : bytesOfAll (childEntries (lower (shared lo k) pieces)) ≡ leftLine d m (kidsE (listed node′ 8 (8 + len))) (pointIn node′ [] c)
+        line-is′ : bytesOfAll (childEntries (lower (shared lo k) pieces)) ≡ leftLine d m (branchesAmong (listed node′ 8 (8 + len))) (pointIn node′ [] c)
         unfolding leftLine
         line-is′ =
-            let x : Point = pointOf 0 (kidsE (listed node′ 8 (8 + len))) hi k in
-            let z : wholes (kidsE (listed node′ 8 (8 + len))) hi k ≡ countOf x = sym (point-count 0 (kidsE (listed node′ 8 (8 + len))) hi k ∙ omega arith) in
-            left-line (freshIn free) (λ j. treeAt (level - 1) s j) hi k (shared lo k) (kidsE (listed node′ 8 (8 + len))) 0 (suc at) (nodesOf (length s)) (λ j. number-read (level - 1) s j) usables
-            ∙ ap (λ n. kidLine (length (shared lo k)) n (kidsE (listed node′ 8 (8 + len))) ++ cutLine (length (shared lo k)) (freshIn free (suc at)) x) z
-            ∙ ap₂ (λ a b. leftLine a b (kidsE (listed node′ 8 (8 + len))) x) (sym ed) (sym number-is)
-            ∙ ap (leftLine d m (kidsE (listed node′ 8 (8 + len)))) (sym (as-cut .meant))
-            ∙ sym (line-high node′ hi d m (kidsE (listed node′ 8 (8 + len))) c)
+            let x : Point = pointOf 0 (branchesAmong (listed node′ 8 (8 + len))) hi k in
+            let z : wholes (branchesAmong (listed node′ 8 (8 + len))) hi k ≡ countOf x = sym (point-count 0 (branchesAmong (listed node′ 8 (8 + len))) hi k ∙ omega arith) in
+            left-line (freshIn free) (λ j. treeAt (level - 1) s j) hi k (shared lo k) (branchesAmong (listed node′ 8 (8 + len))) 0 (suc at) (nodesOf (length s)) (λ j. number-read (level - 1) s j) usables
+            ∙ ap (λ n. branchLine (length (shared lo k)) n (branchesAmong (listed node′ 8 (8 + len))) ++ cutLine (length (shared lo k)) (freshIn free (suc at)) x) z
+            ∙ ap₂ (λ a b. leftLine a b (branchesAmong (listed node′ 8 (8 + len))) x) (sym ed) (sym number-is)
+            ∙ ap (leftLine d m (branchesAmong (listed node′ 8 (8 + len)))) (sym (as-cut .meant))
+            ∙ sym (line-high node′ hi d m (branchesAmong (listed node′ 8 (8 + len))) c)
 
-        pub inner-fits : length (leftLine d m (kidsE (listed node′ 8 (8 + len))) (pointIn node′ [] c)) ≤ 1016
-        inner-fits = let a = size-fits in let b = kids-size (lower (shared lo k) pieces) in let e = ap length line-is′ in omega arith
+        pub inner-fits : length (leftLine d m (branchesAmong (listed node′ 8 (8 + len))) (pointIn node′ [] c)) ≤ 1016
+        inner-fits = let a = size-fits in let b = branches-size (lower (shared lo k) pieces) in let e = ap length line-is′ in omega arith
 
         pub child-asks : PointAsks s (level - 1) k (at + 1) free (pointIn node′ hi c)
         child-asks =
             subst (PointAsks s (level - 1) k (at + 1) free) (sym (as-cut .meant))
-            (asks-of (pointOf 0 (kidsE (listed node′ 8 (8 + len))) hi k)
-            (point-is (freshIn free) (λ j. treeAt (level - 1) s j) hi k (shared lo k) (nodesOf (length s)) (suc at) (kidsE (listed node′ 8 (8 + len))) 0 usables pieces-fit))
+            (asks-of (pointOf 0 (branchesAmong (listed node′ 8 (8 + len))) hi k)
+            (point-is (freshIn free) (λ j. treeAt (level - 1) s j) hi k (shared lo k) (nodesOf (length s)) (suc at) (branchesAmong (listed node′ 8 (8 + len))) 0 usables pieces-fit))
 
         pub inner-written : (new : ℕ) (s₁ s₂ : List ℕ) → new ≡ u16 free (at * 2)
             → s₁ ≡ leftAt (freshIn free) (λ j. treeAt (level - 1) s j) (level - 1) k (at + 1) s (pointIn node′ hi c)
-            → s₂ ≡ writeNode s₁ new (page 2 level (leftLine d m (kidsE (listed node′ 8 (8 + len))) (pointIn node′ [] c)))
+            → s₂ ≡ writeNode s₁ new (page 2 level (leftLine d m (branchesAmong (listed node′ 8 (8 + len))) (pointIn node′ [] c)))
             → s₂ ≡ leftWrite (freshIn free) (treeAt level s num) level lo hi k at s
         inner-written new s₁ s₂ e a b =
-            let f : Forest = forestOf (λ j. treeAt (level - 1) s j) (kidsE (listed node′ 8 (8 + len))) in
+            let f : Forest = forestOf (λ j. treeAt (level - 1) s j) (branchesAmong (listed node′ 8 (8 + len))) in
             let z : at + 1 ≡ suc at = omega arith in
             let w : level ≡ suc (level - 1) = omega arith in
             let number : new ≡ freshIn free at = e ∙ own in
             let first : s₁ ≡ leftWriteIn (freshIn free) f (level - 1) [] hi k (suc at) s =
             a ∙ ap (leftAt (freshIn free) (λ j. treeAt (level - 1) s j) (level - 1) k (at + 1) s) (as-cut .meant)
-            ∙ ap (λ n. leftAt (freshIn free) (λ j. treeAt (level - 1) s j) (level - 1) k n s (pointOf 0 (kidsE (listed node′ 8 (8 + len))) hi k)) z
-            ∙ sym (left-write (freshIn free) (λ j. treeAt (level - 1) s j) hi k (kidsE (listed node′ 8 (8 + len))) 0 (level - 1) (suc at) s) in
+            ∙ ap (λ n. leftAt (freshIn free) (λ j. treeAt (level - 1) s j) (level - 1) k n s (pointOf 0 (branchesAmong (listed node′ 8 (8 + len))) hi k)) z
+            ∙ sym (left-write (freshIn free) (λ j. treeAt (level - 1) s j) hi k (branchesAmong (listed node′ 8 (8 + len))) 0 (level - 1) (suc at) s) in
             b
             ∙ ap₂ (λ x y. writeNode x new (page 2 level y)) first (sym line-is′)
             ∙ ap₂ (λ n h. writeNode (leftWriteIn (freshIn free) f (level - 1) [] hi k (suc at) s) n (page 2 h (bytesOfAll (childEntries (lower (shared lo k) pieces))))) number w
@@ -261,9 +261,9 @@ module _ (s : List ℕ) (num level : ℕ) (lo hi k : List ℕ) (at : ℕ) (free 
             own : u16 free (at * 2) ≡ freshIn free at
             own = unfold freshIn in refl
 
-            shown : (f : Forest) → writeNode (leftWriteIn (freshIn free) (forestOf (λ j. treeAt (level - 1) s j) (kidsE (listed node′ 8 (8 + len)))) (level - 1) [] hi k (suc at) s) (freshIn free at)
+            shown : (f : Forest) → writeNode (leftWriteIn (freshIn free) (forestOf (λ j. treeAt (level - 1) s j) (branchesAmong (listed node′ 8 (8 + len)))) (level - 1) [] hi k (suc at) s) (freshIn free at)
                 (page 2 (suc (level - 1)) (bytesOfAll (childEntries (lower (shared lo k) pieces))))
-                ≡ leftWrite (freshIn free) (interior num (forestOf (λ j. treeAt (level - 1) s j) (kidsE (listed node′ 8 (8 + len)))) (inner′ .x .messages)) (suc (level - 1)) lo hi k at s
+                ≡ leftWrite (freshIn free) (interior num (forestOf (λ j. treeAt (level - 1) s j) (branchesAmong (listed node′ 8 (8 + len)))) (inner′ .x .messages)) (suc (level - 1)) lo hi k at s
             shown f = unfold leftWrite pageOf leftOf node in rw bare
 
 -- THE CHILD WITHOUT WHAT IT LIFTS

@@ -4,7 +4,7 @@ pub mod Point
 pub mod PointLaws
 pub mod PairSteps
 pub mod PointSteps
-pub mod KidSteps
+pub mod BranchSteps
 pub mod Left
 pub mod LeftSteps
 pub mod GapSteps

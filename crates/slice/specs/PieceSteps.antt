@@ -10,7 +10,7 @@ use lib.Dec.{eqb}
 use borrow.Author.Tests.{eq-eqb, ne-eqb}
 use Rattle.image.specs.Bytes.{u16, shared}
 use Rattle.image.specs.Entry as defined
-use Rattle.image.specs.Image.{Kid}
+use Rattle.image.specs.Image.{Branch}
 use Rattle.octets.specs.Put.{put, put-put, put-size, front-is}
 use Rattle.laws.specs.Encode.{bytesOf, child-size}
 use Rattle.laws.specs.Page.{page}
@@ -18,13 +18,13 @@ use Rattle.laws.specs.WriteNode.{writeNode}
 use Rattle.node.specs.Entries.{listed}
 use Rattle.node.specs.declared.Cursor.{Cursor}
 use Rattle.node.specs.declared.Place.{Place}
-use Rattle.node.specs.Search.Own.{kid, kidsE}
+use Rattle.node.specs.Search.Own.{branch, branchesAmong}
 use Rattle.lookup.specs.Look.{part-rest}
-use Rattle.laws.specs.Reading.Relative.{kidHigh}
+use Rattle.laws.specs.Reading.Relative.{branchHigh}
 use Rattle.slice.specs.declared.Cut.{Cut}
 use Rattle.slice.specs.declared.Parts.{Parts}
-use Rattle.slice.specs.Point.{freshIn, pointIn, kidLine}
-use Rattle.slice.specs.Right.{skipOf, piecesIn, PartsFit, allLine, overBody, wideBody, withRest, edgeOnly, oneNode, headKid, raiseKids, WideAsks, NarrowAsks, WideReady, WideAs}
+use Rattle.slice.specs.Point.{freshIn, pointIn, branchLine}
+use Rattle.slice.specs.Right.{skipOf, piecesIn, PartsFit, allLine, overBody, twoBody, wideBody, withRest, edgeOnly, bothTold, oneNode, headBranch, raiseBranches, WideAsks, NarrowAsks, WideReady, WideAs}
 use Rattle.slice.specs.RightLaws.{all-append, all-long, line-all}
 
 -- ONE PIECE
@@ -111,14 +111,14 @@ module _ (n h : ℕ) (body s : List ℕ) where
   told-some e = sym (ap not (ne-eqb (length body) 0 e))
 
 -- THE CURSOR BEHIND SOME CHILDREN
-pub drop-next : (n : ℕ) (ks us : List Kid) (c : Kid) → 0 < n → ks ≡ c ∷ us → drop n ks ≡ drop (n - 1) us
+pub drop-next : (n : ℕ) (ks us : List Branch) (c : Branch) → 0 < n → ks ≡ c ∷ us → drop n ks ≡ drop (n - 1) us
 drop-next zero ks us c h e = absurd (omega arith)
 drop-next (suc n) ks us c h e = let z : n ≡ suc n - 1 = omega arith in ap (drop (suc n)) e ∙ ap (λ i. drop i us) z
 
-pub drop-none : (n : ℕ) (ks us : List Kid) → ks ≡ [] → drop n ks ≡ us → ks ≡ us
+pub drop-none : (n : ℕ) (ks us : List Branch) → ks ≡ [] → drop n ks ≡ us → ks ≡ us
 drop-none n ks us e h = e ∙ sym (drop-nil n) ∙ ap (drop n) (sym e) ∙ h
 
-pub drop-zero : (n : ℕ) (ks us : List Kid) → n ≤ 0 → drop n ks ≡ us → ks ≡ us
+pub drop-zero : (n : ℕ) (ks us : List Branch) → n ≤ 0 → drop n ks ≡ us → ks ≡ us
 drop-zero zero ks us h e = e
 drop-zero (suc n) ks us h e = absurd (omega arith)
 
@@ -135,15 +135,15 @@ told out out₁ out₂ lift pivot h a b =
     front n = unfold put in take-at (lift ++ pivot) (drop (0 + length (lift ++ pivot)) out) (length lift + length pivot) n
 
 -- THE START OF THE REST
-module _ (s : List ℕ) (c : Cut) (ks us : List Kid) where
-  one-more : (n : ℕ) (rs : List Kid) → rs ≡ drop n ks → us ≡ drop 1 rs → us ≡ drop (n + 1) ks
+module _ (s : List ℕ) (c : Cut) (ks us : List Branch) where
+  one-more : (n : ℕ) (rs : List Branch) → rs ≡ drop n ks → us ≡ drop 1 rs → us ≡ drop (n + 1) ks
   one-more n rs e f = f ∙ ap (drop 1) e ∙ drop-drop 1 n ks
 
-  pub inner-start : (n i : ℕ) (p q : Place) (rs : List Kid) → c ≡ Cut.Inner n i p q → rs ≡ drop n ks → us ≡ drop 1 rs → us ≡ drop (skipOf (pointIn s [] c)) ks
+  pub inner-start : (n i : ℕ) (p q : Place) (rs : List Branch) → c ≡ Cut.Inner n i p q → rs ≡ drop n ks → us ≡ drop 1 rs → us ≡ drop (skipOf (pointIn s [] c)) ks
   unfolding skipOf pointIn
   inner-start n i p q rs e f g = one-more n rs f g ∙ ap (λ z. drop (skipOf (pointIn s [] z)) ks) (sym e)
 
-  pub last-start : (n i : ℕ) (p : Place) (rs : List Kid) → c ≡ Cut.Last n i p → rs ≡ drop n ks → us ≡ drop 1 rs → us ≡ drop (skipOf (pointIn s [] c)) ks
+  pub last-start : (n i : ℕ) (p : Place) (rs : List Branch) → c ≡ Cut.Last n i p → rs ≡ drop n ks → us ≡ drop 1 rs → us ≡ drop (skipOf (pointIn s [] c)) ks
   unfolding skipOf pointIn
   last-start n i p rs e f g = one-more n rs f g ∙ ap (λ z. drop (skipOf (pointIn s [] z)) ks) (sym e)
 
@@ -156,39 +156,37 @@ module _ (s : List ℕ) (c : Cut) (ks us : List Kid) where
   nowhere-start n e f = f ∙ ap (λ z. drop (skipOf (pointIn s [] z)) ks) (sym e)
 
 -- ENTRIES OF ALL CHILDREN THAT ARE LEFT
-all-kids : (d : ℕ) (ks : List Kid) → length (allLine d ks) ≤ 1016 → kidLine d 1024 ks ≡ allLine d ks
-all-kids d ks h = line-all d 1024 ks (let a = all-long d ks in omega arith)
+all-branches : (d : ℕ) (ks : List Branch) → length (allLine d ks) ≤ 1016 → branchLine d 1024 ks ≡ allLine d ks
+all-branches d ks h = line-all d 1024 ks (let a = all-long d ks in omega arith)
 
 -- TWO NODES
-module _ (size level : ℕ) (node : List ℕ) (start : Cursor) (x hi k : List ℕ) (below : Parts) (out : List ℕ) (at : ℕ) (free : List ℕ)
-    (pre : WideAsks size level node start x hi k below out at free) (n m a b d e : ℕ) (en : n ≡ u16 free (at * 2)) (em : m ≡ u16 free ((at + 1) * 2))
-    (ea : a ≡ u16 free ((at + 2) * 2)) (eb : b ≡ u16 free ((at + 3) * 2)) (ed : d ≡ length (shared k x)) (ee : e ≡ length (shared x hi)) where
+module _ (size level : ℕ) (node : List ℕ) (start : Cursor) (d e : ℕ) (k : List ℕ) (below : Parts) (out : List ℕ) (at : ℕ) (free : List ℕ)
+    (pre : WideAsks size level node start d e k below out at free) (n m a b : ℕ) (en : n ≡ u16 free (at * 2)) (em : m ≡ u16 free ((at + 1) * 2))
+    (ea : a ≡ u16 free ((at + 2) * 2)) (eb : b ≡ u16 free ((at + 3) * 2)) where
   pub wide-rooms : (n * 1024 + 1024 ≤ size) × (m * 1024 + 1024 ≤ size)
   unfolding freshIn
   wide-rooms = let p = pre .room at (omega arith) in let q = pre .room (at + 1) (omega arith) in (omega arith, omega arith)
 
-  edge-line : allLine d (piecesIn a b k out below) ++ kidLine d 0 (kidsE (listed node (start .at) (start .end)))
-      ≡ allLine (length (shared k x)) (piecesIn (freshIn free (at + 2)) (freshIn free (at + 3)) k out below)
-  unfolding kidLine freshIn
-  edge-line = append-nil (allLine d (piecesIn a b k out below)) ∙ (λ i. allLine (ed i) (piecesIn (ea i) (eb i) k out below))
+  edge-line : allLine d (piecesIn a b k out below) ++ branchLine d 0 (branchesAmong (listed node (start .at) (start .end)))
+      ≡ allLine d (piecesIn (freshIn free (at + 2)) (freshIn free (at + 3)) k out below)
+  unfolding branchLine freshIn
+  edge-line = append-nil (allLine d (piecesIn a b k out below)) ∙ (λ i. allLine d (piecesIn (ea i) (eb i) k out below))
 
-  rest-line : allLine e (piecesIn a b k out Parts.Nothing) ++ kidLine e 1024 (kidsE (listed node (start .at) (start .end)))
-      ≡ allLine (length (shared x hi)) (kidsE (listed node (start .at) (start .end)))
+  rest-line : allLine e (piecesIn a b k out Parts.Nothing) ++ branchLine e 1024 (branchesAmong (listed node (start .at) (start .end)))
+      ≡ allLine e (branchesAmong (listed node (start .at) (start .end)))
   unfolding piecesIn allLine
-  rest-line =
-      ap (λ i. kidLine i 1024 (kidsE (listed node (start .at) (start .end)))) ee
-      ∙ all-kids (length (shared x hi)) (kidsE (listed node (start .at) (start .end))) (pre .restFits)
+  rest-line = all-branches e (branchesAmong (listed node (start .at) (start .end))) (pre .restFits)
 
-  pub wide-first : length (allLine d (piecesIn a b k out below) ++ kidLine d 0 (kidsE (listed node (start .at) (start .end)))) ≤ 1016
+  pub wide-first : length (allLine d (piecesIn a b k out below) ++ branchLine d 0 (branchesAmong (listed node (start .at) (start .end)))) ≤ 1016
   wide-first = let z = ap length edge-line in let f = pre .edgeFits in omega arith
 
-  pub wide-second : length (allLine e (piecesIn a b k out Parts.Nothing) ++ kidLine e 1024 (kidsE (listed node (start .at) (start .end)))) ≤ 1016
+  pub wide-second : length (allLine e (piecesIn a b k out Parts.Nothing) ++ branchLine e 1024 (branchesAmong (listed node (start .at) (start .end)))) ≤ 1016
   wide-second = let z = ap length rest-line in let f = pre .restFits in omega arith
 
-  pub wide-done : (s s₁ s₂ : List ℕ) → s₁ ≡ overBody n level (allLine d (piecesIn a b k out below) ++ kidLine d 0 (kidsE (listed node (start .at) (start .end)))) s
-      → s₂ ≡ overBody m level (allLine e (piecesIn a b k out Parts.Nothing) ++ kidLine e 1024 (kidsE (listed node (start .at) (start .end)))) s₁
-      → s₂ ≡ wideBody (freshIn free at) (freshIn free (at + 1)) level k hi x (piecesIn (freshIn free (at + 2)) (freshIn free (at + 3)) k out below) (kidsE (listed node (start .at) (start .end))) s
-  unfolding wideBody freshIn
+  pub wide-done : (s s₁ s₂ : List ℕ) → s₁ ≡ overBody n level (allLine d (piecesIn a b k out below) ++ branchLine d 0 (branchesAmong (listed node (start .at) (start .end)))) s
+      → s₂ ≡ overBody m level (allLine e (piecesIn a b k out Parts.Nothing) ++ branchLine e 1024 (branchesAmong (listed node (start .at) (start .end)))) s₁
+      → s₂ ≡ twoBody (freshIn free at) (freshIn free (at + 1)) level d e (piecesIn (freshIn free (at + 2)) (freshIn free (at + 3)) k out below) (branchesAmong (listed node (start .at) (start .end))) s
+  unfolding twoBody freshIn
   wide-done s s₁ s₂ f g =
       g ∙ (λ i. overBody (em i) level (rest-line i) ((f ∙ (λ j. overBody (en j) level (edge-line j) s)) i))
 
@@ -200,29 +198,29 @@ module _ (size level : ℕ) (node : List ℕ) (start : Cursor) (hi k : List ℕ)
   unfolding freshIn
   narrow-room = let p = pre .room at (omega arith) in omega arith
 
-  abbrev all-pieces : List Kid
-  all-pieces = piecesIn (freshIn free (at + 1)) (freshIn free (at + 2)) k out below ++ kidsE (listed node (start .at) (start .end))
+  abbrev all-pieces : List Branch
+  all-pieces = piecesIn (freshIn free (at + 1)) (freshIn free (at + 2)) k out below ++ branchesAmong (listed node (start .at) (start .end))
 
-  pub narrow-line : allLine d (piecesIn a b k out below) ++ kidLine d 1024 (kidsE (listed node (start .at) (start .end)))
-      ≡ allLine (length (shared k hi)) (piecesIn (freshIn free (at + 1)) (freshIn free (at + 2)) k out below ++ kidsE (listed node (start .at) (start .end)))
+  pub narrow-line : allLine d (piecesIn a b k out below) ++ branchLine d 1024 (branchesAmong (listed node (start .at) (start .end)))
+      ≡ allLine (length (shared k hi)) (piecesIn (freshIn free (at + 1)) (freshIn free (at + 2)) k out below ++ branchesAmong (listed node (start .at) (start .end)))
   unfolding freshIn
   narrow-line =
       let q : allLine (length (shared k hi)) all-pieces
-      ≡ allLine (length (shared k hi)) (piecesIn (freshIn free (at + 1)) (freshIn free (at + 2)) k out below) ++ allLine (length (shared k hi)) (kidsE (listed node (start .at) (start .end)))
-      = all-append (length (shared k hi)) (piecesIn (freshIn free (at + 1)) (freshIn free (at + 2)) k out below) (kidsE (listed node (start .at) (start .end))) in
+      ≡ allLine (length (shared k hi)) (piecesIn (freshIn free (at + 1)) (freshIn free (at + 2)) k out below) ++ allLine (length (shared k hi)) (branchesAmong (listed node (start .at) (start .end)))
+      = all-append (length (shared k hi)) (piecesIn (freshIn free (at + 1)) (freshIn free (at + 2)) k out below) (branchesAmong (listed node (start .at) (start .end))) in
       let z = ap length q in
-      let y = length-append (allLine (length (shared k hi)) (piecesIn (freshIn free (at + 1)) (freshIn free (at + 2)) k out below)) (allLine (length (shared k hi)) (kidsE (listed node (start .at) (start .end)))) in
+      let y = length-append (allLine (length (shared k hi)) (piecesIn (freshIn free (at + 1)) (freshIn free (at + 2)) k out below)) (allLine (length (shared k hi)) (branchesAmong (listed node (start .at) (start .end)))) in
       let f = pre .allFit in
-      (λ i. allLine (ed i) (piecesIn (ea i) (eb i) k out below) ++ kidLine (ed i) 1024 (kidsE (listed node (start .at) (start .end))))
+      (λ i. allLine (ed i) (piecesIn (ea i) (eb i) k out below) ++ branchLine (ed i) 1024 (branchesAmong (listed node (start .at) (start .end))))
       ∙ ap (λ l. allLine (length (shared k hi)) (piecesIn (freshIn free (at + 1)) (freshIn free (at + 2)) k out below) ++ l)
-      (all-kids (length (shared k hi)) (kidsE (listed node (start .at) (start .end))) (omega arith))
+      (all-branches (length (shared k hi)) (branchesAmong (listed node (start .at) (start .end))) (omega arith))
       ∙ sym q
 
-  pub narrow-fits : length (allLine d (piecesIn a b k out below) ++ kidLine d 1024 (kidsE (listed node (start .at) (start .end)))) ≤ 1016
+  pub narrow-fits : length (allLine d (piecesIn a b k out below) ++ branchLine d 1024 (branchesAmong (listed node (start .at) (start .end)))) ≤ 1016
   narrow-fits = let z = ap length narrow-line in let f = pre .allFit in omega arith
 
-  pub narrow-done : (s s₁ : List ℕ) → s₁ ≡ overBody n level (allLine d (piecesIn a b k out below) ++ kidLine d 1024 (kidsE (listed node (start .at) (start .end)))) s
-      → s₁ ≡ overBody (freshIn free at) level (allLine (length (shared k hi)) (piecesIn (freshIn free (at + 1)) (freshIn free (at + 2)) k out below ++ kidsE (listed node (start .at) (start .end)))) s
+  pub narrow-done : (s s₁ : List ℕ) → s₁ ≡ overBody n level (allLine d (piecesIn a b k out below) ++ branchLine d 1024 (branchesAmong (listed node (start .at) (start .end)))) s
+      → s₁ ≡ overBody (freshIn free at) level (allLine (length (shared k hi)) (piecesIn (freshIn free (at + 1)) (freshIn free (at + 2)) k out below ++ branchesAmong (listed node (start .at) (start .end)))) s
   unfolding freshIn
   narrow-done s s₁ f = f ∙ (λ i. overBody (en i) level (narrow-line i) s)
 
@@ -231,7 +229,7 @@ unfolding PartsFit
 none-fits m = tt
 
 -- WHETHER THERE ARE ENTRIES
-pub one-some : (d : ℕ) (ks : List Kid) (b : Bool) (body : List ℕ) → body ≡ allLine d ks → b ≡ not (eqb (length body) 0) → b ≡ true → Parts.Edge ≡ oneNode ks
+pub one-some : (d : ℕ) (ks : List Branch) (b : Bool) (body : List ℕ) → body ≡ allLine d ks → b ≡ not (eqb (length body) 0) → b ≡ true → Parts.Edge ≡ oneNode ks
 unfolding oneNode
 one-some d [] b body e t f =
     let z : eqb (length body) 0 ≡ true = eq-eqb (length body) 0 (ap length e ∙ empty) in
@@ -242,7 +240,7 @@ one-some d [] b body e t f =
     empty = unfold allLine in refl
 one-some d (c ∷ cs) b body e t f = refl
 
-pub one-none : (d : ℕ) (ks : List Kid) (b : Bool) (body : List ℕ) → body ≡ allLine d ks → b ≡ not (eqb (length body) 0) → b ≡ false → Parts.Nothing ≡ oneNode ks
+pub one-none : (d : ℕ) (ks : List Branch) (b : Bool) (body : List ℕ) → body ≡ allLine d ks → b ≡ not (eqb (length body) 0) → b ≡ false → Parts.Nothing ≡ oneNode ks
 unfolding oneNode
 one-none d [] b body e t f = refl
 one-none d (c ∷ cs) b body e t f =
@@ -254,15 +252,15 @@ one-none d (c ∷ cs) b body e t f =
 
 -- WHAT IS TOLD OF TWO NODES
 module _ (level : ℕ) (node : List ℕ) (start : Cursor) (hi k : List ℕ) (below : Parts) (out : List ℕ) (at : ℕ) (free lift s s′ : List ℕ) where
-  abbrev rks : List Kid
-  rks = kidsE (listed node (start .at) (start .end))
+  abbrev rks : List Branch
+  rks = branchesAmong (listed node (start .at) (start .end))
 
-  abbrev eks : List Kid
+  abbrev eks : List Branch
   eks = piecesIn (freshIn free (at + 2)) (freshIn free (at + 3)) k out below
 
-  edge-told : (out′ : List ℕ) (p : Parts) → raiseKids lift (headKid (freshIn free at) k (piecesIn (freshIn free (at + 2)) (freshIn free (at + 3)) k out p) ++ [])
+  edge-told : (out′ : List ℕ) (p : Parts) → raiseBranches lift (headBranch (freshIn free at) k (piecesIn (freshIn free (at + 2)) (freshIn free (at + 3)) k out p) ++ [])
       ≡ piecesIn (freshIn free at) (freshIn free (at + 1)) (lift ++ k) out′ (edgeOnly p)
-  unfolding piecesIn headKid raiseKids edgeOnly
+  unfolding piecesIn headBranch raiseBranches edgeOnly
   edge-told out′ Parts.Nothing = refl
   edge-told out′ Parts.Edge = refl
   edge-told out′ (Parts.Rest n) = refl
@@ -276,13 +274,13 @@ module _ (level : ℕ) (node : List ℕ) (start : Cursor) (hi k : List ℕ) (bel
   edge-fit m (Parts.Both n) = tt
 
   rest-told : (x out′ : List ℕ) (n : ℕ) (p : Parts) → take n out′ ≡ lift ++ x
-      → raiseKids lift (headKid (freshIn free at) k (piecesIn (freshIn free (at + 2)) (freshIn free (at + 3)) k out p) ++ (kid (freshIn free (at + 1)) x ∷ []))
+      → raiseBranches lift (headBranch (freshIn free at) k (piecesIn (freshIn free (at + 2)) (freshIn free (at + 3)) k out p) ++ (branch (freshIn free (at + 1)) x ∷ []))
       ≡ piecesIn (freshIn free at) (freshIn free (at + 1)) (lift ++ k) out′ (withRest n p)
-  unfolding piecesIn headKid raiseKids withRest
-  rest-told x out′ n Parts.Nothing e = ap (λ l. kid (freshIn free (at + 1)) l ∷ []) (sym e)
-  rest-told x out′ n Parts.Edge e = ap (λ l. kid (freshIn free at) (lift ++ k) ∷ (kid (freshIn free (at + 1)) l ∷ [])) (sym e)
-  rest-told x out′ n (Parts.Rest m) e = ap (λ l. kid (freshIn free at) (lift ++ k) ∷ (kid (freshIn free (at + 1)) l ∷ [])) (sym e)
-  rest-told x out′ n (Parts.Both m) e = ap (λ l. kid (freshIn free at) (lift ++ k) ∷ (kid (freshIn free (at + 1)) l ∷ [])) (sym e)
+  unfolding piecesIn headBranch raiseBranches withRest
+  rest-told x out′ n Parts.Nothing e = ap (λ l. branch (freshIn free (at + 1)) l ∷ []) (sym e)
+  rest-told x out′ n Parts.Edge e = ap (λ l. branch (freshIn free at) (lift ++ k) ∷ (branch (freshIn free (at + 1)) l ∷ [])) (sym e)
+  rest-told x out′ n (Parts.Rest m) e = ap (λ l. branch (freshIn free at) (lift ++ k) ∷ (branch (freshIn free (at + 1)) l ∷ [])) (sym e)
+  rest-told x out′ n (Parts.Both m) e = ap (λ l. branch (freshIn free at) (lift ++ k) ∷ (branch (freshIn free (at + 1)) l ∷ [])) (sym e)
 
   rest-fit : (m n : ℕ) (p : Parts) → n ≤ m → PartsFit m (withRest n p)
   unfolding PartsFit withRest
@@ -291,57 +289,66 @@ module _ (level : ℕ) (node : List ℕ) (start : Cursor) (hi k : List ℕ) (bel
   rest-fit m n (Parts.Rest i) h = h
   rest-fit m n (Parts.Both i) h = h
 
-  -- no rest
-  module _ (none : kidsE (listed node (start .at) (start .end)) ≡ []) where
-    pub high-none : kidHigh hi (kidsE (listed node (start .at) (start .end))) ≡ hi
-    unfolding kidHigh
-    high-none = ap (kidHigh hi) none
+  -- the pivot of the rest, or the high pivot
+  pub high-none : branchesAmong (listed node (start .at) (start .end)) ≡ [] → branchHigh hi (branchesAmong (listed node (start .at) (start .end))) ≡ hi
+  unfolding branchHigh
+  high-none none = ap (branchHigh hi) none
 
-    pub ready-none : (size : ℕ) → WideReady size level node start hi k below out at free → WideAsks size level node start hi hi k below out at free
+  pub high-some : (c : Branch) (cs : List Branch) → branchesAmong (listed node (start .at) (start .end)) ≡ c ∷ cs → branchHigh hi (branchesAmong (listed node (start .at) (start .end))) ≡ c .pivot
+  unfolding branchHigh
+  high-some c cs some = ap (branchHigh hi) some
+
+  module _ (x : List ℕ) (high-is : branchHigh hi (branchesAmong (listed node (start .at) (start .end))) ≡ x) (d e : ℕ) (ed : d ≡ length (shared k x)) (ee : e ≡ length (shared x hi)) where
+    pub ready-at : (size : ℕ) → WideReady size level node start hi k below out at free → WideAsks size level node start d e k below out at free
     unfolding WideReady
-    ready-none size h = subst (λ x. WideAsks size level node start x hi k below out at free) high-none h
+    ready-at size h =
+        subst (λ i. WideAsks size level node start i e k below out at free) (sym ed)
+        (subst (λ i. WideAsks size level node start (length (shared k x)) i k below out at free) (sym ee)
+        (subst (λ y. WideAsks size level node start (length (shared k y)) (length (shared y hi)) k below out at free) high-is h))
 
-    pub wide-none : (r : Parts) → r ≡ edgeOnly below
-        → s′ ≡ wideBody (freshIn free at) (freshIn free (at + 1)) level k hi hi (piecesIn (freshIn free (at + 2)) (freshIn free (at + 3)) k out below) (kidsE (listed node (start .at) (start .end))) s
-        → WideAs level node start hi k below out at free lift s s′ out r
-    wide-none r e w =
-        record {
-          written = w ∙ ap (λ x. wideBody (freshIn free at) (freshIn free (at + 1)) level k hi x eks rks s) (sym high-none);
-          pieces =
-              ap (λ l. raiseKids lift (headKid (freshIn free at) k eks ++ headKid (freshIn free (at + 1)) (kidHigh hi rks) l)) none
-              ∙ ap (λ l. raiseKids lift (headKid (freshIn free at) k eks ++ l)) no-head ∙ edge-told out below ∙ ap (piecesIn (freshIn free at) (freshIn free (at + 1)) (lift ++ k) out) (sym e);
-          fit = subst (PartsFit (length out)) (sym e) (edge-fit (length out) below);
-        }
-      where
-        no-head : headKid (freshIn free (at + 1)) (kidHigh hi rks) [] ≡ []
-        no-head = unfold headKid in refl
+    pub body-at : s′ ≡ twoBody (freshIn free at) (freshIn free (at + 1)) level d e (piecesIn (freshIn free (at + 2)) (freshIn free (at + 3)) k out below) (branchesAmong (listed node (start .at) (start .end))) s
+        → s′ ≡ wideBody (freshIn free at) (freshIn free (at + 1)) level k hi (branchHigh hi (branchesAmong (listed node (start .at) (start .end))))
+        (piecesIn (freshIn free (at + 2)) (freshIn free (at + 3)) k out below) (branchesAmong (listed node (start .at) (start .end))) s
+    unfolding wideBody
+    body-at w =
+        w ∙ (λ i. twoBody (freshIn free at) (freshIn free (at + 1)) level (ed i) (ee i) eks rks s)
+        ∙ ap (λ y. twoBody (freshIn free at) (freshIn free (at + 1)) level (length (shared k y)) (length (shared y hi)) eks rks s) (sym high-is)
 
-  -- a rest
-  module _ (c : Kid) (cs : List Kid) (some : kidsE (listed node (start .at) (start .end)) ≡ c ∷ cs) where
-    pub high-some : kidHigh hi (kidsE (listed node (start .at) (start .end))) ≡ c .pivot
-    unfolding kidHigh
-    high-some = ap (kidHigh hi) some
+  -- what is told
+  both-pieces : (l : List Branch) (out′ : List ℕ) (r : Parts) → bothTold l below lift out′ r
+      → (raiseBranches lift (headBranch (freshIn free at) k (piecesIn (freshIn free (at + 2)) (freshIn free (at + 3)) k out below) ++ headBranch (freshIn free (at + 1)) (branchHigh hi l) l)
+      ≡ piecesIn (freshIn free at) (freshIn free (at + 1)) (lift ++ k) out′ r) × PartsFit (length out′) r
+  unfolding bothTold branchHigh
+  both-pieces [] out′ r e = (
+    ap (λ l. raiseBranches lift (headBranch (freshIn free at) k eks ++ l)) no-head ∙ edge-told out′ below ∙ ap (piecesIn (freshIn free at) (freshIn free (at + 1)) (lift ++ k) out′) (sym e),
+    subst (PartsFit (length out′)) (sym e) (edge-fit (length out′) below),
+  )
+    where
+      no-head : headBranch (freshIn free (at + 1)) hi [] ≡ []
+      no-head = unfold headBranch in refl
+  both-pieces (c ∷ cs) out′ r e = (
+    ap (λ l. raiseBranches lift (headBranch (freshIn free at) k eks ++ l)) a-head ∙ rest-told (c .pivot) out′ (length lift + length (c .pivot)) below (e .2)
+        ∙ ap (piecesIn (freshIn free at) (freshIn free (at + 1)) (lift ++ k) out′) (sym (e .0)),
+    subst (PartsFit (length out′)) (sym (e .0)) (rest-fit (length out′) (length lift + length (c .pivot)) below (e .1)),
+  )
+    where
+      a-head : headBranch (freshIn free (at + 1)) (c .pivot) (c ∷ cs) ≡ branch (freshIn free (at + 1)) (c .pivot) ∷ []
+      a-head = unfold headBranch in refl
 
-    pub ready-some : (size : ℕ) → WideReady size level node start hi k below out at free → WideAsks size level node start (c .pivot) hi k below out at free
-    unfolding WideReady
-    ready-some size h = subst (λ x. WideAsks size level node start x hi k below out at free) high-some h
+  pub wide-both : s′ ≡ wideBody (freshIn free at) (freshIn free (at + 1)) level k hi (branchHigh hi (branchesAmong (listed node (start .at) (start .end))))
+      (piecesIn (freshIn free (at + 2)) (freshIn free (at + 3)) k out below) (branchesAmong (listed node (start .at) (start .end))) s
+      → (out′ : List ℕ) (r : Parts) → bothTold (branchesAmong (listed node (start .at) (start .end))) below lift out′ r → WideAs level node start hi k below out at free lift s s′ out′ r
+  wide-both w out′ r told = let p = both-pieces rks out′ r told in record { written = w; pieces = p .0; fit = p .1 }
 
-    pub wide-some : (r : Parts) (out′ : List ℕ) → r ≡ withRest (length lift + length (c .pivot)) below → length lift + length (c .pivot) ≤ length out′
-        → take (length lift + length (c .pivot)) out′ ≡ lift ++ c .pivot
-        → s′ ≡ wideBody (freshIn free at) (freshIn free (at + 1)) level k hi (c .pivot) (piecesIn (freshIn free (at + 2)) (freshIn free (at + 3)) k out below) (kidsE (listed node (start .at) (start .end))) s
-        → WideAs level node start hi k below out at free lift s s′ out′ r
-    wide-some r out′ e h t w =
-        record {
-          written = w ∙ ap (λ x. wideBody (freshIn free at) (freshIn free (at + 1)) level k hi x eks rks s) (sym high-some);
-          pieces =
-              ap₂ (λ x l. raiseKids lift (headKid (freshIn free at) k eks ++ headKid (freshIn free (at + 1)) x l)) high-some some
-              ∙ ap (λ l. raiseKids lift (headKid (freshIn free at) k eks ++ l)) a-head ∙ rest-told (c .pivot) out′ (length lift + length (c .pivot)) below t
-              ∙ ap (piecesIn (freshIn free at) (freshIn free (at + 1)) (lift ++ k) out′) (sym e);
-          fit = subst (PartsFit (length out′)) (sym e) (rest-fit (length out′) (length lift + length (c .pivot)) below h);
-        }
-      where
-        a-head : headKid (freshIn free (at + 1)) (c .pivot) (c ∷ cs) ≡ kid (freshIn free (at + 1)) (c .pivot) ∷ []
-        a-head = unfold headKid in refl
+module _ (l : List Branch) (below : Parts) (lift out : List ℕ) (r : Parts) where
+  pub told-edge : l ≡ [] → r ≡ edgeOnly below → bothTold l below lift out r
+  unfolding bothTold
+  told-edge none e = subst (λ z. bothTold z below lift out r) (sym none) e
+
+  pub told-rest : (c : Branch) (cs : List Branch) → l ≡ c ∷ cs → r ≡ withRest (length lift + length (c .pivot)) below → length lift + length (c .pivot) ≤ length out
+      → take (length lift + length (c .pivot)) out ≡ lift ++ c .pivot → bothTold l below lift out r
+  unfolding bothTold
+  told-rest c cs some e h q = subst (λ z. bothTold z below lift out r) (sym some) (e, h, q)
 
 pub ready-ends : (size level : ℕ) (node : List ℕ) (start : Cursor) (hi k : List ℕ) (below : Parts) (out : List ℕ) (at : ℕ) (free : List ℕ)
     → WideReady size level node start hi k below out at free → start .end ≤ length node

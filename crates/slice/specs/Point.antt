@@ -7,9 +7,9 @@ use mathlib.Core.Bool.{Bool, true, false, not, cond}
 use lib.ListN.{length, drop}
 use Rattle.image.specs.Bytes.{before, u16}
 use Rattle.image.specs.Entry as defined
-use Rattle.image.specs.Image.{Tree, Kid}
+use Rattle.image.specs.Image.{Tree, Branch}
 use Rattle.laws.specs.Encode.{bytesOf}
-use Rattle.laws.specs.Reading.Relative.{kidHigh}
+use Rattle.laws.specs.Reading.Relative.{branchHigh}
 use Rattle.node.specs.Places.{part, Within}
 use Rattle.slice.specs.Slicing.SliceWrite.{leftWrite}
 use Rattle.slice.specs.declared.Cut.{Cut}
@@ -24,11 +24,11 @@ pub data Point : Type 0 where
   between : ℕ → List ℕ → Point
   nowhere : ℕ → Point
 
-unfoldable pub pointOf : ℕ → List Kid → List ℕ → List ℕ → Point
+unfoldable pub pointOf : ℕ → List Branch → List ℕ → List ℕ → Point
 pointOf n [] hi k = nowhere n
 pointOf n (c ∷ cs) hi k =
-    cond (before k (kidHigh hi cs))
-    (cond (before (c .pivot) k) (within n (c .number) (c .pivot) (kidHigh hi cs)) (between n (c .pivot)))
+    cond (before k (branchHigh hi cs))
+    (cond (before (c .pivot) k) (within n (c .number) (c .pivot) (branchHigh hi cs)) (between n (c .pivot)))
     (pointOf (n + 1) cs hi k)
 
 -- how many children end at the cut or before it
@@ -37,9 +37,9 @@ countOf (within n i low high) = n
 countOf (between n low) = n
 countOf (nowhere n) = n
 
-unfoldable pub wholes : List Kid → List ℕ → List ℕ → ℕ
+unfoldable pub wholes : List Branch → List ℕ → List ℕ → ℕ
 wholes [] hi k = 0
-wholes (c ∷ cs) hi k = cond (before k (kidHigh hi cs)) 0 (suc (wholes cs hi k))
+wholes (c ∷ cs) hi k = cond (before k (branchHigh hi cs)) 0 (suc (wholes cs hi k))
 
 -- what the code answers
 unfoldable pub pointIn : List ℕ → List ℕ → Cut → Point
@@ -59,10 +59,10 @@ pub record CutAs (s hi : List ℕ) (x : Point) (r : Cut) : Type 0 where
   pub fits : CutFits (length s) r
 
 -- the entries of the first n children, each pivot without its first d bytes
-unfoldable pub kidLine : ℕ → ℕ → List Kid → List ℕ
-kidLine d zero ks = []
-kidLine d (suc n) [] = []
-kidLine d (suc n) (k ∷ ks) = bytesOf (defined.child (k .number) (drop d (k .pivot))) ++ kidLine d n ks
+unfoldable pub branchLine : ℕ → ℕ → List Branch → List ℕ
+branchLine d zero ks = []
+branchLine d (suc n) [] = []
+branchLine d (suc n) (k ∷ ks) = bytesOf (defined.child (k .number) (drop d (k .pivot))) ++ branchLine d n ks
 
 -- the entry of the child that holds the cut, under its new number
 unfoldable pub cutLine : ℕ → ℕ → Point → List ℕ
@@ -71,8 +71,8 @@ cutLine d m (between n low) = []
 cutLine d m (nowhere n) = []
 
 -- the entries of the part before the cut
-unfoldable pub leftLine : ℕ → ℕ → List Kid → Point → List ℕ
-leftLine d m ks x = kidLine d (countOf x) ks ++ cutLine d m x
+unfoldable pub leftLine : ℕ → ℕ → List Branch → Point → List ℕ
+leftLine d m ks x = branchLine d (countOf x) ks ++ cutLine d m x
 
 -- the part of that child, written
 unfoldable pub leftAt : (ℕ → ℕ) → (ℕ → Tree) → ℕ → List ℕ → ℕ → List ℕ → Point → List ℕ

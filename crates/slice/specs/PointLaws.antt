@@ -9,25 +9,25 @@ use lib.ListN.{length, drop}
 use Rattle.image.specs.Bytes.{before}
 use Rattle.image.specs.Entry as defined
 use Rattle.image.specs.Table.{Row}
-use Rattle.image.specs.Image.{Tree, unread, leaf, interior, tree, Kid, forestOf, pairThen, pairsOf}
+use Rattle.image.specs.Image.{Tree, unread, leaf, interior, tree, Branch, forestOf, pairThen, pairsOf}
 use Rattle.octets.specs.Order.{and-left, and-right}
 use Rattle.laws.specs.Encode.{bytesOf, bytesOfAll}
 use Rattle.laws.specs.Filter.{keep, lowerRows}
 use Rattle.laws.specs.Pieces.{lower, node}
 use Rattle.laws.specs.Page.{numberOf, pairEntries, childEntries}
-use Rattle.laws.specs.Reading.Relative.{kidHigh, high-at, usable, usableIn}
+use Rattle.laws.specs.Reading.Relative.{branchHigh, high-at, usable, usableIn}
 use Rattle.slice.specs.Slicing.Slice.{leftOf, leftIn}
 use Rattle.slice.specs.Slicing.SliceWrite.{leftWriteIn}
-use Rattle.slice.specs.Point.{within, between, pointOf, countOf, wholes, kidLine, cutLine, leftAt, onSide, sideLine}
+use Rattle.slice.specs.Point.{within, between, pointOf, countOf, wholes, branchLine, cutLine, leftAt, onSide, sideLine}
 
 -- the count
-pub point-count : (n : ℕ) (ks : List Kid) (hi k : List ℕ) → countOf (pointOf n ks hi k) ≡ n + wholes ks hi k
+pub point-count : (n : ℕ) (ks : List Branch) (hi k : List ℕ) → countOf (pointOf n ks hi k) ≡ n + wholes ks hi k
 unfolding pointOf countOf wholes
 point-count n [] hi k = omega arith
-point-count n (c ∷ cs) hi k = go (before k (kidHigh hi cs)) (before (c .pivot) k) (point-count (n + 1) cs hi k)
+point-count n (c ∷ cs) hi k = go (before k (branchHigh hi cs)) (before (c .pivot) k) (point-count (n + 1) cs hi k)
   where
     go : (x y : Bool) → countOf (pointOf (n + 1) cs hi k) ≡ n + 1 + wholes cs hi k
-        → countOf (cond x (cond y (within n (c .number) (c .pivot) (kidHigh hi cs)) (between n (c .pivot))) (pointOf (n + 1) cs hi k))
+        → countOf (cond x (cond y (within n (c .number) (c .pivot) (branchHigh hi cs)) (between n (c .pivot))) (pointOf (n + 1) cs hi k))
         ≡ n + cond x 0 (suc (wholes cs hi k))
     go true true ih = omega arith
     go true false ih = omega arith
@@ -40,35 +40,35 @@ module _ (fresh : ℕ → ℕ) (under : ℕ → Tree) (hi k : List ℕ) where
   number-cut m (leaf i rs) lo high at e = refl
   number-cut m (interior i f ms) lo high at e = refl
 
-  pub left-line : (l : List ℕ) (ks : List Kid) (n at m : ℕ) → ((j : ℕ) → numberOf (under j) ≡ j) → usableIn m (forestOf under ks) ≡ true
-      → bytesOfAll (childEntries (lower l (leftIn fresh (forestOf under ks) [] hi k at))) ≡ kidLine (length l) (wholes ks hi k) ks ++ cutLine (length l) (fresh at) (pointOf n ks hi k)
-  unfolding leftIn forestOf lower childEntries bytesOfAll wholes pointOf kidLine cutLine usableIn
+  pub left-line : (l : List ℕ) (ks : List Branch) (n at m : ℕ) → ((j : ℕ) → numberOf (under j) ≡ j) → usableIn m (forestOf under ks) ≡ true
+      → bytesOfAll (childEntries (lower l (leftIn fresh (forestOf under ks) [] hi k at))) ≡ branchLine (length l) (wholes ks hi k) ks ++ cutLine (length l) (fresh at) (pointOf n ks hi k)
+  unfolding leftIn forestOf lower childEntries bytesOfAll wholes pointOf branchLine cutLine usableIn
   left-line l [] n at m num u = refl
   left-line l (c ∷ cs) n at m num u =
-      go (before k (kidHigh hi cs)) refl (before (c .pivot) k) refl (left-line l cs (n + 1) at m num (and-right (usable m (under (c .number))) _ u))
+      go (before k (branchHigh hi cs)) refl (before (c .pivot) k) refl (left-line l cs (n + 1) at m num (and-right (usable m (under (c .number))) _ u))
     where
       t : Tree
       t = under (c .number)
 
-      go : (x : Bool) → before k (kidHigh hi cs) ≡ x → (y : Bool) → before (c .pivot) k ≡ y
-          → bytesOfAll (childEntries (lower l (leftIn fresh (forestOf under cs) [] hi k at))) ≡ kidLine (length l) (wholes cs hi k) cs ++ cutLine (length l) (fresh at) (pointOf (n + 1) cs hi k)
+      go : (x : Bool) → before k (branchHigh hi cs) ≡ x → (y : Bool) → before (c .pivot) k ≡ y
+          → bytesOfAll (childEntries (lower l (leftIn fresh (forestOf under cs) [] hi k at))) ≡ branchLine (length l) (wholes cs hi k) cs ++ cutLine (length l) (fresh at) (pointOf (n + 1) cs hi k)
           → bytesOfAll (childEntries (lower l (leftIn fresh (tree (c .pivot) t (forestOf under cs)) [] hi k at)))
-          ≡ kidLine (length l) (wholes (c ∷ cs) hi k) (c ∷ cs) ++ cutLine (length l) (fresh at) (pointOf n (c ∷ cs) hi k)
+          ≡ branchLine (length l) (wholes (c ∷ cs) hi k) (c ∷ cs) ++ cutLine (length l) (fresh at) (pointOf n (c ∷ cs) hi k)
       go true a true b ih =
           rw (high-at under hi cs, a, b)
-          (ap (λ i. bytesOf (defined.child i (drop (length l) (c .pivot))) ++ []) (number-cut m t (c .pivot) (kidHigh hi cs) at (and-left _ _ u)) ∙ append-nil _)
+          (ap (λ i. bytesOf (defined.child i (drop (length l) (c .pivot))) ++ []) (number-cut m t (c .pivot) (branchHigh hi cs) at (and-left _ _ u)) ∙ append-nil _)
       go true a false b ih = rw (high-at under hi cs, a, b)
       go false a y b ih =
           rw (high-at under hi cs, a)
           (ap₂ (λ i r. bytesOf (defined.child i (drop (length l) (c .pivot))) ++ r) (num (c .number)) ih
-          ∙ sym (append-assoc (bytesOf (defined.child (c .number) (drop (length l) (c .pivot)))) (kidLine (length l) (wholes cs hi k) cs) (cutLine (length l) (fresh at) (pointOf (n + 1) cs hi k))))
+          ∙ sym (append-assoc (bytesOf (defined.child (c .number) (drop (length l) (c .pivot)))) (branchLine (length l) (wholes cs hi k) cs) (cutLine (length l) (fresh at) (pointOf (n + 1) cs hi k))))
 
-  pub left-write : (ks : List Kid) (n h at : ℕ) (s : List ℕ) → leftWriteIn fresh (forestOf under ks) h [] hi k at s ≡ leftAt fresh under h k at s (pointOf n ks hi k)
+  pub left-write : (ks : List Branch) (n h at : ℕ) (s : List ℕ) → leftWriteIn fresh (forestOf under ks) h [] hi k at s ≡ leftAt fresh under h k at s (pointOf n ks hi k)
   unfolding leftWriteIn forestOf pointOf leftAt
   left-write [] n h at s = refl
-  left-write (c ∷ cs) n h at s = go (before k (kidHigh hi cs)) refl (before (c .pivot) k) refl (left-write cs (n + 1) h at s)
+  left-write (c ∷ cs) n h at s = go (before k (branchHigh hi cs)) refl (before (c .pivot) k) refl (left-write cs (n + 1) h at s)
     where
-      go : (x : Bool) → before k (kidHigh hi cs) ≡ x → (y : Bool) → before (c .pivot) k ≡ y
+      go : (x : Bool) → before k (branchHigh hi cs) ≡ x → (y : Bool) → before (c .pivot) k ≡ y
           → leftWriteIn fresh (forestOf under cs) h [] hi k at s ≡ leftAt fresh under h k at s (pointOf (n + 1) cs hi k)
           → leftWriteIn fresh (tree (c .pivot) (under (c .number)) (forestOf under cs)) h [] hi k at s ≡ leftAt fresh under h k at s (pointOf n (c ∷ cs) hi k)
       go true a true b ih = rw (high-at under hi cs, a, b)

@@ -3,7 +3,7 @@
 use Prim.Native.Nat.{ℕ, zero, suc, _+_, _*_, _-_, _≤_}
 use mathlib.Core.Path.{_≡_, refl, sym, ap, ap₂, subst, _∙_}
 use mathlib.Core.List.{List, [], _∷_, _++_}
-use mathlib.Core.Bool.{Bool, true, false, _&&_}
+use mathlib.Core.Bool.{Bool, true, false, _&&_, false≢true}
 use native.Mathlib.Omega.{arith}
 use lib.ListN.{length, take, drop, length-append}
 use lib.Seq.{take-append-seam}
@@ -11,15 +11,15 @@ use lib.Dec.{ltb, leb}
 use borrow.Author.Tests.{leb-true}
 use Rattle.image.specs.Bytes.{u16, before, shared}
 use Rattle.image.specs.Table.{Row, underPrefix}
-use Rattle.image.specs.Image.{Tree, leaf, interior, Forest, end, tree, Kid, nodesOf, nodeBytes, treeAt, forestOf}
+use Rattle.image.specs.Image.{Tree, unread, leaf, interior, Forest, end, tree, Branch, nodesOf, nodeBytes, treeAt, forestOf}
 use Rattle.image.specs.Meaning.{highOf}
 use Rattle.octets.specs.Order.{and-left, and-right, before-append}
 use Rattle.laws.specs.Encode.{bytesOfAll}
 use Rattle.laws.specs.Filter.{keep, since, lowerRows}
 use Rattle.laws.specs.Pieces.{joined, raise, node, over}
-use Rattle.laws.specs.Page.{page, numberOf, pairEntries, kidsOf, number-read}
+use Rattle.laws.specs.Page.{page, numberOf, pairEntries, branchesOf, number-read}
 use Rattle.laws.specs.WriteNode.{writeNode}
-use Rattle.laws.specs.Reading.Relative.{kidHigh, high-at, usable, usableIn}
+use Rattle.laws.specs.Reading.Relative.{branchHigh, high-at, usable, usableIn}
 use Rattle.slice.specs.Slicing.Slice.{restIn, packed, after, rightOf, edgeIn}
 use Rattle.slice.specs.Slicing.SliceFits.{pairsSize, fits, fitsIn}
 use Rattle.slice.specs.Slicing.ReadBack.{pairs-size}
@@ -31,18 +31,18 @@ use Rattle.node.specs.Entries.{listed}
 use Rattle.node.specs.Places.{part}
 use Rattle.node.specs.declared.Place.{Place}
 use Rattle.node.specs.declared.Cursor.{Cursor}
-use Rattle.node.specs.Search.Own.{kidsE}
+use Rattle.node.specs.Search.Own.{branchesAmong}
 use Rattle.lookup.specs.Look.{listing, LeafAt, InteriorAt, leaf-at, interior-at, node-inside, inside-splits}
 use Rattle.push.specs.Laws.Written.{smallNumbers}
 use Rattle.slice.specs.declared.Cut.{Cut}
 use Rattle.slice.specs.declared.Parts.{Parts}
 use Rattle.slice.specs.Point.{Point, within, between, nowhere, freshIn, pointOf, pointIn, CutAs, onSide, sideLine}
 use Rattle.slice.specs.PointLaws.{side-line}
-use Rattle.slice.specs.Right.{skipOf, restOf, edgeAt, rightAt, piecesIn, PartsFit, raiseKids, allLine, overBody, wideBody, oneNode, headKid, RightAsks, PointAsksRight, RightAs, EdgeAs, NarrowAsks, WideReady, WideAs}
-use Rattle.slice.specs.RightLaws.{rest-skip, rest-is, edge-is, edge-write, kids-raise, kids-joined, kids-forest, over-body, over-fits}
+use Rattle.slice.specs.Right.{skipOf, restOf, edgeAt, rightAt, piecesIn, PartsFit, raiseBranches, allLine, overBody, twoBody, wideBody, oneNode, headBranch, RightAsks, PointAsksRight, RightAs, EdgeAs, NarrowAsks, WideReady, WideAs}
+use Rattle.slice.specs.RightLaws.{rest-skip, rest-is, edge-is, edge-write, branches-raise, branches-joined, branches-forest, over-body, over-fits}
 use Rattle.slice.specs.Slicing.SliceFits.{fits-raise}
 use Rattle.slice.specs.Slicing.RightWrite.{fits-parts}
-use Rattle.slice.specs.LeftSteps.{small-kids, no-level, one-level, node-lists, node-short}
+use Rattle.slice.specs.LeftSteps.{small-branches, no-level, one-level, node-lists, node-short}
 use Rattle.octets.specs.Beginnings.{strip-shared}
 
 under-none : (t : List Row) → underPrefix [] t ≡ t
@@ -51,24 +51,24 @@ under-none [] = refl
 under-none (r ∷ t) = ap (λ u. r ∷ u) (under-none t)
 
 -- KIDS OF A PIECE
-over-kids : (n : ℕ) (lo hi : List ℕ) (g : Forest) → kidsOf (over n lo hi g) ≡ headKid n lo (kidsOf g)
-over-kids n lo hi end = unfold over kidsOf headKid in refl
-over-kids n lo hi (tree q t f) = unfold over node kidsOf numberOf headKid in refl
+over-branches : (n : ℕ) (lo hi : List ℕ) (g : Forest) → branchesOf (over n lo hi g) ≡ headBranch n lo (branchesOf g)
+over-branches n lo hi end = unfold over branchesOf headBranch in refl
+over-branches n lo hi (tree q t f) = unfold over node branchesOf numberOf headBranch in refl
 
 -- NODES OVER PIECES, WIDE AND NARROW
 module _ (n m : ℕ) (k hi : List ℕ) (e r : Forest) where
-  packed-wide : kidsOf (packed true n m k hi e r) ≡ headKid n k (kidsOf e) ++ headKid m (highOf [] hi r) (kidsOf r)
+  packed-wide : branchesOf (packed true n m k hi e r) ≡ headBranch n k (branchesOf e) ++ headBranch m (highOf [] hi r) (branchesOf r)
   unfolding packed
   packed-wide =
-      kids-joined (over n k (highOf [] hi r) e) (over m (highOf [] hi r) hi r)
-      ∙ ap₂ (λ x y. x ++ y) (over-kids n k (highOf [] hi r) e) (over-kids m (highOf [] hi r) hi r)
+      branches-joined (over n k (highOf [] hi r) e) (over m (highOf [] hi r) hi r)
+      ∙ ap₂ (λ x y. x ++ y) (over-branches n k (highOf [] hi r) e) (over-branches m (highOf [] hi r) hi r)
 
-  packed-narrow : kidsOf (packed false n m k hi e r) ≡ headKid n k (kidsOf e ++ kidsOf r)
+  packed-narrow : branchesOf (packed false n m k hi e r) ≡ headBranch n k (branchesOf e ++ branchesOf r)
   unfolding packed
-  packed-narrow = over-kids n k hi (joined e r) ∙ ap (headKid n k) (kids-joined e r)
+  packed-narrow = over-branches n k hi (joined e r) ∙ ap (headBranch n k) (branches-joined e r)
 
   wide-fits : fitsIn (packed true n m k hi e r) ≡ true
-      → (length (allLine (length (shared k (highOf [] hi r))) (kidsOf e)) ≤ 1016) × (length (allLine (length (shared (highOf [] hi r) hi)) (kidsOf r)) ≤ 1016) × (fitsIn e ≡ true)
+      → (length (allLine (length (shared k (highOf [] hi r))) (branchesOf e)) ≤ 1016) × (length (allLine (length (shared (highOf [] hi r) hi)) (branchesOf r)) ≤ 1016) × (fitsIn e ≡ true)
   unfolding packed
   wide-fits f =
       let p = fits-parts (over n k (highOf [] hi r) e) (over m (highOf [] hi r) hi r) f in
@@ -76,36 +76,36 @@ module _ (n m : ℕ) (k hi : List ℕ) (e r : Forest) where
       let y = over-fits m (highOf [] hi r) hi r (p .1) in
       (x .0, y .0, x .1)
 
-  narrow-fits : fitsIn (packed false n m k hi e r) ≡ true → (length (allLine (length (shared k hi)) (kidsOf e ++ kidsOf r)) ≤ 1016) × (fitsIn e ≡ true)
+  narrow-fits : fitsIn (packed false n m k hi e r) ≡ true → (length (allLine (length (shared k hi)) (branchesOf e ++ branchesOf r)) ≤ 1016) × (fitsIn e ≡ true)
   unfolding packed
   narrow-fits f =
       let x = over-fits n k hi (joined e r) f in
-      let l = ap (λ q. length (allLine (length (shared k hi)) q)) (kids-joined e r) in
+      let l = ap (λ q. length (allLine (length (shared k hi)) q)) (branches-joined e r) in
       let a = x .0 in
       (omega arith, fits-parts e r (x .1) .0)
 
-write-wide-is : (h n m : ℕ) (k hi : List ℕ) (e r : Forest) (s : List ℕ) → packedWrite true h n m k hi e r s ≡ wideBody n m h k hi (highOf [] hi r) (kidsOf e) (kidsOf r) s
-unfolding packedWrite wideBody
+write-wide-is : (h n m : ℕ) (k hi : List ℕ) (e r : Forest) (s : List ℕ) → packedWrite true h n m k hi e r s ≡ wideBody n m h k hi (highOf [] hi r) (branchesOf e) (branchesOf r) s
+unfolding packedWrite wideBody twoBody
 write-wide-is h n m k hi e r s =
     over-body m h (highOf [] hi r) hi r (overWrite n h k (highOf [] hi r) e s)
-    ∙ ap (overBody m h (allLine (length (shared (highOf [] hi r) hi)) (kidsOf r))) (over-body n h k (highOf [] hi r) e s)
+    ∙ ap (overBody m h (allLine (length (shared (highOf [] hi r) hi)) (branchesOf r))) (over-body n h k (highOf [] hi r) e s)
 
-write-narrow-is : (h n m : ℕ) (k hi : List ℕ) (e r : Forest) (s : List ℕ) → packedWrite false h n m k hi e r s ≡ overBody n h (allLine (length (shared k hi)) (kidsOf e ++ kidsOf r)) s
+write-narrow-is : (h n m : ℕ) (k hi : List ℕ) (e r : Forest) (s : List ℕ) → packedWrite false h n m k hi e r s ≡ overBody n h (allLine (length (shared k hi)) (branchesOf e ++ branchesOf r)) s
 unfolding packedWrite
 write-narrow-is h n m k hi e r s =
-    over-body n h k hi (joined e r) s ∙ ap (λ q. overBody n h (allLine (length (shared k hi)) q) s) (kids-joined e r)
+    over-body n h k hi (joined e r) s ∙ ap (λ q. overBody n h (allLine (length (shared k hi)) q) s) (branches-joined e r)
 
-one-told : (n m : ℕ) (lift k out : List ℕ) (ks : List Kid) → raiseKids lift (headKid n k ks) ≡ piecesIn n m (lift ++ k) out (oneNode ks)
-unfolding headKid raiseKids piecesIn oneNode
+one-told : (n m : ℕ) (lift k out : List ℕ) (ks : List Branch) → raiseBranches lift (headBranch n k ks) ≡ piecesIn n m (lift ++ k) out (oneNode ks)
+unfolding headBranch raiseBranches piecesIn oneNode
 one-told n m lift k out [] = refl
 one-told n m lift k out (c ∷ cs) = refl
 
-one-fit : (m : ℕ) (ks : List Kid) → PartsFit m (oneNode ks)
+one-fit : (m : ℕ) (ks : List Branch) → PartsFit m (oneNode ks)
 unfolding PartsFit oneNode
 one-fit m [] = tt
 one-fit m (c ∷ cs) = tt
 
-small-drop : (n : ℕ) (ks : List Kid) → smallNumbers ks ≡ true → smallNumbers (drop n ks) ≡ true
+small-drop : (n : ℕ) (ks : List Branch) → smallNumbers ks ≡ true → smallNumbers (drop n ks) ≡ true
 unfolding smallNumbers
 small-drop zero ks e = e
 small-drop (suc n) [] e = refl
@@ -125,13 +125,13 @@ PointIs under m k (within n i low high) = (usable m (under i) ≡ true) × (befo
 PointIs under m k (between n low) = Unit
 PointIs under m k (nowhere n) = Unit
 
-point-is : (under : ℕ → Tree) (hi k : List ℕ) (m : ℕ) (ks : List Kid) (n : ℕ) → usableIn m (forestOf under ks) ≡ true → PointIs under m k (pointOf n ks hi k)
+point-is : (under : ℕ → Tree) (hi k : List ℕ) (m : ℕ) (ks : List Branch) (n : ℕ) → usableIn m (forestOf under ks) ≡ true → PointIs under m k (pointOf n ks hi k)
 unfolding forestOf pointOf PointIs usableIn
 point-is under hi k m [] n u = tt
 point-is under hi k m (c ∷ cs) n u =
-    go (before k (kidHigh hi cs)) refl (before (c .pivot) k) refl (point-is under hi k m cs (n + 1) (and-right (usable m (under (c .number))) _ u))
+    go (before k (branchHigh hi cs)) refl (before (c .pivot) k) refl (point-is under hi k m cs (n + 1) (and-right (usable m (under (c .number))) _ u))
   where
-    go : (x : Bool) → before k (kidHigh hi cs) ≡ x → (y : Bool) → before (c .pivot) k ≡ y → PointIs under m k (pointOf (n + 1) cs hi k) → PointIs under m k (pointOf n (c ∷ cs) hi k)
+    go : (x : Bool) → before k (branchHigh hi cs) ≡ x → (y : Bool) → before (c .pivot) k ≡ y → PointIs under m k (pointOf (n + 1) cs hi k) → PointIs under m k (pointOf n (c ∷ cs) hi k)
     go true a true b ih = rw (a, b) (and-left _ _ u, b, a)
     go true a false b ih = rw (a, b) tt
     go false a y b ih = rw a ih
@@ -209,44 +209,44 @@ module _ (w : Bool) (s : List ℕ) (num level : ℕ) (lo hi k : List ℕ) (at : 
       leaf-done lift out new s′ e q =
           record {
             written = leaf-written new s′ e q;
-            pieces = ap (λ f. raiseKids lift (kidsOf f)) part-is ∙ shown;
+            pieces = ap (λ f. raiseBranches lift (branchesOf f)) part-is ∙ shown;
             fit = unfold PartsFit in tt;
           }
         where
-          shown : raiseKids lift (kidsOf (tree k (leaf (freshIn free at) kept) end)) ≡ piecesIn (freshIn free at) (freshIn free (at + 1)) (lift ++ k) out Parts.Edge
-          shown = unfold raiseKids kidsOf piecesIn numberOf in refl
+          shown : raiseBranches lift (branchesOf (tree k (leaf (freshIn free at) kept) end)) ≡ piecesIn (freshIn free at) (freshIn free (at + 1)) (lift ++ k) out Parts.Edge
+          shown = unfold raiseBranches branchesOf piecesIn numberOf in refl
 
     -- an interior node
-    module _ (inner : 2 ≤ level) (c : Cut) (as-cut : CutAs node′ hi (pointOf 0 (kidsE (listed node′ 8 (8 + len))) hi k) c) (start : Cursor)
-        (at-rest : kidsE (listed node′ (start .at) (start .end)) ≡ drop (skipOf (pointIn node′ [] c)) (kidsE (listed node′ 8 (8 + len)))) where
+    module _ (inner : 2 ≤ level) (c : Cut) (as-cut : CutAs node′ hi (pointOf 0 (branchesAmong (listed node′ 8 (8 + len))) hi k) c) (start : Cursor)
+        (at-rest : branchesAmong (listed node′ (start .at) (start .end)) ≡ drop (skipOf (pointIn node′ [] c)) (branchesAmong (listed node′ 8 (8 + len)))) where
       inner′ : InteriorAt s num level (level - 1)
       inner′ = interior-at s num level inner (pre .reads)
 
-      abbrev ks : List Kid
-      ks = kidsE (listed node′ 8 (8 + len))
+      abbrev ks : List Branch
+      ks = branchesAmong (listed node′ 8 (8 + len))
 
-      abbrev rks : List Kid
-      rks = kidsE (listed node′ (start .at) (start .end))
+      abbrev rks : List Branch
+      rks = branchesAmong (listed node′ (start .at) (start .end))
 
       abbrev under : ℕ → Tree
       under = λ j. treeAt (level - 1) s j
 
-      kids-are : inner′ .x .kids ≡ ks
-      kids-are = sym (ap kidsE (lists ∙ inner′ .node .lists) ∙ inside-splits (inner′ .es) (inner′ .x) (inner′ .splits) .kids)
+      branches-are : inner′ .x .branches ≡ ks
+      branches-are = sym (ap branchesAmong (lists ∙ inner′ .node .lists) ∙ inside-splits (inner′ .es) (inner′ .x) (inner′ .splits) .branches)
 
-      usables : usableIn (nodesOf (length s)) (forestOf (λ j. treeAt (level - 1) s j) (kidsE (listed node′ 8 (8 + len)))) ≡ true
-      usables = ap (λ l. usableIn (nodesOf (length s)) (forestOf (λ j. treeAt (level - 1) s j) l)) (sym kids-are) ∙ inner′ .kids
+      usables : usableIn (nodesOf (length s)) (forestOf (λ j. treeAt (level - 1) s j) (branchesAmong (listed node′ 8 (8 + len)))) ≡ true
+      usables = ap (λ l. usableIn (nodesOf (length s)) (forestOf (λ j. treeAt (level - 1) s j) l)) (sym branches-are) ∙ inner′ .branches
 
-      tree-is : treeAt level s num ≡ interior num (forestOf (λ j. treeAt (level - 1) s j) (kidsE (listed node′ 8 (8 + len)))) (inner′ .x .messages)
-      tree-is = inner′ .tree ∙ ap (λ l. interior num (forestOf (λ j. treeAt (level - 1) s j) l) (inner′ .x .messages)) kids-are
+      tree-is : treeAt level s num ≡ interior num (forestOf (λ j. treeAt (level - 1) s j) (branchesAmong (listed node′ 8 (8 + len)))) (inner′ .x .messages)
+      tree-is = inner′ .tree ∙ ap (λ l. interior num (forestOf (λ j. treeAt (level - 1) s j) l) (inner′ .x .messages)) branches-are
 
-      pub kids-small : smallNumbers (kidsE (listed node′ (start .at) (start .end))) ≡ true
-      kids-small =
+      pub branches-small : smallNumbers (branchesAmong (listed node′ (start .at) (start .end))) ≡ true
+      branches-small =
           ap smallNumbers at-rest
-          ∙ small-drop (skipOf (pointIn node′ [] c)) ks (small-kids (nodesOf (length s)) (λ j. treeAt (level - 1) s j) ks (pre .few) (λ j. number-read (level - 1) s j) usables)
+          ∙ small-drop (skipOf (pointIn node′ [] c)) ks (small-branches (nodesOf (length s)) (λ j. treeAt (level - 1) s j) ks (pre .few) (λ j. number-read (level - 1) s j) usables)
 
-      rest-kids : restOf (kidsE (listed node′ 8 (8 + len))) hi k ≡ kidsE (listed node′ (start .at) (start .end))
-      rest-kids =
+      rest-branches : restOf (branchesAmong (listed node′ 8 (8 + len))) hi k ≡ branchesAmong (listed node′ (start .at) (start .end))
+      rest-branches =
           let z : skipOf (pointOf 0 ks hi k) ≡ 0 + skipOf (pointIn node′ [] c) = ap skipOf (sym (as-cut .meant)) ∙ sym (skip-high node′ hi c) ∙ omega arith in
           rest-skip hi k 0 ks (skipOf (pointIn node′ [] c)) z ∙ sym at-rest
 
@@ -256,14 +256,14 @@ module _ (w : Bool) (s : List ℕ) (num level : ℕ) (lo hi k : List ℕ) (at : 
       abbrev rest : Forest
       rest = forestOf under rks
 
-      edge-same : edgeIn (freshIn free) w (forestOf (λ j. treeAt (level - 1) s j) (kidsE (listed node′ 8 (8 + len)))) [] hi k (after w at) ≡ edge
+      edge-same : edgeIn (freshIn free) w (forestOf (λ j. treeAt (level - 1) s j) (branchesAmong (listed node′ 8 (8 + len)))) [] hi k (after w at) ≡ edge
       edge-same = edge-is hi k (freshIn free) w under 0 (after w at) ks
 
-      rest-same : restIn (forestOf (λ j. treeAt (level - 1) s j) (kidsE (listed node′ 8 (8 + len)))) [] hi k ≡ rest
-      rest-same = rest-is hi k under ks ∙ ap (forestOf under) rest-kids
+      rest-same : restIn (forestOf (λ j. treeAt (level - 1) s j) (branchesAmong (listed node′ 8 (8 + len)))) [] hi k ≡ rest
+      rest-same = rest-is hi k under ks ∙ ap (forestOf under) rest-branches
 
-      kids-rest : kidsOf rest ≡ rks
-      kids-rest = kids-forest under rks (λ j. number-read (level - 1) s j)
+      branches-rest : branchesOf rest ≡ rks
+      branches-rest = branches-forest under rks (λ j. number-read (level - 1) s j)
 
       part-is′ : rightOf (freshIn free) w (treeAt level s num) lo hi k at ≡ packed w (freshIn free at) (freshIn free (suc at)) k hi edge rest
       part-is′ =
@@ -282,11 +282,11 @@ module _ (w : Bool) (s : List ℕ) (num level : ℕ) (lo hi k : List ℕ) (at : 
           ∙ ap₂ (λ e r. packedWrite w (suc (level - 1)) (freshIn free at) (freshIn free (suc at)) k hi e r (edgeWrite (freshIn free) w (forestOf under ks) (level - 1) [] hi k (after w at) s)) edge-same rest-same
           ∙ ap₂ (λ h x. packedWrite w h (freshIn free at) (freshIn free (suc at)) k hi edge rest x) (sym v) (edge-write hi k (freshIn free) w under 0 (level - 1) (after w at) s ks)
         where
-          shown : rightWrite (freshIn free) w (interior num (forestOf (λ j. treeAt (level - 1) s j) (kidsE (listed node′ 8 (8 + len)))) (inner′ .x .messages)) (suc (level - 1)) lo hi k at s
+          shown : rightWrite (freshIn free) w (interior num (forestOf (λ j. treeAt (level - 1) s j) (branchesAmong (listed node′ 8 (8 + len)))) (inner′ .x .messages)) (suc (level - 1)) lo hi k at s
               ≡ packedWrite w (suc (level - 1)) (freshIn free at) (freshIn free (suc at)) k hi
-              (edgeIn (freshIn free) w (forestOf (λ j. treeAt (level - 1) s j) (kidsE (listed node′ 8 (8 + len)))) [] hi k (after w at))
-              (restIn (forestOf (λ j. treeAt (level - 1) s j) (kidsE (listed node′ 8 (8 + len)))) [] hi k)
-              (edgeWrite (freshIn free) w (forestOf (λ j. treeAt (level - 1) s j) (kidsE (listed node′ 8 (8 + len)))) (level - 1) [] hi k (after w at) s)
+              (edgeIn (freshIn free) w (forestOf (λ j. treeAt (level - 1) s j) (branchesAmong (listed node′ 8 (8 + len)))) [] hi k (after w at))
+              (restIn (forestOf (λ j. treeAt (level - 1) s j) (branchesAmong (listed node′ 8 (8 + len)))) [] hi k)
+              (edgeWrite (freshIn free) w (forestOf (λ j. treeAt (level - 1) s j) (branchesAmong (listed node′ 8 (8 + len)))) (level - 1) [] hi k (after w at) s)
           shown = unfold rightWrite in rw bare
 
       -- what the child is asked
@@ -313,10 +313,10 @@ module _ (w : Bool) (s : List ℕ) (num level : ℕ) (lo hi k : List ℕ) (at : 
 
       -- the child's answer
       module _ (a : ℕ) (ea : after w at ≡ a) (s₁ out : List ℕ) (below : Parts) (ans : EdgeAs w (level - 1) k a free s s₁ out (pointIn node′ hi c) below) where
-        edge-kids : kidsOf edge ≡ piecesIn (freshIn free a) (freshIn free (a + 1)) k out below
-        edge-kids =
-            ap (λ i. kidsOf (edgeAt (freshIn free) w under k i (pointOf 0 ks hi k))) ea
-            ∙ ap (λ x. kidsOf (edgeAt (freshIn free) w under k a x)) (sym (as-cut .meant)) ∙ ans .pieces
+        edge-branches : branchesOf edge ≡ piecesIn (freshIn free a) (freshIn free (a + 1)) k out below
+        edge-branches =
+            ap (λ i. branchesOf (edgeAt (freshIn free) w under k i (pointOf 0 ks hi k))) ea
+            ∙ ap (λ x. branchesOf (edgeAt (freshIn free) w under k a x)) (sym (as-cut .meant)) ∙ ans .pieces
 
         first-is : s₁ ≡ rightAt (freshIn free) w under (level - 1) k (after w at) s (pointOf 0 ks hi k)
         first-is =
@@ -328,16 +328,16 @@ module _ (w : Bool) (s : List ℕ) (num level : ℕ) (lo hi k : List ℕ) (at : 
           next : a + 1 ≡ at + 3
           next = omega arith
 
-          kids-wide : kidsOf edge ≡ piecesIn (freshIn free (at + 2)) (freshIn free (at + 3)) k out below
-          kids-wide = edge-kids ∙ ap₂ (λ i j. piecesIn (freshIn free i) (freshIn free j) k out below) e2 next
+          branches-wide : branchesOf edge ≡ piecesIn (freshIn free (at + 2)) (freshIn free (at + 3)) k out below
+          branches-wide = edge-branches ∙ ap₂ (λ i j. piecesIn (freshIn free i) (freshIn free j) k out below) e2 next
 
-          high-is : highOf [] hi rest ≡ kidHigh hi rks
+          high-is : highOf [] hi rest ≡ branchHigh hi rks
           high-is = high-at under hi rks
 
           m-is : freshIn free (suc at) ≡ freshIn free (at + 1)
           m-is = let z : suc at ≡ at + 1 = omega arith in ap (freshIn free) z
 
-          wide-parts : (length (allLine (length (shared k (highOf [] hi rest))) (kidsOf edge)) ≤ 1016) × (length (allLine (length (shared (highOf [] hi rest) hi)) (kidsOf rest)) ≤ 1016) × (fitsIn edge ≡ true)
+          wide-parts : (length (allLine (length (shared k (highOf [] hi rest))) (branchesOf edge)) ≤ 1016) × (length (allLine (length (shared (highOf [] hi rest) hi)) (branchesOf rest)) ≤ 1016) × (fitsIn edge ≡ true)
           wide-parts =
               wide-fits (freshIn free at) (freshIn free (suc at)) k hi edge rest
               (ap (λ v. fitsIn (packed v (freshIn free at) (freshIn free (suc at)) k hi edge rest)) (sym ew) ∙ packed-fits)
@@ -346,9 +346,9 @@ module _ (w : Bool) (s : List ℕ) (num level : ℕ) (lo hi k : List ℕ) (at : 
           unfolding WideReady
           wide-ready size big ends =
               let p = wide-parts in
-              let x : allLine (length (shared k (highOf [] hi rest))) (kidsOf edge) ≡ allLine (length (shared k (kidHigh hi rks))) (piecesIn (freshIn free (at + 2)) (freshIn free (at + 3)) k out below) =
-              ap₂ (λ h q. allLine (length (shared k h)) q) high-is kids-wide in
-              let y : allLine (length (shared (highOf [] hi rest) hi)) (kidsOf rest) ≡ allLine (length (shared (kidHigh hi rks) hi)) rks = ap₂ (λ h q. allLine (length (shared h hi)) q) high-is kids-rest in
+              let x : allLine (length (shared k (highOf [] hi rest))) (branchesOf edge) ≡ allLine (length (shared k (branchHigh hi rks))) (piecesIn (freshIn free (at + 2)) (freshIn free (at + 3)) k out below) =
+              ap₂ (λ h q. allLine (length (shared k h)) q) high-is branches-wide in
+              let y : allLine (length (shared (highOf [] hi rest) hi)) (branchesOf rest) ≡ allLine (length (shared (branchHigh hi rks) hi)) rks = ap₂ (λ h q. allLine (length (shared h hi)) q) high-is branches-rest in
               let lx = ap length x in
               let ly = ap length y in
               record {
@@ -357,7 +357,7 @@ module _ (w : Bool) (s : List ℕ) (num level : ℕ) (lo hi k : List ℕ) (at : 
                 room = λ i b. let q = pre .room i (omega arith) in omega arith;
                 fit = ans .fit;
                 ends = ends;
-                numbers = kids-small;
+                numbers = branches-small;
                 edgeFits = omega arith;
                 restFits = omega arith;
               }
@@ -368,14 +368,14 @@ module _ (w : Bool) (s : List ℕ) (num level : ℕ) (lo hi k : List ℕ) (at : 
               record {
                 written =
                     done .written
-                    ∙ sym (λ i. wideBody (freshIn free at) (m-is i) level k hi (high-is i) (kids-wide i) (kids-rest i) s₁)
+                    ∙ sym (λ i. wideBody (freshIn free at) (m-is i) level k hi (high-is i) (branches-wide i) (branches-rest i) s₁)
                     ∙ sym (write-wide-is level (freshIn free at) (freshIn free (suc at)) k hi edge rest s₁)
                     ∙ (λ i. packedWrite (sym ew i) level (freshIn free at) (freshIn free (suc at)) k hi edge rest (first-is i))
                     ∙ sym write-is;
                 pieces =
-                    ap (λ f. raiseKids lift (kidsOf f)) (part-is′ ∙ ap (λ v. packed v (freshIn free at) (freshIn free (suc at)) k hi edge rest) ew)
-                    ∙ ap (raiseKids lift) (packed-wide (freshIn free at) (freshIn free (suc at)) k hi edge rest)
-                    ∙ (λ i. raiseKids lift (headKid (freshIn free at) k (kids-wide i) ++ headKid (m-is i) (high-is i) (kids-rest i)))
+                    ap (λ f. raiseBranches lift (branchesOf f)) (part-is′ ∙ ap (λ v. packed v (freshIn free at) (freshIn free (suc at)) k hi edge rest) ew)
+                    ∙ ap (raiseBranches lift) (packed-wide (freshIn free at) (freshIn free (suc at)) k hi edge rest)
+                    ∙ (λ i. raiseBranches lift (headBranch (freshIn free at) k (branches-wide i) ++ headBranch (m-is i) (high-is i) (branches-rest i)))
                     ∙ done .pieces;
                 fit = done .fit;
               }
@@ -385,41 +385,41 @@ module _ (w : Bool) (s : List ℕ) (num level : ℕ) (lo hi k : List ℕ) (at : 
           next′ : a + 1 ≡ at + 2
           next′ = omega arith
 
-          kids-narrow : kidsOf edge ≡ piecesIn (freshIn free (at + 1)) (freshIn free (at + 2)) k out below
-          kids-narrow = edge-kids ∙ ap₂ (λ i j. piecesIn (freshIn free i) (freshIn free j) k out below) e1 next′
+          branches-narrow : branchesOf edge ≡ piecesIn (freshIn free (at + 1)) (freshIn free (at + 2)) k out below
+          branches-narrow = edge-branches ∙ ap₂ (λ i j. piecesIn (freshIn free i) (freshIn free j) k out below) e1 next′
 
-          all-kids : kidsOf edge ++ kidsOf rest ≡ piecesIn (freshIn free (at + 1)) (freshIn free (at + 2)) k out below ++ rks
-          all-kids = ap₂ (λ x y. x ++ y) kids-narrow kids-rest
+          all-branches : branchesOf edge ++ branchesOf rest ≡ piecesIn (freshIn free (at + 1)) (freshIn free (at + 2)) k out below ++ rks
+          all-branches = ap₂ (λ x y. x ++ y) branches-narrow branches-rest
 
           pub narrow-ready : (size : ℕ) → length s ≤ size → start .end ≤ length node′ → NarrowAsks size level node′ start hi k below out at free
           narrow-ready size big ends =
               let p = narrow-fits (freshIn free at) (freshIn free (suc at)) k hi edge rest
               (ap (λ v. fitsIn (packed v (freshIn free at) (freshIn free (suc at)) k hi edge rest)) (sym ew) ∙ packed-fits) in
-              let x = ap (λ q. length (allLine (length (shared k hi)) q)) all-kids in
+              let x = ap (λ q. length (allLine (length (shared k hi)) q)) all-branches in
               record {
                 levels = pre .levels;
                 enough = let b = pre .enough in omega arith;
                 room = λ i b. let q = pre .room i (omega arith) in omega arith;
                 fit = ans .fit;
                 ends = ends;
-                numbers = kids-small;
+                numbers = branches-small;
                 allFit = omega arith;
               }
 
           pub narrow-done : (lift s₂ : List ℕ) (r : Parts)
-              → s₂ ≡ overBody (freshIn free at) level (allLine (length (shared k hi)) (piecesIn (freshIn free (at + 1)) (freshIn free (at + 2)) k out below ++ kidsE (listed node′ (start .at) (start .end)))) s₁
-              → r ≡ oneNode (piecesIn (freshIn free (at + 1)) (freshIn free (at + 2)) k out below ++ kidsE (listed node′ (start .at) (start .end)))
+              → s₂ ≡ overBody (freshIn free at) level (allLine (length (shared k hi)) (piecesIn (freshIn free (at + 1)) (freshIn free (at + 2)) k out below ++ branchesAmong (listed node′ (start .at) (start .end)))) s₁
+              → r ≡ oneNode (piecesIn (freshIn free (at + 1)) (freshIn free (at + 2)) k out below ++ branchesAmong (listed node′ (start .at) (start .end)))
               → RightAs w (treeAt level s num) level lo hi k at free lift s s₂ out r
           narrow-done lift s₂ r q er =
               record {
                 written =
-                    q ∙ ap (λ l. overBody (freshIn free at) level (allLine (length (shared k hi)) l) s₁) (sym all-kids)
+                    q ∙ ap (λ l. overBody (freshIn free at) level (allLine (length (shared k hi)) l) s₁) (sym all-branches)
                     ∙ sym (write-narrow-is level (freshIn free at) (freshIn free (suc at)) k hi edge rest s₁)
                     ∙ (λ i. packedWrite (sym ew i) level (freshIn free at) (freshIn free (suc at)) k hi edge rest (first-is i))
                     ∙ sym write-is;
                 pieces =
-                    ap (λ f. raiseKids lift (kidsOf f)) (part-is′ ∙ ap (λ v. packed v (freshIn free at) (freshIn free (suc at)) k hi edge rest) ew)
-                    ∙ ap (raiseKids lift) (packed-narrow (freshIn free at) (freshIn free (suc at)) k hi edge rest ∙ ap (headKid (freshIn free at) k) all-kids)
+                    ap (λ f. raiseBranches lift (branchesOf f)) (part-is′ ∙ ap (λ v. packed v (freshIn free at) (freshIn free (suc at)) k hi edge rest) ew)
+                    ∙ ap (raiseBranches lift) (packed-narrow (freshIn free at) (freshIn free (suc at)) k hi edge rest ∙ ap (headBranch (freshIn free at) k) all-branches)
                     ∙ one-told (freshIn free at) (freshIn free (at + 1)) lift k out (piecesIn (freshIn free (at + 1)) (freshIn free (at + 2)) k out below ++ rks)
                     ∙ ap (piecesIn (freshIn free at) (freshIn free (at + 1)) (lift ++ k) out) (sym er);
                 fit = subst (PartsFit (length out)) (sym er) (one-fit (length out) (piecesIn (freshIn free (at + 1)) (freshIn free (at + 2)) k out below ++ rks));
@@ -438,6 +438,31 @@ module _ (w : Bool) (s : List ℕ) (num level : ℕ) (lo hi k : List ℕ) (at : 
           (narrow-fits (freshIn free at) (freshIn free (suc at)) k hi edge rest
           (ap (λ v. fitsIn (packed v (freshIn free at) (freshIn free (suc at)) k hi edge rest)) (sym ew) ∙ packed-fits) .1)
 
+-- THE LOW PIVOT OF A TREE THAT LIFTS NOTHING DOES NOT MATTER
+right-low-bare : (fresh : ℕ → ℕ) (w : Bool) (t : Tree) (lo hi k : List ℕ) (at : ℕ) → shared lo hi ≡ [] → rightOf fresh w t lo hi k at ≡ rightOf fresh w t [] hi k at
+unfolding rightOf shared
+right-low-bare fresh w (unread i) lo hi k at e = refl
+right-low-bare fresh w (leaf i rs) lo hi k at e =
+    ap (λ p. tree k (leaf (fresh at) (lowerRows (shared k hi) (keep (since k) (underPrefix p rs)))) end) e
+right-low-bare fresh w (interior i f ms) lo hi k at e =
+    ap (λ p. packed w (fresh at) (fresh (suc at)) k hi (edgeIn fresh w f p hi k (after w at)) (restIn f p hi k)) e
+
+right-write-bare : (fresh : ℕ → ℕ) (w : Bool) (t : Tree) (h : ℕ) (lo hi k : List ℕ) (at : ℕ) (s : List ℕ) → shared lo hi ≡ []
+    → rightWrite fresh w t h lo hi k at s ≡ rightWrite fresh w t h [] hi k at s
+unfolding rightWrite shared
+right-write-bare fresh w (unread i) h lo hi k at s e = refl
+right-write-bare fresh w (leaf i rs) h lo hi k at s e =
+    ap (λ p. writeNode s (fresh at) (pageOf h (leaf (fresh at) (lowerRows (shared k hi) (keep (since k) (underPrefix p rs)))))) e
+right-write-bare fresh w (interior i f ms) zero lo hi k at s e = refl
+right-write-bare fresh w (interior i f ms) (suc h) lo hi k at s e =
+    ap (λ p. packedWrite w (suc h) (fresh at) (fresh (suc at)) k hi (edgeIn fresh w f p hi k (after w at)) (restIn f p hi k) (edgeWrite fresh w f h p hi k (after w at) s)) e
+
+some-after : (lo k : List ℕ) → before lo k ≡ true → before [] k ≡ true
+unfolding before
+some-after [] k e = e
+some-after (a ∷ lo) [] e = absurd (false≢true e)
+some-after (a ∷ lo) (b ∷ k) e = refl
+
 -- THE CHILD WITHOUT WHAT IT LIFTS
 module _ (w : Bool) (s : List ℕ) (i level : ℕ) (low high k : List ℕ) (at : ℕ) (free : List ℕ) (pre : RightAsks w s i level low high k at free) (j : ℕ) (ej : j ≡ length (shared low high)) where
   within-k : shared low high ++ drop (length (shared low high)) k ≡ k
@@ -454,9 +479,9 @@ module _ (w : Bool) (s : List ℕ) (i level : ℕ) (low high k : List ℕ) (at :
       let z : j - 0 ≡ length (shared low high) = omega arith in
       ap (λ n. take n k) z ∙ ap (take (length (shared low high))) (sym within-k) ∙ take-append-seam (shared low high) (drop (length (shared low high)) k)
 
-  module _ (low′ high′ k′ lift : List ℕ) (e : low′ ≡ drop j low) (f : high′ ≡ drop j high) (g : k′ ≡ drop j k) (h : lift ≡ take (j - 0) (drop 0 k)) where
-    el : low′ ≡ drop (length (shared low high)) low
-    el = e ∙ ap (λ n. drop n low) ej
+  module _ (high′ k′ lift : List ℕ) (f : high′ ≡ drop j high) (g : k′ ≡ drop j k) (h : lift ≡ take (j - 0) (drop 0 k)) where
+    abbrev low′ : List ℕ
+    low′ = drop (length (shared low high)) low
 
     eh : high′ ≡ drop (length (shared low high)) high
     eh = f ∙ ap (λ n. drop n high) ej
@@ -464,22 +489,24 @@ module _ (w : Bool) (s : List ℕ) (i level : ℕ) (low high k : List ℕ) (at :
     ek : k′ ≡ drop (length (shared low high)) k
     ek = g ∙ ap (λ n. drop n k) ej
 
-    stripped : rightOf (freshIn free) w (treeAt level s i) low high k at ≡ raise (shared low high) (rightOf (freshIn free) w (treeAt level s i) low′ high′ k′ at)
+    bare : shared (drop (length (shared low high)) low) high′ ≡ []
+    bare = ap (shared low′) eh ∙ strip-shared low high
+
+    stripped : rightOf (freshIn free) w (treeAt level s i) low high k at ≡ raise (shared low high) (rightOf (freshIn free) w (treeAt level s i) [] high′ k′ at)
     stripped =
         right-strip low high (freshIn free) k (pre .above) (pre .below) w (treeAt level s i) at
-        ∙ sym (λ z. raise (shared low high) (rightOf (freshIn free) w (treeAt level s i) (el z) (eh z) (ek z) at))
+        ∙ sym (λ z. raise (shared low high) (rightOf (freshIn free) w (treeAt level s i) low′ (eh z) (ek z) at))
+        ∙ ap (raise (shared low high)) (right-low-bare (freshIn free) w (treeAt level s i) low′ high′ k′ at bare)
 
-    pub strip-bare : shared low′ high′ ≡ []
-    strip-bare = ap₂ shared el eh ∙ strip-shared low high
-
-    pub strip-asks : RightAsks w s i level low′ high′ k′ at free
+    pub strip-asks : RightAsks w s i level [] high′ k′ at free
     strip-asks =
         record {
           reads = pre .reads;
-          small = sym (fits-raise (shared low high) (rightOf (freshIn free) w (treeAt level s i) low′ high′ k′ at)) ∙ ap fitsIn (sym stripped) ∙ pre .small;
+          small = sym (fits-raise (shared low high) (rightOf (freshIn free) w (treeAt level s i) [] high′ k′ at)) ∙ ap fitsIn (sym stripped) ∙ pre .small;
           above =
-              ap₂ before el ek ∙ sym (before-append (shared low high) (drop (length (shared low high)) low) (drop (length (shared low high)) k))
-              ∙ ap₂ before (split-low low high) within-k ∙ pre .above;
+              some-after low′ k′
+              (ap (before low′) ek ∙ sym (before-append (shared low high) (drop (length (shared low high)) low) (drop (length (shared low high)) k))
+              ∙ ap₂ before (split-low low high) within-k ∙ pre .above);
           below =
               ap₂ before ek eh ∙ sym (before-append (shared low high) (drop (length (shared low high)) k) (drop (length (shared low high)) high))
               ∙ ap₂ before within-k (split-high low high) ∙ pre .below;
@@ -489,14 +516,15 @@ module _ (w : Bool) (s : List ℕ) (i level : ℕ) (low high k : List ℕ) (at :
           room = pre .room;
         }
 
-    pub strip-done : (s′ out : List ℕ) (r : Parts) → RightAs w (treeAt level s i) level low′ high′ k′ at free lift s s′ out r
+    pub strip-done : (s′ out : List ℕ) (r : Parts) → RightAs w (treeAt level s i) level [] high′ k′ at free lift s s′ out r
         → (s′ ≡ rightWrite (freshIn free) w (treeAt level s i) level low high k at s)
-        × (kidsOf (rightOf (freshIn free) w (treeAt level s i) low high k at) ≡ piecesIn (freshIn free at) (freshIn free (at + 1)) k out r) × PartsFit (length out) r
+        × (branchesOf (rightOf (freshIn free) w (treeAt level s i) low high k at) ≡ piecesIn (freshIn free at) (freshIn free (at + 1)) k out r) × PartsFit (length out) r
     strip-done s′ out r ans = (
-      ans .written ∙ (λ z. rightWrite (freshIn free) w (treeAt level s i) level (el z) (eh z) (ek z) at s)
+      ans .written ∙ sym (right-write-bare (freshIn free) w (treeAt level s i) level low′ high′ k′ at s bare)
+          ∙ (λ z. rightWrite (freshIn free) w (treeAt level s i) level low′ (eh z) (ek z) at s)
           ∙ sym (right-write-strip (freshIn free) low high k (pre .above) (pre .below) w (treeAt level s i) level at s),
-      ap kidsOf stripped ∙ kids-raise (shared low high) (rightOf (freshIn free) w (treeAt level s i) low′ high′ k′ at)
-          ∙ ap (λ l. raiseKids l (kidsOf (rightOf (freshIn free) w (treeAt level s i) low′ high′ k′ at))) (sym (h ∙ lift-is)) ∙ ans .pieces
+      ap branchesOf stripped ∙ branches-raise (shared low high) (rightOf (freshIn free) w (treeAt level s i) [] high′ k′ at)
+          ∙ ap (λ l. raiseBranches l (branchesOf (rightOf (freshIn free) w (treeAt level s i) [] high′ k′ at))) (sym (h ∙ lift-is)) ∙ ans .pieces
           ∙ ap (λ l. piecesIn (freshIn free at) (freshIn free (at + 1)) l out r) (ap₂ (λ x y. x ++ y) (h ∙ lift-is) ek ∙ within-k),
       ans .fit,
     )
@@ -514,23 +542,23 @@ module _ (w : Bool) (s node′ hi k : List ℕ) (level at : ℕ) (free : List �
   module _ (s′ out : List ℕ) (r : Parts) where
     pub inner-at : (n i : ℕ) (p q : Place) → c ≡ Cut.Inner n i p q
         → (s′ ≡ rightWrite (freshIn free) w (treeAt level s i) level (part node′ p) (part node′ q) k at s)
-        × (kidsOf (rightOf (freshIn free) w (treeAt level s i) (part node′ p) (part node′ q) k at) ≡ piecesIn (freshIn free at) (freshIn free (at + 1)) k out r) × PartsFit (length out) r
+        × (branchesOf (rightOf (freshIn free) w (treeAt level s i) (part node′ p) (part node′ q) k at) ≡ piecesIn (freshIn free at) (freshIn free (at + 1)) k out r) × PartsFit (length out) r
         → EdgeAs w level k at free s s′ out (pointIn node′ hi c) r
     inner-at n i p q e h = subst (λ z. EdgeAs w level k at free s s′ out (pointIn node′ hi z) r) (sym e) (shown h)
       where
         shown : (s′ ≡ rightWrite (freshIn free) w (treeAt level s i) level (part node′ p) (part node′ q) k at s)
-            × (kidsOf (rightOf (freshIn free) w (treeAt level s i) (part node′ p) (part node′ q) k at) ≡ piecesIn (freshIn free at) (freshIn free (at + 1)) k out r) × PartsFit (length out) r
+            × (branchesOf (rightOf (freshIn free) w (treeAt level s i) (part node′ p) (part node′ q) k at) ≡ piecesIn (freshIn free at) (freshIn free (at + 1)) k out r) × PartsFit (length out) r
             → EdgeAs w level k at free s s′ out (pointIn node′ hi (Cut.Inner n i p q)) r
         shown g = record { written = unfold rightAt pointIn in g .0; pieces = unfold edgeAt pointIn in g .1; fit = g .2 }
 
     pub last-at : (n i : ℕ) (p : Place) → c ≡ Cut.Last n i p
         → (s′ ≡ rightWrite (freshIn free) w (treeAt level s i) level (part node′ p) hi k at s)
-        × (kidsOf (rightOf (freshIn free) w (treeAt level s i) (part node′ p) hi k at) ≡ piecesIn (freshIn free at) (freshIn free (at + 1)) k out r) × PartsFit (length out) r
+        × (branchesOf (rightOf (freshIn free) w (treeAt level s i) (part node′ p) hi k at) ≡ piecesIn (freshIn free at) (freshIn free (at + 1)) k out r) × PartsFit (length out) r
         → EdgeAs w level k at free s s′ out (pointIn node′ hi c) r
     last-at n i p e h = subst (λ z. EdgeAs w level k at free s s′ out (pointIn node′ hi z) r) (sym e) (shown h)
       where
         shown : (s′ ≡ rightWrite (freshIn free) w (treeAt level s i) level (part node′ p) hi k at s)
-            × (kidsOf (rightOf (freshIn free) w (treeAt level s i) (part node′ p) hi k at) ≡ piecesIn (freshIn free at) (freshIn free (at + 1)) k out r) × PartsFit (length out) r
+            × (branchesOf (rightOf (freshIn free) w (treeAt level s i) (part node′ p) hi k at) ≡ piecesIn (freshIn free at) (freshIn free (at + 1)) k out r) × PartsFit (length out) r
             → EdgeAs w level k at free s s′ out (pointIn node′ hi (Cut.Last n i p)) r
         shown g = record { written = unfold rightAt pointIn in g .0; pieces = unfold edgeAt pointIn in g .1; fit = g .2 }
 
@@ -538,10 +566,10 @@ module _ (w : Bool) (s node′ hi k : List ℕ) (level at : ℕ) (free : List �
   between-at out n p e = subst (λ z. EdgeAs w level k at free s s out (pointIn node′ hi z) Parts.Nothing) (sym e) shown
     where
       shown : EdgeAs w level k at free s s out (pointIn node′ hi (Cut.Between n p)) Parts.Nothing
-      shown = record { written = unfold rightAt pointIn in refl; pieces = unfold edgeAt pointIn kidsOf piecesIn in refl; fit = unfold PartsFit in tt }
+      shown = record { written = unfold rightAt pointIn in refl; pieces = unfold edgeAt pointIn branchesOf piecesIn in refl; fit = unfold PartsFit in tt }
 
   pub nowhere-at : (out : List ℕ) (n : ℕ) → c ≡ Cut.Nowhere n → EdgeAs w level k at free s s out (pointIn node′ hi c) Parts.Nothing
   nowhere-at out n e = subst (λ z. EdgeAs w level k at free s s out (pointIn node′ hi z) Parts.Nothing) (sym e) shown
     where
       shown : EdgeAs w level k at free s s out (pointIn node′ hi (Cut.Nowhere n)) Parts.Nothing
-      shown = record { written = unfold rightAt pointIn in refl; pieces = unfold edgeAt pointIn kidsOf piecesIn in refl; fit = unfold PartsFit in tt }
+      shown = record { written = unfold rightAt pointIn in refl; pieces = unfold edgeAt pointIn branchesOf piecesIn in refl; fit = unfold PartsFit in tt }

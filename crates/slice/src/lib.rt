@@ -1,8 +1,8 @@
 // The slices of a settled tree at a cut, written into free nodes, the deepest first. Everything is told from inside a node: pivots and cut
 // are without what the node lifts. A node takes the number of its place in the list of free nodes, its child the next one. Relies on
-// slicing's `leftWrite`; pairs, point and kids compose the page of one node.
+// slicing's `leftWrite`; pairs, point and branches compose the page of one node.
+mod branches;
 pub mod gap;
-mod kids;
 mod pairs;
 pub mod pieces;
 mod point;
@@ -16,6 +16,7 @@ ghost use Prim.Native.Nat.{_+_, _*_, _≤_};
 ghost use lib.ListN.{length};
 ghost use Rattle.image.specs.Bytes.{shared};
 ghost use Rattle.image.specs.Image.{treeAt, nodeBytes};
+ghost use Rattle.node.specs.Whole.{HasNode};
 ghost use Rattle.slice.specs.Slicing.SliceWrite.{leftWrite};
 ghost use Rattle.slice.specs.Point.{freshIn, pointIn, CutFits, leftAt};
 ghost use Rattle.slice.specs.Left.{LeftAsks, PointAsks};
@@ -37,9 +38,15 @@ pub enum Parts {
     Both(usize),
 }
 
+// Where the part of a tree goes: the level of its root, and the place of its first number in the list of free nodes.
+pub struct Slot {
+    pub level: usize,
+    pub at: usize,
+}
+
 // A copy of a node.
 fn read_node(store: &[u8], num: usize, node: &mut [u8])
-    requires { ⌜ (num * 1024 + 1024 ≤ length (now store)) × (length (now node) ≡ 1024) ⌝ }
+    requires { ⌜ HasNode (now store) num × (length (now node) ≡ 1024) ⌝ }
     ensures { λ _. ⌜ now (node .exit) ≡ nodeBytes (now (store .entry)) num ⌝ }
 {
     let a = num * image::NODE_SIZE;
@@ -51,18 +58,19 @@ fn read_node(store: &[u8], num: usize, node: &mut [u8])
 pub fn slice_left(
     store: &mut [u8],
     num: usize,
-    level: usize,
+    slot: Slot,
     lo: &[u8],
     hi: &[u8],
     k: &[u8],
-    at: usize,
     free: &[u8],
 )
-    requires { ⌜ LeftAsks (now store) num level (now lo) (now hi) (now k) at (now free) × (shared (now lo) (now hi) ≡ []) ⌝ }
+    requires { ⌜ LeftAsks (now store) num (slot .level) (now lo) (now hi) (now k) (slot .at) (now free) × (shared (now lo) (now hi) ≡ []) ⌝ }
     ensures { λ _. ⌜ now (store .exit)
-        ≡ leftWrite (freshIn (now (free .entry))) (treeAt level (now (store .entry)) num) level (now (lo .entry)) (now (hi .entry))
-        (now (k .entry)) at (now (store .entry)) ⌝ }
+        ≡ leftWrite (freshIn (now (free .entry))) (treeAt (slot .level) (now (store .entry)) num) (slot .level) (now (lo .entry)) (now (hi .entry))
+        (now (k .entry)) (slot .at) (now (store .entry)) ⌝ }
 {
+    let level = slot.level;
+    let at = slot.at;
     let mut node = [0u8; 1024];
     read_node(store, num, &mut node);
     let len = octets::u16_at(&node, 0);
@@ -73,10 +81,16 @@ pub fn slice_left(
         return;
     }
     let cut = point::find_point(&node, image::ENTRIES_AT + len, hi, k);
-    let child = octets::u16_at(free, (at + 1) * 2);
+    let next = at + 1;
+    let child = octets::u16_at(free, next * 2);
     let mut page = [0u8; 1024];
-    let end = kids::emit_left(&mut page, &node, image::ENTRIES_AT + len, cut, d, child);
-    slice_cut(store, &node, cut, level - 1, hi, k, at + 1, free);
+    let end = branches::emit_left(&mut page, &node, image::ENTRIES_AT + len, cut, d, child);
+    let down = level - 1;
+    let inner = Slot {
+        level: down,
+        at: next,
+    };
+    slice_cut(store, &node, cut, inner, hi, k, free);
     writer::write_page(
         store,
         new,
@@ -88,20 +102,11 @@ pub fn slice_left(
 }
 
 // The part before the cut of the child that holds it, if there is one.
-fn slice_cut(
-    store: &mut [u8],
-    node: &[u8],
-    cut: Cut,
-    level: usize,
-    hi: &[u8],
-    k: &[u8],
-    at: usize,
-    free: &[u8],
-)
-    requires { ⌜ CutFits (length (now node)) cut × PointAsks (now store) level (now k) at (now free) (pointIn (now node) (now hi) cut) ⌝ }
+fn slice_cut(store: &mut [u8], node: &[u8], cut: Cut, slot: Slot, hi: &[u8], k: &[u8], free: &[u8])
+    requires { ⌜ CutFits (length (now node)) cut × PointAsks (now store) (slot .level) (now k) (slot .at) (now free) (pointIn (now node) (now hi) cut) ⌝ }
     ensures { λ _. ⌜ now (store .exit)
-        ≡ leftAt (freshIn (now (free .entry))) (λ j. treeAt level (now (store .entry)) j) level (now (k .entry)) at (now (store .entry))
-        (pointIn (now (node .entry)) (now (hi .entry)) cut) ⌝ }
+        ≡ leftAt (freshIn (now (free .entry))) (λ j. treeAt (slot .level) (now (store .entry)) j) (slot .level) (now (k .entry)) (slot .at)
+        (now (store .entry)) (pointIn (now (node .entry)) (now (hi .entry)) cut) ⌝ }
 {
     match cut {
         Cut::Inner(_, num, low, high) => {
@@ -112,23 +117,14 @@ fn slice_cut(
             let j = octets::common_length(&node[a..b], &node[x..y]);
             let f = a + j;
             let g = x + j;
-            slice_left(
-                store,
-                num,
-                level,
-                &node[f..b],
-                &node[g..y],
-                &k[j..],
-                at,
-                free,
-            );
+            slice_left(store, num, slot, &node[f..b], &node[g..y], &k[j..], free);
         }
         Cut::Last(_, num, low) => {
             let a = low.start;
             let b = low.stop;
             let j = octets::common_length(&node[a..b], hi);
             let f = a + j;
-            slice_left(store, num, level, &node[f..b], &hi[j..], &k[j..], at, free);
+            slice_left(store, num, slot, &node[f..b], &hi[j..], &k[j..], free);
         }
         Cut::Between(_, _) => {}
         Cut::Nowhere(_) => {}

@@ -13,6 +13,7 @@ ghost use Rattle.laws.specs.Page.{page};
 ghost use Rattle.octets.specs.Put.{put};
 ghost use Rattle.node.specs.Places.{EntryWithin, entryIn};
 ghost use Rattle.node.specs.Entries.{listed};
+ghost use Rattle.node.specs.Whole.{HasNode};
 ghost use Rattle.slice.specs.Point.{onSide, sideLine};
 
 // Whether a key lies on that side.
@@ -95,7 +96,7 @@ pub fn write_pairs(
     k: &[u8],
     d: usize,
 )
-    requires { ⌜ (stop ≤ length (now node)) × (length (sideLine left (now k) d (listed (now node) 8 stop)) ≤ 1016) × (num * 1024 + 1024 ≤ length (now store)) ⌝ }
+    requires { ⌜ (stop ≤ length (now node)) × (length (sideLine left (now k) d (listed (now node) 8 stop)) ≤ 1016) × HasNode (now store) num ⌝ }
     ensures { λ _. ⌜ now (store .exit) ≡ writeNode (now (store .entry)) num (page 1 1 (sideLine left (now (k .entry)) d (listed (now (node .entry)) 8 stop))) ⌝ }
 {
     let mut page = [0u8; 1024];

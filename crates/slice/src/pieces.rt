@@ -1,8 +1,8 @@
-// The pages of a right part: the pieces of the child that held the cut, and the children after it. Relies on kids and on node's
+// The pages of a right part: the pieces of the child that held the cut, and the children after it. Relies on branches and on node's
 // writer; specs/Right says what stands in the pages.
 use crate::Cut;
 use crate::Parts;
-use crate::kids;
+use crate::branches;
 use live::Pending;
 use node::Cursor;
 use node::writer;
@@ -16,9 +16,9 @@ ghost use Rattle.image.specs.Entry.{child};
 ghost use Rattle.laws.specs.Encode.{bytesOf};
 ghost use Rattle.octets.specs.Put.{put};
 ghost use Rattle.node.specs.Entries.{listed};
-ghost use Rattle.node.specs.Search.Own.{kidsE};
+ghost use Rattle.node.specs.Search.Own.{branchesAmong};
 ghost use Rattle.push.specs.Laws.Written.{smallNumbers};
-ghost use Rattle.slice.specs.Point.{kidLine, pointIn};
+ghost use Rattle.slice.specs.Point.{branchLine, pointIn};
 ghost use Rattle.slice.specs.Right.{skipOf, piecesIn, PartsFit, allLine, overBody};
 
 // A child's entry, its pivot without the first d bytes. Gives the place behind it.
@@ -33,21 +33,46 @@ fn emit_piece(page: &mut [u8], at: usize, num: usize, pivot: &[u8], d: usize) ->
     writer::write_child(page, at, num, &pivot[d..])
 }
 
+// The pieces of a right part, with the numbers of an edge and of a rest.
+pub struct Numbered {
+    pub parts: Parts,
+    pub edge: usize,
+    pub rest: usize,
+}
+
+// A new node: its number, its level, and how many bytes it lifts.
+pub struct New {
+    pub num: usize,
+    pub level: usize,
+    pub lifts: usize,
+}
+
+// The next children: the cursor at the first, and how many there are at most.
+pub struct Following {
+    pub start: Cursor,
+    pub count: usize,
+}
+
 // The entries of the pieces. Gives the place behind them.
 pub fn emit_parts(
     page: &mut [u8],
     at: usize,
-    parts: Parts,
+    pieces: Numbered,
     k: &[u8],
     out: &[u8],
     d: usize,
-    a: usize,
-    b: usize,
 ) -> usize
-    requires { ⌜ PartsFit (length (now out)) parts × (at + length (allLine d (piecesIn a b (now k) (now out) parts)) ≤ length (now page)) × (length (now page) ≤ 1024) × (a < 65536) × (b < 65536) ⌝ }
-    ensures { λ r. ⌜ (now (page .exit) ≡ put (now (page .entry)) at (allLine d (piecesIn a b (now (k .entry)) (now (out .entry)) parts)))
-        × (r ≡ at + length (allLine d (piecesIn a b (now (k .entry)) (now (out .entry)) parts))) ⌝ }
+    requires { ⌜ PartsFit (length (now out)) (pieces .parts)
+        × (at + length (allLine d (piecesIn (pieces .edge) (pieces .rest) (now k) (now out) (pieces .parts))) ≤ length (now page))
+        × (length (now page) ≤ 1024)
+        × (pieces .edge < 65536)
+        × (pieces .rest < 65536) ⌝ }
+    ensures { λ r. ⌜ (now (page .exit) ≡ put (now (page .entry)) at (allLine d (piecesIn (pieces .edge) (pieces .rest) (now (k .entry)) (now (out .entry)) (pieces .parts))))
+        × (r ≡ at + length (allLine d (piecesIn (pieces .edge) (pieces .rest) (now (k .entry)) (now (out .entry)) (pieces .parts)))) ⌝ }
 {
+    let parts = pieces.parts;
+    let a = pieces.edge;
+    let b = pieces.rest;
     match parts {
         Parts::Nothing => at,
         Parts::Edge => emit_piece(page, at, a, k, d),
@@ -62,58 +87,56 @@ pub fn emit_parts(
 // A node over the pieces and the next children, if there are any. Tells whether there are.
 pub fn write_over(
     store: &mut [u8],
-    num: usize,
-    level: usize,
-    parts: Parts,
+    new: New,
+    pieces: Numbered,
     k: &[u8],
     out: &[u8],
-    a: usize,
-    b: usize,
     node: &[u8],
-    start: Cursor,
-    count: usize,
-    d: usize,
+    next: Following,
 ) -> bool
-    requires { ⌜ (num * 1024 + 1024 ≤ length (now store))
-        × (level < 65536)
-        × PartsFit (length (now out)) parts
-        × (a < 65536)
-        × (b < 65536)
-        × (start .end ≤ length (now node))
-        × (smallNumbers (kidsE (listed (now node) (start .at) (start .end))) ≡ true)
-        × (length (allLine d (piecesIn a b (now k) (now out) parts) ++ kidLine d count (kidsE (listed (now node) (start .at) (start .end)))) ≤ 1016) ⌝ }
+    requires { ⌜ (new .num * 1024 + 1024 ≤ length (now store))
+        × (new .level < 65536)
+        × PartsFit (length (now out)) (pieces .parts)
+        × (pieces .edge < 65536)
+        × (pieces .rest < 65536)
+        × (next .start .end ≤ length (now node))
+        × (smallNumbers (branchesAmong (listed (now node) (next .start .at) (next .start .end))) ≡ true)
+        × (length (allLine (new .lifts) (piecesIn (pieces .edge) (pieces .rest) (now k) (now out) (pieces .parts))
+        ++ branchLine (new .lifts) (next .count) (branchesAmong (listed (now node) (next .start .at) (next .start .end)))) ≤ 1016) ⌝ }
     ensures { λ r. ⌜ (now (store .exit)
-        ≡ overBody num level
-        (allLine d (piecesIn a b (now (k .entry)) (now (out .entry)) parts) ++ kidLine d count
-        (kidsE (listed (now (node .entry)) (start .at) (start .end)))) (now (store .entry)))
+        ≡ overBody (new .num) (new .level)
+        (allLine (new .lifts) (piecesIn (pieces .edge) (pieces .rest) (now (k .entry)) (now (out .entry)) (pieces .parts)) ++
+        branchLine (new .lifts) (next .count) (branchesAmong (listed (now (node .entry)) (next .start .at) (next .start .end)))) (now (store .entry)))
         × (r
         ≡ not
         (eqb
         (length
-        (allLine d (piecesIn a b (now (k .entry)) (now (out .entry)) parts) ++ kidLine d count
-        (kidsE (listed (now (node .entry)) (start .at) (start .end))))) 0)) ⌝ }
+        (allLine (new .lifts) (piecesIn (pieces .edge) (pieces .rest) (now (k .entry)) (now (out .entry)) (pieces .parts)) ++
+        branchLine (new .lifts) (next .count) (branchesAmong (listed (now (node .entry)) (next .start .at) (next .start .end))))) 0)) ⌝ }
 {
     let mut page = [0u8; 1024];
-    let to = emit_parts(&mut page, image::ENTRIES_AT, parts, k, out, d, a, b);
-    let end = kids::emit_kids(&mut page, to, node, start, count, d);
+    let start = next.start;
+    let to = emit_parts(&mut page, image::ENTRIES_AT, pieces, k, out, new.lifts);
+    let end = branches::emit_branches(&mut page, to, node, start, next.count, new.lifts);
     if end == image::ENTRIES_AT {
         return false;
     }
     writer::write_page(
         store,
-        num,
+        new.num,
         &mut page,
         image::INTERIOR,
-        level,
+        new.level,
         end - image::ENTRIES_AT,
     );
     true
 }
 
 // The cursor behind the next n children.
-fn skip_kids(node: &[u8], start: Cursor, n: usize) -> Cursor
+fn skip_branches(node: &[u8], start: Cursor, n: usize) -> Cursor
     requires { ⌜ start .end ≤ length (now node) ⌝ }
-    ensures { λ r. ⌜ (r .end ≤ length (now (node .entry))) × (kidsE (listed (now (node .entry)) (r .at) (r .end)) ≡ drop n (kidsE (listed (now (node .entry)) (start .at) (start .end)))) ⌝ }
+    ensures { λ r. ⌜ (r .end ≤ length (now (node .entry)))
+        × (branchesAmong (listed (now (node .entry)) (r .at) (r .end)) ≡ drop n (branchesAmong (listed (now (node .entry)) (start .at) (start .end)))) ⌝ }
 {
     let mut c = start;
     let mut left = n;
@@ -131,12 +154,12 @@ fn skip_kids(node: &[u8], start: Cursor, n: usize) -> Cursor
 pub fn rest_start(node: &[u8], stop: usize, cut: Cut) -> Cursor
     requires { ⌜ stop ≤ length (now node) ⌝ }
     ensures { λ r. ⌜ (r .end ≤ length (now (node .entry)))
-        × (kidsE (listed (now (node .entry)) (r .at) (r .end))
-        ≡ drop (skipOf (pointIn (now (node .entry)) [] cut)) (kidsE (listed (now (node .entry)) 8 stop))) ⌝ }
+        × (branchesAmong (listed (now (node .entry)) (r .at) (r .end))
+        ≡ drop (skipOf (pointIn (now (node .entry)) [] cut)) (branchesAmong (listed (now (node .entry)) 8 stop))) ⌝ }
 {
     match cut {
         Cut::Inner(n, _, _, _) => {
-            let c = skip_kids(
+            let c = skip_branches(
                 node,
                 Cursor {
                     at: image::ENTRIES_AT,
@@ -144,10 +167,10 @@ pub fn rest_start(node: &[u8], stop: usize, cut: Cut) -> Cursor
                 },
                 n,
             );
-            skip_kids(node, c, 1)
+            skip_branches(node, c, 1)
         }
         Cut::Last(n, _, _) => {
-            let c = skip_kids(
+            let c = skip_branches(
                 node,
                 Cursor {
                     at: image::ENTRIES_AT,
@@ -155,9 +178,9 @@ pub fn rest_start(node: &[u8], stop: usize, cut: Cut) -> Cursor
                 },
                 n,
             );
-            skip_kids(node, c, 1)
+            skip_branches(node, c, 1)
         }
-        Cut::Between(n, _) => skip_kids(
+        Cut::Between(n, _) => skip_branches(
             node,
             Cursor {
                 at: image::ENTRIES_AT,
@@ -165,7 +188,7 @@ pub fn rest_start(node: &[u8], stop: usize, cut: Cut) -> Cursor
             },
             n,
         ),
-        Cut::Nowhere(n) => skip_kids(
+        Cut::Nowhere(n) => skip_branches(
             node,
             Cursor {
                 at: image::ENTRIES_AT,

@@ -8,13 +8,13 @@ ghost use Prim.Native.Nat.{_≤_, _<_};
 ghost use lib.ListN.{length};
 ghost use Rattle.node.specs.Places.{Within, part};
 ghost use Rattle.node.specs.Entries.{listed};
-ghost use Rattle.node.specs.Search.Own.{kid, kidsE};
+ghost use Rattle.node.specs.Search.Own.{branch, branchesAmong};
 ghost use Rattle.slice.specs.Point.{pointOf, CutAs};
 
 // The last child, which is the n-th.
 fn last_point(node: &[u8], n: usize, num: usize, low: Place, hi: &[u8], k: &[u8]) -> Cut
     requires { ⌜ Within 0 (length (now node)) low × (n < 65536) ⌝ }
-    ensures { λ r. ⌜ CutAs (now (node .entry)) (now (hi .entry)) (pointOf n (kid num (part (now (node .entry)) low) ∷ []) (now (hi .entry)) (now (k .entry))) r ⌝ }
+    ensures { λ r. ⌜ CutAs (now (node .entry)) (now (hi .entry)) (pointOf n (branch num (part (now (node .entry)) low) ∷ []) (now (hi .entry)) (now (k .entry))) r ⌝ }
 {
     if !octets::precedes(k, hi) {
         return Cut::Nowhere(n + 1);
@@ -30,7 +30,7 @@ fn last_point(node: &[u8], n: usize, num: usize, low: Place, hi: &[u8], k: &[u8]
 // The first child that ends after the cut.
 pub fn find_point(node: &[u8], stop: usize, hi: &[u8], k: &[u8]) -> Cut
     requires { ⌜ (stop ≤ length (now node)) × (length (now node) ≤ 1024) ⌝ }
-    ensures { λ r. ⌜ CutAs (now (node .entry)) (now (hi .entry)) (pointOf 0 (kidsE (listed (now (node .entry)) 8 stop)) (now (hi .entry)) (now (k .entry))) r ⌝ }
+    ensures { λ r. ⌜ CutAs (now (node .entry)) (now (hi .entry)) (pointOf 0 (branchesAmong (listed (now (node .entry)) 8 stop)) (now (hi .entry)) (now (k .entry))) r ⌝ }
 {
     let Pending::Child(first, pivot, start) = live::read_child(
         node,

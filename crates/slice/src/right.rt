@@ -4,6 +4,9 @@ use crate::Cut;
 use crate::Parts;
 use crate::pairs;
 use crate::pieces;
+use crate::pieces::Following;
+use crate::pieces::New;
+use crate::pieces::Numbered;
 use crate::point;
 use live::Pending;
 use node::Cursor;
@@ -13,10 +16,11 @@ ghost use Prim.Native.Nat.{_+_, _*_, _≤_};
 ghost use lib.ListN.{length, take};
 ghost use Rattle.image.specs.Bytes.{shared};
 ghost use Rattle.image.specs.Image.{treeAt};
+ghost use Rattle.laws.specs.Reading.Relative.{branchHigh};
 ghost use Rattle.node.specs.Entries.{listed};
-ghost use Rattle.node.specs.Search.Own.{kidsE};
+ghost use Rattle.node.specs.Search.Own.{branchesAmong};
 ghost use Rattle.slice.specs.Point.{freshIn, pointIn, CutFits};
-ghost use Rattle.slice.specs.Right.{RightAsks, RightAs, PointAsksRight, EdgeAs, WideAsks, NarrowAsks, piecesIn, wideBody, allLine, overBody, withRest, edgeOnly, oneNode, WideReady, WideAs};
+ghost use Rattle.slice.specs.Right.{RightAsks, RightAs, PointAsksRight, EdgeAs, WideAsks, NarrowAsks, piecesIn, twoBody, wideBody, bothTold, allLine, overBody, withRest, edgeOnly, oneNode, WideReady};
 
 // The answer with a rest, whose pivot is left in the buffer behind what is lifted.
 fn tell_rest(below: Parts, lift: &[u8], pivot: &[u8], out: &mut [u8]) -> Parts
@@ -47,149 +51,222 @@ fn tell_edge(below: Parts) -> Parts
     }
 }
 
-// An edge over the pieces of the child and a rest over the children from the cursor on, whose first pivot is x.
+// A level right of a cut: which it is, the place of its first number in the list of free nodes, the pieces of the child that held the cut, and the
+// cursor at the children behind it.
+struct Layer {
+    level: usize,
+    at: usize,
+    below: Parts,
+    start: Cursor,
+}
+
+// How many bytes an edge lifts, and how many a rest.
+struct Lifts {
+    edge: usize,
+    rest: usize,
+}
+
+// An edge over the pieces and a rest over the children.
 fn write_wide(
     store: &mut [u8],
-    level: usize,
+    layer: Layer,
+    lifts: Lifts,
     node: &[u8],
-    start: Cursor,
-    x: &[u8],
-    hi: &[u8],
     k: &[u8],
-    below: Parts,
     out: &[u8],
-    at: usize,
     free: &[u8],
 )
-    requires { ⌜ WideAsks (length (now store)) level (now node) start (now x) (now hi) (now k) below (now out) at (now free) ⌝ }
+    requires { ⌜ WideAsks (length (now store)) (layer .level) (now node) (layer .start) (lifts .edge) (lifts .rest) (now k) (layer .below) (now out) (layer .at) (now free) ⌝ }
     ensures { λ _. ⌜ now (store .exit)
-        ≡ wideBody (freshIn (now (free .entry)) at) (freshIn (now (free .entry)) (at + 1)) level (now (k .entry)) (now (hi .entry))
-        (now (x .entry))
-        (piecesIn (freshIn (now (free .entry)) (at + 2)) (freshIn (now (free .entry)) (at + 3)) (now (k .entry)) (now (out .entry)) below)
-        (kidsE (listed (now (node .entry)) (start .at) (start .end))) (now (store .entry)) ⌝ }
+        ≡ twoBody (freshIn (now (free .entry)) (layer .at)) (freshIn (now (free .entry)) (layer .at + 1)) (layer .level) (lifts .edge) (lifts .rest)
+        (piecesIn (freshIn (now (free .entry)) (layer .at + 2)) (freshIn (now (free .entry)) (layer .at + 3)) (now (k .entry)) (now (out .entry)) (layer .below))
+        (branchesAmong (listed (now (node .entry)) (layer .start .at) (layer .start .end))) (now (store .entry)) ⌝ }
 {
+    let level = layer.level;
+    let at = layer.at;
+    let below = layer.below;
+    let start = layer.start;
     let n = octets::u16_at(free, at * 2);
     let m = octets::u16_at(free, (at + 1) * 2);
     let a = octets::u16_at(free, (at + 2) * 2);
     let b = octets::u16_at(free, (at + 3) * 2);
-    let d = octets::common_length(k, x);
-    pieces::write_over(store, n, level, below, k, out, a, b, node, start, 0, d);
-    let e = octets::common_length(x, hi);
+    let edge = New {
+        num: n,
+        level,
+        lifts: lifts.edge,
+    };
+    let pieces = Numbered {
+        parts: below,
+        edge: a,
+        rest: b,
+    };
     pieces::write_over(
         store,
-        m,
-        level,
-        Parts::Nothing,
+        edge,
+        pieces,
         k,
         out,
-        a,
-        b,
         node,
-        start,
-        1024,
-        e,
+        Following { start, count: 0 },
     );
+    let rest = New {
+        num: m,
+        level,
+        lifts: lifts.rest,
+    };
+    let none = Numbered {
+        parts: Parts::Nothing,
+        edge: a,
+        rest: b,
+    };
+    pieces::write_over(
+        store,
+        rest,
+        none,
+        k,
+        out,
+        node,
+        Following { start, count: 1024 },
+    );
+}
+
+// The same, told by the pivots: the rest's is its first child's, and where there is no rest the edge ends at the high pivot.
+fn write_both(
+    store: &mut [u8],
+    layer: Layer,
+    node: &[u8],
+    hi: &[u8],
+    k: &[u8],
+    out: &[u8],
+    free: &[u8],
+)
+    requires { ⌜ WideReady (length (now store)) (layer .level) (now node) (layer .start) (now hi) (now k) (layer .below) (now out) (layer .at) (now free) ⌝ }
+    ensures { λ _. ⌜ now (store .exit)
+        ≡ wideBody (freshIn (now (free .entry)) (layer .at)) (freshIn (now (free .entry)) (layer .at + 1)) (layer .level) (now (k .entry)) (now (hi .entry))
+        (branchHigh (now (hi .entry)) (branchesAmong (listed (now (node .entry)) (layer .start .at) (layer .start .end))))
+        (piecesIn (freshIn (now (free .entry)) (layer .at + 2)) (freshIn (now (free .entry)) (layer .at + 3)) (now (k .entry)) (now (out .entry)) (layer .below))
+        (branchesAmong (listed (now (node .entry)) (layer .start .at) (layer .start .end))) (now (store .entry)) ⌝ }
+{
+    let start = layer.start;
+    let Pending::Child(_, p, _) = live::read_child(node, start) else {
+        let edge = octets::common_length(k, hi);
+        let rest = octets::common_length(hi, hi);
+        write_wide(store, layer, Lifts { edge, rest }, node, k, out, free);
+        return;
+    };
+    let x = p.start;
+    let y = p.stop;
+    let edge = octets::common_length(k, &node[x..y]);
+    let rest = octets::common_length(&node[x..y], hi);
+    write_wide(store, layer, Lifts { edge, rest }, node, k, out, free);
+}
+
+// What is told of both: the pivot of the rest, if there is one, is left in the buffer behind what is lifted.
+fn tell_both(node: &[u8], start: Cursor, below: Parts, lift: &[u8], out: &mut [u8]) -> Parts
+    requires { ⌜ (start .end ≤ length (now node)) × (length (now lift) + length (now node) ≤ length (now out)) ⌝ }
+    ensures { λ r. ⌜ bothTold (branchesAmong (listed (now (node .entry)) (start .at) (start .end))) below (now (lift .entry)) (now (out .exit)) r ⌝ }
+{
+    let Pending::Child(_, p, _) = live::read_child(node, start) else {
+        return tell_edge(below);
+    };
+    let x = p.start;
+    let y = p.stop;
+    tell_rest(below, lift, &node[x..y], out)
 }
 
 // One node over the pieces of the child and the children from the cursor on.
 fn finish_narrow(
     store: &mut [u8],
-    level: usize,
+    layer: Layer,
     node: &[u8],
-    start: Cursor,
     hi: &[u8],
     k: &[u8],
-    below: Parts,
     out: &[u8],
-    at: usize,
     free: &[u8],
 ) -> Parts
-    requires { ⌜ NarrowAsks (length (now store)) level (now node) start (now hi) (now k) below (now out) at (now free) ⌝ }
+    requires { ⌜ NarrowAsks (length (now store)) (layer .level) (now node) (layer .start) (now hi) (now k) (layer .below) (now out) (layer .at) (now free) ⌝ }
     ensures { λ r. ⌜ (now (store .exit)
-        ≡ overBody (freshIn (now (free .entry)) at) level
+        ≡ overBody (freshIn (now (free .entry)) (layer .at)) (layer .level)
         (allLine (length (shared (now (k .entry)) (now (hi .entry))))
-        (piecesIn (freshIn (now (free .entry)) (at + 1)) (freshIn (now (free .entry)) (at + 2)) (now (k .entry)) (now (out .entry)) below
-        ++ kidsE (listed (now (node .entry)) (start .at) (start .end)))) (now (store .entry)))
+        (piecesIn (freshIn (now (free .entry)) (layer .at + 1)) (freshIn (now (free .entry)) (layer .at + 2)) (now (k .entry)) (now (out .entry)) (layer .below)
+        ++ branchesAmong (listed (now (node .entry)) (layer .start .at) (layer .start .end)))) (now (store .entry)))
         × (r
         ≡ oneNode
-        (piecesIn (freshIn (now (free .entry)) (at + 1)) (freshIn (now (free .entry)) (at + 2)) (now (k .entry)) (now (out .entry)) below ++
-        kidsE (listed (now (node .entry)) (start .at) (start .end)))) ⌝ }
+        (piecesIn (freshIn (now (free .entry)) (layer .at + 1)) (freshIn (now (free .entry)) (layer .at + 2)) (now (k .entry)) (now (out .entry)) (layer .below) ++
+        branchesAmong (listed (now (node .entry)) (layer .start .at) (layer .start .end)))) ⌝ }
 {
+    let level = layer.level;
+    let at = layer.at;
+    let below = layer.below;
+    let start = layer.start;
     let n = octets::u16_at(free, at * 2);
     let a = octets::u16_at(free, (at + 1) * 2);
     let b = octets::u16_at(free, (at + 2) * 2);
     let d = octets::common_length(k, hi);
-    if pieces::write_over(store, n, level, below, k, out, a, b, node, start, 1024, d) {
+    let new = New {
+        num: n,
+        level,
+        lifts: d,
+    };
+    let pieces = Numbered {
+        parts: below,
+        edge: a,
+        rest: b,
+    };
+    if pieces::write_over(
+        store,
+        new,
+        pieces,
+        k,
+        out,
+        node,
+        Following { start, count: 1024 },
+    ) {
         return Parts::Edge;
     }
     Parts::Nothing
 }
 
-// An edge and a rest over them: the rest's pivot is its first child's, and where there is no rest the edge ends at the high pivot.
-fn finish_wide(
-    store: &mut [u8],
+// A tree to slice: the number and the level of its root, the place in the list of free nodes of the first number that its part takes, and whether the
+// part is wide.
+pub struct Sliced {
+    pub num: usize,
+    pub level: usize,
+    pub at: usize,
+    pub wide: bool,
+}
+
+// The children of a node that is sliced: the cut among them, and their level, place and width.
+struct Split {
+    cut: Cut,
     level: usize,
-    node: &[u8],
-    start: Cursor,
-    hi: &[u8],
-    k: &[u8],
-    below: Parts,
     at: usize,
-    free: &[u8],
-    lift: &[u8],
-    out: &mut [u8],
-) -> Parts
-    requires { ⌜ WideReady (length (now store)) level (now node) start (now hi) (now k) below (now out) at (now free) × (length (now lift) + length (now node) ≤ length (now out)) ⌝ }
-    ensures { λ r. ⌜ WideAs level (now (node .entry)) start (now (hi .entry)) (now (k .entry)) below (now (out .entry)) at (now (free .entry)) (now (lift .entry))
-        (now (store .entry)) (now (store .exit)) (now (out .exit)) r ⌝ }
-{
-    let Pending::Child(_, p, _) = live::read_child(node, start) else {
-        write_wide(store, level, node, start, hi, hi, k, below, out, at, free);
-        return tell_edge(below);
-    };
-    let x = p.start;
-    let y = p.stop;
-    write_wide(
-        store,
-        level,
-        node,
-        start,
-        &node[x..y],
-        hi,
-        k,
-        below,
-        out,
-        at,
-        free,
-    );
-    tell_rest(below, lift, &node[x..y], out)
+    wide: bool,
 }
 
 // The part of a tree from a cut k on. Tells its pieces: the pivot of a rest is left in the buffer, behind what its parent lifts.
 pub fn slice_right(
     store: &mut [u8],
-    num: usize,
-    level: usize,
-    lo: &[u8],
+    tree: Sliced,
     hi: &[u8],
     k: &[u8],
-    at: usize,
     free: &[u8],
-    wide: bool,
     lift: &[u8],
     out: &mut [u8],
 ) -> Parts
-    requires { ⌜ RightAsks wide (now store) num level (now lo) (now hi) (now k) at (now free)
-        × (shared (now lo) (now hi) ≡ [])
+    requires { ⌜ RightAsks (tree .wide) (now store) (tree .num) (tree .level) [] (now hi) (now k) (tree .at) (now free)
         × (length (now lift) + 1024 ≤ length (now out))
         × (length (now k) + 1024 ≤ length (now out)) ⌝ }
-    ensures { λ r. ⌜ RightAs wide (treeAt level (now (store .entry)) num) level (now (lo .entry)) (now (hi .entry)) (now (k .entry)) at (now (free .entry))
-        (now (lift .entry)) (now (store .entry)) (now (store .exit)) (now (out .exit)) r ⌝ }
+    ensures { λ r. ⌜ RightAs (tree .wide) (treeAt (tree .level) (now (store .entry)) (tree .num)) (tree .level) [] (now (hi .entry)) (now (k .entry)) (tree .at)
+        (now (free .entry)) (now (lift .entry)) (now (store .entry)) (now (store .exit)) (now (out .exit)) r ⌝ }
 {
+    let level = tree.level;
+    let at = tree.at;
+    let wide = tree.wide;
     let one = at + 1;
     let two = at + 2;
     let mut node = [0u8; 1024];
-    crate::read_node(store, num, &mut node);
+    crate::read_node(store, tree.num, &mut node);
     let len = octets::u16_at(&node, 0);
     if level <= 1 {
         let new = octets::u16_at(free, at * 2);
@@ -199,42 +276,60 @@ pub fn slice_right(
     }
     let cut = point::find_point(&node, image::ENTRIES_AT + len, hi, k);
     let start = pieces::rest_start(&node, image::ENTRIES_AT + len, cut);
+    let down = level - 1;
     if wide {
-        let below = right_cut(store, &node, cut, level - 1, hi, k, two, free, wide, out);
-        return finish_wide(
-            store,
+        let inner = Split {
+            cut,
+            level: down,
+            at: two,
+            wide,
+        };
+        let below = right_cut(store, &node, inner, hi, k, free, out);
+        let layer = Layer {
             level,
-            &node,
-            start,
-            hi,
-            k,
-            below,
             at,
-            free,
-            lift,
-            out,
-        );
+            below,
+            start,
+        };
+        write_both(store, layer, &node, hi, k, out, free);
+        return tell_both(&node, start, below, lift, out);
     }
-    let below = right_cut(store, &node, cut, level - 1, hi, k, one, free, wide, out);
-    finish_narrow(store, level, &node, start, hi, k, below, out, at, free)
+    let inner = Split {
+        cut,
+        level: down,
+        at: one,
+        wide,
+    };
+    let below = right_cut(store, &node, inner, hi, k, free, out);
+    let layer = Layer {
+        level,
+        at,
+        below,
+        start,
+    };
+    finish_narrow(store, layer, &node, hi, k, out, free)
 }
 
 // The part from the cut on of the child that holds it, if there is one.
 fn right_cut(
     store: &mut [u8],
     node: &[u8],
-    cut: Cut,
-    level: usize,
+    split: Split,
     hi: &[u8],
     k: &[u8],
-    at: usize,
     free: &[u8],
-    wide: bool,
     out: &mut [u8],
 ) -> Parts
-    requires { ⌜ CutFits (length (now node)) cut × PointAsksRight wide (now store) level (now k) at (now free) (pointIn (now node) (now hi) cut) × (length (now k) + 1024 ≤ length (now out)) ⌝ }
-    ensures { λ r. ⌜ EdgeAs wide level (now (k .entry)) at (now (free .entry)) (now (store .entry)) (now (store .exit)) (now (out .exit)) (pointIn (now (node .entry)) (now (hi .entry)) cut) r ⌝ }
+    requires { ⌜ CutFits (length (now node)) (split .cut)
+        × PointAsksRight (split .wide) (now store) (split .level) (now k) (split .at) (now free) (pointIn (now node) (now hi) (split .cut))
+        × (length (now k) + 1024 ≤ length (now out)) ⌝ }
+    ensures { λ r. ⌜ EdgeAs (split .wide) (split .level) (now (k .entry)) (split .at) (now (free .entry)) (now (store .entry)) (now (store .exit)) (now (out .exit))
+        (pointIn (now (node .entry)) (now (hi .entry)) (split .cut)) r ⌝ }
 {
+    let cut = split.cut;
+    let level = split.level;
+    let at = split.at;
+    let wide = split.wide;
     match cut {
         Cut::Inner(_, num, low, high) => {
             let a = low.start;
@@ -242,40 +337,26 @@ fn right_cut(
             let x = high.start;
             let y = high.stop;
             let j = octets::common_length(&node[a..b], &node[x..y]);
-            let f = a + j;
             let g = x + j;
-            slice_right(
-                store,
+            let tree = Sliced {
                 num,
                 level,
-                &node[f..b],
-                &node[g..y],
-                &k[j..],
                 at,
-                free,
                 wide,
-                &k[0..j],
-                out,
-            )
+            };
+            slice_right(store, tree, &node[g..y], &k[j..], free, &k[0..j], out)
         }
         Cut::Last(_, num, low) => {
             let a = low.start;
             let b = low.stop;
             let j = octets::common_length(&node[a..b], hi);
-            let f = a + j;
-            slice_right(
-                store,
+            let tree = Sliced {
                 num,
                 level,
-                &node[f..b],
-                &hi[j..],
-                &k[j..],
                 at,
-                free,
                 wide,
-                &k[0..j],
-                out,
-            )
+            };
+            slice_right(store, tree, &hi[j..], &k[j..], free, &k[0..j], out)
         }
         Cut::Between(_, _) => Parts::Nothing,
         Cut::Nowhere(_) => Parts::Nothing,

@@ -19,13 +19,13 @@ use Rattle.laws.specs.ButLive.{parts-of}
 use Rattle.live.specs.RootSteps.{countable}
 use Rattle.tree_check.specs.Whole.{isSound, Verified}
 use Rattle.laws.specs.ButLive.{sound-live}
-use Rattle.tree_check.specs.Callers.{Holds, verified-yes, verified-no, sound-settled}
+use Rattle.tree_check.specs.Callers.{Established, verified-yes, verified-no, sound-settled}
 use Rattle.live.specs.Walk.{Countable}
 use Rattle.octets.specs.Cap.{cap, cap-equal}
 
 pub record Judged (image : List ℕ) (r : Checked) (seen : List ℕ) : Type 0 where
   pub answer : isSound r ≡ sound image
-  pub holds : (t : Tally) → r ≡ Checked.Sound t → Holds image t seen
+  pub holds : (t : Tally) → r ≡ Checked.Sound t → Established image t seen
 
 pub told-live : (image : List ℕ) (k : ℕ) → 1024 ≤ length image → k ≡ u16 image 10 → k ≡ headerOf image .live
 unfolding headerOf header
@@ -52,7 +52,7 @@ module _ (image : List ℕ) (seen : List ℕ) (c : Checked) (v : Verified image 
       no-tally t q = false≢true (ap isSound q)
 
   module _ (t : Tally) (is : c ≡ Checked.Sound t) (whole : wholeNodes (length image) ≡ true) (told : ℕ) (told-is : told ≡ u16 image 10) where
-    abbrev held : Holds image t seen
+    abbrev held : Established image t seen
     held = verified-yes image c t seen v is
 
     abbrev parts : Whole (length image)
@@ -72,7 +72,7 @@ module _ (image : List ℕ) (seen : List ℕ) (c : Checked) (v : Verified image 
     unfolding isSound
     yes e = record { answer = sym e; holds = λ u q. same-tally u q }
       where
-        same-tally : (u : Tally) → Checked.Sound t ≡ Checked.Sound u → Holds image u seen
+        same-tally : (u : Tally) → Checked.Sound t ≡ Checked.Sound u → Established image u seen
         same-tally u q = verified-yes image c u seen v (is ∙ q)
 
     no : sound image ≡ false → Judged image Checked.Unsound seen

@@ -1,6 +1,6 @@
 -- What batch answers as one word of 64 bits: the number in the low 8, the calls done in the next 28, the bytes written in the high 28; and
 -- that they fit there, since an answer is at least 4 bytes. Relies on the contract of a batch (image) alone.
-use Prim.Native.Nat.{ℕ, zero, suc, _+_, _/_, _%_, _-_, _≤_, _<_}
+use Prim.Native.Nat.{ℕ, zero, suc, _/_, _%_, _-_, _≤_, _<_}
 use mathlib.Core.Path.{_≡_, refl, sym, ap, _∙_}
 use mathlib.Core.List.{List, [], _∷_, _++_}
 use mathlib.Core.Bool.{Bool, true, false, cond}

@@ -11,7 +11,7 @@ use borrow.Author.Tests.{leb-true, eqb-true}
 use Rattle.image.specs.Bytes.{u16}
 use Rattle.image.specs.Image.{nodesOf, wholeNodes, headerOf, treeOf}
 use Rattle.octets.specs.Order.{and-left, and-right}
-use Rattle.laws.specs.Page.{page, page-length, numberOf, kidsOf, headPage}
+use Rattle.laws.specs.Page.{page, page-length, numberOf, branchesOf, headPage}
 use Rattle.laws.specs.WriteNode.{writeNode, write-length}
 use Rattle.append.specs.Laws.Append.{header-levels, header-live}
 use Rattle.slice.specs.Slicing.Range.{past}
@@ -19,7 +19,7 @@ use Rattle.slice.specs.Slicing.SliceWrite.{pageOf}
 use Rattle.slice.specs.Moving.Move.{rightPastR, rightPastP, rootOver}
 use Rattle.slice.specs.Moving.MoveWrite.{im8, im9}
 use Rattle.slice.specs.Point.{freshIn}
-use Rattle.slice.specs.Right.{piecesIn, raiseKids}
+use Rattle.slice.specs.Right.{piecesIn, raiseBranches}
 use Rattle.swing.specs.declared.Cuts.{Cuts}
 use Rattle.swing.specs.declared.root.Half.{Half}
 use Rattle.swing.specs.Cuts.{front, BothAsks, BothAs, takenOut, TakeAsks, lowPlace}
@@ -74,11 +74,11 @@ module _ (s free p r : List ℕ) (up : Bool) (P : Plan s free p r up) where
       unfolding halfIn
       under-high = number-under-high s free p r up P up ∙ ap (λ k. F (17 * H - k)) (sym z)
 
-      behind-low : raiseKids [] (kidsOf (rightPastP F H (treeOf s) p r)) ≡ piecesIn (lower .edge) (lower .rest) (past p) low (lower .parts)
+      behind-low : raiseBranches [] (branchesOf (rightPastP F H (treeOf s) p r)) ≡ piecesIn (lower .edge) (lower .rest) (past p) low (lower .parts)
       unfolding halfIn
       behind-low = low-pieces s free p r up P s₆ low high c a
 
-      behind-high : raiseKids [] (kidsOf (rightPastR F H (treeOf s) p r)) ≡ piecesIn (higher .edge) (higher .rest) (past r) high (higher .parts)
+      behind-high : raiseBranches [] (branchesOf (rightPastR F H (treeOf s) p r)) ≡ piecesIn (higher .edge) (higher .rest) (past r) high (higher .parts)
       unfolding halfIn
       behind-high = high-pieces s free p r up P s₆ low high c a
 

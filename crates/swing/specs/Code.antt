@@ -11,7 +11,7 @@ use Rattle.image.specs.Image.{headerOf, treeAt}
 use Rattle.image.specs.Sound.{highest}
 use Rattle.octets.specs.Put.{put, put-one, put-put, put-size}
 use Rattle.laws.specs.Encode.{bytesOf, child-size}
-use Rattle.laws.specs.Page.{page, kidsOf}
+use Rattle.laws.specs.Page.{page, branchesOf}
 use Rattle.slice.specs.Slicing.Slice.{rightOf}
 use Rattle.laws.specs.WriteNode.{writeNode}
 use Rattle.packed.specs.Form.Tidy.{zerosOf}
@@ -23,7 +23,7 @@ use Rattle.slice.specs.Moving.GapWrite.{gapWrite}
 use Rattle.slice.specs.declared.Parts.{Parts}
 use Rattle.slice.specs.Point.{freshIn}
 use Rattle.slice.specs.Left.{LeftAsks}
-use Rattle.slice.specs.Right.{RightAsks, RightAs, piecesIn, raiseKids, allLine}
+use Rattle.slice.specs.Right.{RightAsks, RightAs, piecesIn, raiseBranches, allLine}
 use Rattle.slice.specs.GapSteps.{GapAsks}
 use Rattle.slice.specs.PairSteps.{page-written}
 use Rattle.swing.specs.declared.root.Half.{Half}
@@ -78,7 +78,7 @@ module _ (s : List ℕ) (num h : ℕ) (hi bound : List ℕ) (at : ℕ) (free : L
               ∙ ap (λ i. leftWrite (freshIn free) (treeAt h s₂ i) h [] bound (front bound) (at + 3 * h) s₂) (sym inner-is)
               ∙ ap (λ x. leftWrite (freshIn free) (treeAt h x (freshIn free at)) h [] bound (front bound) (at + 3 * h) x) (sym second-is) ∙ shown;
           pieces =
-              ap (λ x. raiseKids [] (kidsOf (rightOf (freshIn free) true (treeAt h x num) [] hi bound (at + h)))) first-is
+              ap (λ x. raiseBranches [] (branchesOf (rightOf (freshIn free) true (treeAt h x num) [] hi bound (at + h)))) first-is
               ∙ a .pieces;
           fit = a .fit;
         }

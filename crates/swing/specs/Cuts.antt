@@ -7,7 +7,7 @@ use mathlib.Core.Bool.{Bool, true, false, cond}
 use lib.ListN.{length, take}
 use Rattle.image.specs.Image.{headerOf, treeAt}
 use Rattle.image.specs.Sound.{highest}
-use Rattle.laws.specs.Page.{kidsOf}
+use Rattle.laws.specs.Page.{branchesOf}
 use Rattle.slice.specs.Slicing.Slice.{rightOf}
 use Rattle.slice.specs.Slicing.SliceWrite.{leftWrite}
 use Rattle.slice.specs.Slicing.RightWrite.{rightWrite}
@@ -15,7 +15,7 @@ use Rattle.slice.specs.Moving.GapWrite.{gapWrite}
 use Rattle.slice.specs.declared.Parts.{Parts}
 use Rattle.slice.specs.Point.{freshIn}
 use Rattle.slice.specs.Left.{LeftAsks}
-use Rattle.slice.specs.Right.{RightAsks, piecesIn, PartsFit, raiseKids}
+use Rattle.slice.specs.Right.{RightAsks, piecesIn, PartsFit, raiseBranches}
 use Rattle.slice.specs.GapSteps.{GapAsks}
 use Rattle.swing.specs.declared.Cuts.{Cuts}
 
@@ -44,7 +44,7 @@ pub record RangeAsks (s : List ℕ) (num h : ℕ) (hi bound : List ℕ) (at : �
 
 pub record RangeAs (s : List ℕ) (num h : ℕ) (hi bound : List ℕ) (at : ℕ) (free s′ out : List ℕ) (r : Parts) : Type 0 where
   pub written : s′ ≡ rangeIn s num h hi bound at free
-  pub pieces : raiseKids [] (kidsOf (rightOf (freshIn free) true (treeAt h (leftIn s num h hi bound at free) num) [] hi bound (at + h)))
+  pub pieces : raiseBranches [] (branchesOf (rightOf (freshIn free) true (treeAt h (leftIn s num h hi bound at free) num) [] hi bound (at + h)))
       ≡ piecesIn (freshIn free (at + h)) (freshIn free (at + h + 1)) bound out r
   pub fit : PartsFit (length out) r
 

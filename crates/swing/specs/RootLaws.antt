@@ -1,6 +1,6 @@
 -- What the root's writer writes is the page of the move's root: moving's pieces, as the bytes of Root.
 -- Relies on moving's definitions of the pieces, and on slicing's of a right part.
-use Prim.Native.Nat.{ℕ, suc, _+_, _≤_}
+use Prim.Native.Nat.{ℕ, suc, _≤_}
 use mathlib.Core.Path.{_≡_, refl, sym, ap, ap₂, _∙_}
 use mathlib.Core.List.{List, [], _∷_, _++_, append-assoc}
 use mathlib.Core.Bool.{true, false, false≢true}
@@ -9,21 +9,21 @@ use lib.ListN.{length}
 use borrow.Author.Tests.{leb-true}
 use Rattle.image.specs.Bytes.{shared}
 use Rattle.image.specs.Entry.{child}
-use Rattle.image.specs.Image.{Tree, unread, leaf, interior, Forest, end, tree, Kid}
+use Rattle.image.specs.Image.{Tree, unread, leaf, interior, Forest, end, tree, Branch}
 use Rattle.image.specs.Sound.{soundTree}
 use Rattle.octets.specs.Order.{and-left}
 use Rattle.laws.specs.Encode.{bytesOf, bytesOfAll}
-use Rattle.laws.specs.Page.{page, numberOf, childEntries, kidsOf}
+use Rattle.laws.specs.Page.{page, numberOf, childEntries, branchesOf}
 use Rattle.laws.specs.Pieces.{joined, lower, node, over}
 use Rattle.laws.specs.Upkeep.Size.{bytes-append}
 use Rattle.slice.specs.Slicing.Slice.{rightOf, edgeIn, restIn, packed, after}
-use Rattle.slice.specs.Slicing.SliceFits.{kidsSize, fits}
-use Rattle.slice.specs.Slicing.ReadBack.{kids-size}
+use Rattle.slice.specs.Slicing.SliceFits.{branchesSize, fits}
+use Rattle.slice.specs.Slicing.ReadBack.{branches-size}
 use Rattle.slice.specs.Slicing.SliceWrite.{pageOf}
 use Rattle.slice.specs.Slicing.Tail.{firstOf, tailOf}
 use Rattle.slice.specs.Slicing.Range.{past}
 use Rattle.slice.specs.Moving.Move.{leftP, rightPastP, rightPastR, pieces, rootOver}
-use Rattle.slice.specs.Right.{piecesIn, allLine, raiseKids}
+use Rattle.slice.specs.Right.{piecesIn, allLine, raiseBranches}
 use Rattle.swing.specs.declared.root.Half.{Half}
 use Rattle.swing.specs.Cuts.{front}
 use Rattle.swing.specs.Root.{halfLine, rootLine}
@@ -47,13 +47,13 @@ unfolding pieceList childEntries bytesOfAll
 list-more pivot t f = refl
 
 -- as the slices tell them
-list-line : (f : Forest) → pieceList f ≡ allLine 0 (kidsOf f)
-unfolding pieceList childEntries bytesOfAll allLine kidsOf
+list-line : (f : Forest) → pieceList f ≡ allLine 0 (branchesOf f)
+unfolding pieceList childEntries bytesOfAll allLine branchesOf
 list-line end = refl
 list-line (tree s t f) = ap (λ l. bytesOf (child (numberOf t) s) ++ l) (list-line f)
 
-raise-none : (ks : List Kid) → raiseKids [] ks ≡ ks
-unfolding raiseKids
+raise-none : (ks : List Branch) → raiseBranches [] ks ≡ ks
+unfolding raiseBranches
 raise-none [] = refl
 raise-none (k ∷ ks) = ap (λ l. k ∷ l) (raise-none ks)
 
@@ -64,14 +64,14 @@ lower-nil (tree s t f) = ap (λ g. tree s t g) (lower-nil f)
 
 -- ONE HALF
 half-is : (f : Forest) (t : Tree) (path bound out : List ℕ) (half : Half) → front bound ≡ path → numberOf t ≡ half .number
-    → raiseKids [] (kidsOf f) ≡ piecesIn (half .edge) (half .rest) bound out (half .parts) → pieceList (tree path t f) ≡ halfLine bound half out
+    → raiseBranches [] (branchesOf f) ≡ piecesIn (half .edge) (half .rest) bound out (half .parts) → pieceList (tree path t f) ≡ halfLine bound half out
 unfolding halfLine
 half-is f t path bound out half ef n e =
     list-more path t f
-    ∙ ap₂ (λ a b. a ++ b) (ap₂ (λ k q. bytesOf (child k q)) n (sym ef)) (list-line f ∙ ap (allLine 0) (sym (raise-none (kidsOf f)) ∙ e))
+    ∙ ap₂ (λ a b. a ++ b) (ap₂ (λ k q. bytesOf (child k q)) n (sym ef)) (list-line f ∙ ap (allLine 0) (sym (raise-none (branchesOf f)) ∙ e))
 
 half-join : (f g : Forest) (t : Tree) (path bound out : List ℕ) (half : Half) → front bound ≡ path → numberOf t ≡ half .number
-    → raiseKids [] (kidsOf f) ≡ piecesIn (half .edge) (half .rest) bound out (half .parts) → pieceList (tree path t (joined f g)) ≡ halfLine bound half out ++ pieceList g
+    → raiseBranches [] (branchesOf f) ≡ piecesIn (half .edge) (half .rest) bound out (half .parts) → pieceList (tree path t (joined f g)) ≡ halfLine bound half out ++ pieceList g
 half-join f g t path bound out half ef n e =
     list-more path t (joined f g) ∙ ap (λ l. bytesOf (child (numberOf t) path) ++ l) (list-joined f g)
     ∙ sym (append-assoc (bytesOf (child (numberOf t) path)) (pieceList f) (pieceList g))
@@ -80,8 +80,8 @@ half-join f g t path bound out half ef n e =
 -- THE ROOT
 module _ (fresh : ℕ → ℕ) (h : ℕ) (t : Tree) (p r : List ℕ) (x y : Tree) (left : ℕ) (low high : Half) (behind last : List ℕ)
     (ep : front (past p) ≡ p) (er : front (past r) ≡ r) (left-is : numberOf (leftP fresh h t p r) ≡ left) (x-is : numberOf x ≡ low .number) (y-is : numberOf y ≡ high .number)
-    (low-is : raiseKids [] (kidsOf (rightPastP fresh h t p r)) ≡ piecesIn (low .edge) (low .rest) (past p) behind (low .parts))
-    (high-is : raiseKids [] (kidsOf (rightPastR fresh h t p r)) ≡ piecesIn (high .edge) (high .rest) (past r) last (high .parts)) where
+    (low-is : raiseBranches [] (branchesOf (rightPastP fresh h t p r)) ≡ piecesIn (low .edge) (low .rest) (past p) behind (low .parts))
+    (high-is : raiseBranches [] (branchesOf (rightPastR fresh h t p r)) ≡ piecesIn (high .edge) (high .rest) (past r) last (high .parts)) where
   pieces-are : pieceList (pieces fresh h t p r x y) ≡ rootLine left (past p) low behind (past r) high last
   unfolding pieces rootLine
   pieces-are =
@@ -101,8 +101,8 @@ module _ (fresh : ℕ → ℕ) (h : ℕ) (t : Tree) (p r : List ℕ) (x y : Tree
   unfolding rootOver node fits shared
   root-size e =
       let a = ap length entries-are in
-      let b = kids-size (lower [] (pieces fresh h t p r x y)) in
-      let c : kidsSize (lower [] (pieces fresh h t p r x y)) ≤ 1016 = leb-true (kidsSize (lower [] (pieces fresh h t p r x y))) 1016 (and-left _ _ (and-left _ _ e)) in
+      let b = branches-size (lower [] (pieces fresh h t p r x y)) in
+      let c : branchesSize (lower [] (pieces fresh h t p r x y)) ≤ 1016 = leb-true (branchesSize (lower [] (pieces fresh h t p r x y))) 1016 (and-left _ _ (and-left _ _ e)) in
       omega arith
 
 -- the middle takes the number at its place

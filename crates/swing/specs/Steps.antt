@@ -15,7 +15,7 @@ use Rattle.image.specs.Image.{Tree, nodesOf, wholeNodes, headerOf, treeAt, tree
 use Rattle.image.specs.Sound.{highest, numbers}
 use Rattle.octets.specs.Order.{and-right}
 use Rattle.laws.specs.Pieces.{Good}
-use Rattle.laws.specs.Page.{numberOf, kidsOf, number-read}
+use Rattle.laws.specs.Page.{numberOf, branchesOf, number-read}
 use Rattle.laws.specs.Reading.Relative.{usable, sound-usable}
 use Rattle.slice.specs.Slicing.Slice.{rightOf}
 use Rattle.slice.specs.Slicing.SliceNumbers.{hits-met}
@@ -33,7 +33,7 @@ use Rattle.slice.specs.Moving.MoveWrite.{im1, im2, im3, im4, im5, im6, im7, im8
 use Rattle.slice.specs.declared.Parts.{Parts}
 use Rattle.slice.specs.Point.{freshIn}
 use Rattle.slice.specs.Left.{LeftAsks}
-use Rattle.slice.specs.Right.{RightAsks, piecesIn, raiseKids}
+use Rattle.slice.specs.Right.{RightAsks, piecesIn, raiseBranches}
 use Rattle.slice.specs.GapSteps.{GapAsks}
 use Rattle.slice.specs.Callers.{left-asked, right-asked}
 use Rattle.swing.specs.declared.Cuts.{Cuts}
@@ -86,9 +86,9 @@ module _ (free : List ℕ) (h num : ℕ) (u inner : Tree) (hi bound path : List 
 
   -- the pieces behind it
   pub range-pieces : (s′ out : List ℕ) (r : Parts) → RangeAs s₀ num h hi bound at free s′ out r
-      → raiseKids [] (kidsOf (rightOf (freshIn free) true u [] hi bound b)) ≡ piecesIn (freshIn free b) (freshIn free (b + 1)) bound out r
+      → raiseBranches [] (branchesOf (rightOf (freshIn free) true u [] hi bound b)) ≡ piecesIn (freshIn free b) (freshIn free (b + 1)) bound out r
   range-pieces s′ out r a =
-      sym (ap₂ (λ t k. raiseKids [] (kidsOf (rightOf (freshIn free) true t [] hi bound k))) (ap (λ s. treeAt h s num) left-is ∙ read₁) (sym eb)) ∙ a .pieces
+      sym (ap₂ (λ t k. raiseBranches [] (branchesOf (rightOf (freshIn free) true t [] hi bound k))) (ap (λ s. treeAt h s num) left-is ∙ read₁) (sym eb)) ∙ a .pieces
       ∙ ap (λ k. piecesIn (freshIn free k) (freshIn free (k + 1)) bound out r) (sym eb)
 
   pub range-written : (s′ out : List ℕ) (r : Parts) → RangeAs s₀ num h hi bound at free s′ out r → s′ ≡ s₃
@@ -322,13 +322,13 @@ module _ (s free p r : List ℕ) (up : Bool) (P : Plan s free p r up) where
         range-written free h (F (3 * h)) (leftR F h t p r) (leftPastP F h t p r) r (past p) p (4 * h) (5 * h) (7 * h) A3 A4 A5 A6 (omega arith) (omega arith) (front-past p)
         mid-3 mid-4 low-5 write-4 write-5 write-6 s′ low (c .low) (low-as s′ low (c .low) (a .lower))
 
-    pub low-pieces : raiseKids [] (kidsOf (rightPastP F h t p r)) ≡ piecesIn (F (5 * h)) (F (5 * h + 1)) (past p) low (c .low)
+    pub low-pieces : raiseBranches [] (branchesOf (rightPastP F h t p r)) ≡ piecesIn (F (5 * h)) (F (5 * h + 1)) (past p) low (c .low)
     unfolding rightPastP
     low-pieces =
         range-pieces free h (F (3 * h)) (leftR F h t p r) (leftPastP F h t p r) r (past p) p (4 * h) (5 * h) (7 * h) A3 A4 A5 A6 (omega arith) (omega arith) (front-past p)
         mid-3 mid-4 low-5 write-4 write-5 write-6 s′ low (c .low) (low-as s′ low (c .low) (a .lower))
 
-    pub high-pieces : raiseKids [] (kidsOf (rightPastR F h t p r)) ≡ piecesIn (F h) (F (h + 1)) (past r) high (c .high)
+    pub high-pieces : raiseBranches [] (branchesOf (rightPastR F h t p r)) ≡ piecesIn (F h) (F (h + 1)) (past r) high (c .high)
     unfolding rightPastR
     high-pieces =
         range-pieces free h (headerOf s .root) t (leftPastR F h t p r) highest (past r) r 0 h (3 * h) s A1 A2 A3 (omega arith) (omega arith) (front-past r)

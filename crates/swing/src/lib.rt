@@ -4,7 +4,10 @@
 mod root;
 pub mod spare;
 
+use root::Halves;
 use slice::Parts;
+use slice::Slot;
+use slice::right::Sliced;
 ghost use mathlib.Core.Path.{_≡_};
 ghost use Prim.Native.Nat.{_*_, _≤_, _<_};
 ghost use lib.ListN.{length};
@@ -38,44 +41,34 @@ fn put_past(bound: &mut [u8], path: &[u8])
 fn cut_range(
     store: &mut [u8],
     num: usize,
-    h: usize,
+    slot: Slot,
     hi: &[u8],
     bound: &[u8],
-    at: usize,
     free: &[u8],
     out: &mut [u8],
 ) -> Parts
-    requires { ⌜ RangeAsks (now store) num h (now hi) (now bound) at (now free) × (length (now out) ≡ 1089) ⌝ }
-    ensures { λ r. ⌜ RangeAs (now (store .entry)) num h (now (hi .entry)) (now (bound .entry)) at (now (free .entry)) (now (store .exit)) (now (out .exit)) r ⌝ }
+    requires { ⌜ RangeAsks (now store) num (slot .level) (now hi) (now bound) (slot .at) (now free) × (length (now out) ≡ 1089) ⌝ }
+    ensures { λ r. ⌜ RangeAs (now (store .entry)) num (slot .level) (now (hi .entry)) (now (bound .entry)) (slot .at) (now (free .entry)) (now (store .exit)) (now (out .exit)) r ⌝ }
 {
+    let h = slot.level;
+    let at = slot.at;
     let beside = at + h;
     let below = at + 3 * h;
     let inner = octets::u16_at(free, at * 2);
     let n = bound.len() - 1;
-    slice::slice_left(store, num, h, &bound[0..0], hi, bound, at, free);
-    let parts = slice::right::slice_right(
-        store,
+    slice::slice_left(store, num, slot, &bound[0..0], hi, bound, free);
+    let right = Sliced {
         num,
-        h,
-        &bound[0..0],
-        hi,
-        bound,
-        beside,
-        free,
-        true,
-        &bound[0..0],
-        out,
-    );
-    slice::slice_left(
-        store,
-        inner,
-        h,
-        &bound[0..0],
-        bound,
-        &bound[0..n],
-        below,
-        free,
-    );
+        level: h,
+        at: beside,
+        wide: true,
+    };
+    let parts = slice::right::slice_right(store, right, hi, bound, free, &bound[0..0], out);
+    let left = Slot {
+        level: h,
+        at: below,
+    };
+    slice::slice_left(store, inner, left, &bound[0..0], bound, &bound[0..n], free);
     parts
 }
 
@@ -96,8 +89,25 @@ fn cut_both(
     let inner = octets::u16_at(free, 3 * h * 2);
     let n = limit.len() - 1;
     let top = [255u8; 1];
-    let right = cut_range(store, root, h, &top, limit, 0, free, high);
-    let left = cut_range(store, inner, h, &limit[0..n], bound, 4 * h, free, low);
+    let right = cut_range(
+        store,
+        root,
+        Slot { level: h, at: 0 },
+        &top,
+        limit,
+        free,
+        high,
+    );
+    let next = 4 * h;
+    let left = cut_range(
+        store,
+        inner,
+        Slot { level: h, at: next },
+        &limit[0..n],
+        bound,
+        free,
+        low,
+    );
     Cuts {
         low: left,
         high: right,
@@ -113,16 +123,18 @@ fn take_out(store: &mut [u8], num: usize, h: usize, bound: &[u8], free: &[u8])
     let gap = 9 * h;
     let n = bound.len() - 1;
     let mut out = [0u8; 1089];
+    let range = Sliced {
+        num,
+        level: h,
+        at: tail,
+        wide: false,
+    };
     slice::right::slice_right(
         store,
-        num,
-        h,
-        &bound[0..0],
+        range,
         bound,
         &bound[0..n],
-        tail,
         free,
-        false,
         &bound[0..0],
         &mut out,
     );
@@ -171,7 +183,12 @@ fn swing_between(store: &mut [u8], free: &[u8], bound: &[u8], limit: &[u8], up: 
     let last = cuts.high;
     let lower = root::half_at(free, place, 5 * h, behind);
     let higher = root::half_at(free, 17 * h - place, h, last);
-    root::write_root(store, h, bound, limit, free, lower, &low, higher, &high);
+    let halves = Halves {
+        levels: h,
+        low: lower,
+        high: higher,
+    };
+    root::write_root(store, halves, bound, limit, free, &low, &high);
     packed::write_head(store, num, h + 1, live);
 }
 

@@ -2,6 +2,7 @@
 // ranges and numbers only: the same for a move up and a move down. Relies on slice (the pieces) and on node's writer.
 use node::writer;
 use slice::Parts;
+use slice::pieces::Numbered;
 ghost use mathlib.Core.Path.{_≡_};
 ghost use Prim.Native.Nat.{_+_, _*_, _<_, _≤_};
 ghost use lib.ListN.{length};
@@ -17,6 +18,13 @@ pub struct Half {
     pub edge: usize,
     pub rest: usize,
     pub parts: Parts,
+}
+
+// Both halves of a new root, and how many levels lie under it.
+pub struct Halves {
+    pub levels: usize,
+    pub low: Half,
+    pub high: Half,
 }
 
 // The half whose numbers stand at these places of the list of free nodes.
@@ -44,28 +52,34 @@ fn emit_half(page: &mut [u8], at: usize, bound: &[u8], half: Half, out: &[u8]) -
     let n = bound.len() - 1;
     let parts = half.parts;
     let behind = writer::write_child(page, at, half.number, &bound[0..n]);
-    slice::pieces::emit_parts(page, behind, parts, bound, out, 0, half.edge, half.rest)
+    let over = Numbered {
+        parts,
+        edge: half.edge,
+        rest: half.rest,
+    };
+    slice::pieces::emit_parts(page, behind, over, bound, out, 0)
 }
 
 // The new root, as the last of the free nodes that a move takes.
 pub fn write_root(
     store: &mut [u8],
-    h: usize,
+    halves: Halves,
     bound: &[u8],
     limit: &[u8],
     free: &[u8],
-    low: Half,
     behind: &[u8],
-    high: Half,
     last: &[u8],
 )
-    requires { ⌜ RootAsks (now store) h (now bound) (now limit) (now free) low (now behind) high (now last) ⌝ }
+    requires { ⌜ RootAsks (now store) (halves .levels) (now bound) (now limit) (now free) (halves .low) (now behind) (halves .high) (now last) ⌝ }
     ensures { λ _. ⌜ now (store .exit)
-        ≡ writeNode (now (store .entry)) (freshIn (now (free .entry)) (10 * h))
-        (page 2 (h + 1)
-        (rootLine (freshIn (now (free .entry)) (7 * h)) (now (bound .entry)) low (now (behind .entry)) (now (limit .entry)) high
-        (now (last .entry)))) ⌝ }
+        ≡ writeNode (now (store .entry)) (freshIn (now (free .entry)) (10 * halves .levels))
+        (page 2 (halves .levels + 1)
+        (rootLine (freshIn (now (free .entry)) (7 * halves .levels)) (now (bound .entry)) (halves .low) (now (behind .entry)) (now (limit .entry))
+        (halves .high) (now (last .entry)))) ⌝ }
 {
+    let h = halves.levels;
+    let low = halves.low;
+    let high = halves.high;
     let num = octets::u16_at(free, 10 * h * 2);
     let left = octets::u16_at(free, 7 * h * 2);
     let mut page = [0u8; 1024];

@@ -1,4 +1,4 @@
-// The free nodes of a store, listed from the marks that the check of the image leaves: rising, two bytes each.
+// The free nodes of a store, listed from the marks of the nodes in use: rising, two bytes each.
 // Relies on octets for the two-byte numbers; the marks are those of tree_check, and specs/Spare joins them to the free nodes of moving.
 ghost use mathlib.Core.Path.{_≡_};
 ghost use mathlib.Core.List.{_++_};

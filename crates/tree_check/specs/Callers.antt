@@ -3,13 +3,13 @@
 use Prim.Native.Nat.{ℕ, suc, _+_, _<_, _≤_}
 use mathlib.Core.Path.{_≡_, refl, sym, ap, ap₂, subst, _∙_}
 use mathlib.Core.List.{List, [], _∷_}
-use mathlib.Core.Bool.{Bool, true, false, _&&_, cond, false≢true}
+use mathlib.Core.Bool.{Bool, true, false, _&&_, false≢true}
 use native.Mathlib.Omega.{arith}
-use lib.ListN.{length, getD}
+use lib.ListN.{length}
 use lib.Dec.{leb, eqb}
 use borrow.Author.Tests.{eq-eqb, ne-eqb, eqb-true, eqb-false, leb-true, leb-false, le-leb}
 use Rattle.image.specs.Image.{Tree, unread, leaf, interior, Forest, end, tree, nodesOf, headerOf, treeOf}
-use Rattle.image.specs.Sound.{sound, numbers, isIn, lowest, highest, tableOf}
+use Rattle.image.specs.Sound.{sound, numbers, lowest, highest, tableOf}
 use Rattle.image.specs.Upkeep.{reachable, reachableNodes, every, holdsNoMessage, settled}
 use Rattle.laws.specs.Pieces.{still, stillIn}
 use Rattle.laws.specs.LiveCount.{pairCount, pairs-live, still-quiet}
@@ -20,15 +20,15 @@ use Rattle.tree_check.specs.Count.{messageCount, messageCountIn, countOf
 use Rattle.octets.specs.Cap.{cap, cap-small, cap-large}
 use Rattle.tree_check.specs.Answer.{Counts}
 use Rattle.laws.specs.ButLive.{soundButLive, sound-live, parts-of}
-use Rattle.tree_check.specs.Whole.{isSound, Marked, Verified}
+use Rattle.tree_check.specs.Whole.{isSound, Marks, Marked, Verified}
 
 -- an answer, used
-pub record Holds (image : List ℕ) (t : Tally) (seen : List ℕ) : Type 0 where
+pub record Established (image : List ℕ) (t : Tally) (seen : List ℕ) : Type 0 where
   pub rules : soundButLive image ≡ true
   pub tally : t ≡ capped (countOf (treeOf image))
-  pub reached : (i : ℕ) → i < nodesOf (length image) → getD seen i 0 ≡ cond (isIn i (numbers (treeOf image))) 1 0
+  pub reached : Marks image seen
 
-pub verified-yes : (image : List ℕ) (r : Checked) (t : Tally) (seen : List ℕ) → Verified image r seen → r ≡ Checked.Sound t → Holds image t seen
+pub verified-yes : (image : List ℕ) (r : Checked) (t : Tally) (seen : List ℕ) → Verified image r seen → r ≡ Checked.Sound t → Established image t seen
 unfolding isSound Counts Marked
 verified-yes image r t seen v e =
     record { rules = sym (v .answer) ∙ rw e; tally = subst (Counts (countOf (treeOf image))) e (v .counts); reached = subst (Marked image seen) e (v .marks) }
@@ -67,15 +67,18 @@ mutual
   still-none-in (tree s t f) = ap₂ (λ a b. a && b) (still-none t) (still-none-in f) ∙ sym (both-zero (messageCount t) (messageCountIn f))
 
 -- the store is settled exactly when no message waits
-pub settled-none : (image : List ℕ) → settled image ≡ eqb (messageCount (treeOf image)) 0
+pub settled-still : (image : List ℕ) → settled image ≡ still (treeOf image)
 unfolding settled reachableNodes
-settled-none image = go (still (treeOf image)) refl (every holdsNoMessage (reachable (treeOf image) (headerOf image .levels) lowest highest)) refl
+settled-still image = go (still (treeOf image)) refl (every holdsNoMessage (reachable (treeOf image) (headerOf image .levels) lowest highest)) refl
   where
     go : (a : Bool) → still (treeOf image) ≡ a → (b : Bool) → every holdsNoMessage (reachable (treeOf image) (headerOf image .levels) lowest highest) ≡ b
-        → every holdsNoMessage (reachable (treeOf image) (headerOf image .levels) lowest highest) ≡ eqb (messageCount (treeOf image)) 0
-    go true e b f = still-quiet (treeOf image) (headerOf image .levels) lowest highest e ∙ sym e ∙ still-none (treeOf image)
+        → every holdsNoMessage (reachable (treeOf image) (headerOf image .levels) lowest highest) ≡ still (treeOf image)
+    go true e b f = still-quiet (treeOf image) (headerOf image .levels) lowest highest e ∙ sym e
     go false e true f = absurd (false≢true (sym e ∙ quiet-still (treeOf image) (headerOf image .levels) lowest highest f))
-    go false e false f = f ∙ sym e ∙ still-none (treeOf image)
+    go false e false f = f ∙ sym e
+
+pub settled-none : (image : List ℕ) → settled image ≡ eqb (messageCount (treeOf image)) 0
+settled-none image = settled-still image ∙ still-none (treeOf image)
 
 pub none-still : (image : List ℕ) → messageCount (treeOf image) ≡ 0 → still (treeOf image) ≡ true
 none-still image h = still-none (treeOf image) ∙ eq-eqb (messageCount (treeOf image)) 0 h
@@ -106,7 +109,7 @@ live-capped live pairs h = go (leb pairs 65535) refl
         ap (λ j. eqb live j) (cap-large pairs (omega arith)) ∙ ne-eqb live 65535 (λ q. omega arith) ∙ sym (ne-eqb live pairs (λ q. omega arith))
 
 -- the numbers that a tally shows
-module _ (image : List ℕ) (t : Tally) (seen : List ℕ) (k : Holds image t seen) where
+module _ (image : List ℕ) (t : Tally) (seen : List ℕ) (k : Established image t seen) where
   shown : t ≡ record { pairs = cap (pairCount (treeOf image)); messages = cap (messageCount (treeOf image)); nodes = cap (length (numbers (treeOf image))) }
   unfolding capped countOf
   shown = k .tally

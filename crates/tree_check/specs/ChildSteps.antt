@@ -22,14 +22,14 @@ use Rattle.node.specs.declared.Place.{Place}
 use Rattle.node.specs.declared.Cursor.{Cursor}
 use Rattle.node.specs.declared.Entry.{Entry}
 use Rattle.node.specs.declared.Step.{Step}
-use Rattle.node.specs.declared.search.Kid.{Kid}
-use Rattle.node.specs.Search.Own.{kidIs, kid-place, child-entry}
+use Rattle.node.specs.declared.search.Branch.{Branch}
+use Rattle.node.specs.Search.Own.{branchIs, branch-place, child-entry}
 use Rattle.lookup.specs.Look.{part-rest}
-use Rattle.tree_check.specs.Node.Inside.{messagesRun, childRun, kidsList, kidsRun, kids-step, kids-end, onward-some}
+use Rattle.tree_check.specs.Node.Inside.{messagesRun, childRun, branchesList, branchesRun, branches-step, branches-end, onward-some}
 use Rattle.tree_check.specs.declared.Tally.{Tally}
 use Rattle.tree_check.specs.declared.Checked.{Checked}
 use Rattle.octets.specs.Cap.{cap}
-use Rattle.tree_check.specs.Count.{Count, plus, countOf, onlyMessages, lastCount, kidsCount, tallySum}
+use Rattle.tree_check.specs.Count.{Count, plus, countOf, onlyMessages, lastCount, branchesCount, tallySum}
 use Rattle.tree_check.specs.CountLaws.{messages-capped, count-end, count-more}
 use Rattle.tree_check.specs.Answer.{Checks, unsound, all-sound, checks-as, withRest}
 use Rattle.tree_check.specs.Walk.{nodeRun, lastRun}
@@ -99,10 +99,10 @@ module _ (level : ℕ) (s : List ℕ) (sh : Shape) (lo hi : List ℕ) (i : ℕ) 
 module _ (level : ℕ) (s : List ℕ) (sh : Shape) (lo hi : List ℕ) (i : ℕ) (low : List ℕ) (at end : ℕ) (seen : List ℕ) where
   -- what the walk over them leaves, and what they hold
   abbrev X : Option (List ℕ)
-  X = kidsRun (nodeRun level s) sh lo hi i low (entriesFrom s at end) seen
+  X = branchesRun (nodeRun level s) sh lo hi i low (entriesFrom s at end) seen
 
   abbrev Y : Count
-  Y = kidsCount (treeAt level s) i (listed s at end)
+  Y = branchesCount (treeAt level s) i (listed s at end)
 
   -- and where the child is the last one
   abbrev L : Option (List ℕ)
@@ -125,37 +125,37 @@ module _ (level : ℕ) (s : List ℕ) (sh : Shape) (lo hi : List ℕ) (i : ℕ) 
         both-done L M (childRun (nodeRun level s) sh lo hi i low hi seen) messages (countOf (treeAt level s i)) (onlyMessages (length (listed s at end))) refl refl r after h t et q after (g after)
 
   -- no entry follows
-  ends-here : kidsRun (nodeRun level s) sh lo hi i low (some []) seen ≡ lastRun (nodeRun level s) sh lo hi i low (some []) seen
+  ends-here : branchesRun (nodeRun level s) sh lo hi i low (some []) seen ≡ lastRun (nodeRun level s) sh lo hi i low (some []) seen
   unfolding messagesRun
-  ends-here = kids-end (nodeRun level s) sh lo hi i low seen ∙ onward-some (childRun (nodeRun level s) sh lo hi i low hi seen)
+  ends-here = branches-end (nodeRun level s) sh lo hi i low seen ∙ onward-some (childRun (nodeRun level s) sh lo hi i low hi seen)
 
-  pub kids-last : end ≤ at → (r : Checked) (after : List ℕ) → Checks L M r after → Checks X Y r after
-  kids-last h r after =
+  pub branches-last : end ≤ at → (r : Checked) (after : List ℕ) → Checks L M r after → Checks X Y r after
+  branches-last h r after =
       let e : entriesFrom s at end ≡ some [] = entries-end s at end h in
       checks-as L X M Y r after
-      (ap (λ o. lastRun (nodeRun level s) sh lo hi i low o seen) e ∙ sym ends-here ∙ ap (λ o. kidsRun (nodeRun level s) sh lo hi i low o seen) (sym e))
+      (ap (λ o. lastRun (nodeRun level s) sh lo hi i low o seen) e ∙ sym ends-here ∙ ap (λ o. branchesRun (nodeRun level s) sh lo hi i low o seen) (sym e))
       (count-end (treeAt level s) i (listed s at end) (listed-end s at end h))
 
-  no-walk : (o : Option (List defined.Entry)) → o ≡ none → kidsRun (nodeRun level s) sh lo hi i low o seen ≡ none
-  unfolding kidsRun
+  no-walk : (o : Option (List defined.Entry)) → o ≡ none → branchesRun (nodeRun level s) sh lo hi i low o seen ≡ none
+  unfolding branchesRun
   no-walk o e = rw e
 
-  pub kids-unread : at < end → (r : Step) → Stepped s at end r → r ≡ Step.Bad → (after : List ℕ) → Checks X Y Checked.Unsound after
-  kids-unread h r st e after = unsound X Y after (no-walk (entriesFrom s at end) (step-bad-is s at end r st e .0 h))
+  pub branches-unread : at < end → (r : Step) → Stepped s at end r → r ≡ Step.Bad → (after : List ℕ) → Checks X Y Checked.Unsound after
+  branches-unread h r st e after = unsound X Y after (no-walk (entriesFrom s at end) (step-bad-is s at end r st e .0 h))
 
   module _ (e : Entry) (c : Cursor) (next : Next s at end e c) where
     -- another child follows
-    module _ (j : ℕ) (p : Place) (ek : kidIs e ≡ Kid.Of j p) where
+    module _ (j : ℕ) (p : Place) (ek : branchIs e ≡ Branch.Of j p) where
       pub next-place : end ≤ length s → Within 0 (length s) p
-      next-place h = let w = kid-place at end e j p ek (next .reachable) in record { low = omega arith; rises = w .rises; high = omega arith }
+      next-place h = let w = branch-place at end e j p ek (next .reachable) in record { low = omega arith; rises = w .rises; high = omega arith }
 
-      more : X ≡ onward (childRun (nodeRun level s) sh lo hi i low (part s p) seen) (λ after. kidsRun (nodeRun level s) sh lo hi j (part s p) (entriesFrom s (c .at) (c .end)) after)
+      more : X ≡ onward (childRun (nodeRun level s) sh lo hi i low (part s p) seen) (λ after. branchesRun (nodeRun level s) sh lo hi j (part s p) (entriesFrom s (c .at) (c .end)) after)
       more =
-          ap (λ o. kidsRun (nodeRun level s) sh lo hi i low o seen)
+          ap (λ o. branchesRun (nodeRun level s) sh lo hi i low o seen)
           (next .first ∙ ap (λ x. defined.entryThen (some (entryIn s x)) (entriesFrom s (c .at) (c .end))) (child-entry e j p ek))
-          ∙ kids-step (nodeRun level s) sh lo hi i low j (part s p) (entriesFrom s (c .at) (c .end)) seen
+          ∙ branches-step (nodeRun level s) sh lo hi i low j (part s p) (entriesFrom s (c .at) (c .end)) seen
 
-      more-count : Y ≡ plus (countOf (treeAt level s i)) (kidsCount (treeAt level s) j (listed s (c .at) (c .end)))
+      more-count : Y ≡ plus (countOf (treeAt level s i)) (branchesCount (treeAt level s) j (listed s (c .at) (c .end)))
       more-count =
           sym (count-more (treeAt level s) i j (part s p) (listed s at end) (listed s (c .at) (c .end))
           (next .lists ∙ ap (λ x. entryIn s x ∷ listed s (c .at) (c .end)) (child-entry e j p ek)))
@@ -163,31 +163,31 @@ module _ (level : ℕ) (s : List ℕ) (sh : Shape) (lo hi : List ℕ) (i : ℕ) 
       module _ (r : Checked) (after : List ℕ) (h : Child level s sh lo hi i low (part s p) seen r after) where
         pub child-stops : r ≡ Checked.Unsound → (z : List ℕ) → Checks X Y Checked.Unsound z
         child-stops f z =
-            first-stops X Y (childRun (nodeRun level s) sh lo hi i low (part s p) seen) (λ a. kidsRun (nodeRun level s) sh lo hi j (part s p) (entriesFrom s (c .at) (c .end)) a)
-            (countOf (treeAt level s i)) (kidsCount (treeAt level s) j (listed s (c .at) (c .end))) more more-count r after h f z
+            first-stops X Y (childRun (nodeRun level s) sh lo hi i low (part s p) seen) (λ a. branchesRun (nodeRun level s) sh lo hi j (part s p) (entriesFrom s (c .at) (c .end)) a)
+            (countOf (treeAt level s i)) (branchesCount (treeAt level s) j (listed s (c .at) (c .end))) more more-count r after h f z
 
         pub child-passed : (run : Option (List ℕ)) (count : Count) (total t w : Tally) → Passed run count X Y total → r ≡ Checked.Sound t → w ≡ tallySum total t
-            → Passed run count (kidsRun (nodeRun level s) sh lo hi j (part s p) (entriesFrom s (c .at) (c .end)) after) (kidsCount (treeAt level s) j (listed s (c .at) (c .end))) w
+            → Passed run count (branchesRun (nodeRun level s) sh lo hi j (part s p) (entriesFrom s (c .at) (c .end)) after) (branchesCount (treeAt level s) j (listed s (c .at) (c .end))) w
         child-passed run count total t w passed et ew =
             one-passed run count X Y total passed r after (childRun (nodeRun level s) sh lo hi i low (part s p) seen)
-            (λ a. kidsRun (nodeRun level s) sh lo hi j (part s p) (entriesFrom s (c .at) (c .end)) a)
-            (countOf (treeAt level s i)) (kidsCount (treeAt level s) j (listed s (c .at) (c .end))) more more-count h t w et ew
+            (λ a. branchesRun (nodeRun level s) sh lo hi j (part s p) (entriesFrom s (c .at) (c .end)) a)
+            (countOf (treeAt level s i)) (branchesCount (treeAt level s) j (listed s (c .at) (c .end))) more more-count h t w et ew
 
     -- messages follow
-    module _ (ek : kidIs e ≡ Kid.Other) where
-      ends-run : (e : Entry) (y : Option (List defined.Entry)) → kidIs e ≡ Kid.Other
-          → kidsRun (nodeRun level s) sh lo hi i low (defined.entryThen (some (entryIn s e)) y) seen
+    module _ (ek : branchIs e ≡ Branch.Other) where
+      ends-run : (e : Entry) (y : Option (List defined.Entry)) → branchIs e ≡ Branch.Other
+          → branchesRun (nodeRun level s) sh lo hi i low (defined.entryThen (some (entryIn s e)) y) seen
           ≡ lastRun (nodeRun level s) sh lo hi i low (defined.entryThen (some (entryIn s e)) y) seen
-      unfolding kidIs defined.entryThen kidsRun kidsList messagesRun
+      unfolding branchIs defined.entryThen branchesRun branchesList messagesRun
       ends-run (Entry.Pair p v) none h = none-onward (childRun (nodeRun level s) sh lo hi i low hi seen)
       ends-run (Entry.Pair p v) (some es) h = none-onward (childRun (nodeRun level s) sh lo hi i low hi seen)
       ends-run (Entry.Child k p) y h = let z : _≡_ {A = ℕ} 0 1 = cc in absurd (omega arith)
       ends-run (Entry.Message m) none h = none-onward (childRun (nodeRun level s) sh lo hi i low hi seen)
       ends-run (Entry.Message m) (some es) h = refl
 
-      count-rest : (x : Entry) (es : List defined.Entry) → kidIs x ≡ Kid.Other
-          → kidsCount (treeAt level s) i (entryIn s x ∷ es) ≡ lastCount (treeAt level s) i (entryIn s x ∷ es)
-      unfolding kidIs kidsCount
+      count-rest : (x : Entry) (es : List defined.Entry) → branchIs x ≡ Branch.Other
+          → branchesCount (treeAt level s) i (entryIn s x ∷ es) ≡ lastCount (treeAt level s) i (entryIn s x ∷ es)
+      unfolding branchIs branchesCount
       count-rest (Entry.Pair p v) es h = refl
       count-rest (Entry.Child k p) es h = let z : _≡_ {A = ℕ} 0 1 = cc in absurd (omega arith)
       count-rest (Entry.Message m) es h = refl
@@ -195,12 +195,12 @@ module _ (level : ℕ) (s : List ℕ) (sh : Shape) (lo hi : List ℕ) (i : ℕ) 
       last-run : L ≡ X
       last-run =
           ap (λ o. lastRun (nodeRun level s) sh lo hi i low o seen) (next .first) ∙ sym (ends-run e (entriesFrom s (c .at) (c .end)) ek)
-          ∙ ap (λ o. kidsRun (nodeRun level s) sh lo hi i low o seen) (sym (next .first))
+          ∙ ap (λ o. branchesRun (nodeRun level s) sh lo hi i low o seen) (sym (next .first))
 
       last-count : M ≡ Y
       last-count =
           ap (λ l. lastCount (treeAt level s) i l) (next .lists) ∙ sym (count-rest e (listed s (c .at) (c .end)) ek)
-          ∙ ap (λ l. kidsCount (treeAt level s) i l) (sym (next .lists))
+          ∙ ap (λ l. branchesCount (treeAt level s) i l) (sym (next .lists))
 
-      pub kids-messages : (r : Checked) (after : List ℕ) → Checks L M r after → Checks X Y r after
-      kids-messages r after = checks-as L X M Y r after last-run last-count
+      pub branches-messages : (r : Checked) (after : List ℕ) → Checks L M r after → Checks X Y r after
+      branches-messages r after = checks-as L X M Y r after last-run last-count

@@ -49,11 +49,11 @@ abbrev pub lastCount : (ℕ → Tree) → ℕ → List defined.Entry → Count
 lastCount below i ms = plus (countOf (below i)) (onlyMessages (length ms))
 
 -- the child of number i, and what the entries after it hold: further children, then messages
-unfoldable pub kidsCount : (ℕ → Tree) → ℕ → List defined.Entry → Count
-kidsCount below i [] = countOf (below i)
-kidsCount below i (defined.pair k v ∷ es) = plus (countOf (below i)) (onlyMessages (length (defined.pair k v ∷ es)))
-kidsCount below i (defined.child j q ∷ es) = plus (countOf (below i)) (kidsCount below j es)
-kidsCount below i (defined.message m ∷ es) = plus (countOf (below i)) (onlyMessages (length (defined.message m ∷ es)))
+unfoldable pub branchesCount : (ℕ → Tree) → ℕ → List defined.Entry → Count
+branchesCount below i [] = countOf (below i)
+branchesCount below i (defined.pair k v ∷ es) = plus (countOf (below i)) (onlyMessages (length (defined.pair k v ∷ es)))
+branchesCount below i (defined.child j q ∷ es) = plus (countOf (below i)) (branchesCount below j es)
+branchesCount below i (defined.message m ∷ es) = plus (countOf (below i)) (onlyMessages (length (defined.message m ∷ es)))
 
 -- a count as the code shows it, and the sum of two that are shown
 unfoldable pub capped : Count → Tally

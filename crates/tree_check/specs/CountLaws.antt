@@ -8,12 +8,12 @@ use native.Mathlib.Omega.{arith}
 use lib.ListN.{length, length-append}
 use Rattle.image.specs.Entry as defined
 use Rattle.image.specs.Table.{Row}
-use Rattle.image.specs.Image.{Tree, leaf, interior, Forest, end, tree, Inside, pairThen, pairsOf, messageThen, messagesOf, noKids, kidThen, insideOf, forestOf}
+use Rattle.image.specs.Image.{Tree, leaf, interior, Forest, end, tree, Inside, pairThen, pairsOf, messageThen, messagesOf, noBranches, branchThen, insideOf, forestOf}
 use Rattle.image.specs.Sound.{numbers, numbersIn}
 use Rattle.octets.specs.Cap.{cap, cap-small, cap-sum}
 use Rattle.laws.specs.LiveCount.{pairCount, pairCountIn}
 use Rattle.tree_check.specs.declared.Tally.{Tally}
-use Rattle.tree_check.specs.Count.{messageCount, messageCountIn, Count, plus, countOf, countIn, onlyPairs, onlyMessages, onlyNode, lastCount, kidsCount, capped, tallySum}
+use Rattle.tree_check.specs.Count.{messageCount, messageCountIn, Count, plus, countOf, countIn, onlyPairs, onlyMessages, onlyNode, lastCount, branchesCount, capped, tallySum}
 
 tally-path : {a b c x y z : ℕ} → a ≡ x → b ≡ y → c ≡ z → _≡_ {A = Tally} (record { pairs = a; messages = b; nodes = c }) (record { pairs = x; messages = y; nodes = z })
 tally-path p q r = rw (p, q, r)
@@ -108,61 +108,61 @@ pub leaf-holds : (i : ℕ) (es : List defined.Entry) (rs : List Row) → pairsOf
 leaf-holds i es rs h = leaf-count i rs ∙ ap (λ n. onlyPairs n) (pairs-length es rs h)
 
 module _ (below : ℕ → Tree) where
-  pub kids-hold : (es : List defined.Entry) (x : Inside) → insideOf es ≡ some x → (i : ℕ) (low : List ℕ)
-      → kidsCount below i es ≡ plus (countIn (tree low (below i) (forestOf below (x .kids)))) (onlyMessages (length (x .messages)))
-  unfolding kidsCount insideOf
-  kids-hold [] x h i low =
-      let p : (record { kids = []; messages = [] }) ≡ x = cc in
-      subst (λ (y : Inside). countOf (below i) ≡ plus (countIn (tree low (below i) (forestOf below (y .kids)))) (onlyMessages (length (y .messages)))) p
+  pub branches-hold : (es : List defined.Entry) (x : Inside) → insideOf es ≡ some x → (i : ℕ) (low : List ℕ)
+      → branchesCount below i es ≡ plus (countIn (tree low (below i) (forestOf below (x .branches)))) (onlyMessages (length (x .messages)))
+  unfolding branchesCount insideOf
+  branches-hold [] x h i low =
+      let p : (record { branches = []; messages = [] }) ≡ x = cc in
+      subst (λ (y : Inside). countOf (below i) ≡ plus (countIn (tree low (below i) (forestOf below (y .branches)))) (onlyMessages (length (y .messages)))) p
       (alone i low)
     where
       alone : (i : ℕ) (low : List ℕ) → countOf (below i) ≡ plus (countIn (tree low (below i) (forestOf below []))) (onlyMessages 0)
       alone i low = unfold forestOf in sym (plus-none (countIn (tree low (below i) end)) ∙ last-count low (below i))
-  kids-hold (defined.pair k v ∷ es) x h i low = let q : none ≡ some x = h in let z : _≡_ {A = ℕ} 0 1 = cc in absurd (omega arith)
-  kids-hold (defined.child j q ∷ es) x h i low = go (insideOf es) refl (λ y e. kids-hold es y e j q)
+  branches-hold (defined.pair k v ∷ es) x h i low = let q : none ≡ some x = h in let z : _≡_ {A = ℕ} 0 1 = cc in absurd (omega arith)
+  branches-hold (defined.child j q ∷ es) x h i low = go (insideOf es) refl (λ y e. branches-hold es y e j q)
     where
-      more : (y : Inside) (K : Count) → K ≡ plus (countIn (tree q (below j) (forestOf below (y .kids)))) (onlyMessages (length (y .messages)))
-          → plus (countOf (below i)) K ≡ plus (countIn (tree low (below i) (forestOf below (record { number = j; pivot = q } ∷ y .kids)))) (onlyMessages (length (y .messages)))
+      more : (y : Inside) (K : Count) → K ≡ plus (countIn (tree q (below j) (forestOf below (y .branches)))) (onlyMessages (length (y .messages)))
+          → plus (countOf (below i)) K ≡ plus (countIn (tree low (below i) (forestOf below (record { number = j; pivot = q } ∷ y .branches)))) (onlyMessages (length (y .messages)))
       more y K e =
           unfold forestOf in
           ap (λ k. plus (countOf (below i)) k) e
-          ∙ plus-assoc (countOf (below i)) (countIn (tree q (below j) (forestOf below (y .kids)))) (onlyMessages (length (y .messages)))
-          ∙ ap (λ k. plus k (onlyMessages (length (y .messages)))) (sym (tree-count low (below i) (tree q (below j) (forestOf below (y .kids)))))
+          ∙ plus-assoc (countOf (below i)) (countIn (tree q (below j) (forestOf below (y .branches)))) (onlyMessages (length (y .messages)))
+          ∙ ap (λ k. plus k (onlyMessages (length (y .messages)))) (sym (tree-count low (below i) (tree q (below j) (forestOf below (y .branches)))))
 
       go : (o : Option Inside) → insideOf es ≡ o
-          → ((y : Inside) → insideOf es ≡ some y → kidsCount below j es ≡ plus (countIn (tree q (below j) (forestOf below (y .kids)))) (onlyMessages (length (y .messages))))
-          → plus (countOf (below i)) (kidsCount below j es) ≡ plus (countIn (tree low (below i) (forestOf below (x .kids)))) (onlyMessages (length (x .messages)))
-      go none e ih = let w : none ≡ some x = unfold kidThen in rw e at h in let z : _≡_ {A = ℕ} 0 1 = cc in absurd (omega arith)
+          → ((y : Inside) → insideOf es ≡ some y → branchesCount below j es ≡ plus (countIn (tree q (below j) (forestOf below (y .branches)))) (onlyMessages (length (y .messages))))
+          → plus (countOf (below i)) (branchesCount below j es) ≡ plus (countIn (tree low (below i) (forestOf below (x .branches)))) (onlyMessages (length (x .messages)))
+      go none e ih = let w : none ≡ some x = unfold branchThen in rw e at h in let z : _≡_ {A = ℕ} 0 1 = cc in absurd (omega arith)
       go (some y) e ih =
-          let w : some (record { kids = record { number = j; pivot = q } ∷ y .kids; messages = y .messages }) ≡ some x = unfold kidThen in rw e at h in
-          let p : (record { kids = record { number = j; pivot = q } ∷ y .kids; messages = y .messages }) ≡ x = cc in
-          subst (λ (z : Inside). plus (countOf (below i)) (kidsCount below j es) ≡ plus (countIn (tree low (below i) (forestOf below (z .kids)))) (onlyMessages (length (z .messages)))) p
-          (more y (kidsCount below j es) (ih y e))
-  kids-hold (defined.message m ∷ es) x h i low = go (messagesOf (defined.message m ∷ es)) refl
+          let w : some (record { branches = record { number = j; pivot = q } ∷ y .branches; messages = y .messages }) ≡ some x = unfold branchThen in rw e at h in
+          let p : (record { branches = record { number = j; pivot = q } ∷ y .branches; messages = y .messages }) ≡ x = cc in
+          subst (λ (z : Inside). plus (countOf (below i)) (branchesCount below j es) ≡ plus (countIn (tree low (below i) (forestOf below (z .branches)))) (onlyMessages (length (z .messages)))) p
+          (more y (branchesCount below j es) (ih y e))
+  branches-hold (defined.message m ∷ es) x h i low = go (messagesOf (defined.message m ∷ es)) refl
     where
       last : (ms : List defined.Message) → length ms ≡ suc (length es)
           → plus (countOf (below i)) (onlyMessages (suc (length es))) ≡ plus (countIn (tree low (below i) (forestOf below []))) (onlyMessages (length ms))
       last ms e = unfold forestOf in ap₂ (λ k n. plus k (onlyMessages n)) (sym (last-count low (below i))) (sym e)
 
       go : (o : Option (List defined.Message)) → messagesOf (defined.message m ∷ es) ≡ o
-          → plus (countOf (below i)) (onlyMessages (suc (length es))) ≡ plus (countIn (tree low (below i) (forestOf below (x .kids)))) (onlyMessages (length (x .messages)))
-      go none e = let w : none ≡ some x = unfold noKids in rw e at h in let z : _≡_ {A = ℕ} 0 1 = cc in absurd (omega arith)
+          → plus (countOf (below i)) (onlyMessages (suc (length es))) ≡ plus (countIn (tree low (below i) (forestOf below (x .branches)))) (onlyMessages (length (x .messages)))
+      go none e = let w : none ≡ some x = unfold noBranches in rw e at h in let z : _≡_ {A = ℕ} 0 1 = cc in absurd (omega arith)
       go (some ms) e =
-          let w : some (record { kids = []; messages = ms }) ≡ some x = unfold noKids in rw e at h in
-          let p : (record { kids = []; messages = ms }) ≡ x = cc in
-          subst (λ (z : Inside). plus (countOf (below i)) (onlyMessages (suc (length es))) ≡ plus (countIn (tree low (below i) (forestOf below (z .kids)))) (onlyMessages (length (z .messages)))) p
+          let w : some (record { branches = []; messages = ms }) ≡ some x = unfold noBranches in rw e at h in
+          let p : (record { branches = []; messages = ms }) ≡ x = cc in
+          subst (λ (z : Inside). plus (countOf (below i)) (onlyMessages (suc (length es))) ≡ plus (countIn (tree low (below i) (forestOf below (z .branches)))) (onlyMessages (length (z .messages)))) p
           (last ms (messages-length (defined.message m ∷ es) ms e))
 
   -- what the entries of an interior node hold
   pub interior-holds : (n i : ℕ) (q : List ℕ) (es : List defined.Entry) (x : Inside) → insideOf es ≡ some x
-      → countOf (interior n (tree q (below i) (forestOf below (x .kids))) (x .messages)) ≡ plus onlyNode (kidsCount below i es)
+      → countOf (interior n (tree q (below i) (forestOf below (x .branches))) (x .messages)) ≡ plus onlyNode (branchesCount below i es)
   interior-holds n i q es x h =
-      interior-count n (tree q (below i) (forestOf below (x .kids))) (x .messages) ∙ ap (λ k. plus onlyNode k) (sym (kids-hold es x h i q))
+      interior-count n (tree q (below i) (forestOf below (x .branches))) (x .messages) ∙ ap (λ k. plus onlyNode k) (sym (branches-hold es x h i q))
 
-  pub count-end : (i : ℕ) (l : List defined.Entry) → l ≡ [] → lastCount below i l ≡ kidsCount below i l
-  unfolding kidsCount
+  pub count-end : (i : ℕ) (l : List defined.Entry) → l ≡ [] → lastCount below i l ≡ branchesCount below i l
+  unfolding branchesCount
   count-end i l e = rw e (plus-none (countOf (below i)))
 
-  pub count-more : (i j : ℕ) (q : List ℕ) (l es : List defined.Entry) → l ≡ defined.child j q ∷ es → plus (countOf (below i)) (kidsCount below j es) ≡ kidsCount below i l
-  unfolding kidsCount
+  pub count-more : (i j : ℕ) (q : List ℕ) (l es : List defined.Entry) → l ≡ defined.child j q ∷ es → plus (countOf (below i)) (branchesCount below j es) ≡ branchesCount below i l
+  unfolding branchesCount
   count-more i j q l es e = rw e

@@ -16,8 +16,8 @@ use Rattle.node.specs.declared.Place.{Place}
 use Rattle.node.specs.declared.Cursor.{Cursor}
 use Rattle.node.specs.declared.Entry.{Entry}
 use Rattle.node.specs.declared.Step.{Step}
-use Rattle.node.specs.declared.search.Kid.{Kid}
-use Rattle.node.specs.Search.Own.{kidIs, kid-place, child-entry}
+use Rattle.node.specs.declared.search.Branch.{Branch}
+use Rattle.node.specs.Search.Own.{branchIs, branch-place, child-entry}
 use Rattle.tree_check.specs.declared.First.{First}
 use Rattle.tree_check.specs.Walk.{headed}
 use Rattle.tree_check.specs.Layout.{entries-at, entries-none, laid-few}
@@ -49,8 +49,8 @@ headed-empty : (lo : List ℕ) (o : Option (List defined.Entry)) → o ≡ some 
 unfolding headed
 headed-empty lo o e = rw e
 
-headed-other : (lo : List ℕ) (e : Entry) (s : List ℕ) (y : Option (List defined.Entry)) → kidIs e ≡ Kid.Other → headed lo (defined.entryThen (some (entryIn s e)) y) ≡ false
-unfolding headed defined.entryThen kidIs
+headed-other : (lo : List ℕ) (e : Entry) (s : List ℕ) (y : Option (List defined.Entry)) → branchIs e ≡ Branch.Other → headed lo (defined.entryThen (some (entryIn s e)) y) ≡ false
+unfolding headed defined.entryThen branchIs
 headed-other lo (Entry.Pair p v) s none h = refl
 headed-other lo (Entry.Pair p v) s (some es) h = refl
 headed-other lo (Entry.Child i p) s y h = let z : _≡_ {A = ℕ} 0 1 = cc in absurd (omega arith)
@@ -94,13 +94,13 @@ module _ (s : List ℕ) (i level : ℕ) (lo : List ℕ) (inside : i * 1024 + 102
         next : Next s (i * 1024 + 8) (i * 1024 + 8 + len) e c
         next = step-read-is s (i * 1024 + 8) (i * 1024 + 8 + len) r e c hr er
 
-        pub no-child : kidIs e ≡ Kid.Other → FirstAs s i level lo First.Nothing
+        pub no-child : branchIs e ≡ Branch.Other → FirstAs s i level lo First.Nothing
         no-child h = first-none (ap (λ o. headed lo o) (next .first) ∙ headed-other lo e s (entriesFrom s (c .at) (c .end)) h)
 
-        module _ (j : ℕ) (p : Place) (ek : kidIs e ≡ Kid.Of j p) where
+        module _ (j : ℕ) (p : Place) (ek : branchIs e ≡ Branch.Of j p) where
           pub first-place : Within 0 (length s) p
           first-place =
-              let w = kid-place (i * 1024 + 8) (i * 1024 + 8 + len) e j p ek (next .reachable) in
+              let w = branch-place (i * 1024 + 8) (i * 1024 + 8 + len) e j p ek (next .reachable) in
               let f1 = few in
               record { low = omega arith; rises = w .rises; high = omega arith }
 

@@ -1,16 +1,16 @@
--- What the check of a list of children is lent as plain numbers, the tally so far and the shape, and what it promises of the list.
+-- What the check of a list of children is lent as plain numbers, the tally so far and its parent, and what it promises of the list.
 -- Relies on Answer and Sequence.
 use Prim.Native.Nat.{ℕ}
-use mathlib.Core.Path.{_≡_, refl}
+use mathlib.Core.Path.{_≡_, refl, sym, ap}
 use mathlib.Core.List.{List, [], _∷_}
 use mathlib.Core.Bool.{Bool, true, false, cond}
 use mathlib.Core.Option.{Option}
 use lib.ListN.{getD}
 use lib.Dec.{eqb}
 use borrow.Author.Tests.{eq-eqb, ne-eqb}
-use Rattle.path.specs.Shape as defined
 use Rattle.path.specs.declared.Shape.{Shape}
-use Rattle.path.specs.Fed.{shapeIs}
+use Rattle.node.specs.declared.Place.{Place}
+use Rattle.tree_check.specs.declared.Parent.{Parent}
 use Rattle.tree_check.specs.declared.Tally.{Tally}
 use Rattle.tree_check.specs.declared.Checked.{Checked}
 use Rattle.tree_check.specs.Count.{Count, tallySum}
@@ -25,21 +25,44 @@ unfoldable pub answerIs : Bool → List ℕ → Checked
 answerIs true l = Checked.Sound (tallyIs l)
 answerIs false l = Checked.Unsound
 
--- 0 for a dead shape; else 1 and its three numbers
-unfoldable pub flatIs : List ℕ → defined.Shape
-flatIs l = cond (eqb (getD l 0 0) 0) defined.dead (defined.partway (getD l 1 0) (getD l 2 0) (getD l 3 0))
+-- the level, the end of the entries, the two ends of the low pivot, and the shape: 0 for a dead one, else 1 and its three numbers
+unfoldable pub parentIs : List ℕ → Parent
+parentIs l =
+    record {
+      level = getD l 0 0;
+      end = getD l 1 0;
+      low = record { start = getD l 2 0; stop = getD l 3 0 };
+      shape = cond (eqb (getD l 4 0) 0) Shape.Dead (Shape.Partway (getD l 5 0) (getD l 6 0) (getD l 7 0));
+    }
 
 -- x is what the walk over the list leaves and y what the list holds. Of whatever walk they are the rest, with the tally before them, the answer is that walk's.
 pub record Adds (x : Option (List ℕ)) (y : Count) (before : List ℕ) (r : Bool) (held seen : List ℕ) : Type 0 where
   pub whole : (run : Option (List ℕ)) (count : Count) → Passed run count x y (tallyIs before) → Checks run count (answerIs r held) seen
 
-pub shape-dead : (l : List ℕ) → getD l 0 0 ≡ 0 → shapeIs Shape.Dead ≡ flatIs l
-unfolding shapeIs flatIs
-shape-dead l e = rw (eq-eqb (getD l 0 0) 0 e)
+module _ (l : List ℕ) where
+  abbrev flat-of : Shape → Parent
+  flat-of z = record { level = getD l 0 0; end = getD l 1 0; low = record { start = getD l 2 0; stop = getD l 3 0 }; shape = z }
 
-pub shape-partway : (l : List ℕ) → (getD l 0 0 ≡ 0 → ⊥) → shapeIs (Shape.Partway (getD l 1 0) (getD l 2 0) (getD l 3 0)) ≡ flatIs l
-unfolding shapeIs flatIs
-shape-partway l h = rw (ne-eqb (getD l 0 0) 0 h)
+  pub parent-dead : getD l 4 0 ≡ 0 → flat-of Shape.Dead ≡ parentIs l
+  unfolding parentIs
+  parent-dead e = rw (eq-eqb (getD l 4 0) 0 e)
+
+  pub parent-partway : (getD l 4 0 ≡ 0 → ⊥) → flat-of (Shape.Partway (getD l 5 0) (getD l 6 0) (getD l 7 0)) ≡ parentIs l
+  unfolding parentIs
+  parent-partway h = rw (ne-eqb (getD l 4 0) 0 h)
+
+module _ (p : Parent) where
+  abbrev with-shape : Shape → Parent
+  with-shape z = record { level = p .level; end = p .end; low = p .low; shape = z }
+
+  pub flat-dead : p .shape ≡ Shape.Dead → parentIs (p .level ∷ p .end ∷ p .low .start ∷ p .low .stop ∷ 0 ∷ 0 ∷ 0 ∷ 0 ∷ []) ≡ p
+  unfolding parentIs
+  flat-dead e = ap (λ z. with-shape z) (sym e)
+
+  pub flat-partway : (a b c : ℕ) → p .shape ≡ Shape.Partway a b c
+      → parentIs (p .level ∷ p .end ∷ p .low .start ∷ p .low .stop ∷ 1 ∷ a ∷ b ∷ c ∷ []) ≡ p
+  unfolding parentIs
+  flat-partway a b c e = ap (λ z. with-shape z) (sym e)
 
 pub tally-held : (l : List ℕ) → _≡_ {A = Tally} (record { pairs = getD l 0 0; messages = getD l 1 0; nodes = getD l 2 0 }) (tallyIs l)
 unfolding tallyIs

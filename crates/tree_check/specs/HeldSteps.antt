@@ -1,29 +1,31 @@
 -- The exits of the check of a list of children, which adds to a tally that it is lent.
 -- Relies on Held and on ChildSteps.
 use Prim.Native.Nat.{ℕ, _<_, _≤_}
-use mathlib.Core.Path.{_≡_, refl, subst}
+use mathlib.Core.Path.{_≡_, refl, sym, subst}
 use mathlib.Core.List.{List}
 use mathlib.Core.Bool.{Bool, true, false}
 use mathlib.Core.Option.{Option}
 use native.Mathlib.Omega.{arith}
 use Rattle.image.specs.Image.{treeAt}
 use Rattle.path.specs.Shape.{Shape}
+use Rattle.path.specs.Fed.{shapeIs}
 use Rattle.node.specs.Entries.{entriesFrom, listed}
 use Rattle.node.specs.Places.{part, Next, Stepped}
 use Rattle.node.specs.declared.Place.{Place}
 use Rattle.node.specs.declared.Cursor.{Cursor}
 use Rattle.node.specs.declared.Entry.{Entry}
 use Rattle.node.specs.declared.Step.{Step}
-use Rattle.node.specs.declared.search.Kid.{Kid}
-use Rattle.node.specs.Search.Own.{kidIs}
-use Rattle.tree_check.specs.Node.Inside.{kidsRun}
+use Rattle.node.specs.declared.search.Branch.{Branch}
+use Rattle.node.specs.Search.Own.{branchIs}
+use Rattle.tree_check.specs.Node.Inside.{branchesRun}
+use Rattle.tree_check.specs.declared.Parent.{Parent}
 use Rattle.tree_check.specs.declared.Tally.{Tally}
 use Rattle.tree_check.specs.declared.Checked.{Checked}
-use Rattle.tree_check.specs.Count.{Count, lastCount, kidsCount, tallySum}
+use Rattle.tree_check.specs.Count.{Count, lastCount, branchesCount, tallySum}
 use Rattle.tree_check.specs.Answer.{Checks, withRest}
 use Rattle.tree_check.specs.Walk.{nodeRun, lastRun}
 use Rattle.tree_check.specs.Sequence.{rest-stops, rest-done}
-use Rattle.tree_check.specs.ChildSteps.{Child, kids-last, kids-messages, kids-unread, child-stops, child-passed}
+use Rattle.tree_check.specs.ChildSteps.{Child, branches-last, branches-messages, branches-unread, child-stops, child-passed}
 use Rattle.tree_check.specs.Held.{tallyIs, answerIs, Adds}
 
 -- what a sum that is held tells of what was added
@@ -42,12 +44,24 @@ unfolding answerIs withRest
 added before held Checked.Unsound e = let z : _≡_ {A = ℕ} 0 1 = cc in absurd (omega arith)
 added before held (Checked.Sound t) e = record { tally = t; sound = refl; sum = cc }
 
-module _ (level : ℕ) (s : List ℕ) (sh : Shape) (lo hi : List ℕ) (i : ℕ) (low : List ℕ) (at end : ℕ) (seen before : List ℕ) where
+module _ (P : Parent) (s hi : List ℕ) (i : ℕ) (low : List ℕ) (at : ℕ) (seen before : List ℕ) where
+  abbrev level : ℕ
+  level = P .level
+
+  abbrev end : ℕ
+  end = P .end
+
+  abbrev sh : Shape
+  sh = shapeIs (P .shape)
+
+  abbrev lo : List ℕ
+  lo = part s (P .low)
+
   abbrev X : Option (List ℕ)
-  X = kidsRun (nodeRun level s) sh lo hi i low (entriesFrom s at end) seen
+  X = branchesRun (nodeRun level s) sh lo hi i low (entriesFrom s at end) seen
 
   abbrev Y : Count
-  Y = kidsCount (treeAt level s) i (listed s at end)
+  Y = branchesCount (treeAt level s) i (listed s at end)
 
   abbrev List-adds : Bool → List ℕ → List ℕ → Type 0
   List-adds b held after = Adds X Y before b held after
@@ -56,44 +70,43 @@ module _ (level : ℕ) (s : List ℕ) (sh : Shape) (lo hi : List ℕ) (i : ℕ) 
   unfolding answerIs
   unread r after h e held z = record { whole = λ run count p. rest-stops run count X Y (tallyIs before) p r after h e z }
 
-  -- the shape in hand is the one that is told
-  module _ (own : Shape) (told : own ≡ sh) where
-    -- the last child
-    module _ (r : Checked) (after : List ℕ)
-        (h : Checks (lastRun (nodeRun level s) own lo hi i low (entriesFrom s at end) seen) (lastCount (treeAt level s) i (listed s at end)) r after) (b : Bool) (held : List ℕ)
-        (e : answerIs b held ≡ withRest (tallyIs before) r) where
-      here : Checks (lastRun (nodeRun level s) sh lo hi i low (entriesFrom s at end) seen) (lastCount (treeAt level s) i (listed s at end)) r after
-      here = subst (λ (z : Shape). Checks (lastRun (nodeRun level s) z lo hi i low (entriesFrom s at end) seen) (lastCount (treeAt level s) i (listed s at end)) r after) told h
+  -- the last child
+  module _ (r : Checked) (after : List ℕ)
+      (h : Checks (lastRun (nodeRun level s) sh lo hi i low (entriesFrom s at end) seen) (lastCount (treeAt level s) i (listed s at end)) r after) (b : Bool) (held : List ℕ)
+      (e : answerIs b held ≡ withRest (tallyIs before) r) where
+    pub list-last : end ≤ at → List-adds b held after
+    list-last l =
+        record { whole = λ run count p. rest-done run count X Y (tallyIs before) p r after (branches-last level s sh lo hi i low at end seen l r after h) (answerIs b held) e }
 
-      pub list-last : end ≤ at → List-adds b held after
-      list-last l =
-          record { whole = λ run count p. rest-done run count X Y (tallyIs before) p r after (kids-last level s sh lo hi i low at end seen l r after here) (answerIs b held) e }
+    pub list-messages : (x : Entry) (c : Cursor) → Next s at end x c → branchIs x ≡ Branch.Other → List-adds b held after
+    list-messages x c next k =
+        record { whole = λ run count p. rest-done run count X Y (tallyIs before) p r after (branches-messages level s sh lo hi i low at end seen x c next k r after h) (answerIs b held) e }
 
-      pub list-messages : (x : Entry) (c : Cursor) → Next s at end x c → kidIs x ≡ Kid.Other → List-adds b held after
-      list-messages x c next k =
-          record { whole = λ run count p. rest-done run count X Y (tallyIs before) p r after (kids-messages level s sh lo hi i low at end seen x c next k r after here) (answerIs b held) e }
+  -- a child that another follows
+  module _ (x : Entry) (c : Cursor) (next : Next s at end x c) (j : ℕ) (p : Place) (k : branchIs x ≡ Branch.Of j p) (r : Checked) (after : List ℕ)
+      (h : Child level s sh lo hi i low (part s p) seen r after) (b : Bool) (held : List ℕ) (e : answerIs b held ≡ withRest (tallyIs before) r) where
+    pub list-stops : b ≡ false → (last z : List ℕ) → List-adds false last z
+    list-stops f last z =
+        unread Checked.Unsound z
+        (child-stops level s sh lo hi i low at end seen x c next j p k r after h (not-sound before held r (subst (λ (d : Bool). answerIs d held ≡ withRest (tallyIs before) r) f e)) z)
+        refl last z
 
-    -- a child that another follows
-    module _ (x : Entry) (c : Cursor) (next : Next s at end x c) (j : ℕ) (p : Place) (k : kidIs x ≡ Kid.Of j p) (r : Checked) (after : List ℕ)
-        (h : Child level s own lo hi i low (part s p) seen r after) (b : Bool) (held : List ℕ) (e : answerIs b held ≡ withRest (tallyIs before) r) where
-      child-here : Child level s sh lo hi i low (part s p) seen r after
-      child-here = subst (λ (z : Shape). Child level s z lo hi i low (part s p) seen r after) told h
+    abbrev Rest : ℕ → Bool → List ℕ → List ℕ → Type 0
+    Rest n d last z = Adds (branchesRun (nodeRun level s) sh lo hi j (part s p) (entriesFrom s (c .at) n) after) (branchesCount (treeAt level s) j (listed s (c .at) n)) held d last z
 
-      pub list-stops : b ≡ false → (last z : List ℕ) → List-adds false last z
-      list-stops f last z =
-          unread Checked.Unsound z
-          (child-stops level s sh lo hi i low at end seen x c next j p k r after child-here (not-sound before held r (subst (λ (d : Bool). answerIs d held ≡ withRest (tallyIs before) r) f e)) z)
-          refl last z
-
-      pub list-goes : b ≡ true → (d : Bool) (last z : List ℕ)
-          → Adds (kidsRun (nodeRun level s) sh lo hi j (part s p) (entriesFrom s (c .at) (c .end)) after) (kidsCount (treeAt level s) j (listed s (c .at) (c .end))) held d last z
-          → List-adds d last z
-      list-goes f d last z rest =
-          let a = added before held r (subst (λ (d : Bool). answerIs d held ≡ withRest (tallyIs before) r) f e) in
-          record {
-            whole = λ run count q. rest .whole run count
-                (child-passed level s sh lo hi i low at end seen x c next j p k r after child-here run count (tallyIs before) (a .tally) (tallyIs held) q (a .sound) (a .sum));
-          }
+    pub list-goes : b ≡ true → (d : Bool) (last z : List ℕ) → Rest end d last z → List-adds d last z
+    list-goes f d last z rest =
+        let a = added before held r (subst (λ (d : Bool). answerIs d held ≡ withRest (tallyIs before) r) f e) in
+        let on : Rest (c .end) d last z = subst (λ (n : ℕ). Rest n d last z) (sym (next .ends)) rest in
+        record {
+          whole = λ run count q. on .whole run count
+              (child-passed level s sh lo hi i low at end seen x c next j p k r after h run count (tallyIs before) (a .tally) (tallyIs held) q (a .sound) (a .sum));
+        }
 
   pub list-unread : at < end → (r : Step) → Stepped s at end r → r ≡ Step.Bad → (held z : List ℕ) → List-adds false held z
-  list-unread l r st e held z = unread Checked.Unsound z (kids-unread level s sh lo hi i low at end seen l r st e z) refl held z
+  list-unread l r st e held z = unread Checked.Unsound z (branches-unread level s sh lo hi i low at end seen l r st e z) refl held z
+
+-- what is said of one parent is said of the other
+pub as-told : (P Q : Parent) → P ≡ Q → (s hi : List ℕ) (i : ℕ) (low : List ℕ) (at : ℕ) (seen before : List ℕ) (b : Bool) (held after : List ℕ)
+    → List-adds P s hi i low at seen before b held after → List-adds Q s hi i low at seen before b held after
+as-told P Q e s hi i low at seen before b held after h = subst (λ (q : Parent). List-adds q s hi i low at seen before b held after) e h

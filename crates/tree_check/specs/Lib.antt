@@ -14,3 +14,4 @@ pub mod NodeSteps
 pub mod Whole
 pub mod RootSteps
 pub mod Callers
+pub mod MarkSteps

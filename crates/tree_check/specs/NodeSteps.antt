@@ -9,17 +9,20 @@ use native.Mathlib.Omega.{arith}
 use lib.ListN.{length, getD, set}
 use Rattle.image.specs.Image.{Tree, nodeBytes, nodesOf, nodeEntries, insideOf, orNone, interiorOf, treeAt}
 use Rattle.path.specs.Shape.{Shape}
+use Rattle.path.specs.Fed.{shapeIs}
+use Rattle.octets.specs.Order.{same-eq}
 use Rattle.laws.specs.Reading.SoundHere.{soundHere}
 use Rattle.laws.specs.Reading.Visit.{unmet, visit}
 use Rattle.node.specs.Entries.{entriesFrom, listed}
 use Rattle.node.specs.Places.{part}
 use Rattle.node.specs.declared.Place.{Place}
 use Rattle.node.specs.declared.Cursor.{Cursor}
-use Rattle.tree_check.specs.Node.Inside.{kidsRun}
+use Rattle.tree_check.specs.Node.Inside.{branchesRun}
+use Rattle.tree_check.specs.declared.Parent.{Parent}
 use Rattle.tree_check.specs.declared.Tally.{Tally}
 use Rattle.tree_check.specs.declared.Checked.{Checked}
 use Rattle.tree_check.specs.declared.First.{First}
-use Rattle.tree_check.specs.Count.{Count, plus, countOf, onlyNode, kidsCount, capped}
+use Rattle.tree_check.specs.Count.{Count, plus, countOf, onlyNode, branchesCount, capped}
 use Rattle.tree_check.specs.CountLaws.{node-capped}
 use Rattle.tree_check.specs.Answer.{Checks, unsound, all-sound, unsound-is, sound-is, tally-is, checks-as}
 use Rattle.tree_check.specs.Held.{tallyIs, answerIs, Adds}
@@ -95,7 +98,7 @@ module _ (s : List ℕ) (i level : ℕ) (sh : Shape) (lo hi seen : List ℕ) whe
           leads = first-child-is s i level lo f j p c hf ef
 
           abbrev K : Option (List ℕ)
-          K = kidsRun (nodeRun (level - 1) s) sh lo hi j (part s p) (entriesFrom s (c .at) (c .end)) (set seen i 1)
+          K = branchesRun (nodeRun (level - 1) s) sh lo hi j (part s p) (entriesFrom s (c .at) (c .end)) (set seen i 1)
 
           walk-is : K ≡ X
           walk-is =
@@ -104,12 +107,12 @@ module _ (s : List ℕ) (i level : ℕ) (sh : Shape) (lo hi seen : List ℕ) whe
               ∙ ap (λ t. visit t (nodesOf (length s)) sh lo hi seen) (sym (interior-tree level two))
 
           abbrev M : Count
-          M = kidsCount (treeAt (level - 1) s) j (listed s (c .at) (c .end))
+          M = branchesCount (treeAt (level - 1) s) j (listed s (c .at) (c .end))
 
           -- the node itself is counted before its list of children
-          kids-found : (w : Checked) (after : List ℕ) → Checks K (plus onlyNode M) w after → Checks X Y w after
-          kids-found Checked.Unsound after h = unsound X Y after (sym walk-is ∙ unsound-is K (plus onlyNode M) Checked.Unsound after h refl)
-          kids-found (Checked.Sound t) after h =
+          branches-found : (w : Checked) (after : List ℕ) → Checks K (plus onlyNode M) w after → Checks X Y w after
+          branches-found Checked.Unsound after h = unsound X Y after (sym walk-is ∙ unsound-is K (plus onlyNode M) Checked.Unsound after h refl)
+          branches-found (Checked.Sound t) after h =
               let k : K ≡ some after = sound-is K (plus onlyNode M) (Checked.Sound t) t after h refl in
               let y : plus onlyNode M ≡ countOf T
               = first-counts (treeAt (level - 1) s) (nodesOf (length s)) (nodeRun (level - 1) s) alike i sh lo hi seen open-node j (part s p) (leads .pivot)
@@ -118,22 +121,36 @@ module _ (s : List ℕ) (i level : ℕ) (sh : Shape) (lo hi seen : List ℕ) whe
               all-sound X Y t after (sym walk-is ∙ k)
               (tally-is K (plus onlyNode M) (Checked.Sound t) t after h refl ∙ ap (λ z. capped z) (y ∙ ap (λ z. countOf z) (sym (interior-tree level two))))
 
-          module _ (own : Shape) (told : own ≡ sh) (r : Bool) (held after : List ℕ)
-              (h : Adds (kidsRun (nodeRun (level - 1) s) own lo hi j (part s p) (entriesFrom s (c .at) (c .end)) (set seen i 1)) M (0 ∷ 0 ∷ 1 ∷ []) r held after) where
+          -- the list, told of a parent
+          abbrev Run : ℕ → ℕ → Shape → List ℕ → Option (List ℕ)
+          Run l n z a = branchesRun (nodeRun l s) z a hi j (part s p) (entriesFrom s (c .at) n) (set seen i 1)
+
+          abbrev Held : ℕ → ℕ → Count
+          Held l n = branchesCount (treeAt l s) j (listed s (c .at) n)
+
+          -- the parent is this node
+          module _ (own : Parent) (level-is : own .level ≡ level - 1) (end-is : own .end ≡ c .end) (low-is : own .low ≡ p) (shape-is : shapeIs (own .shape) ≡ sh)
+              (r : Bool) (held after : List ℕ)
+              (h : Adds (Run (own .level) (own .end) (shapeIs (own .shape)) (part s (own .low))) (Held (own .level) (own .end)) (0 ∷ 0 ∷ 1 ∷ []) r held after) where
+            abbrev As : ℕ → ℕ → Shape → List ℕ → Type 0
+            As l n z a = Adds (Run l n z a) (Held l n) (0 ∷ 0 ∷ 1 ∷ []) r held after
+
             itself : tallyIs (0 ∷ 0 ∷ 1 ∷ []) ≡ capped onlyNode
             unfolding tallyIs
             itself = node-capped
 
             found : Checks X Y (answerIs r held) after
             found =
-                let k : Adds K M (0 ∷ 0 ∷ 1 ∷ []) r held after
-                = subst (λ (z : Shape). Adds (kidsRun (nodeRun (level - 1) s) z lo hi j (part s p) (entriesFrom s (c .at) (c .end)) (set seen i 1)) M (0 ∷ 0 ∷ 1 ∷ []) r held after) told h in
-                kids-found (answerIs r held) after (k .whole K (plus onlyNode M) (record { counted = onlyNode; tally = itself; counts = refl; walk = refl }))
+                let h1 : As (level - 1) (own .end) (shapeIs (own .shape)) (part s (own .low)) = subst (λ (l : ℕ). As l (own .end) (shapeIs (own .shape)) (part s (own .low))) level-is h in
+                let h2 : As (level - 1) (c .end) (shapeIs (own .shape)) (part s (own .low)) = subst (λ (n : ℕ). As (level - 1) n (shapeIs (own .shape)) (part s (own .low))) end-is h1 in
+                let h3 : As (level - 1) (c .end) sh (part s (own .low)) = subst (λ (z : Shape). As (level - 1) (c .end) z (part s (own .low))) shape-is h2 in
+                let k : As (level - 1) (c .end) sh lo = subst (λ (a : List ℕ). As (level - 1) (c .end) sh a) (ap (λ (q : Place). part s q) low-is ∙ same-eq (part s p) lo (leads .pivot)) h3 in
+                branches-found (answerIs r held) after (k .whole K (plus onlyNode M) (record { counted = onlyNode; tally = itself; counts = refl; walk = refl }))
 
-            pub kids-stop : r ≡ false → (z : List ℕ) → Checks X Y Checked.Unsound z
+            pub branches-stop : r ≡ false → (z : List ℕ) → Checks X Y Checked.Unsound z
             unfolding answerIs
-            kids-stop e z = unsound X Y z (unsound-is X Y (answerIs r held) after found (rw e))
+            branches-stop e z = unsound X Y z (unsound-is X Y (answerIs r held) after found (rw e))
 
-            pub kids-done : r ≡ true → (t : Tally) → t ≡ tallyIs held → Checks X Y (Checked.Sound t) after
+            pub branches-done : r ≡ true → (t : Tally) → t ≡ tallyIs held → Checks X Y (Checked.Sound t) after
             unfolding answerIs
-            kids-done e t f = rw f (subst (λ (b : Bool). Checks X Y (answerIs b held) after) e found)
+            branches-done e t f = rw f (subst (λ (b : Bool). Checks X Y (answerIs b held) after) e found)

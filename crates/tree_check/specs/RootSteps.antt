@@ -25,7 +25,7 @@ use Rattle.tree_check.specs.declared.Checked.{Checked}
 use Rattle.tree_check.specs.Count.{countOf}
 use Rattle.tree_check.specs.Answer.{out, Counts, Checks}
 use Rattle.laws.specs.ButLive.{soundHead, soundNodes, soundButLive}
-use Rattle.tree_check.specs.Whole.{isSound, Marked, Verified}
+use Rattle.tree_check.specs.Whole.{isSound, Marks, Marked, Verified}
 
 -- node 0, by its words in the store
 module _ (s : List ℕ) (long : 1024 ≤ length s) (n : ℕ) (en : n ≡ nodesOf (length s)) (len kind count root levels live : ℕ)
@@ -200,17 +200,23 @@ module _ (s : List ℕ) where
   unfolding soundNodes
   range-of e = and-right (soundTree (treeOf s) lowest highest && once (numbers (treeOf s))) (inRange (nodesOf (length s)) (numbers (treeOf s))) e
 
-  marks-at : (seen : List ℕ) (m : ℕ) → nodesOf (length s) ≤ m → some seen ≡ cond (soundNodes s) (some (markAll (blank m) (numbers (treeOf s)))) none
-      → (i : ℕ) → getD seen i 0 ≡ cond (isIn i (numbers (treeOf s))) 1 0
-  marks-at seen m h e i = go (soundNodes s) refl
+  -- every number of the tree is marked, where none was
+  pub marks-all : (seen : List ℕ) (m : ℕ) → nodesOf (length s) ≤ m → inRange (nodesOf (length s)) (numbers (treeOf s)) ≡ true
+      → seen ≡ markAll (blank m) (numbers (treeOf s)) → Marks s seen
+  marks-all seen m h r p =
+      let l : length (blank m) ≡ m = length-replicate {A = ℕ} m 0 in
+      record {
+        marked = λ i lt. ap (λ x. getD x i 0) p ∙ marked-at (nodesOf (length s)) (blank m) (numbers (treeOf s)) (omega arith) r i
+            ∙ ap (λ x. cond (isIn i (numbers (treeOf s))) 1 x) (zero-at m i);
+      }
+
+  marks-at : (seen : List ℕ) (m : ℕ) → nodesOf (length s) ≤ m → some seen ≡ cond (soundNodes s) (some (markAll (blank m) (numbers (treeOf s)))) none → Marks s seen
+  marks-at seen m h e = go (soundNodes s) refl
     where
-      go : (b : Bool) → soundNodes s ≡ b → getD seen i 0 ≡ cond (isIn i (numbers (treeOf s))) 1 0
+      go : (b : Bool) → soundNodes s ≡ b → Marks s seen
       go true f =
           let q : some seen ≡ some (markAll (blank m) (numbers (treeOf s))) = rw f at e in
-          let p : seen ≡ markAll (blank m) (numbers (treeOf s)) = cc in
-          let l : length (blank m) ≡ m = length-replicate {A = ℕ} m 0 in
-          ap (λ x. getD x i 0) p ∙ marked-at (nodesOf (length s)) (blank m) (numbers (treeOf s)) (omega arith) (range-of f) i
-          ∙ ap (λ x. cond (isIn i (numbers (treeOf s))) 1 x) (zero-at m i)
+          marks-all seen m h (range-of f) (cc)
       go false f =
           let q : some seen ≡ none = rw f at e in
           let z : _≡_ {A = ℕ} 0 1 = cc in absurd (omega arith)
@@ -218,7 +224,7 @@ module _ (s : List ℕ) where
   marks-of : (r : Checked) (seen : List ℕ) (m : ℕ) → nodesOf (length s) ≤ m → out r seen ≡ cond (soundNodes s) (some (markAll (blank m) (numbers (treeOf s)))) none → Marked s seen r
   unfolding out Marked
   marks-of Checked.Unsound seen m h e = tt
-  marks-of (Checked.Sound t) seen m h e = λ i lt. marks-at seen m h e i
+  marks-of (Checked.Sound t) seen m h e = marks-at seen m h e
 
   pub from-root : 1024 ≤ length s → (b : Bool) → b ≡ soundHead s → b ≡ true → (m : ℕ) → nodesOf (length s) ≤ m → (blanks : List ℕ) → blanks ≡ blank m
       → (root levels : ℕ) → root ≡ u16 s 6 → levels ≡ u16 s 8 → (r : Checked) (seen : List ℕ)

@@ -12,15 +12,15 @@ use borrow.Author.Tests.{lt-ltb, le-ltb, le-leb, lt-leb, eq-eqb, ne-eqb}
 use Rattle.image.specs.Bytes.{same}
 use Rattle.image.specs.Entry as defined
 use Rattle.image.specs.Table.{Row}
-use Rattle.image.specs.Image.{Tree, unread, leaf, interior, Forest, tree, Inside, nodeBytes, nodesOf, nodeEntries, pairsOf, messagesOf, noKids, kidThen, insideOf, orNone, forestOf, leafOf, interiorOf, treeAt}
+use Rattle.image.specs.Image.{Tree, unread, leaf, interior, Forest, tree, Inside, nodeBytes, nodesOf, nodeEntries, pairsOf, messagesOf, noBranches, branchThen, insideOf, orNone, forestOf, leafOf, interiorOf, treeAt}
 use Rattle.image.specs.Sound.{firstPivot}
 use Rattle.octets.specs.Order.{and-false}
 use Rattle.path.specs.Shape.{Shape}
 use Rattle.laws.specs.Reading.SoundHere.{soundHere, messagesHere}
-use Rattle.laws.specs.Reading.Visit.{mark, unmet, onward, visit, visitKids}
+use Rattle.laws.specs.Reading.Visit.{mark, unmet, onward, visit, visitBranches}
 use Rattle.tree_check.specs.Node.Leaf.{leafRun, leaf-sound}
-use Rattle.tree_check.specs.Node.Inside.{messagesRun, messages-not, childRun, kidsList, kidsRun, kids-are}
-use Rattle.tree_check.specs.Count.{plus, countOf, onlyPairs, onlyNode, kidsCount}
+use Rattle.tree_check.specs.Node.Inside.{messagesRun, messages-not, childRun, branchesList, branchesRun, branches-are}
+use Rattle.tree_check.specs.Count.{plus, countOf, onlyPairs, onlyNode, branchesCount}
 use Rattle.tree_check.specs.CountLaws.{leaf-holds, interior-holds}
 
 -- the walk under the nodes of a level
@@ -129,19 +129,19 @@ module _ (node : ℕ → Shape → List ℕ → List ℕ → List ℕ → Option
   onward-no none f h = refl
   onward-no (some a) f h = h a
 
-  pub kids-not : (es : List defined.Entry) → insideOf es ≡ none → (i : ℕ) (low seen : List ℕ) → kidsList node sh lo hi i low es seen ≡ none
-  unfolding kidsList insideOf
-  kids-not [] h i low seen = let z : _≡_ {A = ℕ} 0 1 = cc in absurd (omega arith)
-  kids-not (defined.pair k v ∷ es) h i low seen = refl
-  kids-not (defined.child j q ∷ es) h i low seen = go (insideOf es) refl (kids-not es)
+  pub branches-not : (es : List defined.Entry) → insideOf es ≡ none → (i : ℕ) (low seen : List ℕ) → branchesList node sh lo hi i low es seen ≡ none
+  unfolding branchesList insideOf
+  branches-not [] h i low seen = let z : _≡_ {A = ℕ} 0 1 = cc in absurd (omega arith)
+  branches-not (defined.pair k v ∷ es) h i low seen = refl
+  branches-not (defined.child j q ∷ es) h i low seen = go (insideOf es) refl (branches-not es)
     where
-      go : (o : Option Inside) → insideOf es ≡ o → (insideOf es ≡ none → (i : ℕ) (low seen : List ℕ) → kidsList node sh lo hi i low es seen ≡ none)
-          → onward (childRun node sh lo hi i low q seen) (λ after. kidsList node sh lo hi j q es after) ≡ none
-      go none e ih = onward-no (childRun node sh lo hi i low q seen) (λ after. kidsList node sh lo hi j q es after) (λ a. ih e j q a)
+      go : (o : Option Inside) → insideOf es ≡ o → (insideOf es ≡ none → (i : ℕ) (low seen : List ℕ) → branchesList node sh lo hi i low es seen ≡ none)
+          → onward (childRun node sh lo hi i low q seen) (λ after. branchesList node sh lo hi j q es after) ≡ none
+      go none e ih = onward-no (childRun node sh lo hi i low q seen) (λ after. branchesList node sh lo hi j q es after) (λ a. ih e j q a)
       go (some y) e ih =
-          let w : _≡_ {A = Option Inside} (some (record { kids = record { number = j; pivot = q } ∷ y .kids; messages = y .messages })) none = unfold kidThen in rw e at h in
+          let w : _≡_ {A = Option Inside} (some (record { branches = record { number = j; pivot = q } ∷ y .branches; messages = y .messages })) none = unfold branchThen in rw e at h in
           let z : _≡_ {A = ℕ} 0 1 = cc in absurd (omega arith)
-  kids-not (defined.message m ∷ es) h i low seen = go (messagesOf (defined.message m ∷ es)) refl
+  branches-not (defined.message m ∷ es) h i low seen = go (messagesOf (defined.message m ∷ es)) refl
     where
       go : (o : Option (List defined.Message)) → messagesOf (defined.message m ∷ es) ≡ o
           → onward (childRun node sh lo hi i low hi seen) (λ after. cond (messagesRun sh lo hi (some (defined.message m ∷ es))) (some after) none) ≡ none
@@ -149,20 +149,20 @@ module _ (node : ℕ → Shape → List ℕ → List ℕ → List ℕ → Option
           onward-no (childRun node sh lo hi i low hi seen) (λ after. cond (messagesRun sh lo hi (some (defined.message m ∷ es))) (some after) none)
           (λ a. rw (messages-not sh lo hi (defined.message m ∷ es) e))
       go (some ms) e =
-          let w : _≡_ {A = Option Inside} (some (record { kids = []; messages = ms })) none = unfold noKids in rw e at h in
+          let w : _≡_ {A = Option Inside} (some (record { branches = []; messages = ms })) none = unfold noBranches in rw e at h in
           let z : _≡_ {A = ℕ} 0 1 = cc in absurd (omega arith)
 
   -- the entries after a child split where the walk over them ends well
-  run-splits : (i : ℕ) (low : List ℕ) (y : Option (List defined.Entry)) (seen after : List ℕ) → kidsRun node sh lo hi i low y seen ≡ some after
+  run-splits : (i : ℕ) (low : List ℕ) (y : Option (List defined.Entry)) (seen after : List ℕ) → branchesRun node sh lo hi i low y seen ≡ some after
       → (es : List defined.Entry) × ((y ≡ some es) × ((x : Inside) × (insideOf es ≡ some x)))
   run-splits i low none seen after h =
-      let q : none ≡ some after = unfold kidsRun in h in let z : _≡_ {A = ℕ} 0 1 = cc in absurd (omega arith)
+      let q : none ≡ some after = unfold branchesRun in h in let z : _≡_ {A = ℕ} 0 1 = cc in absurd (omega arith)
   run-splits i low (some es) seen after h = go (insideOf es) refl
     where
       go : (o : Option Inside) → insideOf es ≡ o → (fs : List defined.Entry) × ((some es ≡ some fs) × ((x : Inside) × (insideOf fs ≡ some x)))
       go none e =
-          let q : kidsList node sh lo hi i low es seen ≡ some after = unfold kidsRun in h in
-          let w : none ≡ some after = sym (kids-not es e i low seen) ∙ q in
+          let q : branchesList node sh lo hi i low es seen ≡ some after = unfold branchesRun in h in
+          let w : none ≡ some after = sym (branches-not es e i low seen) ∙ q in
           let z : _≡_ {A = ℕ} 0 1 = cc in absurd (omega arith)
       go (some x) e = (es, (refl, (x, e)))
 
@@ -183,33 +183,33 @@ module _ (below : ℕ → Tree) (n : ℕ) (node : ℕ → Shape → List ℕ →
   headless (some (defined.pair k v ∷ es)) h = unread-walk (some (defined.pair k v ∷ es)) (unfold orNone insideOf in refl)
   headless (some (defined.child j q ∷ es)) h = go (insideOf es) refl
     where
-      stopped : (x : Inside) → visit (interior i (forestOf below (record { number = j; pivot = q } ∷ x .kids)) (x .messages)) n sh lo hi seen ≡ none
+      stopped : (x : Inside) → visit (interior i (forestOf below (record { number = j; pivot = q } ∷ x .branches)) (x .messages)) n sh lo hi seen ≡ none
       stopped x = unfold forestOf visit firstPivot in rw (h, and-false (unmet n seen i))
 
       go : (o : Option Inside) → insideOf es ≡ o → visit (interiorOf below i (orNone insideOf (some (defined.child j q ∷ es)))) n sh lo hi seen ≡ none
-      go none e = unread-walk (some (defined.child j q ∷ es)) (unfold orNone insideOf kidThen in rw e)
-      go (some x) e = unfold orNone insideOf kidThen interiorOf in rw e (stopped x)
+      go none e = unread-walk (some (defined.child j q ∷ es)) (unfold orNone insideOf branchThen in rw e)
+      go (some x) e = unfold orNone insideOf branchThen interiorOf in rw e (stopped x)
   headless (some (defined.message m ∷ es)) h = go (messagesOf (defined.message m ∷ es)) refl
     where
       stopped : (ms : List defined.Message) → visit (interior i (forestOf below []) ms) n sh lo hi seen ≡ none
       stopped ms = unfold forestOf visit firstPivot in rw (and-false (unmet n seen i))
 
       go : (o : Option (List defined.Message)) → messagesOf (defined.message m ∷ es) ≡ o → visit (interiorOf below i (orNone insideOf (some (defined.message m ∷ es)))) n sh lo hi seen ≡ none
-      go none e = unread-walk (some (defined.message m ∷ es)) (unfold orNone insideOf noKids in rw e)
-      go (some ms) e = unfold orNone insideOf noKids interiorOf in rw e (stopped ms)
+      go none e = unread-walk (some (defined.message m ∷ es)) (unfold orNone insideOf noBranches in rw e)
+      go (some ms) e = unfold orNone insideOf noBranches interiorOf in rw e (stopped ms)
 
   -- the first child, with the pivot that it is to have
   module _ (open-node : unmet n seen i ≡ true) (j : ℕ) (q : List ℕ) (first : same q lo ≡ true) where
     interior-walk : (f : Forest) (ms : List defined.Message) → visit (interior i (tree q (below j) f) ms) n sh lo hi seen
-        ≡ onward (visitKids (tree q (below j) f) n sh lo hi (mark seen i)) (λ after. cond (messagesHere sh lo hi ms) (some after) none)
+        ≡ onward (visitBranches (tree q (below j) f) n sh lo hi (mark seen i)) (λ after. cond (messagesHere sh lo hi ms) (some after) none)
     interior-walk f ms = unfold visit firstPivot in rw (open-node, first)
 
-    no-run : (start : List ℕ) → kidsRun node sh lo hi j q none start ≡ none
-    unfolding kidsRun
+    no-run : (start : List ℕ) → branchesRun node sh lo hi j q none start ≡ none
+    unfolding branchesRun
     no-run start = refl
 
-    a-run : (es : List defined.Entry) (start : List ℕ) → kidsRun node sh lo hi j q (some es) start ≡ kidsList node sh lo hi j q es start
-    unfolding kidsRun
+    a-run : (es : List defined.Entry) (start : List ℕ) → branchesRun node sh lo hi j q (some es) start ≡ branchesList node sh lo hi j q es start
+    unfolding branchesRun
     a-run es start = refl
 
     marked : mark seen i ≡ set seen i 1
@@ -221,38 +221,38 @@ module _ (below : ℕ → Tree) (n : ℕ) (node : ℕ → Shape → List ℕ →
     unsplit o e = rw e
 
     pub first-walk : (o y : Option (List defined.Entry)) → o ≡ defined.entryThen (some (defined.child j q)) y
-        → kidsRun node sh lo hi j q y (set seen i 1) ≡ visit (interiorOf below i (orNone insideOf o)) n sh lo hi seen
+        → branchesRun node sh lo hi j q y (set seen i 1) ≡ visit (interiorOf below i (orNone insideOf o)) n sh lo hi seen
     first-walk o none e = no-run (set seen i 1) ∙ sym (unread-walk o (unsplit o e))
     first-walk o (some es) e = go (insideOf es) refl
       where
-        shape : (z : Option Inside) → insideOf es ≡ z → orNone insideOf o ≡ kidThen (record { number = j; pivot = q }) z
+        shape : (z : Option Inside) → insideOf es ≡ z → orNone insideOf o ≡ branchThen (record { number = j; pivot = q }) z
         shape z f = unfold orNone defined.entryThen insideOf in rw (e, f)
 
-        build : (x : Inside) → orNone insideOf o ≡ kidThen (record { number = j; pivot = q }) (some x)
-            → interiorOf below i (orNone insideOf o) ≡ interior i (tree q (below j) (forestOf below (x .kids))) (x .messages)
-        build x f = unfold interiorOf kidThen forestOf in rw f
+        build : (x : Inside) → orNone insideOf o ≡ branchThen (record { number = j; pivot = q }) (some x)
+            → interiorOf below i (orNone insideOf o) ≡ interior i (tree q (below j) (forestOf below (x .branches))) (x .messages)
+        build x f = unfold interiorOf branchThen forestOf in rw f
 
-        go : (z : Option Inside) → insideOf es ≡ z → kidsRun node sh lo hi j q (some es) (set seen i 1) ≡ visit (interiorOf below i (orNone insideOf o)) n sh lo hi seen
+        go : (z : Option Inside) → insideOf es ≡ z → branchesRun node sh lo hi j q (some es) (set seen i 1) ≡ visit (interiorOf below i (orNone insideOf o)) n sh lo hi seen
         go none f =
-            a-run es (set seen i 1) ∙ kids-not node sh lo hi es f j q (set seen i 1)
-            ∙ sym (unread-walk o (shape none f ∙ (unfold kidThen in refl)))
+            a-run es (set seen i 1) ∙ branches-not node sh lo hi es f j q (set seen i 1)
+            ∙ sym (unread-walk o (shape none f ∙ (unfold branchThen in refl)))
         go (some x) f =
-            a-run es (set seen i 1) ∙ kids-are node sh lo hi n below alike es x f j q (set seen i 1)
-            ∙ ap (λ m. onward (visitKids (tree q (below j) (forestOf below (x .kids))) n sh lo hi m) (λ after. cond (messagesHere sh lo hi (x .messages)) (some after) none)) (sym marked)
-            ∙ sym (ap (λ t. visit t n sh lo hi seen) (build x (shape (some x) f)) ∙ interior-walk (forestOf below (x .kids)) (x .messages))
+            a-run es (set seen i 1) ∙ branches-are node sh lo hi n below alike es x f j q (set seen i 1)
+            ∙ ap (λ m. onward (visitBranches (tree q (below j) (forestOf below (x .branches))) n sh lo hi m) (λ after. cond (messagesHere sh lo hi (x .messages)) (some after) none)) (sym marked)
+            ∙ sym (ap (λ t. visit t n sh lo hi seen) (build x (shape (some x) f)) ∙ interior-walk (forestOf below (x .branches)) (x .messages))
 
     built : (o y : Option (List defined.Entry)) (es : List defined.Entry) (x : Inside) → o ≡ defined.entryThen (some (defined.child j q)) y → y ≡ some es → insideOf es ≡ some x
-        → interiorOf below i (orNone insideOf o) ≡ interior i (tree q (below j) (forestOf below (x .kids))) (x .messages)
-    unfolding orNone defined.entryThen insideOf kidThen interiorOf forestOf
+        → interiorOf below i (orNone insideOf o) ≡ interior i (tree q (below j) (forestOf below (x .branches))) (x .messages)
+    unfolding orNone defined.entryThen insideOf branchThen interiorOf forestOf
     built o y es x e f h = rw (e, f, h)
 
     pub first-counts : (o y : Option (List defined.Entry)) (l : List defined.Entry) (start after : List ℕ) → o ≡ defined.entryThen (some (defined.child j q)) y
-        → ((es : List defined.Entry) → y ≡ some es → l ≡ es) → kidsRun node sh lo hi j q y start ≡ some after
-        → plus onlyNode (kidsCount below j l) ≡ countOf (interiorOf below i (orNone insideOf o))
+        → ((es : List defined.Entry) → y ≡ some es → l ≡ es) → branchesRun node sh lo hi j q y start ≡ some after
+        → plus onlyNode (branchesCount below j l) ≡ countOf (interiorOf below i (orNone insideOf o))
     first-counts o y l start after e f h =
         let r = run-splits node sh lo hi j q y start after h in
         let es = r .0 in
         let x = r .1 .1 .0 in
-        let b : interiorOf below i (orNone insideOf o) ≡ interior i (tree q (below j) (forestOf below (x .kids))) (x .messages) = built o y es x e (r .1 .0) (r .1 .1 .1) in
-        ap (λ k. plus onlyNode (kidsCount below j k)) (f es (r .1 .0))
+        let b : interiorOf below i (orNone insideOf o) ≡ interior i (tree q (below j) (forestOf below (x .branches))) (x .messages) = built o y es x e (r .1 .0) (r .1 .1 .1) in
+        ap (λ k. plus onlyNode (branchesCount below j k)) (f es (r .1 .0))
         ∙ sym (ap (λ t. countOf t) b ∙ interior-holds below i j q es x (r .1 .1 .1))

@@ -16,10 +16,14 @@ unfoldable pub isSound : Checked → Bool
 isSound Checked.Unsound = false
 isSound (Checked.Sound t) = true
 
--- after a sound answer: one byte for each node, 1 where the node is reached and 0 elsewhere
+-- one byte for each node: 1 where the tree reaches it, and 0 elsewhere
+pub record Marks (image seen : List ℕ) : Type 0 where
+  pub marked : (i : ℕ) → i < nodesOf (length image) → getD seen i 0 ≡ cond (isIn i (numbers (treeOf image))) 1 0
+
+-- after a sound answer the nodes are marked
 unfoldable pub Marked : List ℕ → List ℕ → Checked → Type 0
 Marked image seen Checked.Unsound = Unit
-Marked image seen (Checked.Sound t) = (i : ℕ) → i < nodesOf (length image) → getD seen i 0 ≡ cond (isIn i (numbers (treeOf image))) 1 0
+Marked image seen (Checked.Sound t) = Marks image seen
 
 pub record Verified (image : List ℕ) (r : Checked) (seen : List ℕ) : Type 0 where
   pub answer : isSound r ≡ soundButLive image

@@ -1,11 +1,12 @@
 // Question 2 but for the live count: one marking walk over the tree, in which the check of a node and that of its children call each other.
 // It reads any store of at least one node, and counts pairs and messages. Relies on node_check for what one node holds, and on path.
+pub mod marks;
 pub mod node_check;
 
 use node::Cursor;
 use node::Place;
 use node::Step;
-use node::search::Kid;
+use node::search::Branch;
 use node_check::Counted;
 use path::Shape;
 ghost use mathlib.Core.Path.{_≡_};
@@ -23,13 +24,14 @@ ghost use Rattle.node.specs.Cut.{cut};
 ghost use Rattle.node.specs.Entries.{entriesFrom, listed};
 ghost use Rattle.node.specs.Places.{Within, part};
 ghost use Rattle.path.specs.Fed.{shapeIs};
-ghost use Rattle.tree_check.specs.Node.Inside.{messagesRun, childRun, kidsRun};
-ghost use Rattle.tree_check.specs.Count.{tallySum, countOf, onlyMessages, lastCount, kidsCount};
+ghost use Rattle.tree_check.specs.Node.Inside.{messagesRun, childRun, branchesRun};
+ghost use Rattle.tree_check.specs.Count.{tallySum, countOf, onlyMessages, lastCount, branchesCount};
 ghost use Rattle.tree_check.specs.Answer.{Checks, withRest};
-ghost use Rattle.tree_check.specs.Held.{tallyIs, answerIs, flatIs, Adds};
+ghost use Rattle.tree_check.specs.Held.{tallyIs, answerIs, parentIs, Adds};
 ghost use Rattle.tree_check.specs.Walk.{nodeRun, lastRun};
 ghost use Rattle.tree_check.specs.First.{FirstAs};
 ghost use Rattle.laws.specs.ButLive.{soundHead};
+ghost use Rattle.node.specs.Whole.{HasNode};
 ghost use Rattle.tree_check.specs.Whole.{Verified};
 
 // What a sound tree holds, each number shown up to 65,535.
@@ -86,23 +88,54 @@ pub fn hold(held: &mut [usize; 3], found: Checked) -> bool
     true
 }
 
-// A shape as plain numbers, which can be lent.
-pub fn flattened(sh: Shape) -> [usize; 4]
-    ensures { λ r. ⌜ flatIs r ≡ shapeIs sh ⌝ }
-{
-    let Shape::Partway(done, here, len) = sh else {
-        return [0, 0, 0, 0];
-    };
-    [1, done, here, len]
+// What the children of a node share: their level, the end of the node's entries, the place of its own low pivot, and the shape of what it lifts.
+pub struct Parent {
+    pub level: usize,
+    pub end: usize,
+    pub low: Place,
+    pub shape: Shape,
 }
 
-pub fn shape_of(flat: &[usize; 4]) -> Shape
-    ensures { λ r. ⌜ shapeIs r ≡ flatIs (now (flat .entry)) ⌝ }
+// A parent as plain numbers, which can be lent.
+pub fn flattened(p: Parent) -> [usize; 8]
+    ensures { λ r. ⌜ parentIs r ≡ p ⌝ }
 {
-    if flat[0] == 0 {
-        return Shape::Dead;
+    let level = p.level;
+    let end = p.end;
+    let low = p.low;
+    let a = low.start;
+    let b = low.stop;
+    let shape = p.shape;
+    let Shape::Partway(done, here, len) = shape else {
+        return [level, end, a, b, 0, 0, 0, 0];
+    };
+    [level, end, a, b, 1, done, here, len]
+}
+
+pub fn parent_of(flat: &[usize; 8]) -> Parent
+    ensures { λ r. ⌜ r ≡ parentIs (now (flat .entry)) ⌝ }
+{
+    let level = flat[0];
+    let end = flat[1];
+    let low = Place {
+        start: flat[2],
+        stop: flat[3],
+    };
+    if flat[4] == 0 {
+        return Parent {
+            level,
+            end,
+            low,
+            shape: Shape::Dead,
+        };
     }
-    Shape::Partway(flat[1], flat[2], flat[3])
+    let shape = Shape::Partway(flat[5], flat[6], flat[7]);
+    Parent {
+        level,
+        end,
+        low,
+        shape,
+    }
 }
 
 // What was found sound, with the answer for the rest.
@@ -147,7 +180,7 @@ pub fn all_zero(s: &[u8], from: usize, end: usize) -> bool
 
 // Whether a node of the store is laid out as one of this kind and level.
 pub fn laid_out(store: &[u8], num: usize, kind: usize, level: usize) -> bool
-    requires { ⌜ num * 1024 + 1024 ≤ length (now store) ⌝ }
+    requires { ⌜ HasNode (now store) num ⌝ }
     ensures { λ r. ⌜ r ≡ laidOut kind level (nodeBytes (now (store .entry)) num) ⌝ }
 {
     let at = num * image::NODE_SIZE;
@@ -169,7 +202,7 @@ pub fn laid_out(store: &[u8], num: usize, kind: usize, level: usize) -> bool
 
 // Whether a node of the store is a sound leaf, and how many pairs it holds.
 pub fn check_leaf(store: &[u8], num: usize, lo: &[u8], hi: &[u8], sh: Shape) -> Checked
-    requires { ⌜ num * 1024 + 1024 ≤ length (now store) ⌝ }
+    requires { ⌜ HasNode (now store) num ⌝ }
     ensures { λ r. ⌜ ((seen : List ℕ) → Checks
         (cond (soundHere (treeAt 1 (now (store .entry)) num) (shapeIs sh) (now (lo .entry)) (now (hi .entry))) (some seen) none)
         (countOf (treeAt 1 (now (store .entry)) num)) r seen) ⌝ }
@@ -193,7 +226,7 @@ pub fn check_leaf(store: &[u8], num: usize, lo: &[u8], hi: &[u8], sh: Shape) -> 
 
 // The first child of an interior node of the store, if its pivot is the node's low one.
 pub fn first_child(store: &[u8], num: usize, level: usize, lo: &[u8]) -> First
-    requires { ⌜ num * 1024 + 1024 ≤ length (now store) ⌝ }
+    requires { ⌜ HasNode (now store) num ⌝ }
     ensures { λ r. ⌜ FirstAs (now (store .entry)) num level (now (lo .entry)) r ⌝ }
 {
     if !laid_out(store, num, 2, level) {
@@ -209,7 +242,7 @@ pub fn first_child(store: &[u8], num: usize, level: usize, lo: &[u8]) -> First
     let Step::Read(e, next) = c.step(store) else {
         return First::Nothing;
     };
-    let Kid::Of(child, p) = node::search::kid_of(e) else {
+    let Branch::Of(child, p) = node::search::branch_of(e) else {
         return First::Nothing;
     };
     let a = p.start;
@@ -235,6 +268,12 @@ pub fn check_messages(s: &[u8], from: usize, end: usize, lo: &[u8], hi: &[u8], s
         messages,
         nodes: 0,
     })
+}
+
+// A child in the list of its parent: its number, and where the entry after it starts.
+pub struct ChildAt {
+    pub num: usize,
+    pub next: usize,
 }
 
 // The tree under the node `num`, which is to be of this level. Its pivots are without what it lifts, of which the shape tells.
@@ -271,134 +310,152 @@ pub fn check_node(
     let First::Child(child, p, next) = first_child(store, num, level, lo) else {
         return Checked::Unsound;
     };
-    let flat = flattened(sh);
+    let parent = Parent {
+        level: level - 1,
+        end: next.end,
+        low: p,
+        shape: sh,
+    };
+    let flat = flattened(parent);
+    let first = ChildAt {
+        num: child,
+        next: next.at,
+    };
     let mut held = [0usize, 0usize, 1usize];
-    if !check_children(
-        &store,
-        child,
-        p,
-        next,
-        level - 1,
-        &lo,
-        &hi,
-        &flat,
-        seen,
-        &mut held,
-    ) {
+    if !check_children(&store, first, p, &hi, &flat, seen, &mut held) {
         return Checked::Unsound;
     }
     Checked::Sound(tally_of(&held))
 }
 
-// The child `num` with the low pivot `low`, and the entries of its parent that follow it from the cursor on: whether all are sound. What they
-// hold is added to `held`. The call for the rest of the list is the last thing done, and all that it is lent is lent by thin references:
-// so the compiler makes a jump of it, and the stack holds one frame for each level.
+// The child `first` with the low pivot `low`, and the entries of its parent that follow it: whether all are sound. What they hold is added to
+// `held`. The call for the rest of the list is the last thing done, all that it is lent is lent by thin references, and each struct that it is
+// given has two numbers: so the compiler makes a jump of it, and the stack holds one frame for each level.
 pub fn check_children(
     store: &&[u8],
-    num: usize,
+    first: ChildAt,
     low: Place,
-    start: Cursor,
-    level: usize,
-    lo: &&[u8],
     hi: &&[u8],
-    flat: &[usize; 4],
+    flat: &[usize; 8],
     seen: &mut [u8; 1024],
     held: &mut [usize; 3],
 ) -> bool
-    requires { ⌜ (nodesOf (length (now (now store))) ≤ 1024) × (start .end ≤ length (now (now store))) × Within 0 (length (now (now store))) low ⌝ }
+    requires { ⌜ (nodesOf (length (now (now store))) ≤ 1024)
+        × (parentIs (now flat) .end ≤ length (now (now store)))
+        × Within 0 (length (now (now store))) low
+        × Within 0 (length (now (now store))) (parentIs (now flat) .low) ⌝ }
     ensures { λ r. ⌜ Adds
-        (kidsRun (nodeRun level (now (now (store .entry)))) (flatIs (now (flat .entry))) (now (now (lo .entry))) (now (now (hi .entry))) num
-        (part (now (now (store .entry))) low) (entriesFrom (now (now (store .entry))) (start .at) (start .end)) (now (seen .entry)))
-        (kidsCount (treeAt level (now (now (store .entry)))) num (listed (now (now (store .entry))) (start .at) (start .end))) (now (held .entry))
+        (branchesRun (nodeRun (parentIs (now (flat .entry)) .level) (now (now (store .entry)))) (shapeIs (parentIs (now (flat .entry)) .shape))
+        (part (now (now (store .entry))) (parentIs (now (flat .entry)) .low)) (now (now (hi .entry))) (first .num)
+        (part (now (now (store .entry))) low) (entriesFrom (now (now (store .entry))) (first .next) (parentIs (now (flat .entry)) .end))
+        (now (seen .entry)))
+        (branchesCount (treeAt (parentIs (now (flat .entry)) .level) (now (now (store .entry)))) (first .num)
+        (listed (now (now (store .entry))) (first .next) (parentIs (now (flat .entry)) .end))) (now (held .entry))
         r (now (held .exit)) (now (seen .exit)) ⌝ }
 {
     let image = *store;
-    let sh = shape_of(flat);
-    if start.end <= start.at {
-        let last = check_last(image, num, low, start, level, *lo, *hi, sh, seen);
-        return hold(held, last);
-    }
-    let Step::Read(e, next) = start.step(image) else {
-        return false;
-    };
-    let Kid::Of(child, p) = node::search::kid_of(e) else {
-        let last = check_last(image, num, low, start, level, *lo, *hi, sh, seen);
-        return hold(held, last);
+    let parent = parent_of(flat);
+    let num = first.num;
+    let rest = Cursor {
+        at: first.next,
+        end: parent.end,
     };
     let a = low.start;
     let b = low.stop;
+    if rest.end <= rest.at {
+        let last = check_last(image, num, &image[a..b], rest, parent, *hi, seen);
+        return hold(held, last);
+    }
+    let Step::Read(e, next) = rest.step(image) else {
+        return false;
+    };
+    let Branch::Of(child, p) = node::search::branch_of(e) else {
+        let last = check_last(image, num, &image[a..b], rest, parent, *hi, seen);
+        return hold(held, last);
+    };
     let x = p.start;
     let y = p.stop;
-    let one = check_child(
-        image,
-        num,
-        &image[a..b],
-        &image[x..y],
-        level,
-        *lo,
-        *hi,
-        sh,
-        seen,
-    );
+    let one = check_child(image, num, &image[a..b], &image[x..y], parent, *hi, seen);
     if !hold(held, one) {
         return false;
     }
-    check_children(store, child, p, next, level, lo, hi, flat, seen, held)
+    let second = ChildAt {
+        num: child,
+        next: next.at,
+    };
+    check_children(store, second, p, hi, flat, seen, held)
 }
 
-// The last child, `num` with the low pivot `low`, which ends at its parent's high pivot; and the messages of the parent from the cursor on, of which there may be none.
+// The last child, `num` with the low pivot `low`, which ends at its parent's high pivot; and the messages of the parent from the cursor on, of
+// which there may be none.
 pub fn check_last(
     store: &[u8],
     num: usize,
-    low: Place,
+    low: &[u8],
     rest: Cursor,
-    level: usize,
-    lo: &[u8],
+    parent: Parent,
     hi: &[u8],
-    sh: Shape,
     seen: &mut [u8; 1024],
 ) -> Checked
-    requires { ⌜ (nodesOf (length (now store)) ≤ 1024) × (rest .end ≤ length (now store)) × Within 0 (length (now store)) low ⌝ }
+    requires { ⌜ (nodesOf (length (now store)) ≤ 1024)
+        × (rest .end ≤ length (now store))
+        × Within 0 (length (now store)) (parent .low) ⌝ }
     ensures { λ r. ⌜ Checks
-        (lastRun (nodeRun level (now (store .entry))) (shapeIs sh) (now (lo .entry)) (now (hi .entry)) num (part (now (store .entry)) low)
-        (entriesFrom (now (store .entry)) (rest .at) (rest .end)) (now (seen .entry)))
-        (lastCount (treeAt level (now (store .entry))) num (listed (now (store .entry)) (rest .at) (rest .end))) r (now (seen .exit)) ⌝ }
+        (lastRun (nodeRun (parent .level) (now (store .entry))) (shapeIs (parent .shape)) (part (now (store .entry)) (parent .low)) (now (hi .entry))
+        num (now (low .entry)) (entriesFrom (now (store .entry)) (rest .at) (rest .end)) (now (seen .entry)))
+        (lastCount (treeAt (parent .level) (now (store .entry))) num (listed (now (store .entry)) (rest .at) (rest .end))) r
+        (now (seen .exit)) ⌝ }
 {
-    let a = low.start;
-    let b = low.stop;
-    let one = check_child(store, num, &store[a..b], hi, level, lo, hi, sh, seen);
+    let one = check_child(store, num, low, hi, parent, hi, seen);
     let Checked::Sound(t) = one else {
         return Checked::Unsound;
     };
-    with_rest(t, check_messages(store, rest.at, rest.end, lo, hi, sh))
+    let own = parent.low;
+    let a = own.start;
+    let b = own.stop;
+    let shape = parent.shape;
+    with_rest(
+        t,
+        check_messages(store, rest.at, rest.end, &store[a..b], hi, shape),
+    )
 }
 
-// The child `num` between two pivots of its parent, whose own pivots are `lo` and `hi`.
+// The child `num` between two pivots of its parent, whose own high pivot is `hi`.
 pub fn check_child(
     store: &[u8],
     num: usize,
     low: &[u8],
     high: &[u8],
-    level: usize,
-    lo: &[u8],
+    parent: Parent,
     hi: &[u8],
-    sh: Shape,
     seen: &mut [u8; 1024],
 ) -> Checked
-    requires { ⌜ nodesOf (length (now store)) ≤ 1024 ⌝ }
+    requires { ⌜ (nodesOf (length (now store)) ≤ 1024) × Within 0 (length (now store)) (parent .low) ⌝ }
     ensures { λ r. ⌜ Checks
-        (childRun (nodeRun level (now (store .entry))) (shapeIs sh) (now (lo .entry)) (now (hi .entry)) num (now (low .entry)) (now (high .entry))
-        (now (seen .entry))) (countOf (treeAt level (now (store .entry)) num)) r (now (seen .exit)) ⌝ }
+        (childRun (nodeRun (parent .level) (now (store .entry))) (shapeIs (parent .shape)) (part (now (store .entry)) (parent .low)) (now (hi .entry)) num
+        (now (low .entry)) (now (high .entry)) (now (seen .entry))) (countOf (treeAt (parent .level) (now (store .entry)) num)) r (now (seen .exit)) ⌝ }
 {
-    if !octets::owned(lo, hi, low) {
+    let own = parent.low;
+    let a = own.start;
+    let b = own.stop;
+    if !octets::owned(&store[a..b], hi, low) {
         return Checked::Unsound;
     }
     if !octets::precedes(low, high) {
         return Checked::Unsound;
     }
     let k = octets::common_length(low, high);
-    let deeper = path::feed(sh, &low[0..k]);
-    check_node(store, num, level, &low[k..], &high[k..], deeper, seen)
+    let shape = parent.shape;
+    let deeper = path::feed(shape, &low[0..k]);
+    check_node(
+        store,
+        num,
+        parent.level,
+        &low[k..],
+        &high[k..],
+        deeper,
+        seen,
+    )
 }
 
 // Whether node 0 is laid out, and its numbers are in the range that a store of this length asks for.

@@ -1,5 +1,5 @@
 // Random batches: lists of calls near what the store holds, good ones and some that stop reading in the middle, with answers that fit or do
-// not, on made, generated, damaged and random stores. Each is judged by the same calls made one by one.
+// not, on made, generated, damaged and random stores. Each is judged by the plain map and by the same calls made one by one.
 
 use crate::Library;
 use second::batch::{self, Batching, Done, Handed};

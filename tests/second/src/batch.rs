@@ -1,8 +1,9 @@
 // A list of calls as bytes, and their answers as bytes, as docs/FORMAT.md has them: how a batch is
-// written, what it must answer by the same calls made one by one, and whether it did.
+// written, what it must answer by the same calls made one by one and by the plain map, and whether it did.
 
+use crate::contract::outcome_on;
 use crate::limits::*;
-use crate::plain::{Call, NO_LENGTHS, NO_SOUND};
+use crate::plain::{Call, Plain, NO_LENGTHS, NO_SOUND};
 use crate::sound::judge;
 use crate::subject::{perform, Subject};
 use crate::{image, rng::Rng};
@@ -114,6 +115,33 @@ pub fn answered(subject: &mut dyn Subject, store: &mut [u8], call: &Call) -> Vec
     [&head.concat()[..], &buffer[..found]].concat()
 }
 
+/// The call as a batch makes it: with a work area that is long enough, and a buffer of 64 bytes.
+fn lent(call: &Call, n: usize) -> Call {
+    let mut call = call.clone();
+    match &mut call {
+        Call::Put { work, .. }
+        | Call::Drop { work, .. }
+        | Call::Clear { work, .. }
+        | Call::Move { work, .. }
+        | Call::Settle { work }
+        | Call::Tidy { work }
+        | Call::Flush { work, .. }
+        | Call::Heal { work, .. } => *work = WORK_PER_NODE * n,
+        Call::Get { buffer, .. } | Call::Next { buffer, .. } => *buffer = vec![0; NEXT_BUFFER],
+    }
+    call
+}
+
+/// The bytes of the answer that a call of a batch must give on a sound image: by the plain map, and of a flush or a heal by
+/// the image's nodes.
+fn must_answer(store: &[u8], call: &Call) -> Vec<u8> {
+    let sound = judge(store).expect("a store between the calls of a batch is sound");
+    let outcome = outcome_on(&sound, &lent(call, sound.n));
+    let found = outcome.answer.beside as usize;
+    let head = [found as u16, outcome.answer.number as u16].map(u16::to_le_bytes);
+    [&head.concat()[..], &outcome.buffer[..found]].concat()
+}
+
 /// A batch as it is handed over: the calls that read, and bytes behind them that do not.
 pub struct Handed<'a> {
     pub calls: &'a [Call],
@@ -130,41 +158,63 @@ impl Handed<'_> {
         bytes
     }
 
-    /// What it must answer, the answers' bytes, and the store after the same calls one by one.
-    fn expected(&self, subject: &mut dyn Subject, store: &[u8]) -> (Done, Vec<u8>, Vec<u8>) {
-        let mut after = store.to_vec();
+    /// What it must answer, and the stores after the same calls one by one: by the calls themselves, and by batches of one
+    /// call. Which nodes there are may differ between these two, and with it the number of a flush or a heal.
+    fn expected(&self, subject: &mut dyn Batching, store: &[u8]) -> Expected {
         let fit = image::nodes_of(store.len()).filter(|n| WORK_PER_NODE * n <= self.work.len());
         let number = match fit {
             None => NO_LENGTHS,
             Some(_) if judge(store).is_err() => NO_SOUND,
             Some(_) => 0,
         };
-        if number != 0 {
-            return (Done::refused(number), Vec::new(), after);
-        }
-        let (mut done, mut answers) = (0, Vec::new());
+        let mut expected = Expected {
+            done: Done::refused(number),
+            answers: Vec::new(),
+            alone: store.to_vec(),
+            piecewise: store.to_vec(),
+            agree: true,
+        };
         for call in self.calls {
-            if self.answers.len() - answers.len() < most(call) {
+            if number != 0 || self.answers.len() - expected.answers.len() < most(call) {
                 break;
             }
-            answers.extend(answered(subject, &mut after, call));
-            done += 1;
+            expected.step(subject, call);
         }
-        let (calls, written) = (done, answers.len());
-        (
-            Done {
-                number,
-                calls,
-                written,
-            },
-            answers,
-            after,
-        )
+        expected.done.written = expected.answers.len();
+        expected
     }
 }
 
-/// Makes the batch and judges all that it leaves, by the same calls made one by one. Gives what it
-/// answered.
+struct Expected {
+    done: Done,
+    answers: Vec<u8>,
+    alone: Vec<u8>,
+    piecewise: Vec<u8>,
+    /// The calls by themselves answered the same.
+    agree: bool,
+}
+
+impl Expected {
+    fn step(&mut self, subject: &mut dyn Batching, call: &Call) {
+        let answer = must_answer(&self.piecewise, call);
+        let alone = answered(subject, &mut self.alone, call);
+        let upkeep = matches!(call, Call::Flush { .. } | Call::Heal { .. });
+        self.agree &= upkeep || alone == answer;
+        self.answers.extend(answer);
+        make_one(subject, &mut self.piecewise, call);
+        self.done.calls += 1;
+    }
+}
+
+/// A batch of one call.
+fn make_one(subject: &mut dyn Batching, store: &mut [u8], call: &Call) {
+    let mut work = vec![0; WORK_PER_NODE * store.len() / NODE];
+    let bytes = piece(call).unwrap_or_default();
+    subject.batch(store, &mut work, &bytes, &mut vec![0; most(call)]);
+}
+
+/// Makes the batch and judges all that it leaves, by the same calls made one by one, and its answers and its meaning by
+/// the plain map, too. Gives what it answered.
 pub fn check(
     subject: &mut dyn Batching,
     store: &mut Vec<u8>,
@@ -174,13 +224,19 @@ pub fn check(
     let mut answers = handed.answers.to_vec();
     let before = store.clone();
     let done = subject.batch(store, &mut work, &handed.bytes(), &mut answers);
-    let (expected, bytes, alone) = handed.expected(subject, &before);
+    let expected = handed.expected(subject, &before);
+    let bytes = &expected.answers;
     let told = |what: &str| format!("batch of {}: {what}", handed.calls.len());
-    if done != expected {
-        return Err(told(&format!("answers {done:?}, one by one {expected:?}")));
+    if done != expected.done {
+        return Err(told(&format!(
+            "answers {done:?}, one by one {:?}",
+            expected.done
+        )));
     }
-    if answers[..bytes.len()] != bytes {
-        return Err(told("other answers than one by one"));
+    if answers[..bytes.len()] != bytes[..] || !expected.agree {
+        return Err(told(
+            "other answers than the plain map's, or than one by one",
+        ));
     }
     if answers[bytes.len()..] != handed.answers[bytes.len()..] {
         return Err(told("bytes behind the answers changed"));
@@ -199,8 +255,21 @@ pub fn check(
         let sound = judge(image).map_err(|rule| told(&format!("unsound: {}", rule.name())));
         sound.map(|sound| sound.table)
     };
-    match meaning(store)? == meaning(&alone)? {
+    if *store != expected.piecewise {
+        return Err(told("other bytes than by batches of one call"));
+    }
+    if meaning(store)? != meaning(&expected.alone)? {
+        return Err(told("the store means something else than one by one"));
+    }
+    let mut plain = Plain {
+        n: store.len() / NODE,
+        table: meaning(&before)?,
+    };
+    for call in &handed.calls[..done.calls] {
+        plain.step(&lent(call, plain.n));
+    }
+    match plain.table == meaning(store)? {
         true => Ok(done),
-        false => Err(told("the store means something else than one by one")),
+        false => Err(told("the store means something else than the plain map")),
     }
 }

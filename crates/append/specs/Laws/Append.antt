@@ -113,9 +113,9 @@ away : (i : ℕ) (is : List ℕ) (j : ℕ) → once (i ∷ is) ≡ true → isIn
 unfolding once
 away i is j o k e = false≢true (sym (not-true (isIn i is) (and-left _ _ o)) ∙ subst (λ n. isIn n is ≡ true) e k)
 
-keeps-kids : (s s′ : List ℕ) (i : ℕ) (is : List ℕ) → once (i ∷ is) ≡ true → ((j : ℕ) → (j ≡ i → ⊥) → nodeBytes s′ j ≡ nodeBytes s j) → Keeps s s′ is
+keeps-branches : (s s′ : List ℕ) (i : ℕ) (is : List ℕ) → once (i ∷ is) ≡ true → ((j : ℕ) → (j ≡ i → ⊥) → nodeBytes s′ j ≡ nodeBytes s j) → Keeps s s′ is
 unfolding Keeps
-keeps-kids s s′ i is o law = λ j k. law j (away i is j o k)
+keeps-branches s s′ i is o law = λ j k. law j (away i is j o k)
 
 interior-numbers : (i : ℕ) (f : Forest) (ms : List Message) → once (numbers (interior i f ms)) ≡ true → once (i ∷ numbersIn f) ≡ true
 unfolding numbers
@@ -141,9 +141,9 @@ module _ (l : ℕ) (s s′ : List ℕ) (i : ℕ) (m : Message) (full : length (n
   inside-grows es p (some x) q e o =
       rw (same, grown-entries (nodeBytes s i) (message m) full fits 0x0002 (suc (suc l)) es (always m) p, inside-append es x m q)
       (ap (λ f. interior i f (x .messages ++ m ∷ []))
-      (forest-stays s s′ (λ j. treeAt (suc l) s j) (λ j. treeAt (suc l) s′ j) (λ j k. tree-stays (suc l) s s′ j k) (x .kids)
-      (keeps-kids s s′ i (numbersIn (forestOf (λ j. treeAt (suc l) s j) (x .kids)))
-      (interior-numbers i (forestOf (λ j. treeAt (suc l) s j) (x .kids)) (x .messages) o) other)))
+      (forest-stays s s′ (λ j. treeAt (suc l) s j) (λ j. treeAt (suc l) s′ j) (λ j k. tree-stays (suc l) s s′ j k) (x .branches)
+      (keeps-branches s s′ i (numbersIn (forestOf (λ j. treeAt (suc l) s j) (x .branches)))
+      (interior-numbers i (forestOf (λ j. treeAt (suc l) s j) (x .branches)) (x .messages) o) other)))
 
   pub tree-grows : soundTree (treeAt (suc (suc l)) s i) lowest highest ≡ true → once (numbers (treeAt (suc (suc l)) s i)) ≡ true
       → treeAt (suc (suc l)) s′ i ≡ taken m (treeAt (suc (suc l)) s i)

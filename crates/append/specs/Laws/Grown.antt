@@ -12,7 +12,7 @@ use lib.Dec.{leb, eqb}
 use borrow.Author.Tests.{le-leb}
 use Rattle.image.specs.Bytes.{u16, u16Bytes, zeros}
 use Rattle.image.specs.Entry.{Message, Entry, pair, child, message, entriesOf}
-use Rattle.image.specs.Image.{Inside, laidOut, entryBytes, nodeEntries, messageThen, messagesOf, noKids, kidThen, insideOf}
+use Rattle.image.specs.Image.{Inside, laidOut, entryBytes, nodeEntries, messageThen, messagesOf, noBranches, branchThen, insideOf}
 use Rattle.octets.specs.Order.{and-left, and-right}
 use Rattle.octets.specs.Put.{put, put-size, u16-there}
 use Rattle.laws.specs.Encode.{bytesOf, bytesOfAll, allowed, allAllowed, all-back, reads-append}
@@ -129,27 +129,27 @@ messages-append (message x ∷ es) ms m p = go (messagesOf es) refl (λ ns q. me
         rw (ih ns q) (ap (λ l. some (l ++ m ∷ [])) (Option·some-injective (x ∷ ns) ms is))
 
 abbrev with-message : Inside → Message → Inside
-with-message x m = record { kids = x .kids; messages = x .messages ++ m ∷ [] }
+with-message x m = record { branches = x .branches; messages = x .messages ++ m ∷ [] }
 
 pub inside-append : (es : List Entry) (x : Inside) (m : Message) → insideOf es ≡ some x
-    → insideOf (es ++ message m ∷ []) ≡ some (record { kids = x .kids; messages = x .messages ++ m ∷ [] })
-unfolding insideOf noKids kidThen messagesOf messageThen
-inside-append [] x m p = ap (λ y. some (with-message y m)) (Option·some-injective (record { kids = []; messages = [] }) x p)
+    → insideOf (es ++ message m ∷ []) ≡ some (record { branches = x .branches; messages = x .messages ++ m ∷ [] })
+unfolding insideOf noBranches branchThen messagesOf messageThen
+inside-append [] x m p = ap (λ y. some (with-message y m)) (Option·some-injective (record { branches = []; messages = [] }) x p)
 inside-append (pair s v ∷ es) x m p = absurd (Option·none-ne-some x p)
 inside-append (child i s ∷ es) x m p = go (insideOf es) refl (λ y q. inside-append es y m q)
   where
     go : (o : Option Inside) → insideOf es ≡ o → ((y : Inside) → insideOf es ≡ some y → insideOf (es ++ message m ∷ []) ≡ some (with-message y m))
-        → kidThen (record { number = i; pivot = s }) (insideOf (es ++ message m ∷ [])) ≡ some (with-message x m)
+        → branchThen (record { number = i; pivot = s }) (insideOf (es ++ message m ∷ [])) ≡ some (with-message x m)
     go none q ih = let is : none ≡ some x = rw q at p in absurd (Option·none-ne-some x is)
     go (some y) q ih =
-        let is : some (record { kids = record { number = i; pivot = s } ∷ y .kids; messages = y .messages }) ≡ some x = rw q at p in
+        let is : some (record { branches = record { number = i; pivot = s } ∷ y .branches; messages = y .messages }) ≡ some x = rw q at p in
         rw (ih y q)
-        (ap (λ z. some (with-message z m)) (Option·some-injective (record { kids = record { number = i; pivot = s } ∷ y .kids; messages = y .messages }) x is))
+        (ap (λ z. some (with-message z m)) (Option·some-injective (record { branches = record { number = i; pivot = s } ∷ y .branches; messages = y .messages }) x is))
 inside-append (message n ∷ es) x m p = go (messagesOf (message n ∷ es)) refl
   where
-    go : (o : Option (List Message)) → messagesOf (message n ∷ es) ≡ o → noKids (messagesOf (message n ∷ es ++ message m ∷ [])) ≡ some (with-message x m)
-    go none q = let is : none ≡ some x = (sym (ap noKids q)) ∙ p in absurd (Option·none-ne-some x is)
+    go : (o : Option (List Message)) → messagesOf (message n ∷ es) ≡ o → noBranches (messagesOf (message n ∷ es ++ message m ∷ [])) ≡ some (with-message x m)
+    go none q = let is : none ≡ some x = (sym (ap noBranches q)) ∙ p in absurd (Option·none-ne-some x is)
     go (some ns) q =
-        let is : some (record { kids = []; messages = ns }) ≡ some x = (sym (ap noKids q)) ∙ p in
-        ap noKids (messages-append (message n ∷ es) ns m q)
-        ∙ ap (λ z. some (with-message z m)) (Option·some-injective (record { kids = []; messages = ns }) x is)
+        let is : some (record { branches = []; messages = ns }) ≡ some x = (sym (ap noBranches q)) ∙ p in
+        ap noBranches (messages-append (message n ∷ es) ns m q)
+        ∙ ap (λ z. some (with-message z m)) (Option·some-injective (record { branches = []; messages = ns }) x is)

@@ -1,5 +1,4 @@
 -- `batch::clear_piece` meets its contract. Relies on specs/Steps.
-use mathlib.Core.Bool.{false≢true}
 use Rattle.batch.specs.Steps.{served-act}
 use borrow.Author.Needs.{needs}
 use Rattle.batch.proofs.clear_piece.Statement.{statement}
@@ -15,7 +14,7 @@ part-clear-fit-end : tie.Need-part-clear-fit-end
 part-clear-fit-end c = search needs
 
 clear-fit-requires : tie.Need-clear-fit-requires
-clear-fit-requires c κs = (search needs, λ e. absurd (false≢true e))
+clear-fit-requires c κs = search needs
 
 same-length : tie.Need-same-length
 same-length c = search needs
@@ -24,7 +23,7 @@ same-length-2 : tie.Need-same-length-2
 same-length-2 c = search needs
 
 returns : tie.Need-returns
-returns c = served-act (c .before .before .before .before .before .before .before .before .before .before .before .before .args .store .now) (c .before .before .before .before .before .before .before .before .before .before .before .before .args .work .now) _ _ (c .before .before .before .before .before .before .before .before .before .before .before .before .pre .0) _ _ (c .before .before .before .before .clear-fit .ensures)
+returns c = served-act (c .before .before .before .before .before .before .before .before .before .before .before .args .store .now) (c .before .before .before .before .before .before .before .before .before .before .before .args .work .now) _ _ (c .before .before .before .before .before .before .before .before .before .before .before .pre .0) _ _ (c .before .before .before .before .clear-fit .ensures)
 
 pub clear-piece-spec : {M : Type 1} → statement M
 clear-piece-spec =

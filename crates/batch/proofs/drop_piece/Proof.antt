@@ -1,5 +1,4 @@
 -- `batch::drop_piece` meets its contract. Relies on specs/Steps.
-use mathlib.Core.Bool.{false≢true}
 use Rattle.batch.specs.Steps.{served-act}
 use borrow.Author.Needs.{needs}
 use Rattle.batch.proofs.drop_piece.Statement.{statement}
@@ -15,7 +14,7 @@ part-drop-fit-end : tie.Need-part-drop-fit-end
 part-drop-fit-end c = search needs
 
 drop-fit-requires : tie.Need-drop-fit-requires
-drop-fit-requires c κs = (search needs, λ e. absurd (false≢true e))
+drop-fit-requires c κs = search needs
 
 same-length : tie.Need-same-length
 same-length c = search needs
@@ -24,7 +23,7 @@ same-length-2 : tie.Need-same-length-2
 same-length-2 c = search needs
 
 returns : tie.Need-returns
-returns c = served-act (c .before .before .before .before .before .before .before .before .before .before .before .before .args .store .now) (c .before .before .before .before .before .before .before .before .before .before .before .before .args .work .now) _ _ (c .before .before .before .before .before .before .before .before .before .before .before .before .pre .0) _ _ (c .before .before .before .before .drop-fit .ensures)
+returns c = served-act (c .before .before .before .before .before .before .before .before .before .before .before .args .store .now) (c .before .before .before .before .before .before .before .before .before .before .before .args .work .now) _ _ (c .before .before .before .before .before .before .before .before .before .before .before .pre .0) _ _ (c .before .before .before .before .drop-fit .ensures)
 
 pub drop-piece-spec : {M : Type 1} → statement M
 drop-piece-spec =

@@ -4,8 +4,8 @@ use borrow.Author.Needs.{needs}
 use Rattle.batch.proofs.flush_piece.Statement.{statement}
 use Rattle.batch.proofs.flush_piece.Tie as tie
 
-mark-requires : tie.Need-mark-requires
-mark-requires c κs = search needs
+mark-nodes-requires : tie.Need-mark-nodes-requires
+mark-nodes-requires c κs = search needs
 
 flush-fit-requires : tie.Need-flush-fit-requires
 flush-fit-requires c κs = search needs
@@ -21,4 +21,4 @@ returns c = served-keeps (c .before .before .before .before .before .before .bef
 
 pub flush-piece-spec : {M : Type 1} → statement M
 flush-piece-spec =
-    tie.close (tie.spec mark-requires flush-fit-requires same-length same-length-2 returns)
+    tie.close (tie.spec mark-nodes-requires flush-fit-requires same-length same-length-2 returns)

@@ -4,8 +4,8 @@ use borrow.Author.Needs.{needs}
 use Rattle.batch.proofs.heal_piece.Statement.{statement}
 use Rattle.batch.proofs.heal_piece.Tie as tie
 
-mark-requires : tie.Need-mark-requires
-mark-requires c κs = search needs
+mark-nodes-requires : tie.Need-mark-nodes-requires
+mark-nodes-requires c κs = search needs
 
 heal-fit-requires : tie.Need-heal-fit-requires
 heal-fit-requires c κs = search needs
@@ -21,4 +21,4 @@ returns c = served-keeps (c .before .before .before .before .before .before .bef
 
 pub heal-piece-spec : {M : Type 1} → statement M
 heal-piece-spec =
-    tie.close (tie.spec mark-requires heal-fit-requires same-length same-length-2 returns)
+    tie.close (tie.spec mark-nodes-requires heal-fit-requires same-length same-length-2 returns)

@@ -4,8 +4,8 @@ use borrow.Author.Needs.{needs}
 use Rattle.batch.proofs.move_piece.Statement.{statement}
 use Rattle.batch.proofs.move_piece.Tie as tie
 
-mark-requires : tie.Need-mark-requires
-mark-requires c κs = search needs
+mark-nodes-requires : tie.Need-mark-nodes-requires
+mark-nodes-requires c κs = search needs
 
 sub-move-fit : tie.Need-sub-move-fit
 sub-move-fit c = search needs
@@ -41,7 +41,7 @@ pub move-piece-spec : {M : Type 1} → statement M
 move-piece-spec =
     tie.close
     (tie.spec
-    mark-requires
+    mark-nodes-requires
     sub-move-fit
     part-move-fit-start
     part-move-fit-end

@@ -20,7 +20,7 @@ is-shown-requires : tie.Need-is-shown-requires
 is-shown-requires c κs = (c .before .before .before .pre .0, c .before .before .before .pre .1, c .before .before .before .pre .6)
 
 returns : tie.Need-returns
-returns c = pair-hidden (c .before .before .before .before .before .args .store .now) (c .before .before .before .before .before .args .prefix) (c .before .before .before .before .before .args .trail) (c .before .before .before .before .before .args .key) (c .before .before .before .before .before .args .value) (c .before .before .before .before .before .args .area .now) (c .before .before .before .before .before .args .m) _ (c .before .is-shown .ensures) (c .before .before .before .before .before .pre .5) (c .if1 .taken)
+returns c = pair-hidden (c .before .before .before .before .before .args .store .now) (c .before .before .before .before .before .args .here .prefix) (c .before .before .before .before .before .args .here .trail) (c .before .before .before .before .before .args .pair .key) (c .before .before .before .before .before .args .pair .value) (c .before .before .before .before .before .args .area .now) (c .before .before .before .before .before .args .m) _ (c .before .is-shown .ensures) (c .before .before .before .before .before .pre .5) (c .if1 .taken)
 
 sub-put-joined : tie.Need-sub-put-joined
 sub-put-joined c = search needs
@@ -29,7 +29,7 @@ part-put-joined-start : tie.Need-part-put-joined-start
 part-put-joined-start c = search needs
 
 part-put-joined-end : tie.Need-part-put-joined-end
-part-put-joined-end c = let w : length (c .before .before .before .before .before .before .before .before .args .prefix .bytes) ≡ 64 = search needs in omega arith
+part-put-joined-end c = let w : length (c .before .before .before .before .before .before .before .before .args .here .prefix .bytes) ≡ 64 = search needs in omega arith
 
 sub-put-joined-2 : tie.Need-sub-put-joined-2
 sub-put-joined-2 c = search needs
@@ -50,16 +50,16 @@ part-put-joined-end-3 : tie.Need-part-put-joined-end-3
 part-put-joined-end-3 c = search needs
 
 put-joined-requires : tie.Need-put-joined-requires
-put-joined-requires c κs = let w : length (c .before .before .before .before .before .before .before .before .before .before .before .args .prefix .bytes) ≡ 64 = search needs in ((c .before .before .before .before .before .before .before .before .before .before .before .pre .5) .fit, pair-room (c .before .before .before .before .before .before .before .before .before .before .before .args .store .now) (c .before .before .before .before .before .before .before .before .before .before .before .args .prefix) (c .before .before .before .before .before .before .before .before .before .before .before .args .trail) (c .before .before .before .before .before .before .before .before .before .before .before .args .key) (c .before .before .before .before .before .before .before .before .before .before .before .args .value) (c .before .before .before .before .before .before .before .before .before .before .before .args .area .now) (c .before .before .before .before .before .before .before .before .before .before .before .args .m) _ (c .before .before .before .before .before .before .before .is-shown .ensures) (c .before .before .before .before .before .before .before .before .before .before .before .pre .5) (c .before .before .before .before .before .before .if1 .left), joined-short (c .before .before .before .before .before .before .before .before .before .before .before .args .store .now) (c .before .before .before .before .before .before .before .before .before .before .before .args .prefix) (c .before .before .before .before .before .before .before .before .before .before .before .args .trail) _ _ (c .before .before .before .before .before .before .before .is-shown .ensures) (c .before .before .before .before .before .before .if1 .left) (omega arith), value-short _ (c .before .before .before .before .before .before .before .before .before .before .before .pre .4))
+put-joined-requires c κs = let w : length (c .before .before .before .before .before .before .before .before .before .before .before .args .here .prefix .bytes) ≡ 64 = search needs in ((c .before .before .before .before .before .before .before .before .before .before .before .pre .5) .fit, pair-room (c .before .before .before .before .before .before .before .before .before .before .before .args .store .now) (c .before .before .before .before .before .before .before .before .before .before .before .args .here .prefix) (c .before .before .before .before .before .before .before .before .before .before .before .args .here .trail) (c .before .before .before .before .before .before .before .before .before .before .before .args .pair .key) (c .before .before .before .before .before .before .before .before .before .before .before .args .pair .value) (c .before .before .before .before .before .before .before .before .before .before .before .args .area .now) (c .before .before .before .before .before .before .before .before .before .before .before .args .m) _ (c .before .before .before .before .before .before .before .is-shown .ensures) (c .before .before .before .before .before .before .before .before .before .before .before .pre .5) (c .before .before .before .before .before .before .if1 .left), joined-short (c .before .before .before .before .before .before .before .before .before .before .before .args .store .now) (c .before .before .before .before .before .before .before .before .before .before .before .args .here .prefix) (c .before .before .before .before .before .before .before .before .before .before .before .args .here .trail) _ _ (c .before .before .before .before .before .before .before .is-shown .ensures) (c .before .before .before .before .before .before .if1 .left) (omega arith), value-short _ (c .before .before .before .before .before .before .before .before .before .before .before .pre .4))
 
 add-result : tie.Need-add-result
-add-result c = let b = pair-room (c .before .before .before .before .before .before .before .before .before .before .before .before .before .before .args .store .now) (c .before .before .before .before .before .before .before .before .before .before .before .before .before .before .args .prefix) (c .before .before .before .before .before .before .before .before .before .before .before .before .before .before .args .trail) (c .before .before .before .before .before .before .before .before .before .before .before .before .before .before .args .key) (c .before .before .before .before .before .before .before .before .before .before .before .before .before .before .args .value) (c .before .before .before .before .before .before .before .before .before .before .before .before .before .before .args .area .now) (c .before .before .before .before .before .before .before .before .before .before .before .before .before .before .args .m) _ (c .before .before .before .before .before .before .before .before .before .before .is-shown .ensures) (c .before .before .before .before .before .before .before .before .before .before .before .before .before .before .pre .5) (c .before .before .before .before .before .before .before .before .before .if1 .left) in omega arith
+add-result c = let b = pair-room (c .before .before .before .before .before .before .before .before .before .before .before .before .before .before .args .store .now) (c .before .before .before .before .before .before .before .before .before .before .before .before .before .before .args .here .prefix) (c .before .before .before .before .before .before .before .before .before .before .before .before .before .before .args .here .trail) (c .before .before .before .before .before .before .before .before .before .before .before .before .before .before .args .pair .key) (c .before .before .before .before .before .before .before .before .before .before .before .before .before .before .args .pair .value) (c .before .before .before .before .before .before .before .before .before .before .before .before .before .before .args .area .now) (c .before .before .before .before .before .before .before .before .before .before .before .before .before .before .args .m) _ (c .before .before .before .before .before .before .before .before .before .before .is-shown .ensures) (c .before .before .before .before .before .before .before .before .before .before .before .before .before .before .pre .5) (c .before .before .before .before .before .before .before .before .before .if1 .left) in omega arith
 
 same-length : tie.Need-same-length
 same-length c = search needs
 
 returns-2 : tie.Need-returns-2
-returns-2 c = pair-added (c .before .before .before .before .before .before .before .before .before .before .before .before .before .before .args .store .now) (c .before .before .before .before .before .before .before .before .before .before .before .before .before .before .args .prefix) (c .before .before .before .before .before .before .before .before .before .before .before .before .before .before .args .trail) (c .before .before .before .before .before .before .before .before .before .before .before .before .before .before .args .key) (c .before .before .before .before .before .before .before .before .before .before .before .before .before .before .args .value) (c .before .before .before .before .before .before .before .before .before .before .before .before .before .before .args .area .now) (c .before .before .before .before .before .before .before .before .before .before .before .before .before .before .args .m) _ (c .before .before .before .before .before .before .before .before .before .before .is-shown .ensures) (c .before .before .before .before .before .before .before .before .before .before .before .before .before .before .pre .5) (c .before .before .before .before .before .before .before .before .before .if1 .left) _ (c .before .before .put-joined .kept .0) (c .before .before .put-joined .ensures)
+returns-2 c = pair-added (c .before .before .before .before .before .before .before .before .before .before .before .before .before .before .args .store .now) (c .before .before .before .before .before .before .before .before .before .before .before .before .before .before .args .here .prefix) (c .before .before .before .before .before .before .before .before .before .before .before .before .before .before .args .here .trail) (c .before .before .before .before .before .before .before .before .before .before .before .before .before .before .args .pair .key) (c .before .before .before .before .before .before .before .before .before .before .before .before .before .before .args .pair .value) (c .before .before .before .before .before .before .before .before .before .before .before .before .before .before .args .area .now) (c .before .before .before .before .before .before .before .before .before .before .before .before .before .before .args .m) _ (c .before .before .before .before .before .before .before .before .before .before .is-shown .ensures) (c .before .before .before .before .before .before .before .before .before .before .before .before .before .before .pre .5) (c .before .before .before .before .before .before .before .before .before .if1 .left) _ (c .before .before .put-joined .kept .0) (c .before .before .put-joined .ensures)
 
 pub append-pair-spec : {M : Type 1} → statement M
 append-pair-spec =

@@ -4,7 +4,7 @@ use Rattle.live.specs.PathBuffers.{pathIn}
 use Rattle.node.specs.Places.{step-read-is, step-bad-is, entry-wider}
 use Rattle.node.specs.Entries.{listed, listed-end}
 use Rattle.packed.specs.Rows.Area.{rowsOf}
-use Rattle.dump.specs.Dump.{insertE}
+use Rattle.dump.specs.Dump.{insertAmong}
 use Rattle.dump.specs.InsertSteps.{Inserting, insert-first, insert-end, insert-open, insert-next}
 use borrow.Author.Needs.{needs}
 use native.Mathlib.Omega.{arith}
@@ -15,10 +15,10 @@ use Rattle.dump.proofs.insert_puts.Statement.{statement}
 use Rattle.dump.proofs.insert_puts.Tie as tie
 
 abbrev Inv-loop : tie.InvT-loop
-Inv-loop store area₀ first count from end prefix trail c₀ m₀ area c m = (c .end ≡ end) × Inserting first area₀ area m (passing store trail) (pathIn prefix) (listed store (c .at) (c .end)) (insertE (passing store trail) (pathIn prefix) (listed store from end) (rowsOf (count - first) area₀ first))
+Inv-loop store area₀ first count here end c₀ m₀ area c m = (c .end ≡ end) × Inserting first area₀ area m (passing store (here .trail)) (pathIn (here .prefix)) (listed store (c .at) (c .end)) (insertAmong (passing store (here .trail)) (pathIn (here .prefix)) (listed store (c₀ .at) (c₀ .end)) (rowsOf (count - first) area₀ first))
 
 abbrev μ-loop : tie.MeasureT-loop
-μ-loop store area₀ first count from end prefix trail c₀ m₀ area c m = end - c .at
+μ-loop store area₀ first count here end c₀ m₀ area c m = end - c .at
 
 loop-holds : tie.Need-loop-holds Inv-loop μ-loop
 loop-holds c = (refl, insert-first _ _ _ _ _ _ (c .before .before .pre .3))

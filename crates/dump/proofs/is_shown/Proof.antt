@@ -12,10 +12,10 @@ returns : tie.Need-returns
 returns c = search needs
 
 is-quiet-requires : tie.Need-is-quiet-requires
-is-quiet-requires c κs = (omega arith, c .before .before .before .pre .2 .fits (omega arith))
+is-quiet-requires c κs = (omega arith, c .before .before .before .before .pre .2 .fits (omega arith))
 
 returns-2 : tie.Need-returns-2
-returns-2 c = c .is-quiet .ensures ∙ sym (c .before .before .before .before .pre .2 .told (omega arith))
+returns-2 c = c .is-quiet .ensures ∙ sym (c .before .before .before .before .before .pre .2 .told (omega arith))
 
 pub is-shown-spec : {M : Type 1} → statement M
 is-shown-spec =

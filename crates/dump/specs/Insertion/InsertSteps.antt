@@ -6,72 +6,63 @@ use mathlib.Core.List.{List, [], _∷_, _++_, append-assoc}
 use mathlib.Core.Bool.{Bool, true, false}
 use mathlib.Core.Option.{none}
 use native.Mathlib.Omega.{arith}
-use lib.ListN.{length, take, drop, getD, length-drop}
+use lib.ListN.{length, take, drop, length-drop}
 use lib.Seq.{length-take-le}
 use lib.Dec.{leb}
 use borrow.Author.Tests.{leb-true, leb-false}
 use Rattle.image.specs.Table.{find, withRow}
 use Rattle.octets.specs.Put.{put, put-size}
-use Rattle.packed.specs.Rows.Area.{rowAt, rowsOf, RowsFit}
+use Rattle.packed.specs.Rows.Area.{rowsOf, RowsFit}
 use Rattle.packed.specs.Rows.Steps.{rows-length}
 use Rattle.packed.specs.Build.Rows.{RowPut}
-use Rattle.dump.specs.Insertion.Insertion.{rank, Inserted}
+use Rattle.dump.specs.Insertion.Insertion.{rank, slot, Inserted}
 use Rattle.dump.specs.Insertion.Ranks.{with-at}
-use Rattle.dump.specs.Insertion.Slots.{slot, path-length-alike, value-length-alike, row-alike, rows-split, rows-alike, slot-stays, slot-moves, slot-behind}
+use Rattle.dump.specs.Insertion.Slots.{Bounded, bounded-alike, bounded-in, fit-each, fit-fewer, rows-split, rows-between, rows-slots, slot-in, slot-before, slot-put, slot-behind}
 
 module _ (area : List ℕ) (i m : ℕ) (fit : RowsFit m area) (order : i ≤ m) (room : m * 128 + 128 ≤ length area)
-    (area₁ : List ℕ) (e : area₁ ≡ put area (i * 128 + 128) (take ((m - i) * 128) (drop (i * 128) area))) where
+    (area₁ : List ℕ) (e : area₁ ≡ put area ((i + 1) * 128) (take ((m - i) * 128) (drop (i * 128) area))) where
+  long : length (take ((m - i) * 128) (drop (i * 128) area)) ≡ (m - i) * 128
+  long = let d = length-drop (i * 128) area in length-take-le ((m - i) * 128) (drop (i * 128) area) (omega arith)
+
   size : length area₁ ≡ length area
-  size =
-      let d = length-drop (i * 128) area in
-      let n = length-take-le ((m - i) * 128) (drop (i * 128) area) (omega arith) in
-      ap length e ∙ put-size area (i * 128 + 128) (take ((m - i) * 128) (drop (i * 128) area)) (omega arith)
+  size = let n = long in ap length e ∙ put-size area ((i + 1) * 128) (take ((m - i) * 128) (drop (i * 128) area)) (omega arith)
 
   stays : (t : ℕ) → t < i → slot area₁ t ≡ slot area t
-  stays = slot-stays area i m room order area₁ e
+  stays t h = ap (λ x. slot x t) e ∙ slot-before area (i + 1) (take ((m - i) * 128) (drop (i * 128) area)) t (omega arith) (omega arith)
 
   pub fit-front : RowsFit i area₁
   fit-front =
       let s = size in
-      record {
-        room = omega arith;
-        paths = λ t h. rw (path-length-alike area₁ area t t (stays t h)) (fit .paths t (omega arith));
-        values = λ t h. rw (value-length-alike area₁ area t t (stays t h)) (fit .values t (omega arith));
-      }
+      fit-each i area₁ (omega arith) (λ t h. bounded-alike area₁ area t t (stays t h) (bounded-in m area fit t (omega arith)))
 
   rows-front : rowsOf i area₁ 0 ≡ rowsOf i area 0
-  rows-front =
-      rows-alike i area₁ area 0 0 (λ q h.
-      row-alike area₁ area (0 + q) (0 + q) (stays (0 + q) (omega arith)) (fit .paths (0 + q) (omega arith)) (fit .values (0 + q) (omega arith)))
+  rows-front = rows-slots i area₁ area 0 0 (λ q h. stays (0 + q) (omega arith)) (fit-fewer m (0 + i) area (omega arith) fit)
 
-  module _ (path value area₂ : List ℕ) (long : length area₂ ≡ length area₁) (wrote : RowPut i area₁ area₂ path value) where
+  module _ (path value area₂ : List ℕ) (same : length area₂ ≡ length area₁) (wrote : RowPut i area₁ area₂ path value) where
     moves : (t : ℕ) → i ≤ t → t < m → slot area₂ (t + 1) ≡ slot area t
     moves t h k =
         let z : i * 128 + 128 ≡ (i + 1) * 128 = omega arith in
+        let y : t + 1 ≡ i + 1 + (t - i) = omega arith in
+        let x : i + (t - i) ≡ t = omega arith in
         slot-behind area₂ area₁ (i + 1) (ap (λ q. drop q area₂) (sym z) ∙ wrote .behind ∙ ap (λ q. drop q area₁) z) (t + 1) (omega arith)
-        ∙ slot-moves area i m room order area₁ e t h k
+        ∙ ap₂ slot e y ∙ slot-put area (i + 1) (take ((m - i) * 128) (drop (i * 128) area)) (m - i) (t - i) (omega arith) long (omega arith)
+        ∙ slot-in area i (m - i) (t - i) (omega arith) ∙ ap (slot area) x
 
     rows-back : rowsOf (m - i) area₂ (i + 1) ≡ rowsOf (m - i) area i
-    rows-back = rows-alike (m - i) area₂ area (i + 1) i one
+    rows-back = rows-slots (m - i) area₂ area (i + 1) i one (fit-fewer m (i + (m - i)) area (omega arith) fit)
       where
-        one : (q : ℕ) → q < m - i → rowAt area₂ (i + 1 + q) ≡ rowAt area (i + q)
-        one q h =
-            let z : i + 1 + q ≡ i + q + 1 = omega arith in
-            ap (rowAt area₂) z
-            ∙ row-alike area₂ area (i + q + 1) (i + q) (moves (i + q) (omega arith) (omega arith)) (fit .paths (i + q) (omega arith)) (fit .values (i + q) (omega arith))
+        one : (q : ℕ) → q < m - i → slot area₂ (i + 1 + q) ≡ slot area (i + q)
+        one q h = let z : i + 1 + q ≡ i + q + 1 = omega arith in ap (slot area₂) z ∙ moves (i + q) (omega arith) (omega arith)
 
-    lengths : (t : ℕ) → t < m + 1 → (getD area₂ (t * 128) 0 ≤ 64) × (getD area₂ (t * 128 + 1) 0 ≤ 60)
-    lengths t h = go (leb t i) refl
+    bounded : (t : ℕ) → t < m + 1 → Bounded area₂ t
+    bounded t h = go (leb t i) refl
       where
-        go : (x : Bool) → leb t i ≡ x → (getD area₂ (t * 128) 0 ≤ 64) × (getD area₂ (t * 128 + 1) 0 ≤ 60)
-        go true a = let l : t ≤ i = leb-true t i a in (wrote .fit .paths t (omega arith), wrote .fit .values t (omega arith))
+        go : (x : Bool) → leb t i ≡ x → Bounded area₂ t
+        go true a = let l : t ≤ i = leb-true t i a in bounded-in (i + 1) area₂ (wrote .fit) t (omega arith)
         go false a =
             let l : i < t = leb-false t i a in
             let z : t - 1 + 1 ≡ t = omega arith in
-            let s : slot area₂ t ≡ slot area (t - 1) = ap (slot area₂) (sym z) ∙ moves (t - 1) (omega arith) (omega arith) in (
-              rw (path-length-alike area₂ area t (t - 1) s) (fit .paths (t - 1) (omega arith)),
-              rw (value-length-alike area₂ area t (t - 1) s) (fit .values (t - 1) (omega arith)),
-            )
+            bounded-alike area₂ area t (t - 1) (ap (slot area₂) (sym z) ∙ moves (t - 1) (omega arith) (omega arith)) (bounded-in m area fit (t - 1) (omega arith))
 
     -- the rows before the place, the new row, the rows behind it
     rows-all : rowsOf (m + 1) area₂ 0 ≡ rowsOf i area 0 ++ (record { key = path; value = value } ∷ rowsOf (m - i) area i)
@@ -85,10 +76,7 @@ module _ (area : List ℕ) (i m : ℕ) (fit : RowsFit m area) (order : i ≤ m) 
 
     module _ (from : ℕ) (place : i ≡ from + rank path (rowsOf (m - from) area from)) (new : find path (rowsOf (m - from) area from) ≡ none) where
       rows-around : rowsOf (m - from) area from ≡ rowsOf (i - from) area from ++ rowsOf (m - i) area i
-      rows-around =
-          let z : m - from ≡ i - from + (m - i) = omega arith in
-          let y : from + (i - from) ≡ i = omega arith in
-          ap (λ k. rowsOf k area from) z ∙ rows-split (i - from) (m - i) area from ∙ ap (λ t. rowsOf (i - from) area from ++ rowsOf (m - i) area t) y
+      rows-around = rows-between area from i m (omega arith) order
 
       rows-before : rowsOf i area 0 ≡ rowsOf from area 0 ++ rowsOf (i - from) area from
       rows-before =
@@ -107,7 +95,7 @@ module _ (area : List ℕ) (i m : ℕ) (fit : RowsFit m area) (order : i ≤ m) 
       inserted =
           let s = size in
           record {
-            fit = record { room = omega arith; paths = λ t h. lengths t h .0; values = λ t h. lengths t h .1 };
+            fit = fit-each (m + 1) area₂ (omega arith) bounded;
             rows =
                 rows-all
                 ∙ ap (λ l. l ++ (record { key = path; value = value } ∷ rowsOf (m - i) area i)) rows-before

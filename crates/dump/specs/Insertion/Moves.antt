@@ -1,106 +1,78 @@
--- The move of bytes 128 places up, from the last to the first: what has been moved once the bytes from `at` on are.
--- Relies on the laws of puts (`octets`, `build`).
-use Prim.Native.Nat.{ℕ, suc, _+_, _*_, _-_, _≤_}
+-- Rows moved up, the last first: what has been moved once the rows from `at` on are. Relies on the laws of puts (`octets`, `packed`).
+use Prim.Native.Nat.{ℕ, _+_, _*_, _-_, _≤_}
 use mathlib.Core.Path.{_≡_, sym, ap, ap₂, _∙_}
-use mathlib.Core.List.{List, _∷_, _++_, append-assoc}
+use mathlib.Core.List.{List, _++_, append-assoc, append-nil}
 use native.Mathlib.Omega.{arith}
-use lib.ListN.{length, take, drop, getD, set, length-drop, take-append-drop}
-use lib.Seq.{length-take-le, set-split, take-append-le, take-take, take-add, drop-at, drop-cons, drop-append-le, drop-drop}
-use Rattle.octets.specs.Put.{put, put-size, put-nil}
-use Rattle.packed.specs.Build.PutLaws.{put-before, byte-same}
+use lib.ListN.{length, take, drop, length-append, length-drop, drop-of-length-le}
+use lib.Seq.{length-take-le, take-append-le, take-take, take-add, drop-at, drop-drop}
+use Rattle.octets.specs.Put.{put, put-nil}
+use Rattle.packed.specs.Build.PutLaws.{put-before}
+use Rattle.dump.specs.Insertion.Insertion.{slot}
 
--- one byte more in front of a put
-put-front : (l : List ℕ) (at : ℕ) (bs : List ℕ) (b : ℕ) → at + 1 + length bs ≤ length l → set (put l (at + 1) bs) at b ≡ put l at (b ∷ bs)
+-- bytes put right in front of others
+pub put-ahead : (l : List ℕ) (at : ℕ) (a b : List ℕ) → at + length a + length b ≤ length l → put (put l (at + length a) b) at a ≡ put l at (a ++ b)
 unfolding put
-put-front l at bs b h =
-    let s = put-size l (at + 1) bs h in
-    set-split (put l (at + 1) bs) at b (omega arith) ∙ ap₂ (λ x y. x ++ (b ∷ y)) front back
+put-ahead l at a b h =
+    ap₂ (λ x y. x ++ (a ++ y)) front back ∙ ap (λ y. take at l ++ y) (sym (append-assoc a b (drop (at + length (a ++ b)) l)))
   where
-    head : length (take (at + 1) l) ≡ at + 1
-    head = length-take-le (at + 1) l (omega arith)
+    head : length (take (at + length a) l) ≡ at + length a
+    head = length-take-le (at + length a) l (omega arith)
 
-    front : take at (put l (at + 1) bs) ≡ take at l
+    front : take at (put l (at + length a) b) ≡ take at l
     front =
         let n = head in
-        take-append-le at (take (at + 1) l) (bs ++ drop (at + 1 + length bs) l) (omega arith) ∙ take-take at (at + 1) l (omega arith)
+        take-append-le at (take (at + length a) l) (b ++ drop (at + length a + length b) l) (omega arith) ∙ take-take at (at + length a) l (omega arith)
 
-    back : drop (suc at) (put l (at + 1) bs) ≡ bs ++ drop (at + suc (length bs)) l
+    back : drop (at + length a) (put l (at + length a) b) ≡ b ++ drop (at + length (a ++ b)) l
     back =
-        let n = head in
-        let z : at + 1 + length bs ≡ at + suc (length bs) = omega arith in
-        drop-at (take (at + 1) l) (bs ++ drop (at + 1 + length bs) l) (suc at) (omega arith) ∙ ap (λ k. bs ++ drop k l) z
+        let n = length-append a b in
+        let z : at + length a + length b ≡ at + length (a ++ b) = omega arith in
+        drop-at (take (at + length a) l) (b ++ drop (at + length a + length b) l) (at + length a) head ∙ ap (λ k. b ++ drop k l) z
 
--- the bytes from `at` up to `top` moved 128 places up
-unfoldable pub moved : List ℕ → ℕ → ℕ → List ℕ
-moved l top at = put l (at + 128) (take (top - at) (drop at l))
+-- a row as it is set aside
+pub row-aside : (blank area : List ℕ) (t : ℕ) → length blank ≡ 128 → t * 128 + 128 ≤ length area
+    → put blank 0 (take (t * 128 + 128 - t * 128) (drop (t * 128) area)) ≡ slot area t
+unfolding put slot
+row-aside blank area t l h =
+    let d = length-drop (t * 128) area in
+    let z : t * 128 + 128 - t * 128 ≡ 128 = omega arith in
+    let n = length-take-le 128 (drop (t * 128) area) (omega arith) in
+    ap (λ k. put blank 0 (take k (drop (t * 128) area))) z
+    ∙ ap (λ y. take 128 (drop (t * 128) area) ++ y) (drop-of-length-le blank {i = 0 + length (take 128 (drop (t * 128) area))} (omega arith)) ∙ append-nil (take 128 (drop (t * 128) area))
 
-pub move-none : (l : List ℕ) (top : ℕ) → l ≡ moved l top top
+-- the rows from `at` up to m moved up
+unfoldable pub moved : List ℕ → ℕ → ℕ → ℕ → List ℕ
+moved l m by at = put l ((at + by) * 128) (take ((m - at) * 128) (drop (at * 128) l))
+
+pub move-none : (l : List ℕ) (m by : ℕ) → l ≡ moved l m by m
 unfolding moved
-move-none l top = let z : top - top ≡ 0 = omega arith in rw z (sym (put-nil l (top + 128)))
+move-none l m by = let z : (m - m) * 128 ≡ 0 = omega arith in rw z (sym (put-nil l ((m + by) * 128)))
 
-pub move-one : (l now : List ℕ) (top at : ℕ) → top + 128 ≤ length l → 1 ≤ at → at ≤ top → now ≡ moved l top at
-    → set now (at - 1 + 128) (getD now (at - 1) 0) ≡ moved l top (at - 1)
+pub move-one : (l now : List ℕ) (m by at : ℕ) → (m + by) * 128 ≤ length l → 1 ≤ by → 1 ≤ at → at ≤ m → now ≡ moved l m by at
+    → put now ((at - 1 + by) * 128) (slot now (at - 1)) ≡ moved l m by (at - 1)
+unfolding moved slot
+move-one l now m by at h b a k e =
+    let d = length-drop ((at - 1) * 128) l in
+    let f = length-drop (at * 128) l in
+    let n = length-take-le 128 (drop ((at - 1) * 128) l) (omega arith) in
+    let s = length-take-le ((m - at) * 128) (drop (at * 128) l) (omega arith) in
+    let z : (at + by) * 128 ≡ (at - 1 + by) * 128 + length (take 128 (drop ((at - 1) * 128) l)) = omega arith in
+    let y : (at - 1) * 128 + 128 ≡ at * 128 = omega arith in
+    let x : 128 + (m - at) * 128 ≡ (m - (at - 1)) * 128 = omega arith in
+    let row : take 128 (drop ((at - 1) * 128) now) ≡ take 128 (drop ((at - 1) * 128) l) =
+    ap (λ q. take 128 (drop ((at - 1) * 128) q)) e
+    ∙ put-before l ((at + by) * 128) (take ((m - at) * 128) (drop (at * 128) l)) ((at - 1) * 128) 128 (omega arith) (omega arith) in
+    let bytes : take 128 (drop ((at - 1) * 128) l) ++ take ((m - at) * 128) (drop (at * 128) l) ≡ take ((m - (at - 1)) * 128) (drop ((at - 1) * 128) l) =
+    ap (λ q. take 128 (drop ((at - 1) * 128) l) ++ take ((m - at) * 128) (drop q l)) (sym y)
+    ∙ ap (λ q. take 128 (drop ((at - 1) * 128) l) ++ take ((m - at) * 128) q) (sym (drop-drop 128 ((at - 1) * 128) l))
+    ∙ sym (take-add 128 ((m - at) * 128) (drop ((at - 1) * 128) l)) ∙ ap (λ q. take q (drop ((at - 1) * 128) l)) x in
+    ap₂ (λ p q. put p ((at - 1 + by) * 128) q) (e ∙ ap (λ q. put l q (take ((m - at) * 128) (drop (at * 128) l))) z) row
+    ∙ put-ahead l ((at - 1 + by) * 128) (take 128 (drop ((at - 1) * 128) l)) (take ((m - at) * 128) (drop (at * 128) l)) (omega arith)
+    ∙ ap (put l ((at - 1 + by) * 128)) bytes
+
+pub move-all : (l now : List ℕ) (i m by at : ℕ) → i ≤ at → at ≤ i → now ≡ moved l m by at
+    → now ≡ put l ((i + by) * 128) (take ((m - i) * 128) (drop (i * 128) l))
 unfolding moved
-move-one l now top at h a b e =
-    let n = length-drop at l in
-    let s = length-take-le (top - at) (drop at l) (omega arith) in
-    let z : at + 128 ≡ at - 1 + 128 + 1 = omega arith in
-    let y : suc (at - 1) ≡ at = omega arith in
-    let x : suc (top - at) ≡ top - (at - 1) = omega arith in
-    let byte : getD now (at - 1) 0 ≡ getD l (at - 1) 0 =
-    byte-same now l (at - 1) (at - 1) (omega arith)
-    (ap (λ q. take 1 (drop (at - 1) q)) e ∙ put-before l (at + 128) (take (top - at) (drop at l)) (at - 1) 1 (omega arith) (omega arith)) in
-    let rest : drop (at - 1) l ≡ getD l (at - 1) 0 ∷ drop at l = drop-cons l (at - 1) 0 (omega arith) ∙ ap (λ q. getD l (at - 1) 0 ∷ drop q l) y in
-    let bytes : getD l (at - 1) 0 ∷ take (top - at) (drop at l) ≡ take (top - (at - 1)) (drop (at - 1) l) =
-    ap (take (suc (top - at))) (sym rest) ∙ ap (λ q. take q (drop (at - 1) l)) x in
-    ap₂ (λ q c. set q (at - 1 + 128) c) (e ∙ ap (λ q. put l q (take (top - at) (drop at l))) z) byte
-    ∙ put-front l (at - 1 + 128) (take (top - at) (drop at l)) (getD l (at - 1) 0) (omega arith)
-    ∙ ap (put l (at - 1 + 128)) bytes
-
-pub move-all : (l now : List ℕ) (top at : ℕ) → at ≤ 0 → now ≡ moved l top at → now ≡ put l 128 (take top l)
-unfolding moved
-move-all l now top at h e =
-    let z : at ≡ 0 = omega arith in
-    let y : 0 + 128 ≡ 128 = omega arith in
-    let x : top - 0 ≡ top = omega arith in
-    e ∙ ap (λ q. put l (q + 128) (take (top - q) (drop q l))) z ∙ ap₂ (λ p q. put l p (take q l)) y x
-
--- bytes put into a part are put into the whole
-put-within : (l : List ℕ) (s n at : ℕ) (bs : List ℕ) → at + length bs ≤ n → s + n ≤ length l
-    → take s l ++ (put (take n (drop s l)) at bs ++ drop n (drop s l)) ≡ put l (s + at) bs
-unfolding put
-put-within l s n at bs h k =
-    ap (λ x. take s l ++ x)
-    (append-assoc (take at (take n (drop s l))) (bs ++ drop (at + length bs) (take n (drop s l))) (drop n (drop s l))
-    ∙ ap₂ (λ a b. a ++ b) (take-take at n (drop s l) (omega arith)) (append-assoc bs (drop (at + length bs) (take n (drop s l))) (drop n (drop s l)) ∙ ap (λ y. bs ++ y) back))
-    ∙ sym (append-assoc (take s l) (take at (drop s l)) (bs ++ drop (s + at + length bs) l))
-    ∙ ap (λ x. x ++ (bs ++ drop (s + at + length bs) l)) (sym (take-add s at l))
-  where
-    back : drop (at + length bs) (take n (drop s l)) ++ drop n (drop s l) ≡ drop (s + at + length bs) l
-    back =
-        let d = length-drop s l in
-        let c = length-take-le n (drop s l) (omega arith) in
-        let z : s + (at + length bs) ≡ s + at + length bs = omega arith in
-        sym (drop-append-le (at + length bs) (take n (drop s l)) (drop n (drop s l)) (omega arith))
-        ∙ ap (drop (at + length bs)) (take-append-drop n (drop s l))
-        ∙ drop-drop (at + length bs) s l
-        ∙ ap (λ q. drop q l) z
-
--- the rows from i up to m, moved within the part that has them and one place more
-pub part-moved : (area part : List ℕ) (i m : ℕ) → i ≤ m → m * 128 + 128 ≤ length area
-    → part ≡ put (take (m * 128 + 128 - i * 128) (drop (i * 128) area)) 128
-    (take (length (take (m * 128 + 128 - i * 128) (drop (i * 128) area)) - 128) (take (m * 128 + 128 - i * 128) (drop (i * 128) area)))
-    → take (i * 128) area ++ (part ++ drop (m * 128 + 128 - i * 128) (drop (i * 128) area))
-    ≡ put area (i * 128 + 128) (take ((m - i) * 128) (drop (i * 128) area))
-part-moved area part i m h r e =
-    let d = length-drop (i * 128) area in
-    let n = length-take-le (m * 128 + 128 - i * 128) (drop (i * 128) area) (omega arith) in
-    let c = length-take-le ((m - i) * 128) (drop (i * 128) area) (omega arith) in
-    let z : length (take (m * 128 + 128 - i * 128) (drop (i * 128) area)) - 128 ≡ (m - i) * 128 = omega arith in
-    let bytes : take (length (take (m * 128 + 128 - i * 128) (drop (i * 128) area)) - 128) (take (m * 128 + 128 - i * 128) (drop (i * 128) area))
-    ≡ take ((m - i) * 128) (drop (i * 128) area) =
-    ap (λ k. take k (take (m * 128 + 128 - i * 128) (drop (i * 128) area))) z
-    ∙ take-take ((m - i) * 128) (m * 128 + 128 - i * 128) (drop (i * 128) area) (omega arith) in
-    ap (λ x. take (i * 128) area ++ (x ++ drop (m * 128 + 128 - i * 128) (drop (i * 128) area)))
-    (e ∙ ap (put (take (m * 128 + 128 - i * 128) (drop (i * 128) area)) 128) bytes)
-    ∙ put-within area (i * 128) (m * 128 + 128 - i * 128) 128 (take ((m - i) * 128) (drop (i * 128) area)) (omega arith) (omega arith)
+move-all l now i m by at h k e =
+    let z : at ≡ i = omega arith in
+    e ∙ ap (λ q. put l ((q + by) * 128) (take ((m - q) * 128) (drop (q * 128) l))) z

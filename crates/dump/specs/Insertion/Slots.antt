@@ -1,14 +1,18 @@
 -- The 128 bytes of a row, and rows side by side: a row is read from its own bytes only, so rows whose bytes are alike are alike.
--- Relies on the layout of a row (`rows`) and on the laws of puts (`build`).
+-- Relies on the layout of a row and on the laws of puts (`packed`).
 use Prim.Native.Nat.{ℕ, zero, suc, _+_, _*_, _-_, _≤_, _<_}
 use mathlib.Core.Path.{_≡_, refl, sym, ap, ap₂, _∙_}
 use mathlib.Core.List.{List, [], _∷_, _++_}
+use mathlib.Core.Bool.{Bool, true, false}
 use native.Mathlib.Omega.{arith}
-use lib.ListN.{length, take, drop, getD, length-drop}
-use lib.Seq.{length-take-le, take-take, drop-drop}
+use lib.ListN.{length, take, drop, getD, length-append, length-drop}
+use lib.Seq.{length-take-le, take-take, drop-drop, drop-append-le, take-append-le, drop-append-add}
+use lib.Dec.{leb}
+use borrow.Author.Tests.{leb-true, leb-false}
 use Rattle.octets.specs.Put.{put}
-use Rattle.packed.specs.Rows.Area.{rowAt, rowsOf}
+use Rattle.packed.specs.Rows.Area.{rowAt, rowsOf, RowsFit}
 use Rattle.packed.specs.Build.PutLaws.{put-before, put-same, byte-at}
+use Rattle.dump.specs.Insertion.Insertion.{slot}
 
 -- a part of a beginning
 part-part : (n k q : ℕ) (l : List ℕ) → q + n ≤ k → take n (drop q (take k l)) ≡ take n (drop q l)
@@ -16,10 +20,6 @@ part-part n k zero l h = take-take n k l (omega arith)
 part-part n zero (suc q) l h = absurd (omega arith)
 part-part n (suc k) (suc q) [] h = refl
 part-part n (suc k) (suc q) (x ∷ l) h = part-part n k q l (omega arith)
-
--- the bytes of row t
-unfoldable pub slot : List ℕ → ℕ → List ℕ
-slot area t = take 128 (drop (t * 128) area)
 
 slot-byte : (area : List ℕ) (t q : ℕ) → q < 128 → getD area (t * 128 + q) 0 ≡ getD (slot area t) q 0
 unfolding slot
@@ -38,21 +38,37 @@ module _ (a b : List ℕ) (t u : ℕ) (e : slot a t ≡ slot b u) where
   part-alike : (q n : ℕ) → q + n ≤ 128 → take n (drop (t * 128 + q) a) ≡ take n (drop (u * 128 + q) b)
   part-alike q n h = slot-part a t q n h ∙ ap (λ x. take n (drop q x)) e ∙ sym (slot-part b u q n h)
 
-  pub path-length-alike : getD a (t * 128) 0 ≡ getD b (u * 128) 0
+  path-length-alike : getD a (t * 128) 0 ≡ getD b (u * 128) 0
   path-length-alike =
       let y : t * 128 ≡ t * 128 + 0 = omega arith in
       let z : u * 128 + 0 ≡ u * 128 = omega arith in
       ap (λ k. getD a k 0) y ∙ byte-alike 0 (omega arith) ∙ ap (λ k. getD b k 0) z
 
-  pub value-length-alike : getD a (t * 128 + 1) 0 ≡ getD b (u * 128 + 1) 0
+  value-length-alike : getD a (t * 128 + 1) 0 ≡ getD b (u * 128 + 1) 0
   value-length-alike = byte-alike 1 (omega arith)
 
-  pub row-alike : getD b (u * 128) 0 ≤ 64 → getD b (u * 128 + 1) 0 ≤ 60 → rowAt a t ≡ rowAt b u
+  row-alike : getD b (u * 128) 0 ≤ 64 → getD b (u * 128 + 1) 0 ≤ 60 → rowAt a t ≡ rowAt b u
   unfolding rowAt
   row-alike h k =
       ap₂ (λ x y. record { key = x; value = y })
       (ap (λ n. take n (drop (t * 128 + 4) a)) path-length-alike ∙ part-alike 4 (getD b (u * 128) 0) (omega arith))
       (ap (λ n. take n (drop (t * 128 + 68) a)) value-length-alike ∙ part-alike 68 (getD b (u * 128 + 1) 0) (omega arith))
+
+-- the lengths in row t are in bounds
+abbrev pub Bounded : List ℕ → ℕ → Type 0
+Bounded area t = (getD area (t * 128) 0 ≤ 64) × (getD area (t * 128 + 1) 0 ≤ 60)
+
+pub bounded-alike : (a b : List ℕ) (t u : ℕ) → slot a t ≡ slot b u → Bounded b u → Bounded a t
+bounded-alike a b t u e h = (rw (path-length-alike a b t u e) (h .0), rw (value-length-alike a b t u e) (h .1))
+
+pub bounded-in : (m : ℕ) (area : List ℕ) → RowsFit m area → (t : ℕ) → t < m → Bounded area t
+bounded-in m area f t h = (f .paths t h, f .values t h)
+
+pub fit-each : (m : ℕ) (area : List ℕ) → 128 * m ≤ length area → ((t : ℕ) → t < m → Bounded area t) → RowsFit m area
+fit-each m area r h = record { room = r; paths = λ t k. h t k .0; values = λ t k. h t k .1 }
+
+pub fit-fewer : (m k : ℕ) (area : List ℕ) → k ≤ m → RowsFit m area → RowsFit k area
+fit-fewer m k area h f = let r = f .room in fit-each k area (omega arith) (λ t l. bounded-in m area f t (omega arith))
 
 -- the path of a row as it is read, where n is the byte of its length
 pub row-key : (area : List ℕ) (i n : ℕ) → n ≡ getD area (i * 128) 0 → take (i * 128 + 4 + n - (i * 128 + 4)) (drop (i * 128 + 4) area) ≡ rowAt area i .key
@@ -74,8 +90,14 @@ rows-split (suc j) k area i =
     ap (λ n. rowsOf n area i) y
     ∙ ap (λ l. rowAt area i ∷ l) (rows-split j k area (suc i) ∙ ap (λ t. rowsOf j area (suc i) ++ rowsOf k area t) z)
 
+pub rows-between : (area : List ℕ) (i j k : ℕ) → i ≤ j → j ≤ k → rowsOf (k - i) area i ≡ rowsOf (j - i) area i ++ rowsOf (k - j) area j
+rows-between area i j k h l =
+    let z : k - i ≡ j - i + (k - j) = omega arith in
+    let o : i + (j - i) ≡ j = omega arith in
+    ap (λ n. rowsOf n area i) z ∙ rows-split (j - i) (k - j) area i ∙ ap (λ t. rowsOf (j - i) area i ++ rowsOf (k - j) area t) o
+
 -- the rows of one area from t on are those of another from u on
-pub rows-alike : (k : ℕ) (a b : List ℕ) (t u : ℕ) → ((q : ℕ) → q < k → rowAt a (t + q) ≡ rowAt b (u + q)) → rowsOf k a t ≡ rowsOf k b u
+rows-alike : (k : ℕ) (a b : List ℕ) (t u : ℕ) → ((q : ℕ) → q < k → rowAt a (t + q) ≡ rowAt b (u + q)) → rowsOf k a t ≡ rowsOf k b u
 unfolding rowsOf
 rows-alike zero a b t u h = refl
 rows-alike (suc k) a b t u h =
@@ -93,6 +115,11 @@ rows-alike (suc k) a b t u h =
         let z : u + suc q ≡ suc u + q = omega arith in
         ap (rowAt a) y ∙ h (suc q) (omega arith) ∙ ap (rowAt b) z
 
+-- the same, told by the bytes
+pub rows-slots : (k : ℕ) (a b : List ℕ) (t u : ℕ) → ((q : ℕ) → q < k → slot a (t + q) ≡ slot b (u + q)) → RowsFit (u + k) b → rowsOf k a t ≡ rowsOf k b u
+rows-slots k a b t u e f =
+    rows-alike k a b t u (λ q h. row-alike a b (t + q) (u + q) (e q h) (f .paths (u + q) (omega arith)) (f .values (u + q) (omega arith)))
+
 -- a part of what was put
 put-part : (l : List ℕ) (at : ℕ) (bs : List ℕ) (q n : ℕ) → at ≤ length l → q + n ≤ length bs → take n (drop (at + q) (put l at bs)) ≡ take n (drop q bs)
 put-part l at bs q n h k =
@@ -100,28 +127,35 @@ put-part l at bs q n h k =
     ∙ sym (part-part n (length bs) q (drop at (put l at bs)) k)
     ∙ ap (λ x. take n (drop q x)) (put-same l at bs h)
 
--- the rows from i up to m moved one place up
-module _ (area : List ℕ) (i m : ℕ) (room : m * 128 + 128 ≤ length area) (order : i ≤ m)
-    (area₁ : List ℕ) (e : area₁ ≡ put area (i * 128 + 128) (take ((m - i) * 128) (drop (i * 128) area))) where
-  -- those before them stay
-  pub slot-stays : (t : ℕ) → t < i → slot area₁ t ≡ slot area t
-  unfolding slot
-  slot-stays t h =
-      ap (λ x. take 128 (drop (t * 128) x)) e
-      ∙ put-before area (i * 128 + 128) (take ((m - i) * 128) (drop (i * 128) area)) (t * 128) 128 (omega arith) (omega arith)
+-- THE ROWS OF A PART, OF TWO PARTS, AND OF BYTES THAT WERE PUT
+pub slot-in : (area : List ℕ) (i n t : ℕ) → t < n → slot (take (n * 128) (drop (i * 128) area)) t ≡ slot area (i + t)
+unfolding slot
+slot-in area i n t h =
+    let z : i * 128 + t * 128 ≡ (i + t) * 128 = omega arith in
+    part-part 128 (n * 128) (t * 128) (drop (i * 128) area) (omega arith)
+    ∙ ap (take 128) (drop-drop (t * 128) (i * 128) area) ∙ ap (λ q. take 128 (drop q area)) z
 
-  pub slot-moves : (t : ℕ) → i ≤ t → t < m → slot area₁ (t + 1) ≡ slot area t
-  unfolding slot
-  slot-moves t h k =
-      let d = length-drop (i * 128) area in
-      let n = length-take-le ((m - i) * 128) (drop (i * 128) area) (omega arith) in
-      let z : (t + 1) * 128 ≡ i * 128 + 128 + (t - i) * 128 = omega arith in
-      let y : i * 128 + (t - i) * 128 ≡ t * 128 = omega arith in
-      ap₂ (λ q x. take 128 (drop q x)) z e
-      ∙ put-part area (i * 128 + 128) (take ((m - i) * 128) (drop (i * 128) area)) ((t - i) * 128) 128 (omega arith) (omega arith)
-      ∙ part-part 128 ((m - i) * 128) ((t - i) * 128) (drop (i * 128) area) (omega arith)
-      ∙ ap (take 128) (drop-drop ((t - i) * 128) (i * 128) area)
-      ∙ ap (λ q. take 128 (drop q area)) y
+slot-front : (x y : List ℕ) (j t : ℕ) → length x ≡ j * 128 → t < j → slot (x ++ y) t ≡ slot x t
+unfolding slot
+slot-front x y j t l h =
+    let d = length-drop (t * 128) x in
+    ap (take 128) (drop-append-le (t * 128) x y (omega arith)) ∙ take-append-le 128 (drop (t * 128) x) y (omega arith)
+
+slot-back : (x y : List ℕ) (j t : ℕ) → length x ≡ j * 128 → slot (x ++ y) (j + t) ≡ slot y t
+unfolding slot
+slot-back x y j t l =
+    let z : (j + t) * 128 ≡ length x + t * 128 = omega arith in
+    ap (λ q. take 128 (drop q (x ++ y))) z ∙ ap (take 128) (drop-append-add x y (t * 128))
+
+pub slot-before : (l : List ℕ) (i : ℕ) (bs : List ℕ) (t : ℕ) → i * 128 ≤ length l → t < i → slot (put l (i * 128) bs) t ≡ slot l t
+unfolding slot
+slot-before l i bs t r h = put-before l (i * 128) bs (t * 128) 128 (omega arith) r
+
+pub slot-put : (l : List ℕ) (i : ℕ) (bs : List ℕ) (n t : ℕ) → i * 128 ≤ length l → length bs ≡ n * 128 → t < n → slot (put l (i * 128) bs) (i + t) ≡ slot bs t
+unfolding slot
+slot-put l i bs n t r e h =
+    let z : (i + t) * 128 ≡ i * 128 + t * 128 = omega arith in
+    ap (λ q. take 128 (drop q (put l (i * 128) bs))) z ∙ put-part l (i * 128) bs (t * 128) 128 r (omega arith)
 
 -- two areas with the same bytes from row i on
 pub slot-behind : (a b : List ℕ) (i : ℕ) → drop (i * 128) a ≡ drop (i * 128) b → (t : ℕ) → i ≤ t → slot a t ≡ slot b t
@@ -131,3 +165,55 @@ slot-behind a b i e t h =
     ap (λ q. take 128 (drop q a)) z ∙ ap (take 128) (sym (drop-drop ((t - i) * 128) (i * 128) a))
     ∙ ap (λ x. take 128 (drop ((t - i) * 128) x)) e
     ∙ ap (take 128) (drop-drop ((t - i) * 128) (i * 128) b) ∙ ap (λ q. take 128 (drop q b)) (sym z)
+
+pub slot-long : (area : List ℕ) (t : ℕ) → t * 128 + 128 ≤ length area → length (slot area t) ≡ 128
+unfolding slot
+slot-long area t h = let d = length-drop (t * 128) area in length-take-le 128 (drop (t * 128) area) (omega arith)
+
+-- ROWS AS BYTES: the rows of a part, and of two parts side by side
+module _ (m : ℕ) (area : List ℕ) (fit : RowsFit m area) (i n : ℕ) (inside : i + n ≤ m) where
+  pub part-long : length (take (n * 128) (drop (i * 128) area)) ≡ n * 128
+  part-long =
+      let r = fit .room in
+      let d = length-drop (i * 128) area in
+      length-take-le (n * 128) (drop (i * 128) area) (omega arith)
+
+  pub part-fit : RowsFit n (take (n * 128) (drop (i * 128) area))
+  part-fit =
+      let l = part-long in
+      fit-each n (take (n * 128) (drop (i * 128) area)) (omega arith)
+      (λ t h. bounded-alike (take (n * 128) (drop (i * 128) area)) area t (i + t) (slot-in area i n t h) (bounded-in m area fit (i + t) (omega arith)))
+
+  pub part-rows : rowsOf n (take (n * 128) (drop (i * 128) area)) 0 ≡ rowsOf n area i
+  part-rows = rows-slots n (take (n * 128) (drop (i * 128) area)) area 0 i one (fit-fewer m (i + n) area inside fit)
+    where
+      one : (q : ℕ) → q < n → slot (take (n * 128) (drop (i * 128) area)) (0 + q) ≡ slot area (i + q)
+      one q h = let z : 0 + q ≡ q = omega arith in ap (slot (take (n * 128) (drop (i * 128) area))) z ∙ slot-in area i n q h
+
+module _ (j k : ℕ) (x y : List ℕ) (long : length x ≡ j * 128) (fit : RowsFit j x) (later : RowsFit k y) where
+  pub join-fit : RowsFit (j + k) (x ++ y)
+  join-fit =
+      let r = later .room in
+      let l = length-append x y in
+      fit-each (j + k) (x ++ y) (omega arith) (λ t h. go t h (leb j t) refl)
+    where
+      go : (t : ℕ) → t < j + k → (b : Bool) → leb j t ≡ b → Bounded (x ++ y) t
+      go t h true a =
+          let l : j ≤ t = leb-true j t a in
+          let z : t ≡ j + (t - j) = omega arith in
+          bounded-alike (x ++ y) y t (t - j) (ap (slot (x ++ y)) z ∙ slot-back x y j (t - j) long) (bounded-in k y later (t - j) (omega arith))
+      go t h false a =
+          let l : t < j = leb-false j t a in
+          bounded-alike (x ++ y) x t t (slot-front x y j t long l) (bounded-in j x fit t l)
+
+  pub join-rows : rowsOf (j + k) (x ++ y) 0 ≡ rowsOf j x 0 ++ rowsOf k y 0
+  join-rows =
+      rows-split j k (x ++ y) 0
+      ∙ ap₂ (λ a b. a ++ b) (rows-slots j (x ++ y) x 0 0 (λ q h. slot-front x y j (0 + q) long (omega arith)) (fit-fewer j (0 + j) x (omega arith) fit))
+      (rows-slots k (x ++ y) y (0 + j) 0 one (fit-fewer k (0 + k) y (omega arith) later))
+    where
+      one : (q : ℕ) → q < k → slot (x ++ y) (0 + j + q) ≡ slot y (0 + q)
+      one q h =
+          let z : 0 + j + q ≡ j + q = omega arith in
+          let o : q ≡ 0 + q = omega arith in
+          ap (slot (x ++ y)) z ∙ slot-back x y j q long ∙ ap (slot y) o

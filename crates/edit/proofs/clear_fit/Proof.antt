@@ -1,7 +1,8 @@
 -- `edit::clear_fit` meets its contract, question by question. Relies on specs/Edited.
 use borrow.Author.Tests.{not-true, not-false}
-use Rattle.edit.specs.declared.Change.{Change}
-use Rattle.edit.specs.Edited.{clear-malformed, clear-done, drop-allowed, not-put-clear}
+use mathlib.Core.Path.{refl}
+use Rattle.edit.specs.Edited.{clear-malformed, clear-done, drop-allowed, isPut}
+use Rattle.edit.specs.Known.{known-not}
 use borrow.Author.Needs.{needs}
 use native.Mathlib.Omega.{arith}
 use Rattle.edit.proofs.clear_fit.Statement.{statement}
@@ -23,7 +24,7 @@ part-apply-change-end : tie.Need-part-apply-change-end
 part-apply-change-end c = search needs
 
 apply-change-requires : tie.Need-apply-change-requires
-apply-change-requires c κs = (c .before .before .before .before .before .before .before .before .pre .0, c .before .before .before .before .before .before .before .before .pre .1, drop-allowed (c .before .before .before .before .before .before .before .before .args .store .now) (c .before .before .before .before .before .before .before .before .args .work .now) (c .before .before .before .before .before .before .before .before .pre .0 .whole) (c .before .before .before .before .before .before .before .before .pre .0 .is-sound) (c .before .before .before .before .before .before .before .before .pre .0 .long) (c .before .before .before .before .before .before .before .before .args .path .now) _ (c .before .before .before .before .is-path .ensures) (not-false _ (c .before .before .before .if1 .left)) Change.Clear _ (omega arith) not-put-clear)
+apply-change-requires c κs = (c .before .before .before .before .before .before .before .before .pre .0, c .before .before .before .before .before .before .before .before .pre .1, drop-allowed (c .before .before .before .before .before .before .before .before .args .store .now) (c .before .before .before .before .before .before .before .before .args .work .now) (c .before .before .before .before .before .before .before .before .pre .0 .whole) (c .before .before .before .before .before .before .before .before .pre .0 .is-sound) (c .before .before .before .before .before .before .before .before .pre .0 .long) (c .before .before .before .before .before .before .before .before .args .path .now) _ (c .before .before .before .before .is-path .ensures) (not-false _ (c .before .before .before .if1 .left)) _ _ (omega arith) (unfold isPut in refl), known-not _ _)
 
 same-length : tie.Need-same-length
 same-length c = search needs

@@ -1,7 +1,8 @@
 -- `edit::drop_fit` meets its contract, question by question. Relies on specs/Edited.
 use borrow.Author.Tests.{not-true, not-false}
-use Rattle.edit.specs.declared.Change.{Change}
-use Rattle.edit.specs.Edited.{drop-malformed, drop-done, drop-allowed, not-put-drop}
+use mathlib.Core.Path.{refl}
+use Rattle.edit.specs.Edited.{drop-malformed, drop-done, drop-allowed, isPut}
+use Rattle.edit.specs.Known.{known-drop}
 use borrow.Author.Needs.{needs}
 use native.Mathlib.Omega.{arith}
 use Rattle.edit.proofs.drop_fit.Statement.{statement}
@@ -13,6 +14,9 @@ is-path-requires c κs = search needs
 returns : tie.Need-returns
 returns c = drop-malformed (c .before .before .before .before .before .args .store .now) (c .before .before .before .before .before .args .work .now) (c .before .before .before .before .before .pre .0 .whole) (c .before .before .before .before .before .pre .0 .is-sound) (c .before .before .before .before .before .pre .0 .long) (c .before .before .before .before .before .args .path .now) _ (c .before .is-path .ensures) (not-true _ (c .if1 .taken))
 
+count-without-requires : tie.Need-count-without-requires
+count-without-requires c κs = search needs
+
 sub-apply-change : tie.Need-sub-apply-change
 sub-apply-change c = search needs
 
@@ -23,7 +27,7 @@ part-apply-change-end : tie.Need-part-apply-change-end
 part-apply-change-end c = search needs
 
 apply-change-requires : tie.Need-apply-change-requires
-apply-change-requires c κs = (c .before .before .before .before .before .before .before .before .pre .0, c .before .before .before .before .before .before .before .before .pre .1, drop-allowed (c .before .before .before .before .before .before .before .before .args .store .now) (c .before .before .before .before .before .before .before .before .args .work .now) (c .before .before .before .before .before .before .before .before .pre .0 .whole) (c .before .before .before .before .before .before .before .before .pre .0 .is-sound) (c .before .before .before .before .before .before .before .before .pre .0 .long) (c .before .before .before .before .before .before .before .before .args .path .now) _ (c .before .before .before .before .is-path .ensures) (not-false _ (c .before .before .before .if1 .left)) Change.Drop _ (omega arith) not-put-drop)
+apply-change-requires c κs = (c .before .before .before .before .before .before .before .before .before .before .pre .0, c .before .before .before .before .before .before .before .before .before .before .pre .1, drop-allowed (c .before .before .before .before .before .before .before .before .before .before .args .store .now) (c .before .before .before .before .before .before .before .before .before .before .args .work .now) (c .before .before .before .before .before .before .before .before .before .before .pre .0 .whole) (c .before .before .before .before .before .before .before .before .before .before .pre .0 .is-sound) (c .before .before .before .before .before .before .before .before .before .before .pre .0 .long) (c .before .before .before .before .before .before .before .before .before .before .args .path .now) _ (c .before .before .before .before .before .before .is-path .ensures) (not-false _ (c .before .before .before .before .before .if1 .left)) _ _ (omega arith) (unfold isPut in refl), known-drop _ _ _ _ (c .before .before .before .count-without .ensures))
 
 same-length : tie.Need-same-length
 same-length c = search needs
@@ -32,7 +36,7 @@ same-length-2 : tie.Need-same-length-2
 same-length-2 c = search needs
 
 returns-2 : tie.Need-returns-2
-returns-2 c = drop-done (c .before .before .before .before .before .before .before .before .before .before .before .before .before .args .store .now) (c .before .before .before .before .before .before .before .before .before .before .before .before .before .args .work .now) (c .before .before .before .before .before .before .before .before .before .before .before .before .before .pre .0 .whole) (c .before .before .before .before .before .before .before .before .before .before .before .before .before .pre .0 .is-sound) (c .before .before .before .before .before .before .before .before .before .before .before .before .before .pre .0 .long) (c .before .before .before .before .before .before .before .before .before .before .before .before .before .args .path .now) _ (c .before .before .before .before .before .before .before .before .before .is-path .ensures) (not-false _ (c .before .before .before .before .before .before .before .before .if1 .left)) _ _ _ (c .before .before .before .before .apply-change .ensures)
+returns-2 c = drop-done (c .before .before .before .before .before .before .before .before .before .before .before .before .before .before .before .args .store .now) (c .before .before .before .before .before .before .before .before .before .before .before .before .before .before .before .args .work .now) (c .before .before .before .before .before .before .before .before .before .before .before .before .before .before .before .pre .0 .whole) (c .before .before .before .before .before .before .before .before .before .before .before .before .before .before .before .pre .0 .is-sound) (c .before .before .before .before .before .before .before .before .before .before .before .before .before .before .before .pre .0 .long) (c .before .before .before .before .before .before .before .before .before .before .before .before .before .before .before .args .path .now) _ (c .before .before .before .before .before .before .before .before .before .before .before .is-path .ensures) (not-false _ (c .before .before .before .before .before .before .before .before .before .before .if1 .left)) _ _ _ (c .before .before .before .before .apply-change .ensures)
 
 pub drop-fit-spec : {M : Type 1} → statement M
 drop-fit-spec =
@@ -40,6 +44,7 @@ drop-fit-spec =
     (tie.spec
     is-path-requires
     returns
+    count-without-requires
     sub-apply-change
     part-apply-change-start
     part-apply-change-end

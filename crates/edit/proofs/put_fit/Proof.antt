@@ -1,6 +1,8 @@
 -- `edit::put_fit` meets its contract, question by question. Relies on specs/Edited.
 use borrow.Author.Tests.{not-true, not-false}
+use mathlib.Core.Path.{refl}
 use Rattle.edit.specs.Edited.{put-malformed, put-long, put-full, put-allowed, put-done}
+use Rattle.edit.specs.Known.{known-put}
 use borrow.Author.Needs.{needs}
 use native.Mathlib.Omega.{arith}
 use Rattle.edit.proofs.put_fit.Statement.{statement}
@@ -15,17 +17,17 @@ returns c = put-malformed (c .before .before .before .before .before .before .ar
 returns-2 : tie.Need-returns-2
 returns-2 c = put-long (c .before .before .before .before .before .before .before .args .store .now) (c .before .before .before .before .before .before .before .args .work .now) (c .before .before .before .before .before .before .before .pre .0 .whole) (c .before .before .before .before .before .before .before .pre .0 .is-sound) (c .before .before .before .before .before .before .before .pre .0 .long) (c .before .before .before .before .before .before .before .args .path .now) _ (c .before .before .is-path .ensures) (not-false _ (c .before .if1 .left)) (c .before .before .before .before .before .before .before .args .value .now) (omega arith)
 
-has-place-requires : tie.Need-has-place-requires
-has-place-requires c κs = search needs
+count-with-requires : tie.Need-count-with-requires
+count-with-requires c κs = search needs
 
 same-length : tie.Need-same-length
 same-length c = search needs
 
 returns-3 : tie.Need-returns-3
-returns-3 c = put-full (c .before .before .before .before .before .before .before .before .before .before .args .store .now) (c .before .before .before .before .before .before .before .before .before .before .args .work .now) (c .before .before .before .before .before .before .before .before .before .before .pre .0 .whole) (c .before .before .before .before .before .before .before .before .before .before .pre .0 .is-sound) (c .before .before .before .before .before .before .before .before .before .before .pre .0 .long) (c .before .before .before .before .before .before .before .before .before .before .args .path .now) _ (c .before .before .before .before .before .is-path .ensures) (not-false _ (c .before .before .before .before .if1 .left)) (c .before .before .before .before .before .before .before .before .before .before .args .value .now) (omega arith) _ (c .before .has-place .ensures) (not-true _ (c .if3 .taken))
+returns-3 c = put-full (c .before .before .before .before .before .before .before .before .before .before .args .store .now) (c .before .before .before .before .before .before .before .before .before .before .args .work .now) (c .before .before .before .before .before .before .before .before .before .before .pre .0 .whole) (c .before .before .before .before .before .before .before .before .before .before .pre .0 .is-sound) (c .before .before .before .before .before .before .before .before .before .before .pre .0 .long) (c .before .before .before .before .before .before .before .before .before .before .args .path .now) _ (c .before .before .before .before .before .is-path .ensures) (not-false _ (c .before .before .before .before .if1 .left)) (c .before .before .before .before .before .before .before .before .before .before .args .value .now) (omega arith) _ _ refl (c .before .count-with .ensures) (omega arith)
 
 apply-change-requires : tie.Need-apply-change-requires
-apply-change-requires c κs = (c .before .before .before .before .before .before .before .before .before .before .before .before .pre .0, c .before .before .before .before .before .before .before .before .before .before .before .before .pre .1, put-allowed (c .before .before .before .before .before .before .before .before .before .before .before .before .args .store .now) (c .before .before .before .before .before .before .before .before .before .before .before .before .args .work .now) (c .before .before .before .before .before .before .before .before .before .before .before .before .pre .0 .whole) (c .before .before .before .before .before .before .before .before .before .before .before .before .pre .0 .is-sound) (c .before .before .before .before .before .before .before .before .before .before .before .before .pre .0 .long) (c .before .before .before .before .before .before .before .before .before .before .before .before .args .path .now) _ (c .before .before .before .before .before .before .before .is-path .ensures) (not-false _ (c .before .before .before .before .before .before .if1 .left)) (c .before .before .before .before .before .before .before .before .before .before .before .before .args .value .now) (omega arith) _ (c .before .before .before .has-place .ensures) (not-false _ (c .before .before .if3 .left)))
+apply-change-requires c κs = (c .before .before .before .before .before .before .before .before .before .before .before .before .pre .0, c .before .before .before .before .before .before .before .before .before .before .before .before .pre .1, put-allowed (c .before .before .before .before .before .before .before .before .before .before .before .before .args .store .now) (c .before .before .before .before .before .before .before .before .before .before .before .before .args .work .now) (c .before .before .before .before .before .before .before .before .before .before .before .before .pre .0 .whole) (c .before .before .before .before .before .before .before .before .before .before .before .before .pre .0 .is-sound) (c .before .before .before .before .before .before .before .before .before .before .before .before .pre .0 .long) (c .before .before .before .before .before .before .before .before .before .before .before .before .args .path .now) _ (c .before .before .before .before .before .before .before .is-path .ensures) (not-false _ (c .before .before .before .before .before .before .if1 .left)) (c .before .before .before .before .before .before .before .before .before .before .before .before .args .value .now) (omega arith) _ _ refl (c .before .before .before .count-with .ensures) (omega arith), known-put _ (c .before .before .before .before .before .before .before .before .before .before .before .before .args .value .now) _ _ (c .before .before .before .count-with .ensures))
 
 same-length-2 : tie.Need-same-length-2
 same-length-2 c = search needs
@@ -34,7 +36,7 @@ same-length-3 : tie.Need-same-length-3
 same-length-3 c = search needs
 
 returns-4 : tie.Need-returns-4
-returns-4 c = put-done (c .before .before .before .before .before .before .before .before .before .before .before .before .before .before .before .before .before .args .store .now) (c .before .before .before .before .before .before .before .before .before .before .before .before .before .before .before .before .before .args .work .now) (c .before .before .before .before .before .before .before .before .before .before .before .before .before .before .before .before .before .pre .0 .whole) (c .before .before .before .before .before .before .before .before .before .before .before .before .before .before .before .before .before .pre .0 .is-sound) (c .before .before .before .before .before .before .before .before .before .before .before .before .before .before .before .before .before .pre .0 .long) (c .before .before .before .before .before .before .before .before .before .before .before .before .before .before .before .before .before .args .path .now) _ (c .before .before .before .before .before .before .before .before .before .before .before .before .is-path .ensures) (not-false _ (c .before .before .before .before .before .before .before .before .before .before .before .if1 .left)) (c .before .before .before .before .before .before .before .before .before .before .before .before .before .before .before .before .before .args .value .now) (omega arith) _ (c .before .before .before .before .before .before .before .before .has-place .ensures) _ _ (not-false _ (c .before .before .before .before .before .before .before .if3 .left)) (c .before .before .before .before .apply-change .ensures)
+returns-4 c = put-done (c .before .before .before .before .before .before .before .before .before .before .before .before .before .before .before .before .before .args .store .now) (c .before .before .before .before .before .before .before .before .before .before .before .before .before .before .before .before .before .args .work .now) (c .before .before .before .before .before .before .before .before .before .before .before .before .before .before .before .before .before .pre .0 .whole) (c .before .before .before .before .before .before .before .before .before .before .before .before .before .before .before .before .before .pre .0 .is-sound) (c .before .before .before .before .before .before .before .before .before .before .before .before .before .before .before .before .before .pre .0 .long) (c .before .before .before .before .before .before .before .before .before .before .before .before .before .before .before .before .before .args .path .now) _ (c .before .before .before .before .before .before .before .before .before .before .before .before .is-path .ensures) (not-false _ (c .before .before .before .before .before .before .before .before .before .before .before .if1 .left)) (c .before .before .before .before .before .before .before .before .before .before .before .before .before .before .before .before .before .args .value .now) (omega arith) _ _ refl (c .before .before .before .before .before .before .before .before .count-with .ensures) (omega arith) _ _ (c .before .before .before .before .apply-change .ensures)
 
 pub put-fit-spec : {M : Type 1} → statement M
 put-fit-spec =
@@ -43,7 +45,7 @@ put-fit-spec =
     is-path-requires
     returns
     returns-2
-    has-place-requires
+    count-with-requires
     same-length
     returns-3
     apply-change-requires

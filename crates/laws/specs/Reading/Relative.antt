@@ -10,7 +10,7 @@ use lib.Dec.{ltb, leb}
 use Rattle.image.specs.Bytes.{shared}
 use Rattle.image.specs.Path.{owns}
 use Rattle.image.specs.Table.{find}
-use Rattle.image.specs.Image.{Tree, unread, leaf, interior, Forest, end, tree, Kid, forestOf}
+use Rattle.image.specs.Image.{Tree, unread, leaf, interior, Forest, end, tree, Branch, forestOf}
 use Rattle.image.specs.Meaning.{highOf, newest, decide, lookup, lookupIn}
 use Rattle.image.specs.Sound.{numbers, numbersIn, inRange, soundTree, soundForest}
 use Rattle.octets.specs.Beginnings.{shared-right}
@@ -29,14 +29,14 @@ unfoldable mutual
   pub fromHere : Tree → List ℕ → List ℕ → Option (List ℕ)
   fromHere (unread i) hi rest = none
   fromHere (leaf i rs) hi rest = find rest rs
-  fromHere (interior i f ms) hi rest = decide (newest ms rest) (fromKids f hi rest)
+  fromHere (interior i f ms) hi rest = decide (newest ms rest) (fromBranches f hi rest)
 
-  pub fromKids : Forest → List ℕ → List ℕ → Option (List ℕ)
-  fromKids end hi rest = none
-  fromKids (tree s t f) hi rest =
+  pub fromBranches : Forest → List ℕ → List ℕ → Option (List ℕ)
+  fromBranches end hi rest = none
+  fromBranches (tree s t f) hi rest =
       cond (owns s (highOf [] hi f) rest)
       (fromHere t (drop (lifts s (highOf [] hi f)) (highOf [] hi f)) (drop (lifts s (highOf [] hi f)) rest))
-      (fromKids f hi rest)
+      (fromBranches f hi rest)
 
 choose : (b : Bool) (x y u v : Option (List ℕ)) → (b ≡ true → x ≡ y) → u ≡ v → cond b x u ≡ cond b y v
 choose true x y u v h k = h refl
@@ -50,7 +50,7 @@ cut-in f x hi p a b =
     rw (append-nil x, a, b) at e
 
 mutual
-  unfolding lookup lookupIn fromHere fromKids lifts
+  unfolding lookup lookupIn fromHere fromBranches lifts
 
   -- for a path that begins with what the node lifts (every path that it owns does)
   pub relative : (t : Tree) (lo hi p : List ℕ) → shared lo hi ++ drop (length (shared lo hi)) p ≡ p
@@ -62,21 +62,25 @@ mutual
       (cut-in f (shared lo hi) hi p (begins-split (shared lo hi) hi (shared-right lo hi)) o
       ∙ relative-in f (drop (length (shared lo hi)) hi) (drop (length (shared lo hi)) p))
 
-  pub relative-in : (f : Forest) (hi p : List ℕ) → lookupIn f [] hi p ≡ fromKids f hi p
+  pub relative-in : (f : Forest) (hi p : List ℕ) → lookupIn f [] hi p ≡ fromBranches f hi p
   relative-in end hi p = refl
   relative-in (tree s t f) hi p =
       choose (owns s (highOf [] hi f) p) _ _ _ _
       (λ o. relative t s (highOf [] hi f) p (split s (highOf [] hi f) p o))
       (relative-in f hi p)
 
-unfoldable pub kidHigh : List ℕ → List Kid → List ℕ
-kidHigh hi [] = hi
-kidHigh hi (k ∷ ks) = k .pivot
+unfoldable pub branchHigh : List ℕ → List Branch → List ℕ
+branchHigh hi [] = hi
+branchHigh hi (k ∷ ks) = k .pivot
 
-pub high-at : (under : ℕ → Tree) (hi : List ℕ) (ks : List Kid) → highOf [] hi (forestOf under ks) ≡ kidHigh hi ks
-unfolding highOf forestOf kidHigh
-high-at under hi [] = refl
-high-at under hi (k ∷ ks) = refl
+-- the same under a prefix that both pivots have
+pub high-joined : (under : ℕ → Tree) (X hi : List ℕ) (ks : List Branch) → highOf X (X ++ hi) (forestOf under ks) ≡ X ++ branchHigh hi ks
+unfolding highOf forestOf branchHigh
+high-joined under X hi [] = refl
+high-joined under X hi (k ∷ ks) = refl
+
+pub high-at : (under : ℕ → Tree) (hi : List ℕ) (ks : List Branch) → highOf [] hi (forestOf under ks) ≡ branchHigh hi ks
+high-at under hi ks = high-joined under [] hi ks
 
 -- What a reader may rely on: no node of the tree is unread, and every number is below n.
 unfoldable mutual
@@ -119,7 +123,7 @@ mutual
   sound-usable (unread i) n lo hi e r = not-so e (no-unread i lo hi)
   sound-usable (leaf i rs) n lo hi e r = first-left n i [] r
   sound-usable (interior i f ms) n lo hi e r =
-      both (first-left n i (numbersIn f) r) (sound-usable-in f n (shared lo hi) lo hi (inner i f ms lo hi e .kids) (rest-left n i (numbersIn f) r))
+      both (first-left n i (numbersIn f) r) (sound-usable-in f n (shared lo hi) lo hi (inner i f ms lo hi e .branches) (rest-left n i (numbersIn f) r))
 
   pub sound-usable-in : (f : Forest) (n : ℕ) (lifted lo hi : List ℕ) → soundForest f lifted lo hi ≡ true → inRange n (numbersIn f) ≡ true → usableIn n f ≡ true
   sound-usable-in end n lifted lo hi e r = refl

@@ -124,7 +124,7 @@ mutual
   keys-hold (leaf i rs) lo hi e = leaf-hold i rs lo hi e
   keys-hold (interior i f ms) lo hi e =
       every-append (holds lo hi) (keysIn f (shared lo hi) hi) (putsOf (shared lo hi) ms)
-      (keys-hold-in f (shared lo hi) lo hi (inner i f ms lo hi e .kids)) (puts-hold lo hi ms (inner i f ms lo hi e .wait))
+      (keys-hold-in f (shared lo hi) lo hi (inner i f ms lo hi e .branches)) (puts-hold lo hi ms (inner i f ms lo hi e .wait))
 
   pub keys-hold-in : (f : Forest) (lifted lo hi : List ℕ) → soundForest f lifted lo hi ≡ true → every (holds lo hi) (keysIn f lifted hi) ≡ true
   keys-hold-in end lifted lo hi e = nil-hold lo hi
@@ -233,10 +233,10 @@ node-stand l k ms t ks h e = go (all-stand l k ms t e)
     go (inl a) = key-right k ks (putsOf l ms) a
     go (inr a) = key-left k ks (putsOf l ms) (h a)
 
-kids-stand : (k : List ℕ) (t u : List Row) (a b : List (List ℕ)) → (present k t ≡ true → isKey k a ≡ true) → (present k u ≡ true → isKey k b ≡ true)
+branches-stand : (k : List ℕ) (t u : List Row) (a b : List (List ℕ)) → (present k t ≡ true → isKey k a ≡ true) → (present k u ≡ true → isKey k b ≡ true)
     → present k (t ++ u) ≡ true → isKey k (a ++ b) ≡ true
 unfolding present
-kids-stand k t u a b f g e = go (find k t) refl
+branches-stand k t u a b f g e = go (find k t) refl
   where
     go : (x : Option (List ℕ)) → find k t ≡ x → isKey k (a ++ b) ≡ true
     go none z = key-right k a b (g (rw (find-append-none k t u z) at e))
@@ -257,7 +257,7 @@ mutual
   pub stands-in : (f : Forest) (lifted hi k : List ℕ) → present k (rowsIn f lifted hi) ≡ true → isKey k (keysIn f lifted hi) ≡ true
   stands-in end lifted hi k e = not-so e (not-present k [] (find-nil k))
   stands-in (tree s t f) lifted hi k e =
-      kids-stand k (rows t (lifted ++ s) (highOf lifted hi f)) (rowsIn f lifted hi) (keys t (lifted ++ s) (highOf lifted hi f)) (keysIn f lifted hi)
+      branches-stand k (rows t (lifted ++ s) (highOf lifted hi f)) (rowsIn f lifted hi) (keys t (lifted ++ s) (highOf lifted hi f)) (keysIn f lifted hi)
       (λ h. stands t (lifted ++ s) (highOf lifted hi f) k h) (λ h. stands-in f lifted hi k h) e
 
 -- 4. The walk over all keys ends at the least path that fits.

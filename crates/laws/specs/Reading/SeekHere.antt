@@ -28,12 +28,12 @@ unfoldable mutual
   pub keysHere : Tree → List ℕ → List (List ℕ)
   keysHere (unread i) hi = []
   keysHere (leaf i rs) hi = keysOf rs
-  keysHere (interior i f ms) hi = keysKids f hi ++ putsOf [] ms
+  keysHere (interior i f ms) hi = keysBranches f hi ++ putsOf [] ms
 
-  pub keysKids : Forest → List ℕ → List (List ℕ)
-  keysKids end hi = []
-  keysKids (tree s t f) hi =
-      under (shared s (highOf [] hi f)) (keysHere t (drop (lifts s (highOf [] hi f)) (highOf [] hi f))) ++ keysKids f hi
+  pub keysBranches : Forest → List ℕ → List (List ℕ)
+  keysBranches end hi = []
+  keysBranches (tree s t f) hi =
+      under (shared s (highOf [] hi f)) (keysHere t (drop (lifts s (highOf [] hi f)) (highOf [] hi f))) ++ keysBranches f hi
 
 pub under-append : (X : List ℕ) (a b : List (List ℕ)) → under X (a ++ b) ≡ under X a ++ under X b
 unfolding under
@@ -77,23 +77,23 @@ unfolding lifts
 high-split lo hi = begins-split (shared lo hi) hi (shared-right lo hi)
 
 mutual
-  unfolding keys keysIn keysHere keysKids
+  unfolding keys keysIn keysHere keysBranches
 
   pub keys-here : (t : Tree) (lo hi : List ℕ) → keys t lo hi ≡ under (shared lo hi) (keysHere t (drop (lifts lo hi) hi))
   keys-here (unread i) lo hi = nil-under (shared lo hi)
   keys-here (leaf i rs) lo hi = rows-under (shared lo hi) rs
   keys-here (interior i f ms) lo hi =
       ap₂ (λ a b. a ++ b)
-      (ap (λ h. keysIn f (shared lo hi) h) (sym (high-split lo hi)) ∙ keys-kids f (shared lo hi) (drop (lifts lo hi) hi))
+      (ap (λ h. keysIn f (shared lo hi) h) (sym (high-split lo hi)) ∙ keys-branches f (shared lo hi) (drop (lifts lo hi) hi))
       (puts-under (shared lo hi) ms)
-      ∙ sym (under-append (shared lo hi) (keysKids f (drop (lifts lo hi) hi)) (putsOf [] ms))
+      ∙ sym (under-append (shared lo hi) (keysBranches f (drop (lifts lo hi) hi)) (putsOf [] ms))
 
-  pub keys-kids : (f : Forest) (X hi : List ℕ) → keysIn f X (X ++ hi) ≡ under X (keysKids f hi)
-  keys-kids end X hi = nil-under X
-  keys-kids (tree s t f) X hi =
+  pub keys-branches : (f : Forest) (X hi : List ℕ) → keysIn f X (X ++ hi) ≡ under X (keysBranches f hi)
+  keys-branches end X hi = nil-under X
+  keys-branches (tree s t f) X hi =
       rw (high-under X hi f)
-      (ap₂ (λ a b. a ++ b) (keys-here t (X ++ s) (X ++ highOf [] hi f) ∙ child-under X s (highOf [] hi f) t) (keys-kids f X hi)
-      ∙ sym (under-append X (under (shared s (highOf [] hi f)) (keysHere t (drop (lifts s (highOf [] hi f)) (highOf [] hi f)))) (keysKids f hi)))
+      (ap₂ (λ a b. a ++ b) (keys-here t (X ++ s) (X ++ highOf [] hi f) ∙ child-under X s (highOf [] hi f) t) (keys-branches f X hi)
+      ∙ sym (under-append X (under (shared s (highOf [] hi f)) (keysHere t (drop (lifts s (highOf [] hi f)) (highOf [] hi f)))) (keysBranches f hi)))
 
 -- a child of a sound node that is skipped leaves the best as it was
 pub skip-here : (there : List ℕ → Bool) (P Q X s h : List ℕ) (t : Tree) (best : Option (List ℕ)) → soundTree t (X ++ s) (X ++ h) ≡ true

@@ -33,14 +33,14 @@ unfoldable mutual
   pub soundHere : Tree → Shape → List ℕ → List ℕ → Bool
   soundHere (unread i) sh lo hi = false
   soundHere (leaf i rs) sh lo hi = everyKey (goesOn sh) rs && everyKey (owns lo hi) rs && rising rs && valuesFit rs
-  soundHere (interior i f ms) sh lo hi = firstPivot [] lo f && soundKids f sh lo hi && messagesHere sh lo hi ms
+  soundHere (interior i f ms) sh lo hi = firstPivot [] lo f && soundBranches f sh lo hi && messagesHere sh lo hi ms
 
-  pub soundKids : Forest → Shape → List ℕ → List ℕ → Bool
-  soundKids end sh lo hi = true
-  soundKids (tree s t f) sh lo hi =
+  pub soundBranches : Forest → Shape → List ℕ → List ℕ → Bool
+  soundBranches end sh lo hi = true
+  soundBranches (tree s t f) sh lo hi =
       owns lo hi s && before s (highOf [] hi f)
       && soundHere t (feed sh (shared s (highOf [] hi f))) (drop (lifts s (highOf [] hi f)) s) (drop (lifts s (highOf [] hi f)) (highOf [] hi f))
-      && soundKids f sh lo hi
+      && soundBranches f sh lo hi
 
 -- with the same bytes X in front of everything
 module _ (X : List ℕ) where
@@ -107,7 +107,7 @@ leaf-here i rs lo hi X lo′ hi′ e a b =
     rw e (and4 (keys-shape X rs) (ap₂ (λ p q. everyKey (owns p q) (underPrefix X rs)) (sym a) (sym b) ∙ keys-owned X lo′ hi′ rs) refl refl)
 
 mutual
-  unfolding soundTree soundForest soundHere soundKids
+  unfolding soundTree soundForest soundHere soundBranches
 
   -- A tree is sound between its pivots just when it is sound from inside its root.
   pub sound-here : (t : Tree) (lo hi : List ℕ) → soundTree t lo hi ≡ soundHere t (feed fresh (shared lo hi)) (drop (lifts lo hi) lo) (drop (lifts lo hi) hi)
@@ -115,16 +115,16 @@ mutual
   sound-here (leaf i rs) lo hi = leaf-here i rs lo hi (shared lo hi) (drop (lifts lo hi) lo) (drop (lifts lo hi) hi) refl (left-split lo hi) (right-split lo hi)
   sound-here (interior i f ms) lo hi =
       and3 (pivot-here (shared lo hi) lo (drop (lifts lo hi) lo) (left-split lo hi) f)
-      (ap₂ (λ a b. soundForest f (shared lo hi) a b) (sym (left-split lo hi)) (sym (right-split lo hi)) ∙ sound-kids f (shared lo hi) (drop (lifts lo hi) lo) (drop (lifts lo hi) hi))
+      (ap₂ (λ a b. soundForest f (shared lo hi) a b) (sym (left-split lo hi)) (sym (right-split lo hi)) ∙ sound-branches f (shared lo hi) (drop (lifts lo hi) lo) (drop (lifts lo hi) hi))
       (messages-here lo hi (shared lo hi) (drop (lifts lo hi) lo) (drop (lifts lo hi) hi) refl (left-split lo hi) (right-split lo hi) ms)
 
-  pub sound-kids : (f : Forest) (X lo hi : List ℕ) → soundForest f X (X ++ lo) (X ++ hi) ≡ soundKids f (feed fresh X) lo hi
-  sound-kids end X lo hi = refl
-  sound-kids (tree s t f) X lo hi =
+  pub sound-branches : (f : Forest) (X lo hi : List ℕ) → soundForest f X (X ++ lo) (X ++ hi) ≡ soundBranches f (feed fresh X) lo hi
+  sound-branches end X lo hi = refl
+  sound-branches (tree s t f) X lo hi =
       rw (high-under X hi f)
       (and4 (owns-under X lo hi s) (before-append X s (highOf [] hi f))
       (sound-here t (X ++ s) (X ++ highOf [] hi f) ∙ child-here X s (highOf [] hi f) t)
-      (sound-kids f X lo hi))
+      (sound-branches f X lo hi))
 
 -- at the root
 pub sound-root : (t : Tree) (hi : List ℕ) → soundTree t [] hi ≡ soundHere t fresh [] hi

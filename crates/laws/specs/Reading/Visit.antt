@@ -17,7 +17,7 @@ use Rattle.image.specs.Meaning.{highOf}
 use Rattle.image.specs.Sound.{firstPivot, numbers, numbersIn, isIn, once, inRange, soundTree}
 use Rattle.laws.specs.Reading.Relative.{lifts}
 use Rattle.path.specs.Shape.{Shape, fresh, feed}
-use Rattle.laws.specs.Reading.SoundHere.{soundHere, soundKids, messagesHere, sound-root}
+use Rattle.laws.specs.Reading.SoundHere.{soundHere, soundBranches, messagesHere, sound-root}
 
 -- one byte a node: 0 where it is not yet reached
 unfoldable pub mark : List ℕ → ℕ → List ℕ
@@ -44,14 +44,14 @@ unfoldable mutual
   visit (unread i) n sh lo hi seen = none
   visit (leaf i rs) n sh lo hi seen = cond (unmet n seen i) (cond (soundHere (leaf i rs) sh lo hi) (some (mark seen i)) none) none
   visit (interior i f ms) n sh lo hi seen =
-      cond (unmet n seen i && firstPivot [] lo f) (onward (visitKids f n sh lo hi (mark seen i)) (λ after. cond (messagesHere sh lo hi ms) (some after) none)) none
+      cond (unmet n seen i && firstPivot [] lo f) (onward (visitBranches f n sh lo hi (mark seen i)) (λ after. cond (messagesHere sh lo hi ms) (some after) none)) none
 
-  pub visitKids : Forest → ℕ → Shape → List ℕ → List ℕ → List ℕ → Option (List ℕ)
-  visitKids end n sh lo hi seen = some seen
-  visitKids (tree s t f) n sh lo hi seen =
+  pub visitBranches : Forest → ℕ → Shape → List ℕ → List ℕ → List ℕ → Option (List ℕ)
+  visitBranches end n sh lo hi seen = some seen
+  visitBranches (tree s t f) n sh lo hi seen =
       cond (owns lo hi s && before s (highOf [] hi f))
       (onward (visit t n (feed sh (shared s (highOf [] hi f))) (drop (lifts s (highOf [] hi f)) s) (drop (lifts s (highOf [] hi f)) (highOf [] hi f)) seen)
-      (λ after. visitKids f n sh lo hi after))
+      (λ after. visitBranches f n sh lo hi after))
       none
 
 unmet-append : (n : ℕ) (seen a b : List ℕ) → allUnmet n seen (a ++ b) ≡ allUnmet n seen a && allUnmet n (markAll seen a) b
@@ -63,7 +63,7 @@ unmet-append n seen (i ∷ a) b = ap (λ z. unmet n seen i && z) (unmet-append n
     group true y z = refl
     group false y z = refl
 
-mark-append : (seen a b : List ℕ) → markAll seen (a ++ b) ≡ markAll (markAll seen a) b
+pub mark-append : (seen a b : List ℕ) → markAll seen (a ++ b) ≡ markAll (markAll seen a) b
 unfolding markAll
 mark-append seen [] b = refl
 mark-append seen (i ∷ a) b = mark-append (mark seen i) a b
@@ -87,16 +87,16 @@ leaf-both true false S = refl
 leaf-both false true S = refl
 leaf-both false false S = refl
 
-kid-both : (w b g F : Bool) (S : List ℕ) (more : List ℕ → Option (List ℕ)) (k G : Bool) (T : List ℕ) → more S ≡ cond (k && G) (some T) none
+branch-both : (w b g F : Bool) (S : List ℕ) (more : List ℕ → Option (List ℕ)) (k G : Bool) (T : List ℕ) → more S ≡ cond (k && G) (some T) none
     → cond (w && b) (onward (cond (g && F) (some S) none) more) none ≡ cond (w && b && g && k && (F && G)) (some T) none
 unfolding onward
-kid-both true true true true S more true G T e = e
-kid-both true true true true S more false G T e = e
-kid-both true true true false S more true G T e = refl
-kid-both true true true false S more false G T e = refl
-kid-both true true false F S more k G T e = refl
-kid-both true false g F S more k G T e = refl
-kid-both false b g F S more k G T e = refl
+branch-both true true true true S more true G T e = e
+branch-both true true true true S more false G T e = e
+branch-both true true true false S more true G T e = refl
+branch-both true true true false S more false G T e = refl
+branch-both true true false F S more k G T e = refl
+branch-both true false g F S more k G T e = refl
+branch-both false b g F S more k G T e = refl
 
 leaf-visit : (i : ℕ) (rs : List Row) (n : ℕ) (sh : Shape) (lo hi seen : List ℕ)
     → cond (unmet n seen i) (cond (soundHere (leaf i rs) sh lo hi) (some (mark seen i)) none) none
@@ -117,30 +117,30 @@ unfolding markAll
 first-marked i seen is = refl
 
 mutual
-  unfolding visit visitKids numbers numbersIn soundHere soundKids
+  unfolding visit visitBranches numbers numbersIn soundHere soundBranches
 
   pub visit-is : (t : Tree) (n : ℕ) (sh : Shape) (lo hi seen : List ℕ)
       → visit t n sh lo hi seen ≡ cond (soundHere t sh lo hi && allUnmet n seen (numbers t)) (some (markAll seen (numbers t))) none
   visit-is (unread i) n sh lo hi seen = refl
   visit-is (leaf i rs) n sh lo hi seen = leaf-visit i rs n sh lo hi seen
   visit-is (interior i f ms) n sh lo hi seen =
-      ap (λ z. cond (unmet n seen i && firstPivot [] lo f) (onward z (λ after. cond (messagesHere sh lo hi ms) (some after) none)) none) (visit-kids f n sh lo hi (mark seen i))
-      ∙ node-both (unmet n seen i) (firstPivot [] lo f) (soundKids f sh lo hi) (messagesHere sh lo hi ms) (allUnmet n (mark seen i) (numbersIn f)) (markAll (mark seen i) (numbersIn f))
-      ∙ ap₂ (λ u S. cond (firstPivot [] lo f && soundKids f sh lo hi && messagesHere sh lo hi ms && u) (some S) none) (sym (first-unmet n i seen (numbersIn f))) (sym (first-marked i seen (numbersIn f)))
+      ap (λ z. cond (unmet n seen i && firstPivot [] lo f) (onward z (λ after. cond (messagesHere sh lo hi ms) (some after) none)) none) (visit-branches f n sh lo hi (mark seen i))
+      ∙ node-both (unmet n seen i) (firstPivot [] lo f) (soundBranches f sh lo hi) (messagesHere sh lo hi ms) (allUnmet n (mark seen i) (numbersIn f)) (markAll (mark seen i) (numbersIn f))
+      ∙ ap₂ (λ u S. cond (firstPivot [] lo f && soundBranches f sh lo hi && messagesHere sh lo hi ms && u) (some S) none) (sym (first-unmet n i seen (numbersIn f))) (sym (first-marked i seen (numbersIn f)))
 
-  pub visit-kids : (f : Forest) (n : ℕ) (sh : Shape) (lo hi seen : List ℕ)
-      → visitKids f n sh lo hi seen ≡ cond (soundKids f sh lo hi && allUnmet n seen (numbersIn f)) (some (markAll seen (numbersIn f))) none
-  visit-kids end n sh lo hi seen = end-visit n seen
-  visit-kids (tree s t f) n sh lo hi seen =
-      ap (λ z. cond (owns lo hi s && before s (highOf [] hi f)) (onward z (λ after. visitKids f n sh lo hi after)) none)
+  pub visit-branches : (f : Forest) (n : ℕ) (sh : Shape) (lo hi seen : List ℕ)
+      → visitBranches f n sh lo hi seen ≡ cond (soundBranches f sh lo hi && allUnmet n seen (numbersIn f)) (some (markAll seen (numbersIn f))) none
+  visit-branches end n sh lo hi seen = end-visit n seen
+  visit-branches (tree s t f) n sh lo hi seen =
+      ap (λ z. cond (owns lo hi s && before s (highOf [] hi f)) (onward z (λ after. visitBranches f n sh lo hi after)) none)
       (visit-is t n (feed sh (shared s (highOf [] hi f))) (drop (lifts s (highOf [] hi f)) s) (drop (lifts s (highOf [] hi f)) (highOf [] hi f)) seen)
-      ∙ kid-both (owns lo hi s) (before s (highOf [] hi f))
+      ∙ branch-both (owns lo hi s) (before s (highOf [] hi f))
       (soundHere t (feed sh (shared s (highOf [] hi f))) (drop (lifts s (highOf [] hi f)) s) (drop (lifts s (highOf [] hi f)) (highOf [] hi f)))
-      (allUnmet n seen (numbers t)) (markAll seen (numbers t)) (λ after. visitKids f n sh lo hi after)
-      (soundKids f sh lo hi) (allUnmet n (markAll seen (numbers t)) (numbersIn f)) (markAll (markAll seen (numbers t)) (numbersIn f))
-      (visit-kids f n sh lo hi (markAll seen (numbers t)))
+      (allUnmet n seen (numbers t)) (markAll seen (numbers t)) (λ after. visitBranches f n sh lo hi after)
+      (soundBranches f sh lo hi) (allUnmet n (markAll seen (numbers t)) (numbersIn f)) (markAll (markAll seen (numbers t)) (numbersIn f))
+      (visit-branches f n sh lo hi (markAll seen (numbers t)))
       ∙ ap₂ (λ u S. cond (owns lo hi s && before s (highOf [] hi f)
-      && soundHere t (feed sh (shared s (highOf [] hi f))) (drop (lifts s (highOf [] hi f)) s) (drop (lifts s (highOf [] hi f)) (highOf [] hi f)) && soundKids f sh lo hi && u) (some S) none)
+      && soundHere t (feed sh (shared s (highOf [] hi f))) (drop (lifts s (highOf [] hi f)) s) (drop (lifts s (highOf [] hi f)) (highOf [] hi f)) && soundBranches f sh lo hi && u) (some S) none)
       (sym (unmet-append n seen (numbers t) (numbersIn f))) (sym (mark-append seen (numbers t) (numbersIn f)))
 
 -- With no mark set at the start: every node is in range and is reached once.

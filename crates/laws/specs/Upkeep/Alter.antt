@@ -16,7 +16,7 @@ use Rattle.laws.specs.LookupTable.{parts, inner}
 use Rattle.laws.specs.Frame.{in-left, in-right}
 use Rattle.laws.specs.Upkeep.Kept.{Kept, kept-refl, kept-append}
 use Rattle.laws.specs.Upkeep.Merge.{tall, tallIn}
-use Rattle.laws.specs.Upkeep.Mends.{Mends, MendsIn, mends-refl, mends-in-refl, mends-tree, mends-node, tall-kids, tall-first, tall-later}
+use Rattle.laws.specs.Upkeep.Mends.{Mends, MendsIn, mends-refl, mends-in-refl, mends-tree, mends-node, tall-branches, tall-first, tall-later}
 use Rattle.laws.specs.Upkeep.Join.{heads}
 
 -- interior nodes of number n, changed; the change is told the node's pivots
@@ -33,10 +33,10 @@ unfoldable mutual
       tree s (altered t n change (lifted ++ s) (highOf lifted hi f)) (alteredIn f n change lifted hi)
 
 -- a change of the children alone
-unfoldable pub onKids : (Forest → List ℕ → List ℕ → Forest) → Tree → List ℕ → List ℕ → Tree
-onKids c (unread i) lo hi = unread i
-onKids c (leaf i rs) lo hi = leaf i rs
-onKids c (interior i f ms) lo hi = interior i (c f (shared lo hi) hi) ms
+unfoldable pub onBranches : (Forest → List ℕ → List ℕ → Forest) → Tree → List ℕ → List ℕ → Tree
+onBranches c (unread i) lo hi = unread i
+onBranches c (leaf i rs) lo hi = leaf i rs
+onBranches c (interior i f ms) lo hi = interior i (c f (shared lo hi) hi) ms
 
 pub high-altered : (f : Forest) (n : ℕ) (change : Tree → List ℕ → List ℕ → Tree) (lifted hi l h : List ℕ) → highOf l h (alteredIn f n change lifted hi) ≡ highOf l h f
 unfolding alteredIn highOf
@@ -64,7 +64,7 @@ mutual
   altered-mends (interior i f ms) n change law lo hi level e h =
       either-mends (eqb n i) (law i f ms lo hi level e h)
       (mends-node i f (alteredIn f n change (shared lo hi) hi) ms lo hi level e h
-      (altered-mends-in f n change law (shared lo hi) lo hi (level - 1) (inner i f ms lo hi e .kids) (tall-kids i f ms level h)))
+      (altered-mends-in f n change law (shared lo hi) lo hi (level - 1) (inner i f ms lo hi e .branches) (tall-branches i f ms level h)))
 
   pub altered-mends-in : (f : Forest) (n : ℕ) (change : Tree → List ℕ → List ℕ → Tree) → Sane change → (lifted lo hi : List ℕ) (level : ℕ)
       → soundForest f lifted lo hi ≡ true → tallIn f level ≡ true → MendsIn f (alteredIn f n change lifted hi) lifted lo hi level
@@ -127,7 +127,7 @@ mutual
       (heads f) (headsAtIn f n) lo hi level
       (λ b. law i f ms lo hi level e h b)
       (λ b. node-kept among i f (alteredIn f n change (shared lo hi) hi) ms lo hi level
-      (altered-kept-in f n change among law (shared lo hi) lo hi (level - 1) (inner i f ms lo hi e .kids) (tall-kids i f ms level h) b))
+      (altered-kept-in f n change among law (shared lo hi) lo hi (level - 1) (inner i f ms lo hi e .branches) (tall-branches i f ms level h) b))
       a
 
   pub altered-kept-in : (f : Forest) (n : ℕ) (change : Tree → List ℕ → List ℕ → Tree) (among : ℕ → Bool) → Gentle among change
@@ -175,13 +175,13 @@ mutual
       (altered-absent-in f n change lifted hi (not-in-right n (numbers t) (numbersIn f) e))
 
 -- one change after another at one node is one change
-unfoldable pub thenKids : (Forest → List ℕ → List ℕ → Forest) → (Forest → List ℕ → List ℕ → Forest) → Forest → List ℕ → List ℕ → Forest
-thenKids c d f lifted hi = d (c f lifted hi) lifted hi
+unfoldable pub thenBranches : (Forest → List ℕ → List ℕ → Forest) → (Forest → List ℕ → List ℕ → Forest) → Forest → List ℕ → List ℕ → Forest
+thenBranches c d f lifted hi = d (c f lifted hi) lifted hi
 
 twice-choice : (b : Bool) (i n : ℕ) (f g h : Forest) (ms : List Message) (c d : Forest → List ℕ → List ℕ → Forest) (lo hi : List ℕ) → eqb n i ≡ b
-    → alteredIn g n (onKids d) (shared lo hi) hi ≡ h
-    → altered (cond b (onKids c (interior i f ms) lo hi) (interior i g ms)) n (onKids d) lo hi ≡ cond b (onKids (thenKids c d) (interior i f ms) lo hi) (interior i h ms)
-unfolding altered onKids thenKids
+    → alteredIn g n (onBranches d) (shared lo hi) hi ≡ h
+    → altered (cond b (onBranches c (interior i f ms) lo hi) (interior i g ms)) n (onBranches d) lo hi ≡ cond b (onBranches (thenBranches c d) (interior i f ms) lo hi) (interior i h ms)
+unfolding altered onBranches thenBranches
 twice-choice true i n f g h ms c d lo hi e k = rw e
 twice-choice false i n f g h ms c d lo hi e k = rw e (ap (λ x. interior i x ms) k)
 
@@ -189,16 +189,16 @@ mutual
   unfolding altered alteredIn
 
   pub altered-twice : (t : Tree) (n : ℕ) (c d : Forest → List ℕ → List ℕ → Forest) (lo hi : List ℕ)
-      → altered (altered t n (onKids c) lo hi) n (onKids d) lo hi ≡ altered t n (onKids (thenKids c d)) lo hi
+      → altered (altered t n (onBranches c) lo hi) n (onBranches d) lo hi ≡ altered t n (onBranches (thenBranches c d)) lo hi
   altered-twice (unread i) n c d lo hi = refl
   altered-twice (leaf i rs) n c d lo hi = refl
   altered-twice (interior i f ms) n c d lo hi =
-      twice-choice (eqb n i) i n f (alteredIn f n (onKids c) (shared lo hi) hi) (alteredIn f n (onKids (thenKids c d)) (shared lo hi) hi) ms c d lo hi refl
+      twice-choice (eqb n i) i n f (alteredIn f n (onBranches c) (shared lo hi) hi) (alteredIn f n (onBranches (thenBranches c d)) (shared lo hi) hi) ms c d lo hi refl
       (altered-twice-in f n c d (shared lo hi) hi)
 
   pub altered-twice-in : (f : Forest) (n : ℕ) (c d : Forest → List ℕ → List ℕ → Forest) (lifted hi : List ℕ)
-      → alteredIn (alteredIn f n (onKids c) lifted hi) n (onKids d) lifted hi ≡ alteredIn f n (onKids (thenKids c d)) lifted hi
+      → alteredIn (alteredIn f n (onBranches c) lifted hi) n (onBranches d) lifted hi ≡ alteredIn f n (onBranches (thenBranches c d)) lifted hi
   altered-twice-in end n c d lifted hi = refl
   altered-twice-in (tree s t f) n c d lifted hi =
-      rw (high-altered f n (onKids c) lifted hi lifted hi)
+      rw (high-altered f n (onBranches c) lifted hi lifted hi)
       (ap₂ (λ a b. tree s a b) (altered-twice t n c d (lifted ++ s) (highOf lifted hi f)) (altered-twice-in f n c d lifted hi))

@@ -10,7 +10,7 @@ use lib.Dec.{leb, eqb}
 use borrow.Author.Tests.{eqb-true, eq-eqb}
 use Rattle.image.specs.Bytes.{shared}
 use Rattle.image.specs.Table.{Row}
-use Rattle.image.specs.Image.{Tree, leaf, interior, Forest, end, tree, Kid, Inside, nodeBytes, nodeEntries, pairsOf, insideOf, forestOf, leafOf, interiorOf, orNone, treeAt}
+use Rattle.image.specs.Image.{Tree, leaf, interior, Forest, end, tree, Branch, Inside, nodeBytes, nodeEntries, pairsOf, insideOf, forestOf, leafOf, interiorOf, orNone, treeAt}
 use Rattle.image.specs.Meaning.{highOf}
 use Rattle.image.specs.Sound.{soundTree, soundForest, numbers, numbersIn, isIn, once}
 use Rattle.image.specs.Upkeep.{Reachable, reachable, reachableIn, reachableAt}
@@ -93,7 +93,7 @@ module _ (s : List ℕ) (n : ℕ) (x : Reachable) where
 
   forest-sub : (under : ℕ → Tree) (level : ℕ)
       → ((j : ℕ) (lo hi : List ℕ) → reachableAt n (reachable (under j) level lo hi) ≡ some x → Sub sub (numbers (under j)))
-      → (ks : List Kid) (lifted hi : List ℕ) → reachableAt n (reachableIn (forestOf under ks) level lifted hi) ≡ some x → Sub sub (numbersIn (forestOf under ks))
+      → (ks : List Branch) (lifted hi : List ℕ) → reachableAt n (reachableIn (forestOf under ks) level lifted hi) ≡ some x → Sub sub (numbersIn (forestOf under ks))
   unfolding forestOf reachableIn numbersIn reachableAt orElse
   forest-sub under level law [] lifted hi p = absurd (Option·none-ne-some x p)
   forest-sub under level law (k ∷ ks) lifted hi p =
@@ -144,12 +144,12 @@ module _ (s : List ℕ) (n : ℕ) (x : Reachable) where
   inner-sub under l i (some y) lo hi law k p = go (eqb n i) refl
     where
       top : Reachable
-      top = record { number = i; level = l; low = lo; high = hi; messages = y .messages; children = forestOf under (y .kids) }
+      top = record { number = i; level = l; low = lo; high = hi; messages = y .messages; children = forestOf under (y .branches) }
 
-      go : (b : Bool) → eqb n i ≡ b → Sub sub (i ∷ numbersIn (forestOf under (y .kids)))
-      go true e = k (ap (λ (z : Reachable). z .level) (sym (place-here top (reachableIn (forestOf under (y .kids)) (l - 1) (shared lo hi) hi) e p))) (eqb-true n i e)
+      go : (b : Bool) → eqb n i ≡ b → Sub sub (i ∷ numbersIn (forestOf under (y .branches)))
+      go true e = k (ap (λ (z : Reachable). z .level) (sym (place-here top (reachableIn (forestOf under (y .branches)) (l - 1) (shared lo hi) hi) e p))) (eqb-true n i e)
       go false e =
-          Sub.gone (forest-sub under (l - 1) law (y .kids) (shared lo hi) hi (place-past top (reachableIn (forestOf under (y .kids)) (l - 1) (shared lo hi) hi) e p))
+          Sub.gone (forest-sub under (l - 1) law (y .branches) (shared lo hi) hi (place-past top (reachableIn (forestOf under (y .branches)) (l - 1) (shared lo hi) hi) e p))
 
   -- the nodes of the subtree are nodes of the tree
   pub place-sub : (l i : ℕ) (lo hi : List ℕ) → reachableAt n (reachable (treeAt l s i) l lo hi) ≡ some x → Sub sub (numbers (treeAt l s i))
@@ -209,7 +209,7 @@ module _ (s s′ : List ℕ) (n : ℕ) (x : Reachable) (change : Tree → List �
       (stay : (j : ℕ) → Keeps s s′ (numbers (under j)) → under′ j ≡ under j)
       (subs : (j : ℕ) (lo hi : List ℕ) → reachableAt n (reachable (under j) level lo hi) ≡ some x → Sub (numbers (treeAt (x .level) s n)) (numbers (under j))) where
     -- node n is under this child
-    first-bridge : (t : Tree) (t′ : Tree) (ks : List Kid) (clo chi lifted hi : List ℕ) → soundTree t clo chi ≡ true
+    first-bridge : (t : Tree) (t′ : Tree) (ks : List Branch) (clo chi lifted hi : List ℕ) → soundTree t clo chi ≡ true
         → once (numbers t ++ numbersIn (forestOf under ks)) ≡ true → reachableAt n (reachable t level clo chi) ≡ some x
         → Other (numbers t ++ numbersIn (forestOf under ks))
         → Sub (numbers (treeAt (x .level) s n)) (numbers t)
@@ -223,7 +223,7 @@ module _ (s s′ : List ℕ) (n : ℕ) (x : Reachable) (change : Tree → List �
         ∙ sym (altered-absent-in (forestOf under ks) n change lifted hi (once-apart (numbers t) (numbersIn (forestOf under ks)) n o there))
 
     -- node n is under a later child
-    later-bridge : (j : ℕ) (ks : List Kid) (clo chi lifted hi : List ℕ) → soundTree (under j) clo chi ≡ true
+    later-bridge : (j : ℕ) (ks : List Branch) (clo chi lifted hi : List ℕ) → soundTree (under j) clo chi ≡ true
         → once (numbers (under j) ++ numbersIn (forestOf under ks)) ≡ true → reachableAt n (reachable (under j) level clo chi) ≡ none
         → Other (numbers (under j) ++ numbersIn (forestOf under ks))
         → Sub (numbers (treeAt (x .level) s n)) (numbersIn (forestOf under ks))
@@ -235,7 +235,7 @@ module _ (s s′ : List ℕ) (n : ℕ) (x : Reachable) (change : Tree → List �
         (out-of-sub (numbers (under j)) i k (λ c. apart-left (numbers (under j)) (numbersIn (forestOf under ks)) o i c) b))
         ∙ sym (altered-absent (under j) n change clo chi gone)
 
-    forest-bridge : (ks : List Kid) (lifted lo hi : List ℕ) → soundForest (forestOf under ks) lifted lo hi ≡ true → once (numbersIn (forestOf under ks)) ≡ true
+    forest-bridge : (ks : List Branch) (lifted lo hi : List ℕ) → soundForest (forestOf under ks) lifted lo hi ≡ true → once (numbersIn (forestOf under ks)) ≡ true
         → reachableAt n (reachableIn (forestOf under ks) level lifted hi) ≡ some x → Other (numbersIn (forestOf under ks))
         → forestOf under′ ks ≡ alteredIn (forestOf under ks) n change lifted hi
     unfolding forestOf reachableIn numbersIn alteredIn orElse
@@ -279,12 +279,12 @@ module _ (s s′ : List ℕ) (n : ℕ) (x : Reachable) (change : Tree → List �
     above-bridge i l none lo hi d e o m p h = absurd (place-nil s n x p)
     above-bridge i l (some y) lo hi d e o m p h =
         rw m (ap (λ g. interior i g (y .messages))
-        (forest-bridge (y .kids) (shared lo hi) lo hi (inner i (forestOf under (y .kids)) (y .messages) lo hi e .kids)
-        (and-right (not (isIn i (numbersIn (forestOf under (y .kids))))) _ o)
-        (subst (λ k. reachableAt n (reachableIn (forestOf under (y .kids)) k (shared lo hi) hi) ≡ some x) d
-        (place-past s n x (record { number = i; level = l; low = lo; high = hi; messages = y .messages; children = forestOf under (y .kids) })
-        (reachableIn (forestOf under (y .kids)) (l - 1) (shared lo hi) hi) m p))
-        (λ j b c. h j (or-right (eqb j i) (isIn j (numbersIn (forestOf under (y .kids)))) b) c)))
+        (forest-bridge (y .branches) (shared lo hi) lo hi (inner i (forestOf under (y .branches)) (y .messages) lo hi e .branches)
+        (and-right (not (isIn i (numbersIn (forestOf under (y .branches))))) _ o)
+        (subst (λ k. reachableAt n (reachableIn (forestOf under (y .branches)) k (shared lo hi) hi) ≡ some x) d
+        (place-past s n x (record { number = i; level = l; low = lo; high = hi; messages = y .messages; children = forestOf under (y .branches) })
+        (reachableIn (forestOf under (y .branches)) (l - 1) (shared lo hi) hi) m p))
+        (λ j b c. h j (or-right (eqb j i) (isIn j (numbersIn (forestOf under (y .branches)))) b) c)))
 
     -- a node above n is none of its subtree
     above-out : (i l : ℕ) (o : Option Inside) (lo hi : List ℕ) → l - 1 ≡ level → once (numbers (interiorOf under i o)) ≡ true
@@ -293,15 +293,15 @@ module _ (s s′ : List ℕ) (n : ℕ) (x : Reachable) (change : Tree → List �
     above-out i l none lo hi d o m p = absurd (place-nil s n x p)
     above-out i l (some y) lo hi d o m p = go (isIn i (numbers (treeAt (x .level) s n))) refl
       where
-        down : Sub (numbers (treeAt (x .level) s n)) (numbersIn (forestOf under (y .kids)))
+        down : Sub (numbers (treeAt (x .level) s n)) (numbersIn (forestOf under (y .branches)))
         down =
-            forest-sub s n x under level subs (y .kids) (shared lo hi) hi
-            (subst (λ k. reachableAt n (reachableIn (forestOf under (y .kids)) k (shared lo hi) hi) ≡ some x) d
-            (place-past s n x (record { number = i; level = l; low = lo; high = hi; messages = y .messages; children = forestOf under (y .kids) })
-            (reachableIn (forestOf under (y .kids)) (l - 1) (shared lo hi) hi) m p))
+            forest-sub s n x under level subs (y .branches) (shared lo hi) hi
+            (subst (λ k. reachableAt n (reachableIn (forestOf under (y .branches)) k (shared lo hi) hi) ≡ some x) d
+            (place-past s n x (record { number = i; level = l; low = lo; high = hi; messages = y .messages; children = forestOf under (y .branches) })
+            (reachableIn (forestOf under (y .branches)) (l - 1) (shared lo hi) hi) m p))
 
         go : (b : Bool) → isIn i (numbers (treeAt (x .level) s n)) ≡ b → isIn i (numbers (treeAt (x .level) s n)) ≡ false
-        go true c = not-so (sub-in i down c) (not-true (isIn i (numbersIn (forestOf under (y .kids)))) (and-left _ _ o))
+        go true c = not-so (sub-in i down c) (not-true (isIn i (numbersIn (forestOf under (y .branches)))) (and-left _ _ o))
         go false c = c
 
   -- node n itself
@@ -310,8 +310,8 @@ module _ (s s′ : List ℕ) (n : ℕ) (x : Reachable) (change : Tree → List �
   unfolding interiorOf reachable altered
   top-level under l i none lo hi e p = absurd (place-nil s n x p)
   top-level under l i (some y) lo hi e p =
-      let top : Reachable = record { number = i; level = l; low = lo; high = hi; messages = y .messages; children = forestOf under (y .kids) } in
-      let is : top ≡ x = place-here s n x top (reachableIn (forestOf under (y .kids)) (l - 1) (shared lo hi) hi) e p in
+      let top : Reachable = record { number = i; level = l; low = lo; high = hi; messages = y .messages; children = forestOf under (y .branches) } in
+      let is : top ≡ x = place-here s n x top (reachableIn (forestOf under (y .branches)) (l - 1) (shared lo hi) hi) e p in
       (ap (λ (z : Reachable). z .level) (sym is), ap (λ (z : Reachable). z .low) (sym is), ap (λ (z : Reachable). z .high) (sym is), rw e)
 
   level-bridge : (l i : ℕ) (lo hi : List ℕ) → soundTree (treeAt (suc (suc l)) s i) lo hi ≡ true → once (numbers (treeAt (suc (suc l)) s i)) ≡ true

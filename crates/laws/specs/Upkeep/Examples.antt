@@ -13,8 +13,8 @@ use Rattle.image.specs.Sound.{valuesFit, soundMessage, soundMessages, firstPivo
 use Rattle.image.specs.Upkeep.{reachable, reachableIn, reachableAt, holdsNoMessage, every, overlap, flushed, sameMessage, isSublist, gainsNoMessage, noneGains, pairBytes, childBytes, shortPivots, treeBytes, treeShort, noMessage, wouldFit, unmergeable, unmergeableAt, keepsRange, healed}
 use Rattle.laws.specs.PushDown.{taken, touches, lowered, sent, pushed, raised}
 use Rattle.laws.specs.Upkeep.Merge.{rewritten, repointed, followed, sameKind, merged}
-use Rattle.laws.specs.Upkeep.Join.{joins, joinAt, firstPair, mended, kidCount, healing}
-use Rattle.laws.specs.Upkeep.Alter.{altered, alteredIn, onKids}
+use Rattle.laws.specs.Upkeep.Join.{joins, joinAt, firstPair, mended, branchCount, healing}
+use Rattle.laws.specs.Upkeep.Alter.{altered, alteredIn, onBranches}
 use Rattle.laws.specs.Upkeep.Healed.{healedTree}
 use Rattle.laws.specs.Upkeep.Flush.{pushedAll, flushedNode, flushedTree}
 
@@ -63,7 +63,7 @@ pub record Tried : Type 0 where
   order-gains : isSublist [] (drops (1 ∷ []) ∷ drops (2 ∷ []) ∷ []) [] (drops (2 ∷ []) ∷ drops (1 ∷ []) ∷ []) ≡ false
 
 pub tried : Tried
-unfolding same before begins shared letter readsOn wellFormed below owns valueLimit valueFits pathLimit withRow without withoutBelow everyKey leads rising underPrefix highOf apply applyAll rows rowsIn valuesFit soundMessage soundMessages firstPivot soundTree soundForest numbers numbersIn reachable reachableIn reachableAt holdsNoMessage every overlap flushed sameMessage isSublist gainsNoMessage noneGains pairBytes childBytes shortPivots treeBytes treeShort noMessage wouldFit unmergeable unmergeableAt keepsRange healed taken touches lowered sent pushed raised rewritten repointed followed sameKind merged joins joinAt firstPair mended kidCount healing altered alteredIn onKids healedTree pushedAll flushedNode flushedTree
+unfolding same before begins shared letter readsOn wellFormed below owns valueLimit valueFits pathLimit withRow without withoutBelow everyKey leads rising underPrefix highOf apply applyAll rows rowsIn valuesFit soundMessage soundMessages firstPivot soundTree soundForest numbers numbersIn reachable reachableIn reachableAt holdsNoMessage every overlap flushed sameMessage isSublist gainsNoMessage noneGains pairBytes childBytes shortPivots treeBytes treeShort noMessage wouldFit unmergeable unmergeableAt keepsRange healed taken touches lowered sent pushed raised rewritten repointed followed sameKind merged joins joinAt firstPair mended branchCount healing altered alteredIn onBranches healedTree pushedAll flushedNode flushedTree
 tried =
     record {
       is-sound = refl;

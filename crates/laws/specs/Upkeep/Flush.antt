@@ -136,7 +136,7 @@ unfolding taken
 taken-sound m (unread i) lo hi e w = e
 taken-sound m (leaf i rs) lo hi e w = leaf-takes i rs m lo hi e w
 taken-sound m (interior i f ms) lo hi e w =
-    inner-sound i f (ms ++ m ∷ []) lo hi (first-of i f ms lo hi e) (inner i f ms lo hi e .kids) (messages-append lo hi ms m (inner i f ms lo hi e .wait) w)
+    inner-sound i f (ms ++ m ∷ []) lo hi (first-of i f ms lo hi e) (inner i f ms lo hi e .branches) (messages-append lo hi ms m (inner i f ms lo hi e .wait) w)
 
 -- a node's sound message is sound in each child that it touches; a clear of more than the child owns has the empty suffix there
 clear-lowered : (s l c : List ℕ) → begins l c ≡ true → same s [] || wellFormed (l ++ s) ≡ true → begins (l ++ s) c || begins c (l ++ s) ≡ true
@@ -263,7 +263,7 @@ pushed-all (m ∷ ms) f lo hi a e w =
 module _ (i : ℕ) (f : Forest) (ms : List Message) (lo hi : List ℕ) (level : ℕ) (e : soundTree (interior i f ms) lo hi ≡ true)
     (h : tall (interior i f ms) level ≡ true) where
   all-pushed : PushedAll ms f (pushedAll ms f (shared lo hi) hi) lo hi
-  all-pushed = pushed-all ms f lo hi (first-of i f ms lo hi e) (inner i f ms lo hi e .kids) (inner i f ms lo hi e .wait)
+  all-pushed = pushed-all ms f lo hi (first-of i f ms lo hi e) (inner i f ms lo hi e .branches) (inner i f ms lo hi e .wait)
 
   flush-number : numberOf (flushedNode (interior i f ms) lo hi) ≡ numberOf (interior i f ms)
   unfolding flushedNode numberOf

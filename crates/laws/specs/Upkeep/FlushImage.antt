@@ -28,7 +28,7 @@ use Rattle.laws.specs.Upkeep.Mends.{tall-first, tall-later}
 use Rattle.laws.specs.Upkeep.Join.{heads}
 use Rattle.laws.specs.Upkeep.Healed.{place-test, goodPlace, places-good}
 use Rattle.laws.specs.Upkeep.Flush.{pushedAll, flushedNode}
-use Rattle.laws.specs.Upkeep.Room.{sentAll, sentEach, pushed-each, leafAfter, leaf-after, allFit, kids-pushed-all, number-sent}
+use Rattle.laws.specs.Upkeep.Room.{sentAll, sentEach, pushed-each, leafAfter, leaf-after, allFit, branches-pushed-all, number-sent}
 use Rattle.laws.specs.Upkeep.Page.{pageOf, Reads, none-left, one-more, leaf-reads, inner-reads}
 use Rattle.laws.specs.Upkeep.Bridge.{once-left, once-right, once-apart, place-sub, image-tall}
 use Rattle.laws.specs.Upkeep.Reading.{Node, node-of}
@@ -161,7 +161,7 @@ inner-child l s s′ i g ns lifted ms clo chi e k fits page =
     inner-reads l s′ i g (waitAfter lifted ms ns clo chi) (page ∙ ap (pageFor (suc (suc l))) eq) (subst (λ t. sizeOf (entriesFor t) ≤ 1016) eq fits)
     (all-allowed-append (childEntries g) (messageEntries (waitAfter lifted ms ns clo chi)) (allowed-left (childEntries g) (messageEntries ns) (node-of l s i g ns e .short))
     (messages-allowed (waitAfter lifted ms ns clo chi)))
-    (reads-stay (suc l) s s′ (node-of l s i g ns e .kids) k)
+    (reads-stay (suc l) s s′ (node-of l s i g ns e .branches) k)
     ∙ sym eq
 
 child-reads : (l : ℕ) (s s′ : List ℕ) (t : Tree) (lifted : List ℕ) (ms : List Message) (clo chi : List ℕ) → treeAt (suc l) s (numberOf t) ≡ t → tall t (suc l) ≡ true
@@ -239,18 +239,18 @@ module _ (s s′ : List ℕ) (n : ℕ) (x : Reachable) (l : ℕ) (e : sound s �
       ap (λ t. once (numbers t)) (sym node-there)
       ∙ once-sub (place-sub s n x (headerOf s .levels) (headerOf s .root) lowest highest p) whole-once
 
-  kids-tall : tallIn (x .children) (suc l) ≡ true
+  branches-tall : tallIn (x .children) (suc l) ≡ true
   unfolding goodPlace
-  kids-tall =
+  branches-tall =
       let down : x .level - 1 ≡ suc l = omega (arith, level) in
       ap (λ m. tallIn (x .children) m) (sym down)
       ∙ and-right (soundForest (x .children) (shared (x .low) (x .high)) (x .low) (x .high)) _
       (place-test goodPlace n (reachable (treeOf s) (headerOf s .levels) lowest highest) x
       (places-good (treeOf s) (headerOf s .levels) lowest highest whole-sound (image-tall s whole-sound)) p)
 
-  kids-once : once (numbersIn (x .children)) ≡ true
+  branches-once : once (numbersIn (x .children)) ≡ true
   unfolding once
-  kids-once = and-right (not (isIn n (numbersIn (x .children)))) _ sub-once
+  branches-once = and-right (not (isIn n (numbersIn (x .children)))) _ sub-once
 
   n-not : (j : ℕ) → isIn j (numbersIn (x .children)) ≡ true → eqb j n ≡ false
   unfolding once
@@ -258,15 +258,15 @@ module _ (s s′ : List ℕ) (n : ℕ) (x : Reachable) (l : ℕ) (e : sound s �
 
   deep-keeps : Keeps s s′ (deepIn (x .children))
   unfolding Keeps
-  deep-keeps = λ j c. rest j (n-not j (deep-in j (x .children) c)) (deep-apart j (x .children) kids-once c)
+  deep-keeps = λ j c. rest j (n-not j (deep-in j (x .children) c)) (deep-apart j (x .children) branches-once c)
 
-  new-kids : Reads (λ j. treeAt (suc l) s′ j) (pushedAll (x .messages) (x .children) (shared (x .low) (x .high)) (x .high))
-  new-kids =
+  new-branches : Reads (λ j. treeAt (suc l) s′ j) (pushedAll (x .messages) (x .children) (shared (x .low) (x .high)) (x .high))
+  new-branches =
       subst (λ g. Reads (λ j. treeAt (suc l) s′ j) g) (sym (pushed-each (x .messages) (x .children) (shared (x .low) (x .high)) (x .high)))
-      (flush-reads l s s′ (x .messages) (shared (x .low) (x .high)) (x .high) (x .children) (parts-of .kids) kids-tall deep-keeps pages fit)
+      (flush-reads l s s′ (x .messages) (shared (x .low) (x .high)) (x .high) (x .children) (parts-of .branches) branches-tall deep-keeps pages fit)
 
   same-entries : childEntries (pushedAll (x .messages) (x .children) (shared (x .low) (x .high)) (x .high)) ≡ childEntries (x .children)
-  same-entries = kids-pushed-all (x .messages) (x .children) (shared (x .low) (x .high)) (x .high)
+  same-entries = branches-pushed-all (x .messages) (x .children) (shared (x .low) (x .high)) (x .high)
 
   new-node : treeAt (suc (suc l)) s′ n ≡ interior n (pushedAll (x .messages) (x .children) (shared (x .low) (x .high)) (x .high)) []
   unfolding pageFor messageEntries
@@ -278,7 +278,7 @@ module _ (s s′ : List ℕ) (n : ℕ) (x : Reachable) (l : ℕ) (e : sound s �
       (omega (arith, parts-of .fits, size-append (childEntries (x .children)) (messageEntries (x .messages))))))
       (subst (λ k. allAllowed (k ++ []) ≡ true) (sym same-entries)
       (subst (λ k. allAllowed k ≡ true) (sym (append-nil (childEntries (x .children)))) (allowed-left (childEntries (x .children)) (messageEntries (x .messages)) (parts-of .short))))
-      new-kids
+      new-branches
 
   changed : treeAt (x .level) s′ n ≡ flushedNode (treeAt (x .level) s n) (x .low) (x .high)
   unfolding flushedNode

@@ -21,7 +21,7 @@ use Rattle.laws.specs.Frame.{or-left, or-right}
 use Rattle.laws.specs.LookupTable.{parts, inner, high-under}
 use Rattle.laws.specs.Upkeep.Kept.{numbersOf, numbers-places, NoGain, no-gain-append, gains-none-same, gains-none-empty, no-gain, isLevel, one-level}
 use Rattle.laws.specs.Upkeep.Merge.{tall, tallIn, first-high, first-of}
-use Rattle.laws.specs.Upkeep.Mends.{tall-kids, tall-first, tall-later}
+use Rattle.laws.specs.Upkeep.Mends.{tall-branches, tall-first, tall-later}
 use Rattle.laws.specs.Upkeep.Alter.{altered, alteredIn, high-altered, altered-mends, altered-mends-in}
 use Rattle.laws.specs.Upkeep.Healed.{orElse, place-append, place-number, place-test}
 use Rattle.laws.specs.Upkeep.Flush.{pushedAll, flushedNode, flush-sane, flushedTree}
@@ -87,9 +87,9 @@ high-low f lifted lo hi e = go (before hi (highOf lifted hi f)) refl
     go true g = not-so (high-under f lifted lo hi hi e g) (before-irrefl hi)
     go false g = g
 
-within-kids : (i : ℕ) (f : Forest) (ms : List Message) (lo hi : List ℕ) (xs : List Reachable) → soundTree (interior i f ms) lo hi ≡ true
+within-branches : (i : ℕ) (f : Forest) (ms : List Message) (lo hi : List ℕ) (xs : List Reachable) → soundTree (interior i f ms) lo hi ≡ true
     → every (within (highOf (shared lo hi) hi f) hi) xs ≡ true → every (within lo hi) xs ≡ true
-within-kids i f ms lo hi xs e k = subst (λ l. every (within l hi) xs ≡ true) (first-high f (shared lo hi) lo hi (first-of i f ms lo hi e)) k
+within-branches i f ms lo hi xs e k = subst (λ l. every (within l hi) xs ≡ true) (first-high f (shared lo hi) lo hi (first-of i f ms lo hi e)) k
 
 within-tree : (s : List ℕ) (t : Tree) (f : Forest) (lifted lo hi : List ℕ) (xs ys : List Reachable) → soundForest (tree s t f) lifted lo hi ≡ true
     → every (within (lifted ++ s) (highOf lifted hi f)) xs ≡ true → every (within (highOf lifted hi f) hi) ys ≡ true
@@ -113,7 +113,7 @@ mutual
   places-within (leaf i rs) level lo hi e = both (itself i level lo hi [] end) refl
   places-within (interior i f ms) level lo hi e =
       both (itself i level lo hi ms f)
-      (within-kids i f ms lo hi (reachableIn f (level - 1) (shared lo hi) hi) e (places-within-in f (level - 1) (shared lo hi) lo hi (inner i f ms lo hi e .kids)))
+      (within-branches i f ms lo hi (reachableIn f (level - 1) (shared lo hi) hi) e (places-within-in f (level - 1) (shared lo hi) lo hi (inner i f ms lo hi e .branches)))
 
   pub places-within-in : (f : Forest) (level : ℕ) (lifted lo hi : List ℕ) → soundForest f lifted lo hi ≡ true
       → every (within (highOf lifted hi f) hi) (reachableIn f level lifted hi) ≡ true
@@ -252,7 +252,7 @@ mutual
   flush-rested (leaf i rs) n x level lo hi e h p = leaf-rested x i rs level lo hi
   flush-rested (interior i f ms) n x level lo hi e h p =
       node-rested (eqb n i) x n i f (alteredIn f n flushedNode (shared lo hi) hi) ms level lo hi refl (tall-two i f ms level h) p
-      (λ q. flush-rested-in f n x (level - 1) (shared lo hi) lo hi (inner i f ms lo hi e .kids) (tall-kids i f ms level h) q)
+      (λ q. flush-rested-in f n x (level - 1) (shared lo hi) lo hi (inner i f ms lo hi e .branches) (tall-branches i f ms level h) q)
 
   flush-rested-in : (f : Forest) (n : ℕ) (x : Reachable) (level : ℕ) (lifted lo hi : List ℕ) → soundForest f lifted lo hi ≡ true → tallIn f level ≡ true
       → reachableAt n (reachableIn f level lifted hi) ≡ some x → every (rested x) (reachableIn (alteredIn f n flushedNode lifted hi) level lifted hi) ≡ true
@@ -418,7 +418,7 @@ mutual
   flush-no-gain (leaf i rs) n at level lo hi h e = leaf-no-gain i rs at level lo hi
   flush-no-gain (interior i f ms) n at level lo hi h e =
       node-no-gain (eqb n i) n i at f (alteredIn f n flushedNode (shared lo hi) hi) ms level lo hi refl (tall-two i f ms level h) e
-      (λ q. flush-no-gain-in f n at (level - 1) (shared lo hi) hi (tall-kids i f ms level h) q)
+      (λ q. flush-no-gain-in f n at (level - 1) (shared lo hi) hi (tall-branches i f ms level h) q)
 
   flush-no-gain-in : (f : Forest) (n at level : ℕ) (lifted hi : List ℕ) → tallIn f level ≡ true → every (isLevel n at) (reachableIn f level lifted hi) ≡ true
       → NoGain (reachableIn f level lifted hi) (fromLevel at (reachableIn (alteredIn f n flushedNode lifted hi) level lifted hi))

@@ -11,7 +11,7 @@ use borrow.Author.Tests.{eqb-true, eq-eqb, ne-eqb}
 use Rattle.image.specs.Bytes.{shared}
 use Rattle.image.specs.Entry.{Entry}
 use Rattle.image.specs.Table.{Row}
-use Rattle.image.specs.Image.{Tree, unread, leaf, interior, Forest, end, tree, Kid, Inside, nodeBytes, nodeEntries, pairsOf, insideOf, forestOf, leafOf, interiorOf, orNone, treeAt, headerOf, treeOf}
+use Rattle.image.specs.Image.{Tree, unread, leaf, interior, Forest, end, tree, Branch, Inside, nodeBytes, nodeEntries, pairsOf, insideOf, forestOf, leafOf, interiorOf, orNone, treeAt, headerOf, treeOf}
 use Rattle.image.specs.Meaning.{highOf}
 use Rattle.image.specs.Sound.{soundTree, soundForest, sound, tableOf, numbers, numbersIn, isIn, once, lowest, highest}
 use Rattle.image.specs.Upkeep.{Reachable, reachable, reachableIn, reachableAt}
@@ -24,10 +24,10 @@ use Rattle.laws.specs.Upkeep.Sublists.{once-sub}
 use Rattle.laws.specs.Page.{numberOf, pairEntries, childEntries}
 use Rattle.laws.specs.Upkeep.Merge.{repointed, followed, merged, tall, tallIn, Pair, merged-number}
 use Rattle.laws.specs.Upkeep.Size.{messageEntries, entriesFor, sizeOf, ownBytes}
-use Rattle.laws.specs.Upkeep.Mends.{tall-first, tall-later, mends-node, tall-kids}
+use Rattle.laws.specs.Upkeep.Mends.{tall-first, tall-later, mends-node, tall-branches}
 use Rattle.laws.specs.Upkeep.Join.{joins, joinAt, firstPair, join-pair, join-mends}
 use Rattle.laws.specs.Upkeep.Steps.{stepped}
-use Rattle.laws.specs.Upkeep.Alter.{altered, onKids, Sane}
+use Rattle.laws.specs.Upkeep.Alter.{altered, onBranches, Sane}
 use Rattle.laws.specs.Upkeep.Healed.{place-append, place-test, orElse, goodPlace, places-good}
 use Rattle.laws.specs.Upkeep.Room.{merged-fits, merged-short, join-own}
 use Rattle.laws.specs.Upkeep.Page.{pageOf, Reads, none-left, one-more, leaf-reads, inner-reads}
@@ -143,9 +143,9 @@ merged-reads (suc l) s s′ (Pair.inners i j f k) lo mid hi e g h fits ok o but 
     inner-reads l s′ i (followed (repointed (shared lo hi) (shared lo mid) f) (repointed (shared lo hi) (shared mid hi) k)) [] page fits ok
     (reads-followed (λ n. treeAt (suc l) s′ n)
     (reads-repointed (λ n. treeAt (suc l) s′ n) (shared lo hi) (shared lo mid)
-    (reads-stay (suc l) s s′ (node-of l s i f [] e .kids) (inner-keeps s s′ i (numbersIn f) (numbers (interior j k [])) o but)))
+    (reads-stay (suc l) s s′ (node-of l s i f [] e .branches) (inner-keeps s s′ i (numbersIn f) (numbers (interior j k [])) o but)))
     (reads-repointed (λ n. treeAt (suc l) s′ n) (shared lo hi) (shared mid hi)
-    (reads-stay (suc l) s s′ (node-of l s j k [] g .kids) (outer-keeps s s′ i j (numbersIn f) (numbersIn k) o but))))
+    (reads-stay (suc l) s s′ (node-of l s j k [] g .branches) (outer-keeps s s′ i j (numbersIn f) (numbersIn k) o but))))
 
 merged-at-reads : (l : ℕ) (s s′ : List ℕ) (k : ℕ) (f : Forest) (lifted hi : List ℕ) → Reads (λ j. treeAt (suc l) s j) f → tallIn f (suc l) ≡ true
     → pairAt k f lifted hi ≡ true → once (numbersIn f) ≡ true → But s s′ (leftAt k f) (numbersIn f)
@@ -194,11 +194,11 @@ join-short zero (tree s t (tree q u f)) lifted hi es e = go (joins t u (lifted +
 join-short (suc k) (tree s t (tree q u f)) lifted hi es e =
     both (and-left (leb (length s) 65) _ e) (join-short k (tree q u f) lifted hi es (and-right (leb (length s) 65) _ e))
 
-pub join-sane : (k : ℕ) → Sane (onKids (joinAt k))
-unfolding Sane onKids
+pub join-sane : (k : ℕ) → Sane (onBranches (joinAt k))
+unfolding Sane onBranches
 join-sane k i f ms lo hi level e h =
     mends-node i f (joinAt k f (shared lo hi) hi) ms lo hi level e h
-    (join-mends k f (shared lo hi) lo hi (level - 1) (inner i f ms lo hi e .kids) (tall-kids i f ms level h))
+    (join-mends k f (shared lo hi) lo hi (level - 1) (inner i f ms lo hi e .branches) (tall-branches i f ms level h))
 
 -- THE TREE OF A PLACE
 module _ (s : List ℕ) (n : ℕ) (x : Reachable) where
@@ -206,7 +206,7 @@ module _ (s : List ℕ) (n : ℕ) (x : Reachable) where
   There = 2 ≤ x .level → treeAt (x .level) s n ≡ interior n (x .children) (x .messages)
 
   find-in : (under : ℕ → Tree) (level : ℕ) → ((j : ℕ) (lo hi : List ℕ) → reachableAt n (reachable (under j) level lo hi) ≡ some x → There)
-      → (ks : List Kid) (lifted hi : List ℕ) → reachableAt n (reachableIn (forestOf under ks) level lifted hi) ≡ some x → There
+      → (ks : List Branch) (lifted hi : List ℕ) → reachableAt n (reachableIn (forestOf under ks) level lifted hi) ≡ some x → There
   unfolding forestOf reachableIn orElse
   find-in under level law [] lifted hi p = absurd (place-nil s n x p)
   find-in under level law (k ∷ ks) lifted hi p =
@@ -241,15 +241,15 @@ module _ (s : List ℕ) (n : ℕ) (x : Reachable) where
   inner-there under l i (some y) lo hi t law p = go (eqb n i) refl
     where
       top : Reachable
-      top = record { number = i; level = l; low = lo; high = hi; messages = y .messages; children = forestOf under (y .kids) }
+      top = record { number = i; level = l; low = lo; high = hi; messages = y .messages; children = forestOf under (y .branches) }
 
       go : (b : Bool) → eqb n i ≡ b → There
       go true e = λ big.
-          let is : top ≡ x = place-here s n x top (reachableIn (forestOf under (y .kids)) (l - 1) (shared lo hi) hi) e p in
+          let is : top ≡ x = place-here s n x top (reachableIn (forestOf under (y .branches)) (l - 1) (shared lo hi) hi) e p in
           here s n x l i (ap (λ (z : Reachable). z .level) (sym is)) (eqb-true n i e) ∙ t
           ∙ ap (λ (z : Reachable). interior i (z .children) (z .messages)) is ∙ ap (λ j. interior j (x .children) (x .messages)) (sym (eqb-true n i e))
       go false e =
-          find-in under (l - 1) law (y .kids) (shared lo hi) hi (place-past s n x top (reachableIn (forestOf under (y .kids)) (l - 1) (shared lo hi) hi) e p)
+          find-in under (l - 1) law (y .branches) (shared lo hi) hi (place-past s n x top (reachableIn (forestOf under (y .branches)) (l - 1) (shared lo hi) hi) e p)
 
   pub place-tree : (l i : ℕ) (lo hi : List ℕ) → reachableAt n (reachable (treeAt l s i) l lo hi) ≡ some x → There
   unfolding treeAt reachable
@@ -296,26 +296,26 @@ module _ (s s′ : List ℕ) (n : ℕ) (x : Reachable) (l k : ℕ) (e : sound s 
       place-test goodPlace n (reachable (treeOf s) (headerOf s .levels) lowest highest) x
       (places-good (treeOf s) (headerOf s .levels) lowest highest whole-sound (image-tall s whole-sound)) p
 
-  kids-tall : tallIn (x .children) (suc l) ≡ true
+  branches-tall : tallIn (x .children) (suc l) ≡ true
   unfolding goodPlace
-  kids-tall =
+  branches-tall =
       let down : x .level - 1 ≡ suc l = omega (arith, level) in
       ap (λ m. tallIn (x .children) m) (sym down) ∙ and-right (soundForest (x .children) (shared (x .low) (x .high)) (x .low) (x .high)) _ good
 
-  kids-once : once (numbersIn (x .children)) ≡ true
+  branches-once : once (numbersIn (x .children)) ≡ true
   unfolding once
-  kids-once = and-right (not (isIn n (numbersIn (x .children)))) _ sub-once
+  branches-once = and-right (not (isIn n (numbersIn (x .children)))) _ sub-once
 
   n-not : (j : ℕ) → isIn j (numbersIn (x .children)) ≡ true → eqb j n ≡ false
   unfolding once
   n-not j c = ne-eqb j n (λ q. not-so (ap (λ i. isIn i (numbersIn (x .children))) (sym q) ∙ c) (not-true (isIn n (numbersIn (x .children))) (and-left _ _ sub-once)))
 
-  kids-but : But s s′ (leftAt k (x .children)) (numbersIn (x .children))
-  kids-but j c d = rest j (n-not j c) d
+  branches-but : But s s′ (leftAt k (x .children)) (numbersIn (x .children))
+  branches-but j c d = rest j (n-not j c) d
 
   new-left : treeAt (suc l) s′ (leftAt k (x .children)) ≡ mergedAt k (x .children) (shared (x .low) (x .high)) (x .high)
   new-left =
-      merged-at-reads l s s′ k (x .children) (shared (x .low) (x .high)) (x .high) (parts-of .kids) kids-tall joined kids-once kids-but left
+      merged-at-reads l s s′ k (x .children) (shared (x .low) (x .high)) (x .high) (parts-of .branches) branches-tall joined branches-once branches-but left
 
   new-fits : sizeOf (childEntries (joinAt k (x .children) (shared (x .low) (x .high)) (x .high)) ++ messageEntries (x .messages)) ≤ 1016
   unfolding ownBytes entriesFor
@@ -326,13 +326,13 @@ module _ (s s′ : List ℕ) (n : ℕ) (x : Reachable) (l k : ℕ) (e : sound s 
   new-node =
       inner-reads l s′ n (joinAt k (x .children) (shared (x .low) (x .high)) (x .high)) (x .messages) top new-fits
       (join-short k (x .children) (shared (x .low) (x .high)) (x .high) (messageEntries (x .messages)) (parts-of .short))
-      (join-reads l s s′ k (x .children) (shared (x .low) (x .high)) (x .high) (parts-of .kids) joined kids-once kids-but new-left)
+      (join-reads l s s′ k (x .children) (shared (x .low) (x .high)) (x .high) (parts-of .branches) joined branches-once branches-but new-left)
 
-  changed : treeAt (x .level) s′ n ≡ onKids (joinAt k) (treeAt (x .level) s n) (x .low) (x .high)
-  unfolding onKids
+  changed : treeAt (x .level) s′ n ≡ onBranches (joinAt k) (treeAt (x .level) s n) (x .low) (x .high)
+  unfolding onBranches
   changed =
       ap (λ m. treeAt m s′ n) level ∙ new-node
-      ∙ sym (ap (λ t. onKids (joinAt k) t (x .low) (x .high)) node-there)
+      ∙ sym (ap (λ t. onBranches (joinAt k) t (x .low) (x .high)) node-there)
 
   others : (j : ℕ) → isIn j (numbers (treeOf s)) ≡ true → isIn j (numbers (treeAt (x .level) s n)) ≡ false → nodeBytes s′ j ≡ nodeBytes s j
   unfolding numbers isIn
@@ -348,14 +348,14 @@ module _ (s s′ : List ℕ) (n : ℕ) (x : Reachable) (l k : ℕ) (e : sound s 
 
   -- the image is sound and means the same table
   pub step-keeps : (sound s′ ≡ true) × (tableOf s′ ≡ tableOf s)
-  step-keeps = image-mends s s′ n x (onKids (joinAt k)) big changed e len z p others (join-sane k)
+  step-keeps = image-mends s s′ n x (onBranches (joinAt k)) big changed e len z p others (join-sane k)
 
   -- the first pair: the step of the loop
-  pub step-first : k ≡ firstPair (x .children) (shared (x .low) (x .high)) (x .high) → treeOf s′ ≡ altered (treeOf s) n (onKids stepped) lowest highest
-  unfolding onKids stepped
+  pub step-first : k ≡ firstPair (x .children) (shared (x .low) (x .high)) (x .high) → treeOf s′ ≡ altered (treeOf s) n (onBranches stepped) lowest highest
+  unfolding onBranches stepped
   step-first first =
-      let same : onKids (joinAt k) (treeAt (x .level) s n) (x .low) (x .high) ≡ onKids stepped (treeAt (x .level) s n) (x .low) (x .high) =
-      ap (λ t. onKids (joinAt k) t (x .low) (x .high)) node-there
+      let same : onBranches (joinAt k) (treeAt (x .level) s n) (x .low) (x .high) ≡ onBranches stepped (treeAt (x .level) s n) (x .low) (x .high) =
+      ap (λ t. onBranches (joinAt k) t (x .low) (x .high)) node-there
       ∙ ap (λ m. interior n (joinAt m (x .children) (shared (x .low) (x .high)) (x .high)) (x .messages)) first
-      ∙ sym (ap (λ t. onKids stepped t (x .low) (x .high)) node-there) in
-      image-tree s s′ n x (onKids stepped) big (changed ∙ same) e z p others
+      ∙ sym (ap (λ t. onBranches stepped t (x .low) (x .high)) node-there) in
+      image-tree s s′ n x (onBranches stepped) big (changed ∙ same) e z p others

@@ -23,7 +23,7 @@ use Rattle.laws.specs.Upkeep.Size.{messageEntries, entriesFor, ownBytes}
 use Rattle.laws.specs.Upkeep.Mends.{tall-first, tall-later}
 use Rattle.laws.specs.Upkeep.Join.{joinAt, firstPair, join-pair}
 use Rattle.laws.specs.Upkeep.Steps.{stepped}
-use Rattle.laws.specs.Upkeep.Alter.{altered, onKids}
+use Rattle.laws.specs.Upkeep.Alter.{altered, onBranches}
 use Rattle.laws.specs.Upkeep.Healed.{place-test, goodPlace, places-good}
 use Rattle.laws.specs.Upkeep.Room.{merged-fits, join-own}
 use Rattle.laws.specs.Upkeep.Page.{page-length}
@@ -107,8 +107,8 @@ module _ (s : List ℕ) (n : ℕ) (x : Reachable) (l k : ℕ) (e : sound s ≡ t
   unfolding treeOf numbers
   sub = subst (λ t. Sub (numbers t) (numbers (treeOf s))) node-there (place-sub s n x (headerOf s .levels) (headerOf s .root) lowest highest p)
 
-  a-kid : isIn a (numbersIn (x .children)) ≡ true
-  a-kid = left-in k (x .children) (shared (x .low) (x .high)) (x .high) joined
+  a-branch : isIn a (numbersIn (x .children)) ≡ true
+  a-branch = left-in k (x .children) (shared (x .low) (x .high)) (x .high) joined
 
   n-range : (1 ≤ n) × (n < nodesOf (length s))
   unfolding isIn
@@ -116,20 +116,20 @@ module _ (s : List ℕ) (n : ℕ) (x : Reachable) (l k : ℕ) (e : sound s ≡ t
 
   a-range : (1 ≤ a) × (a < nodesOf (length s))
   unfolding isIn
-  a-range = range-of (nodesOf (length s)) a (numbers (treeOf s)) whole-range (sub-in a sub (or-right (eqb a n) (isIn a (numbersIn (x .children))) a-kid))
+  a-range = range-of (nodesOf (length s)) a (numbers (treeOf s)) whole-range (sub-in a sub (or-right (eqb a n) (isIn a (numbersIn (x .children))) a-branch))
 
   a-not-n : a ≡ n → ⊥
   unfolding once
   a-not-n q =
-      true-false (isIn n (numbersIn (x .children))) (ap (λ i. isIn i (numbersIn (x .children))) (sym q) ∙ a-kid)
+      true-false (isIn n (numbersIn (x .children))) (ap (λ i. isIn i (numbersIn (x .children))) (sym q) ∙ a-branch)
       (not-true (isIn n (numbersIn (x .children))) (and-left _ _ (once-sub sub whole-once)))
     where
       true-false : (b : Bool) → b ≡ true → b ≡ false → ⊥
       true-false b c d = false≢true (sym d ∙ c)
 
-  kids-tall : tallIn (x .children) (suc l) ≡ true
+  branches-tall : tallIn (x .children) (suc l) ≡ true
   unfolding goodPlace
-  kids-tall =
+  branches-tall =
       let down : x .level - 1 ≡ suc l = omega (arith, level) in
       ap (λ m. tallIn (x .children) m) (sym down)
       ∙ and-right (soundForest (x .children) (shared (x .low) (x .high)) (x .low) (x .high)) _
@@ -139,7 +139,7 @@ module _ (s : List ℕ) (n : ℕ) (x : Reachable) (l k : ℕ) (e : sound s ≡ t
   full-a : length pageA ≡ 1024
   full-a =
       page-for-length (mergedAt k (x .children) (shared (x .low) (x .high)) (x .high)) (suc l)
-      (merged-at-tall k (x .children) (shared (x .low) (x .high)) (x .high) (suc l) kids-tall joined)
+      (merged-at-tall k (x .children) (shared (x .low) (x .high)) (x .high) (suc l) branches-tall joined)
       (merged-at-fits k (x .children) (shared (x .low) (x .high)) (x .high) joined)
 
   full-n : length pageN ≡ 1024
@@ -179,7 +179,7 @@ module _ (s : List ℕ) (n : ℕ) (x : Reachable) (l k : ℕ) (e : sound s ≡ t
   pub wrote-zero : nodeBytes stepBytes 0 ≡ nodeBytes s 0
   wrote-zero = step-zero
 
-  pub wrote-first : k ≡ firstPair (x .children) (shared (x .low) (x .high)) (x .high) → treeOf stepBytes ≡ altered (treeOf s) n (onKids stepped) lowest highest
+  pub wrote-first : k ≡ firstPair (x .children) (shared (x .low) (x .high)) (x .high) → treeOf stepBytes ≡ altered (treeOf s) n (onBranches stepped) lowest highest
   wrote-first q = step-first s stepBytes n x l k e step-length step-zero p level joined step-top step-left step-rest q
 
   pub wrote-keeps : (sound stepBytes ≡ true) × (tableOf stepBytes ≡ tableOf s)

@@ -11,7 +11,7 @@ use borrow.Author.Tests.{eqb-true, le-leb}
 use Rattle.image.specs.Bytes.{shared}
 use Rattle.image.specs.Entry.{Message}
 use Rattle.image.specs.Table.{Row}
-use Rattle.image.specs.Image.{Tree, unread, leaf, interior, Forest, end, tree, Kid, Inside, forestOf, leafOf, interiorOf, orNone, treeAt, nodeEntries, nodeBytes, pairsOf, insideOf}
+use Rattle.image.specs.Image.{Tree, unread, leaf, interior, Forest, end, tree, Branch, Inside, forestOf, leafOf, interiorOf, orNone, treeAt, nodeEntries, nodeBytes, pairsOf, insideOf}
 use Rattle.image.specs.Meaning.{highOf}
 use Rattle.image.specs.Sound.{soundTree, soundForest, soundRoot, numbers, once, inRange, lowest, highest}
 use Rattle.image.specs.Upkeep.{Reachable, reachable, reachableIn, reachableAt, every}
@@ -20,14 +20,14 @@ use Rattle.laws.specs.Rising.{both}
 use Rattle.laws.specs.LookupTable.{Parts, parts, inner}
 use Rattle.laws.specs.Upkeep.Sublists.{once-sub, range-sub}
 use Rattle.laws.specs.Upkeep.Merge.{tall, tallIn}
-use Rattle.laws.specs.Upkeep.Mends.{Mends, tall-kids, tall-first, tall-later}
+use Rattle.laws.specs.Upkeep.Mends.{Mends, tall-branches, tall-first, tall-later}
 use Rattle.laws.specs.Upkeep.Join.{healing}
-use Rattle.laws.specs.Upkeep.Alter.{altered, alteredIn, onKids, high-altered}
+use Rattle.laws.specs.Upkeep.Alter.{altered, alteredIn, onBranches, high-altered}
 use Rattle.laws.specs.LiveCount.{every-both}
 
 -- the children of node n merged until none of them fit
 unfoldable pub healedTree : Tree → ℕ → List ℕ → List ℕ → Tree
-healedTree t n lo hi = altered t n (onKids healing) lo hi
+healedTree t n lo hi = altered t n (onBranches healing) lo hi
 
 -- THE NODE ITSELF: number, level, pivots and messages stay, its children are changed
 unfoldable pub rechilded : (Forest → List ℕ → List ℕ → Forest) → Reachable → Reachable
@@ -75,8 +75,8 @@ place-leaf c none-new i n rs level lo hi = go (eqb n i) refl
 
 place-choice : (c : Forest → List ℕ → List ℕ → Forest) (b : Bool) (i n : ℕ) (f g : Forest) (ms : List Message) (level : ℕ) (lo hi : List ℕ) → eqb n i ≡ b
     → reachableAt n (reachableIn g (level - 1) (shared lo hi) hi) ≡ rechild c (reachableAt n (reachableIn f (level - 1) (shared lo hi) hi))
-    → reachableAt n (reachable (cond b (onKids c (interior i f ms) lo hi) (interior i g ms)) level lo hi) ≡ rechild c (reachableAt n (reachable (interior i f ms) level lo hi))
-unfolding reachableAt reachable onKids rechild rechilded
+    → reachableAt n (reachable (cond b (onBranches c (interior i f ms) lo hi) (interior i g ms)) level lo hi) ≡ rechild c (reachableAt n (reachable (interior i f ms) level lo hi))
+unfolding reachableAt reachable onBranches rechild rechilded
 place-choice c true i n f g ms level lo hi e k = rw e
 place-choice c false i n f g ms level lo hi e k = rw e k
 
@@ -84,19 +84,19 @@ mutual
   unfolding altered alteredIn reachable reachableIn reachableAt rechild
 
   pub place-altered : (t : Tree) (n : ℕ) (c : Forest → List ℕ → List ℕ → Forest) → ((l h : List ℕ) → c end l h ≡ end) → (level : ℕ) (lo hi : List ℕ)
-      → reachableAt n (reachable (altered t n (onKids c) lo hi) level lo hi) ≡ rechild c (reachableAt n (reachable t level lo hi))
+      → reachableAt n (reachable (altered t n (onBranches c) lo hi) level lo hi) ≡ rechild c (reachableAt n (reachable t level lo hi))
   place-altered (unread i) n c law level lo hi = refl
   place-altered (leaf i rs) n c law level lo hi = place-leaf c law i n rs level lo hi
   place-altered (interior i f ms) n c law level lo hi =
-      place-choice c (eqb n i) i n f (alteredIn f n (onKids c) (shared lo hi) hi) ms level lo hi refl (place-altered-in f n c law (level - 1) (shared lo hi) hi)
+      place-choice c (eqb n i) i n f (alteredIn f n (onBranches c) (shared lo hi) hi) ms level lo hi refl (place-altered-in f n c law (level - 1) (shared lo hi) hi)
 
   pub place-altered-in : (f : Forest) (n : ℕ) (c : Forest → List ℕ → List ℕ → Forest) → ((l h : List ℕ) → c end l h ≡ end) → (level : ℕ) (lifted hi : List ℕ)
-      → reachableAt n (reachableIn (alteredIn f n (onKids c) lifted hi) level lifted hi) ≡ rechild c (reachableAt n (reachableIn f level lifted hi))
+      → reachableAt n (reachableIn (alteredIn f n (onBranches c) lifted hi) level lifted hi) ≡ rechild c (reachableAt n (reachableIn f level lifted hi))
   place-altered-in end n c law level lifted hi = refl
   place-altered-in (tree s t f) n c law level lifted hi =
-      rw (high-altered f n (onKids c) lifted hi lifted hi)
-      (place-append n (reachable (altered t n (onKids c) (lifted ++ s) (highOf lifted hi f)) level (lifted ++ s) (highOf lifted hi f))
-      (reachableIn (alteredIn f n (onKids c) lifted hi) level lifted hi)
+      rw (high-altered f n (onBranches c) lifted hi lifted hi)
+      (place-append n (reachable (altered t n (onBranches c) (lifted ++ s) (highOf lifted hi f)) level (lifted ++ s) (highOf lifted hi f))
+      (reachableIn (alteredIn f n (onBranches c) lifted hi) level lifted hi)
       ∙ ap₂ orElse (place-altered t n c law level (lifted ++ s) (highOf lifted hi f)) (place-altered-in f n c law level lifted hi)
       ∙ sym (rechild-else c (reachableAt n (reachable t level (lifted ++ s) (highOf lifted hi f))) (reachableAt n (reachableIn f level lifted hi)))
       ∙ ap (rechild c) (sym (place-append n (reachable t level (lifted ++ s) (highOf lifted hi f)) (reachableIn f level lifted hi))))
@@ -112,8 +112,8 @@ mutual
   places-good (unread i) level lo hi e h = refl
   places-good (leaf i rs) level lo hi e h = refl
   places-good (interior i f ms) level lo hi e h =
-      both (both (inner i f ms lo hi e .kids) (tall-kids i f ms level h))
-      (places-good-in f (level - 1) (shared lo hi) lo hi (inner i f ms lo hi e .kids) (tall-kids i f ms level h))
+      both (both (inner i f ms lo hi e .branches) (tall-branches i f ms level h))
+      (places-good-in f (level - 1) (shared lo hi) lo hi (inner i f ms lo hi e .branches) (tall-branches i f ms level h))
 
   pub places-good-in : (f : Forest) (level : ℕ) (lifted lo hi : List ℕ) → soundForest f lifted lo hi ≡ true → tallIn f level ≡ true
       → every goodPlace (reachableIn f level lifted hi) ≡ true
@@ -158,7 +158,7 @@ mends-root n live t u level m e =
 
 -- THE TREE OF AN IMAGE has the level that it is read with
 forest-tall : (under : ℕ → Tree) (level : ℕ) → ((j : ℕ) (lo hi : List ℕ) → soundTree (under j) lo hi ≡ true → tall (under j) level ≡ true)
-    → (ks : List Kid) (lifted lo hi : List ℕ) → soundForest (forestOf under ks) lifted lo hi ≡ true → tallIn (forestOf under ks) level ≡ true
+    → (ks : List Branch) (lifted lo hi : List ℕ) → soundForest (forestOf under ks) lifted lo hi ≡ true → tallIn (forestOf under ks) level ≡ true
 unfolding forestOf tallIn
 forest-tall under level law [] lifted lo hi e = refl
 forest-tall under level law (k ∷ ks) lifted lo hi e =
@@ -177,7 +177,7 @@ interior-tall under l law i none lo hi e = e
 interior-tall under l law i (some x) lo hi e =
     let down : suc (suc l) - 1 ≡ suc l = omega arith in
     both (le-leb 2 (suc (suc l)) (omega arith))
-    (rw down (forest-tall under (suc l) law (x .kids) (shared lo hi) lo hi (inner i (forestOf under (x .kids)) (x .messages) lo hi e .kids)))
+    (rw down (forest-tall under (suc l) law (x .branches) (shared lo hi) lo hi (inner i (forestOf under (x .branches)) (x .messages) lo hi e .branches)))
 
 pub tree-tall : (l : ℕ) (image : List ℕ) (i : ℕ) (lo hi : List ℕ) → soundTree (treeAt l image i) lo hi ≡ true → tall (treeAt l image i) l ≡ true
 unfolding treeAt soundTree tall

@@ -46,13 +46,13 @@ unfoldable pub mended : ℕ → Forest → List ℕ → List ℕ → Forest
 mended zero f lifted hi = f
 mended (suc n) f lifted hi = mended n (joinAt (firstPair f lifted hi) f lifted hi) lifted hi
 
-unfoldable pub kidCount : Forest → ℕ
-kidCount end = 0
-kidCount (tree s t f) = suc (kidCount f)
+unfoldable pub branchCount : Forest → ℕ
+branchCount end = 0
+branchCount (tree s t f) = suc (branchCount f)
 
 -- as often as there are children: the whole of a heal
 unfoldable pub healing : Forest → List ℕ → List ℕ → Forest
-healing f lifted hi = mended (kidCount f) f lifted hi
+healing f lifted hi = mended (branchCount f) f lifted hi
 
 pub join-pair : (t u : Tree) (lo mid hi : List ℕ) → joins t u lo mid hi ≡ true → Pair t u
 unfolding joins

@@ -85,7 +85,7 @@ mutual
   numbers-places (unread i) level lo hi e = absurd (false≢true e)
   numbers-places (leaf i rs) level lo hi e = refl
   numbers-places (interior i f ms) level lo hi e =
-      ap (λ l. i ∷ l) (numbers-places-in f (level - 1) (shared lo hi) lo hi (inner i f ms lo hi e .kids))
+      ap (λ l. i ∷ l) (numbers-places-in f (level - 1) (shared lo hi) lo hi (inner i f ms lo hi e .branches))
 
   pub numbers-places-in : (f : Forest) (level : ℕ) (lifted lo hi : List ℕ) → soundForest f lifted lo hi ≡ true
       → numbersOf (reachableIn f level lifted hi) ≡ numbersIn f

@@ -14,7 +14,7 @@ use Rattle.laws.specs.Upkeep.Sublists.{sub-in}
 use Rattle.laws.specs.Upkeep.Kept.{Kept, kept-refl, kept-trans}
 use Rattle.laws.specs.Upkeep.Merge.{sameKind, tall, tallIn}
 use Rattle.laws.specs.Upkeep.Mends.{MendsIn, tall-first, tall-later}
-use Rattle.laws.specs.Upkeep.Join.{joins, joinAt, firstPair, mended, kidCount, join-mends, heads, join-heads, join-kept}
+use Rattle.laws.specs.Upkeep.Join.{joins, joinAt, firstPair, mended, branchCount, join-mends, heads, join-heads, join-kept}
 
 -- nodes of one level are of one kind
 pub one-kind : (t u : Tree) (level : ℕ) → tall t level ≡ true → tall u level ≡ true → sameKind t u ≡ true
@@ -29,8 +29,8 @@ one-kind (interior i f ms) (interior j g ns) level a b = refl
 
 -- where one does, there is a child less
 pub join-less : (f : Forest) (lifted hi : List ℕ) (level : ℕ) → tallIn f level ≡ true → unmergeable f lifted hi ≡ false
-    → suc (kidCount (joinAt (firstPair f lifted hi) f lifted hi)) ≡ kidCount f
-unfolding unmergeable firstPair joinAt joins kidCount
+    → suc (branchCount (joinAt (firstPair f lifted hi) f lifted hi)) ≡ branchCount f
+unfolding unmergeable firstPair joinAt joins branchCount
 join-less end lifted hi level h e = absurd (true≢false e)
 join-less (tree s t end) lifted hi level h e = absurd (true≢false e)
 join-less (tree s t (tree q u f)) lifted hi level h e =
@@ -41,8 +41,8 @@ join-less (tree s t (tree q u f)) lifted hi level h e =
     kind = one-kind t u level (tall-first s t (tree q u f) level h) (tall-first q u f level (tall-later s t (tree q u f) level h))
 
     go : (x : Bool) → wouldFit t u (lifted ++ s) (lifted ++ q) (highOf lifted hi f) ≡ x
-        → (unmergeable (tree q u f) lifted hi ≡ false → suc (kidCount (joinAt (firstPair (tree q u f) lifted hi) (tree q u f) lifted hi)) ≡ kidCount (tree q u f))
-        → suc (kidCount (joinAt (firstPair (tree s t (tree q u f)) lifted hi) (tree s t (tree q u f)) lifted hi)) ≡ suc (suc (kidCount f))
+        → (unmergeable (tree q u f) lifted hi ≡ false → suc (branchCount (joinAt (firstPair (tree q u f) lifted hi) (tree q u f) lifted hi)) ≡ branchCount (tree q u f))
+        → suc (branchCount (joinAt (firstPair (tree s t (tree q u f)) lifted hi) (tree s t (tree q u f)) lifted hi)) ≡ suc (suc (branchCount f))
     go true a ih = rw (kind, a) (rw (kind, a))
     go false a ih = rw (kind, a) (ap suc (ih (subst (λ x. not x && unmergeable (tree q u f) lifted hi ≡ false) a e)))
 

@@ -100,9 +100,9 @@ module _ (i : ℕ) (f g : Forest) (ms : List Message) (lo hi : List ℕ) (level 
       }
 
 -- the heights of a node's children, and of a list's
-pub tall-kids : (i : ℕ) (f : Forest) (ms : List Message) (level : ℕ) → tall (interior i f ms) level ≡ true → tallIn f (level - 1) ≡ true
+pub tall-branches : (i : ℕ) (f : Forest) (ms : List Message) (level : ℕ) → tall (interior i f ms) level ≡ true → tallIn f (level - 1) ≡ true
 unfolding tall
-tall-kids i f ms level h = and-right (leb 2 level) _ h
+tall-branches i f ms level h = and-right (leb 2 level) _ h
 
 pub tall-first : (s : List ℕ) (t : Tree) (f : Forest) (level : ℕ) → tallIn (tree s t f) level ≡ true → tall t level ≡ true
 unfolding tallIn

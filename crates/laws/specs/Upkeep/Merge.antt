@@ -281,7 +281,7 @@ module _ (i j : ℕ) (f g : Forest) (lo mid hi : List ℕ) (a : before lo mid �
   -- the right one's children begin at mid
   seam : highOf (shared lo hi) hi (repointed (shared lo hi) (shared mid hi) g) ≡ mid
   seam =
-      high-repointed (shared lo hi) (shared mid hi) mid hi right-begins g hi (inner j g [] mid hi k .kids)
+      high-repointed (shared lo hi) (shared mid hi) mid hi right-begins g hi (inner j g [] mid hi k .branches)
       ∙ first-high g (shared mid hi) mid hi (first-of j g [] mid hi k)
 
   pub inners-rows : rowsIn (followed (repointed (shared lo hi) (shared lo mid) f) (repointed (shared lo hi) (shared mid hi) g)) (shared lo hi) hi
@@ -290,8 +290,8 @@ module _ (i j : ℕ) (f g : Forest) (lo mid hi : List ℕ) (a : before lo mid �
       rows-followed (shared lo hi) hi (repointed (shared lo hi) (shared lo mid) f) (repointed (shared lo hi) (shared mid hi) g)
       ∙ ap (λ h. rowsIn (repointed (shared lo hi) (shared lo mid) f) (shared lo hi) h ++ rowsIn (repointed (shared lo hi) (shared mid hi) g) (shared lo hi) hi) seam
       ∙ ap₂ (λ x y. x ++ y)
-      (rows-repointed (shared lo hi) (shared lo mid) lo mid left-begins f (inner i f [] lo mid e .kids))
-      (rows-repointed (shared lo hi) (shared mid hi) mid hi right-begins g (inner j g [] mid hi k .kids))
+      (rows-repointed (shared lo hi) (shared lo mid) lo mid left-begins f (inner i f [] lo mid e .branches))
+      (rows-repointed (shared lo hi) (shared mid hi) mid hi right-begins g (inner j g [] mid hi k .branches))
 
   pub inners-places : (level : ℕ)
       → reachableIn (followed (repointed (shared lo hi) (shared lo mid) f) (repointed (shared lo hi) (shared mid hi) g)) level (shared lo hi) hi
@@ -300,18 +300,18 @@ module _ (i j : ℕ) (f g : Forest) (lo mid hi : List ℕ) (a : before lo mid �
       places-followed (shared lo hi) hi (repointed (shared lo hi) (shared lo mid) f) (repointed (shared lo hi) (shared mid hi) g) level
       ∙ ap (λ h. reachableIn (repointed (shared lo hi) (shared lo mid) f) level (shared lo hi) h ++ reachableIn (repointed (shared lo hi) (shared mid hi) g) level (shared lo hi) hi) seam
       ∙ ap₂ (λ x y. x ++ y)
-      (places-repointed (shared lo hi) (shared lo mid) lo mid left-begins f level (inner i f [] lo mid e .kids))
-      (places-repointed (shared lo hi) (shared mid hi) mid hi right-begins g level (inner j g [] mid hi k .kids))
+      (places-repointed (shared lo hi) (shared lo mid) lo mid left-begins f level (inner i f [] lo mid e .branches))
+      (places-repointed (shared lo hi) (shared mid hi) mid hi right-begins g level (inner j g [] mid hi k .branches))
 
   pub inners-sound : soundTree (merged (interior i f []) (interior j g []) lo mid hi) lo hi ≡ true
   unfolding merged
   inners-sound =
       inner-sound i (followed (repointed (shared lo hi) (shared lo mid) f) (repointed (shared lo hi) (shared mid hi) g)) [] lo hi
       (first-followed (repointed (shared lo hi) (shared lo mid) f) (repointed (shared lo hi) (shared mid hi) g) (shared lo hi) lo
-      (first-repointed (shared lo hi) (shared lo mid) lo mid left-begins f (inner i f [] lo mid e .kids) (first-of i f [] lo mid e)))
+      (first-repointed (shared lo hi) (shared lo mid) lo mid left-begins f (inner i f [] lo mid e .branches) (first-of i f [] lo mid e)))
       (sound-followed (repointed (shared lo hi) (shared lo mid) f) (repointed (shared lo hi) (shared mid hi) g) (shared lo hi) lo mid hi a b seam
-      (sound-repointed (shared lo hi) (shared lo mid) lo mid left-begins f (inner i f [] lo mid e .kids))
-      (sound-repointed (shared lo hi) (shared mid hi) mid hi right-begins g (inner j g [] mid hi k .kids)))
+      (sound-repointed (shared lo hi) (shared lo mid) lo mid left-begins f (inner i f [] lo mid e .branches))
+      (sound-repointed (shared lo hi) (shared mid hi) mid hi right-begins g (inner j g [] mid hi k .branches)))
       (messages-none lo hi)
 
 -- EITHER KIND

@@ -9,7 +9,7 @@ use Rattle.image.specs.Entry.{Message, Entry}
 use Rattle.image.specs.Table.{Row}
 use Rattle.image.specs.Image.{Tree, leaf, interior, Forest, end, tree, nodeBytes, nodeEntries, forestOf, leafOf, interiorOf, orNone, treeAt}
 use Rattle.laws.specs.Encode.{bytesOfAll, allAllowed}
-use Rattle.laws.specs.Page.{page, page-length as bytes-length, page-back, numberOf, pairEntries, childEntries, kidsOf, pairs-back, pairs-allowed}
+use Rattle.laws.specs.Page.{page, page-length as bytes-length, page-back, numberOf, pairEntries, childEntries, branchesOf, pairs-back, pairs-allowed}
 use Rattle.laws.specs.Upkeep.Size.{messageEntries, sizeOf, inside-back}
 
 unfoldable pub pageOf : ℕ → ℕ → List Entry → List ℕ
@@ -34,8 +34,8 @@ pub data Reads (under : ℕ → Tree) : Forest → Type 0 where
   none-left : Reads under end
   one-more : {s : List ℕ} {t : Tree} {f : Forest} → under (numberOf t) ≡ t → Reads under f → Reads under (tree s t f)
 
-pub forest-reads : (under : ℕ → Tree) {f : Forest} → Reads under f → forestOf under (kidsOf f) ≡ f
-unfolding forestOf kidsOf
+pub forest-reads : (under : ℕ → Tree) {f : Forest} → Reads under f → forestOf under (branchesOf f) ≡ f
+unfolding forestOf branchesOf
 forest-reads under none-left = refl
 forest-reads under (one-more {s} e r) = ap₂ (λ t f. tree s t f) e (forest-reads under r)
 

@@ -11,7 +11,7 @@ use lib.Dec.{leb, eqb}
 use borrow.Author.Tests.{leb-true, le-leb}
 use Rattle.image.specs.Bytes.{u16}
 use Rattle.image.specs.Entry.{Message, puts, drops, clears, Entry, pair, child, message, keyed, pointer, entryOf, entryThen, readAll, entriesOf}
-use Rattle.image.specs.Image.{Tree, interior, Forest, Kid, Inside, laidOut, entryBytes, nodeBytes, nodeEntries, messageThen, messagesOf, noKids, kidThen, insideOf, forestOf, interiorOf, orNone, treeAt}
+use Rattle.image.specs.Image.{Tree, interior, Forest, Branch, Inside, laidOut, entryBytes, nodeBytes, nodeEntries, messageThen, messagesOf, noBranches, branchThen, insideOf, forestOf, interiorOf, orNone, treeAt}
 use Rattle.laws.specs.Encode.{bytesOf, allowed, allAllowed, pair-size, child-size}
 use Rattle.octets.specs.Order.{and-left, and-right}
 use Rattle.laws.specs.Rising.{both}
@@ -152,9 +152,9 @@ node-good kind level node es p = go (laidOut kind level node) refl
     go false q = let is : none ≡ some es = rw q at p in absurd (Option·none-ne-some es is)
 
 -- FROM ENTRIES TO THE TREE, AND BACK
-unfoldable pub kidEntries : List Kid → List Entry
-kidEntries [] = []
-kidEntries (k ∷ ks) = child (k .number) (k .pivot) ∷ kidEntries ks
+unfoldable pub branchEntries : List Branch → List Entry
+branchEntries [] = []
+branchEntries (k ∷ ks) = child (k .number) (k .pivot) ∷ branchEntries ks
 
 messages-then : (m : Message) (es : List Entry) (o : Option (List Message)) (ms : List Message) → messageThen m o ≡ some ms
     → ((ns : List Message) → o ≡ some ns → es ≡ messageEntries ns) → message m ∷ es ≡ messageEntries ms
@@ -170,40 +170,40 @@ messages-entries (child i s ∷ es) ms p = absurd (Option·none-ne-some ms p)
 messages-entries (message m ∷ es) ms p = messages-then m es (messagesOf es) ms p (λ ns q. messages-entries es ns q)
 
 abbrev reported : Inside → List Entry
-reported y = kidEntries (y .kids) ++ messageEntries (y .messages)
+reported y = branchEntries (y .branches) ++ messageEntries (y .messages)
 
-no-kids-entries : (es : List Entry) (o : Option (List Message)) (y : Inside) → noKids o ≡ some y → ((ns : List Message) → o ≡ some ns → es ≡ messageEntries ns) → es ≡ reported y
-unfolding noKids kidEntries
-no-kids-entries es none y p f = absurd (Option·none-ne-some y p)
-no-kids-entries es (some ns) y p f = f ns refl ∙ ap reported (Option·some-injective (record { kids = []; messages = ns }) y p)
+no-branches-entries : (es : List Entry) (o : Option (List Message)) (y : Inside) → noBranches o ≡ some y → ((ns : List Message) → o ≡ some ns → es ≡ messageEntries ns) → es ≡ reported y
+unfolding noBranches branchEntries
+no-branches-entries es none y p f = absurd (Option·none-ne-some y p)
+no-branches-entries es (some ns) y p f = f ns refl ∙ ap reported (Option·some-injective (record { branches = []; messages = ns }) y p)
 
-kid-entries : (k : Kid) (es : List Entry) (o : Option Inside) (y : Inside) → kidThen k o ≡ some y → ((z : Inside) → o ≡ some z → es ≡ reported z)
+branch-entries : (k : Branch) (es : List Entry) (o : Option Inside) (y : Inside) → branchThen k o ≡ some y → ((z : Inside) → o ≡ some z → es ≡ reported z)
     → child (k .number) (k .pivot) ∷ es ≡ reported y
-unfolding kidThen kidEntries
-kid-entries k es none y p f = absurd (Option·none-ne-some y p)
-kid-entries k es (some z) y p f =
-    ap (λ l. child (k .number) (k .pivot) ∷ l) (f z refl) ∙ ap reported (Option·some-injective (record { kids = k ∷ z .kids; messages = z .messages }) y p)
+unfolding branchThen branchEntries
+branch-entries k es none y p f = absurd (Option·none-ne-some y p)
+branch-entries k es (some z) y p f =
+    ap (λ l. child (k .number) (k .pivot) ∷ l) (f z refl) ∙ ap reported (Option·some-injective (record { branches = k ∷ z .branches; messages = z .messages }) y p)
 
 pub inside-entries : (es : List Entry) (y : Inside) → insideOf es ≡ some y → es ≡ reported y
-unfolding insideOf kidEntries messageEntries
-inside-entries [] y p = ap reported (Option·some-injective (record { kids = []; messages = [] }) y p)
+unfolding insideOf branchEntries messageEntries
+inside-entries [] y p = ap reported (Option·some-injective (record { branches = []; messages = [] }) y p)
 inside-entries (pair s v ∷ es) y p = absurd (Option·none-ne-some y p)
-inside-entries (child i s ∷ es) y p = kid-entries (record { number = i; pivot = s }) es (insideOf es) y p (λ z q. inside-entries es z q)
-inside-entries (message m ∷ es) y p = no-kids-entries (message m ∷ es) (messagesOf (message m ∷ es)) y p (λ ns q. messages-entries (message m ∷ es) ns q)
+inside-entries (child i s ∷ es) y p = branch-entries (record { number = i; pivot = s }) es (insideOf es) y p (λ z q. inside-entries es z q)
+inside-entries (message m ∷ es) y p = no-branches-entries (message m ∷ es) (messagesOf (message m ∷ es)) y p (λ ns q. messages-entries (message m ∷ es) ns q)
 
-pub kids-for-forest : (under : ℕ → Tree) → ((j : ℕ) → numberOf (under j) ≡ j) → (ks : List Kid) → childEntries (forestOf under ks) ≡ kidEntries ks
-unfolding childEntries forestOf kidEntries
-kids-for-forest under law [] = refl
-kids-for-forest under law (k ∷ ks) = ap₂ (λ i l. child i (k .pivot) ∷ l) (law (k .number)) (kids-for-forest under law ks)
+pub branches-for-forest : (under : ℕ → Tree) → ((j : ℕ) → numberOf (under j) ≡ j) → (ks : List Branch) → childEntries (forestOf under ks) ≡ branchEntries ks
+unfolding childEntries forestOf branchEntries
+branches-for-forest under law [] = refl
+branches-for-forest under law (k ∷ ks) = ap₂ (λ i l. child i (k .pivot) ∷ l) (law (k .number)) (branches-for-forest under law ks)
 
-reads-forest : (under : ℕ → Tree) → ((j : ℕ) → numberOf (under j) ≡ j) → (ks : List Kid) → Reads under (forestOf under ks)
+reads-forest : (under : ℕ → Tree) → ((j : ℕ) → numberOf (under j) ≡ j) → (ks : List Branch) → Reads under (forestOf under ks)
 unfolding forestOf
 reads-forest under law [] = none-left
 reads-forest under law (k ∷ ks) = one-more (ap under (law (k .number))) (reads-forest under law ks)
 
 -- An interior node that reads.
 pub record Node (l : ℕ) (s : List ℕ) (f : Forest) (ms : List Message) : Type 0 where
-  pub kids : Reads (λ j. treeAt (suc l) s j) f
+  pub branches : Reads (λ j. treeAt (suc l) s j) f
   pub fits : sizeOf (childEntries f ++ messageEntries ms) ≤ 1016
   pub short : allAllowed (childEntries f ++ messageEntries ms) ≡ true
 
@@ -216,14 +216,14 @@ node-by l s i (some es) f ms p g = go (insideOf es) refl p
     go : (w : Option Inside) → insideOf es ≡ w → interiorOf (λ j. treeAt (suc l) s j) i w ≡ interior i f ms → Node l s f ms
     go none q r = let z : _≡_ {A = ℕ} 0 1 = cc in absurd (omega arith)
     go (some y) q r =
-        let a : forestOf (λ j. treeAt (suc l) s j) (y .kids) ≡ f = cc in
+        let a : forestOf (λ j. treeAt (suc l) s j) (y .branches) ≡ f = cc in
         let b : y .messages ≡ ms = cc in
         let c : childEntries f ++ messageEntries ms ≡ es =
         ap₂ (λ u v. childEntries u ++ messageEntries v) (sym a) (sym b)
-        ∙ ap (λ k. k ++ messageEntries (y .messages)) (kids-for-forest (λ j. treeAt (suc l) s j) (λ j. number-read (suc l) s j) (y .kids))
+        ∙ ap (λ k. k ++ messageEntries (y .messages)) (branches-for-forest (λ j. treeAt (suc l) s j) (λ j. number-read (suc l) s j) (y .branches))
         ∙ sym (inside-entries es y q) in
         record {
-          kids = subst (λ u. Reads (λ j. treeAt (suc l) s j) u) a (reads-forest (λ j. treeAt (suc l) s j) (λ j. number-read (suc l) s j) (y .kids));
+          branches = subst (λ u. Reads (λ j. treeAt (suc l) s j) u) a (reads-forest (λ j. treeAt (suc l) s j) (λ j. number-read (suc l) s j) (y .branches));
           fits = subst (λ u. sizeOf u ≤ 1016) (sym c) (g es refl .0);
           short = subst (λ u. allAllowed u ≡ true) (sym c) (g es refl .1);
         }

@@ -1,5 +1,5 @@
 -- Sizes: of a node whose children are merged, and of the children of a node that is flushed; so that code can test that all fits before it acts.
-use Prim.Native.Nat.{ℕ, zero, suc, _+_, _≤_}
+use Prim.Native.Nat.{ℕ, zero, suc, _≤_}
 use mathlib.Core.Path.{_≡_, refl, sym, ap, ap₂, _∙_}
 use mathlib.Core.List.{List, [], _∷_, _++_}
 use mathlib.Core.Bool.{Bool, true, false, _&&_, cond}
@@ -116,12 +116,12 @@ number-sent m t lo hi = go (touches m lo hi)
     go true = number-taken (lowered (shared lo hi) m) t
     go false = refl
 
-kids-pushed : (m : Message) (f : Forest) (lifted hi : List ℕ) → childEntries (pushed m f lifted hi) ≡ childEntries f
+branches-pushed : (m : Message) (f : Forest) (lifted hi : List ℕ) → childEntries (pushed m f lifted hi) ≡ childEntries f
 unfolding childEntries pushed
-kids-pushed m end lifted hi = refl
-kids-pushed m (tree s t f) lifted hi = ap₂ (λ n l. child n s ∷ l) (number-sent m t (lifted ++ s) (highOf lifted hi f)) (kids-pushed m f lifted hi)
+branches-pushed m end lifted hi = refl
+branches-pushed m (tree s t f) lifted hi = ap₂ (λ n l. child n s ∷ l) (number-sent m t (lifted ++ s) (highOf lifted hi f)) (branches-pushed m f lifted hi)
 
-pub kids-pushed-all : (ms : List Message) (f : Forest) (lifted hi : List ℕ) → childEntries (pushedAll ms f lifted hi) ≡ childEntries f
+pub branches-pushed-all : (ms : List Message) (f : Forest) (lifted hi : List ℕ) → childEntries (pushedAll ms f lifted hi) ≡ childEntries f
 unfolding pushedAll
-kids-pushed-all [] f lifted hi = refl
-kids-pushed-all (m ∷ ms) f lifted hi = kids-pushed-all ms (pushed (raised lifted m) f lifted hi) lifted hi ∙ kids-pushed (raised lifted m) f lifted hi
+branches-pushed-all [] f lifted hi = refl
+branches-pushed-all (m ∷ ms) f lifted hi = branches-pushed-all ms (pushed (raised lifted m) f lifted hi) lifted hi ∙ branches-pushed (raised lifted m) f lifted hi

@@ -12,7 +12,7 @@ use Rattle.laws.specs.Upkeep.Merge.{sameKind, tallIn}
 use Rattle.laws.specs.Upkeep.Mends.{tall-first, tall-later}
 use Rattle.laws.specs.Upkeep.Join.{joins, firstPair, mended}
 use Rattle.laws.specs.Upkeep.Loop.{one-kind}
-use Rattle.laws.specs.Upkeep.Alter.{altered, onKids}
+use Rattle.laws.specs.Upkeep.Alter.{altered, onBranches}
 use Rattle.laws.specs.Upkeep.Healed.{rechilded, rechild, place-altered}
 use Rattle.laws.specs.Upkeep.Steps.{stepped, step-tree, start-tree, mended-end, ended}
 use Rattle.laws.specs.Upkeep.Flush.{flushedTree}
@@ -39,12 +39,12 @@ first-pair (tree s t (tree q u f)) lifted hi level h e =
     go false a ih = rw (kind, a) (ih (subst (λ x. not x && unmergeable (tree q u f) lifted hi ≡ false) a e))
 
 -- THE LOOP: s is the image at the start, r the one now, j steps later
-pub loop-starts : (s : List ℕ) (n : ℕ) → treeOf s ≡ altered (treeOf s) n (onKids (mended zero)) lowest highest
+pub loop-starts : (s : List ℕ) (n : ℕ) → treeOf s ≡ altered (treeOf s) n (onBranches (mended zero)) lowest highest
 loop-starts s n = sym (start-tree (treeOf s) n lowest highest)
 
-pub loop-goes : (s r r′ : List ℕ) (n j : ℕ) → treeOf r ≡ altered (treeOf s) n (onKids (mended j)) lowest highest
-    → treeOf r′ ≡ altered (treeOf r) n (onKids stepped) lowest highest → treeOf r′ ≡ altered (treeOf s) n (onKids (mended (suc j))) lowest highest
-loop-goes s r r′ n j e k = k ∙ ap (λ t. altered t n (onKids stepped) lowest highest) e ∙ step-tree (treeOf s) n j lowest highest
+pub loop-goes : (s r r′ : List ℕ) (n j : ℕ) → treeOf r ≡ altered (treeOf s) n (onBranches (mended j)) lowest highest
+    → treeOf r′ ≡ altered (treeOf r) n (onBranches stepped) lowest highest → treeOf r′ ≡ altered (treeOf s) n (onBranches (mended (suc j))) lowest highest
+loop-goes s r r′ n j e k = k ∙ ap (λ t. altered t n (onBranches stepped) lowest highest) e ∙ step-tree (treeOf s) n j lowest highest
 
 module _ (s r : List ℕ) (e : sound s ≡ true) (z : nodeBytes r 0 ≡ nodeBytes s 0) where
   whole-sound : soundTree (treeOf s) lowest highest ≡ true
@@ -58,12 +58,12 @@ module _ (s r : List ℕ) (e : sound s ≡ true) (z : nodeBytes r 0 ≡ nodeByte
   places-now t q = ap₂ (λ (b : List ℕ) (u : Tree). reachable u (header b .levels) lowest highest) z q
 
   -- heal's rule, where the search finds no pair at node n any more
-  pub loop-ends : (n j : ℕ) (x y : Reachable) → treeOf r ≡ altered (treeOf s) n (onKids (mended j)) lowest highest
+  pub loop-ends : (n j : ℕ) (x y : Reachable) → treeOf r ≡ altered (treeOf s) n (onBranches (mended j)) lowest highest
       → reachableAt n (reachableNodes s) ≡ some x → reachableAt n (reachableNodes r) ≡ some y → unmergeableAt y ≡ true → healed x (reachableNodes s) (reachableNodes r) ≡ true
   unfolding reachableNodes rechild
   loop-ends n j x y q p w g =
-      let after : List Reachable = reachable (altered (treeOf s) n (onKids (mended j)) lowest highest) (headerOf s .levels) lowest highest in
-      let now : reachableNodes r ≡ reachable (altered (treeOf s) n (onKids (mended j)) lowest highest) (headerOf s .levels) lowest highest = places-now (altered (treeOf s) n (onKids (mended j)) lowest highest) q in
+      let after : List Reachable = reachable (altered (treeOf s) n (onBranches (mended j)) lowest highest) (headerOf s .levels) lowest highest in
+      let now : reachableNodes r ≡ reachable (altered (treeOf s) n (onBranches (mended j)) lowest highest) (headerOf s .levels) lowest highest = places-now (altered (treeOf s) n (onBranches (mended j)) lowest highest) q in
       let is : some (rechilded (mended j) x) ≡ some y =
       sym (ap (rechild (mended j)) p) ∙ sym (place-altered (treeOf s) n (mended j) (mended-end j) (headerOf s .levels) lowest highest) ∙ sym (ap (reachableAt n) now) ∙ w in
       let rest : unmergeableAt (rechilded (mended j) x) ≡ true = ap unmergeableAt (Option·some-injective (rechilded (mended j) x) y is) ∙ g in

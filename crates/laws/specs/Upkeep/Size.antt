@@ -11,12 +11,12 @@ use borrow.Author.Tests.{leb-true}
 use Rattle.image.specs.Bytes.{shared}
 use Rattle.image.specs.Entry.{Message, puts, drops, clears, Entry, pair, child, message}
 use Rattle.image.specs.Table.{Row}
-use Rattle.image.specs.Image.{Tree, unread, leaf, interior, Forest, end, tree, messageThen, messagesOf, noKids, kidThen, insideOf}
+use Rattle.image.specs.Image.{Tree, unread, leaf, interior, Forest, end, tree, messageThen, messagesOf, noBranches, branchThen, insideOf}
 use Rattle.image.specs.Upkeep.{noMessage, pairBytes, childBytes, shortPivots, treeBytes, treeShort, wouldFit}
 use Rattle.laws.specs.Encode.{restOf, kindOf, bytesOf, bytesOfAll, allowed, allAllowed, pair-size, child-size}
 use Rattle.octets.specs.Order.{and-left, and-right}
 use Rattle.laws.specs.Rising.{both}
-use Rattle.laws.specs.Page.{numberOf, pairEntries, childEntries, kidsOf, pairs-allowed}
+use Rattle.laws.specs.Page.{numberOf, pairEntries, childEntries, branchesOf, pairs-allowed}
 use Rattle.laws.specs.Upkeep.Merge.{rewritten, repointed, followed, merged, Pair}
 
 unfoldable pub messageEntries : List Message → List Entry
@@ -71,10 +71,10 @@ unfolding pairEntries
 pairs-for-append [] u = refl
 pairs-for-append (r ∷ t) u = ap (λ l. pair (r .key) (r .value) ∷ l) (pairs-for-append t u)
 
-pub kids-for-append : (f g : Forest) → childEntries (followed f g) ≡ childEntries f ++ childEntries g
+pub branches-for-append : (f g : Forest) → childEntries (followed f g) ≡ childEntries f ++ childEntries g
 unfolding childEntries followed
-kids-for-append end g = refl
-kids-for-append (tree s t f) g = ap (λ l. child (numberOf t) s ∷ l) (kids-for-append f g)
+branches-for-append end g = refl
+branches-for-append (tree s t f) g = ap (λ l. child (numberOf t) s ∷ l) (branches-for-append f g)
 
 pub pairs-size : (J L : List ℕ) (rs : List Row) → sizeOf (pairEntries (rewritten J L rs)) ≡ pairBytes J L rs
 unfolding pairEntries rewritten pairBytes
@@ -83,12 +83,12 @@ pairs-size J L (r ∷ rs) =
     size-cons (pair (drop (length J) (L ++ r .key)) (r .value)) (pairEntries (rewritten J L rs))
     ∙ ap₂ (λ a b. a + b) (pair-size (drop (length J) (L ++ r .key)) (r .value)) (pairs-size J L rs)
 
-pub kids-size : (J L : List ℕ) (f : Forest) → sizeOf (childEntries (repointed J L f)) ≡ childBytes J L f
+pub branches-size : (J L : List ℕ) (f : Forest) → sizeOf (childEntries (repointed J L f)) ≡ childBytes J L f
 unfolding childEntries repointed childBytes
-kids-size J L end = size-nil
-kids-size J L (tree s t f) =
+branches-size J L end = size-nil
+branches-size J L (tree s t f) =
     size-cons (child (numberOf t) (drop (length J) (L ++ s))) (childEntries (repointed J L f))
-    ∙ ap₂ (λ a b. a + b) (child-size (numberOf t) (drop (length J) (L ++ s))) (kids-size J L f)
+    ∙ ap₂ (λ a b. a + b) (child-size (numberOf t) (drop (length J) (L ++ s))) (branches-size J L f)
 
 -- The bytes of two nodes merged are what `wouldFit` counts.
 pub merged-size : {t u : Tree} → Pair t u → (lo mid hi : List ℕ)
@@ -100,9 +100,9 @@ merged-size (Pair.leaves i j rs qs) lo mid hi =
     ∙ ap₂ (λ a b. a + b) (pairs-size (shared lo hi) (shared lo mid) rs) (pairs-size (shared lo hi) (shared mid hi) qs)
 merged-size (Pair.inners i j f g) lo mid hi =
     ap sizeOf (append-nil (childEntries (followed (repointed (shared lo hi) (shared lo mid) f) (repointed (shared lo hi) (shared mid hi) g)))
-    ∙ kids-for-append (repointed (shared lo hi) (shared lo mid) f) (repointed (shared lo hi) (shared mid hi) g))
+    ∙ branches-for-append (repointed (shared lo hi) (shared lo mid) f) (repointed (shared lo hi) (shared mid hi) g))
     ∙ size-append (childEntries (repointed (shared lo hi) (shared lo mid) f)) (childEntries (repointed (shared lo hi) (shared mid hi) g))
-    ∙ ap₂ (λ a b. a + b) (kids-size (shared lo hi) (shared lo mid) f) (kids-size (shared lo hi) (shared mid hi) g)
+    ∙ ap₂ (λ a b. a + b) (branches-size (shared lo hi) (shared lo mid) f) (branches-size (shared lo hi) (shared mid hi) g)
 
 -- and its pivots' suffixes are short
 pub all-allowed-append : (es fs : List Entry) → allAllowed es ≡ true → allAllowed fs ≡ true → allAllowed (es ++ fs) ≡ true
@@ -115,11 +115,11 @@ unfolding allAllowed messageEntries allowed
 messages-allowed [] = refl
 messages-allowed (m ∷ ms) = messages-allowed ms
 
-kids-allowed : (J L : List ℕ) (f : Forest) → shortPivots J L f ≡ true → allAllowed (childEntries (repointed J L f)) ≡ true
+branches-allowed : (J L : List ℕ) (f : Forest) → shortPivots J L f ≡ true → allAllowed (childEntries (repointed J L f)) ≡ true
 unfolding allAllowed childEntries allowed repointed shortPivots
-kids-allowed J L end e = refl
-kids-allowed J L (tree s t f) e =
-    both (and-left (leb (length (drop (length J) (L ++ s))) 65) _ e) (kids-allowed J L f (and-right (leb (length (drop (length J) (L ++ s))) 65) _ e))
+branches-allowed J L end e = refl
+branches-allowed J L (tree s t f) e =
+    both (and-left (leb (length (drop (length J) (L ++ s))) 65) _ e) (branches-allowed J L f (and-right (leb (length (drop (length J) (L ++ s))) 65) _ e))
 
 pub merged-allowed : {t u : Tree} → Pair t u → (lo mid hi : List ℕ) → treeShort (shared lo hi) (shared lo mid) t ≡ true
     → treeShort (shared lo hi) (shared mid hi) u ≡ true → allAllowed (entriesFor (merged t u lo mid hi)) ≡ true
@@ -127,9 +127,9 @@ unfolding merged treeShort entriesFor messageEntries
 merged-allowed (Pair.leaves i j rs qs) lo mid hi a b = pairs-allowed _
 merged-allowed (Pair.inners i j f g) lo mid hi a b =
     ap allAllowed (append-nil (childEntries (followed (repointed (shared lo hi) (shared lo mid) f) (repointed (shared lo hi) (shared mid hi) g)))
-    ∙ kids-for-append (repointed (shared lo hi) (shared lo mid) f) (repointed (shared lo hi) (shared mid hi) g))
+    ∙ branches-for-append (repointed (shared lo hi) (shared lo mid) f) (repointed (shared lo hi) (shared mid hi) g))
     ∙ all-allowed-append (childEntries (repointed (shared lo hi) (shared lo mid) f)) (childEntries (repointed (shared lo hi) (shared mid hi) g))
-    (kids-allowed (shared lo hi) (shared lo mid) f a) (kids-allowed (shared lo hi) (shared mid hi) g b)
+    (branches-allowed (shared lo hi) (shared lo mid) f a) (branches-allowed (shared lo hi) (shared mid hi) g b)
 
 -- what the test says
 pub record Fits (t u : Tree) (lo mid hi : List ℕ) : Type 0 where
@@ -160,12 +160,12 @@ unfolding messagesOf messageEntries messageThen
 messages-back [] = refl
 messages-back (m ∷ ms) = rw (messages-back ms)
 
-no-kids-back : (ms : List Message) → insideOf (messageEntries ms) ≡ some (record { kids = []; messages = ms })
-unfolding insideOf messageEntries noKids
-no-kids-back [] = refl
-no-kids-back (m ∷ ms) = ap noKids (messages-back (m ∷ ms))
+no-branches-back : (ms : List Message) → insideOf (messageEntries ms) ≡ some (record { branches = []; messages = ms })
+unfolding insideOf messageEntries noBranches
+no-branches-back [] = refl
+no-branches-back (m ∷ ms) = ap noBranches (messages-back (m ∷ ms))
 
-pub inside-back : (f : Forest) (ms : List Message) → insideOf (childEntries f ++ messageEntries ms) ≡ some (record { kids = kidsOf f; messages = ms })
-unfolding insideOf childEntries kidsOf kidThen
-inside-back end ms = no-kids-back ms
+pub inside-back : (f : Forest) (ms : List Message) → insideOf (childEntries f ++ messageEntries ms) ≡ some (record { branches = branchesOf f; messages = ms })
+unfolding insideOf childEntries branchesOf branchThen
+inside-back end ms = no-branches-back ms
 inside-back (tree s t f) ms = rw (inside-back f ms)

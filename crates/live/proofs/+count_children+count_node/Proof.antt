@@ -10,17 +10,17 @@ use Rattle.image.specs.Image.{treeAt, nodesOf, forestOf}
 use Rattle.laws.specs.Reading.Relative.{usableIn}
 use Rattle.node.specs.Places.{part, Within}
 use Rattle.node.specs.Entries.{listed}
-use Rattle.node.specs.Search.Own.{kid, kidsE}
+use Rattle.node.specs.Search.Own.{branch, branchesAmong}
 use Rattle.lookup.specs.Look.{node-inside}
 use Rattle.live.specs.PathBuffers.{pathIn}
-use Rattle.live.specs.Live.{liveKids}
+use Rattle.live.specs.Live.{liveBranches}
 use Rattle.octets.specs.Cap.{cap}
 use Rattle.live.specs.Walk.{passing, NextChild}
 use Rattle.live.specs.Steps.{trail-wider, pends-child, pends-end}
 use Rattle.live.specs.WalkLaws.{walk-start, walk-last, walk-on, later-usable}
-use Rattle.live.specs.NodeSteps.{node-long, node-leaf, node-bare, kids-ready, node-inner, node-above, child-ready}
-use Rattle.live.specs.Noted.{SoundKids}
-use Rattle.live.specs.NotedSteps.{handed, told-joined, leaf-told, kids-sound, last-sound, last-told, next-sound, next-told, later-sound}
+use Rattle.live.specs.NodeSteps.{node-long, node-leaf, node-bare, branches-ready, node-inner, node-above, child-ready}
+use Rattle.live.specs.Noted.{SoundBranches}
+use Rattle.live.specs.NotedSteps.{handed, told-joined, leaf-told, branches-sound, last-sound, last-told, next-sound, next-told, later-sound}
 use borrow.Author.Needs.{needs}
 use native.Mathlib.Omega.{arith}
 use Prim.Native.Nat.{ℕ, suc, _+_, _-_, _≤_, _<_}
@@ -50,10 +50,10 @@ use Rattle.live.proofs.+count_children+count_node.{statement}
 use Rattle.live.proofs.+count_children+count_node.Tie.{close}
 
 abbrev μ-count-children : Measures 3 count-children-kinds.ps ℕ
-μ-count-children κs a = a .1 .1 .1 .1 .0 * 2 + 1
+μ-count-children κs a = a .1 .0 .level * 2 + 1
 
 abbrev μ-count-node : Measures 4 count-node-kinds.ps ℕ
-μ-count-node κs a = a .1 .1 .0 * 2
+μ-count-node κs a = a .1 .0 .level * 2
 
 abbrev count-children-at : ℕ → In 3 count-children-kinds.ps
 count-children-at t =
@@ -80,15 +80,15 @@ count-node-below t =
     and 4 count-node-kinds.ps (falls 4 count-node-kinds.ps _<_ μ-count-node t) count-node.Pre
 
 abbrev count-children-Inv-loop : count-children-lts.InvT-loop
-count-children-Inv-loop store first level prefix hi trail notes n c₀ num₀ low₀ total₀ c num low total =
-    (c .end ≤ length store) × Within 0 (length store) low × (total ≤ 65535) × (usableIn (nodesOf (length store)) (forestOf (λ j. treeAt level store j) (kid num (part store low) ∷ kidsE (listed store (c .at) (c .end)))) ≡ true)
-    × (cap (total + liveKids (forestOf (λ j. treeAt level store j) (kid num (part store low) ∷ kidsE (listed store (c .at) (c .end)))) (passing store trail) (pathIn prefix) hi) ≡ cap (liveKids (forestOf (λ j. treeAt level store j) (kid first (part store low₀) ∷ kidsE (listed store (c₀ .at) (c₀ .end)))) (passing store trail) (pathIn prefix) hi)) × SoundKids store level num low c prefix hi trail notes n
+count-children-Inv-loop store hi notes level position c₀ num₀ low₀ total₀ c num low total =
+    (c .end ≤ length store) × Within 0 (length store) low × (total ≤ 65535) × (usableIn (nodesOf (length store)) (forestOf (λ j. treeAt level store j) (branch num (part store low) ∷ branchesAmong (listed store (c .at) (c .end)))) ≡ true)
+    × (cap (total + liveBranches (forestOf (λ j. treeAt level store j) (branch num (part store low) ∷ branchesAmong (listed store (c .at) (c .end)))) (passing store (position .trail)) (pathIn (position .prefix)) hi) ≡ cap (liveBranches (forestOf (λ j. treeAt level store j) (branch num₀ (part store low₀) ∷ branchesAmong (listed store (c₀ .at) (c₀ .end)))) (passing store (position .trail)) (pathIn (position .prefix)) hi)) × SoundBranches store level num low c (position .prefix) hi (position .trail) notes (position .noted)
 
 abbrev count-children-μ-loop : count-children-lts.MeasureT-loop
-count-children-μ-loop store first level prefix hi trail notes n c₀ num₀ low₀ total₀ c num low total = c .end - c .at
+count-children-μ-loop store hi notes level position c₀ num₀ low₀ total₀ c num low total = c .end - c .at
 
 -- the next child that was read, and where it leaves the cursor
-kid-next : (t : ℕ) (c : count-children-lts.After-known-told (
+branch-next : (t : ℕ) (c : count-children-lts.After-known-told (
   read-child-reads.Asked,
   read-child-reads.Learnt,
   count-node-below t,
@@ -96,8 +96,8 @@ kid-next : (t : ℕ) (c : count-children-lts.After-known-told (
   capped-sum-reads.Asked,
   capped-sum-reads.Learnt,
 ) (count-children-at t) count-children.Post count-children-Inv-loop count-children-μ-loop)
-    → NextChild (c .before .before .before .before .before .before .before .args .store .now) (c .before .before .before .before .loop .c .at) (c .before .before .before .before .loop .c .end) (c .before .k .given .0 .0) (c .before .k .given .0 .1 .0) (c .before .k .given .0 .1 .1 .0)
-kid-next t c = pends-child _ _ _ _ _ _ _ (c .before .before .before .read-child .ensures) (c .before .k .given .1)
+    → NextChild (c .before .before .before .before .before .before .before .before .before .before .args .store .now) (c .before .before .before .before .loop .c .at) (c .before .before .before .before .loop .c .end) (c .before .k .given .0 .0) (c .before .k .given .0 .1 .0) (c .before .k .given .0 .1 .1 .0)
+branch-next t c = pends-child _ _ _ _ _ _ _ (c .before .before .before .read-child .ensures) (c .before .k .given .1)
 
 here-length : (t : ℕ) (c : count-node-lts.After-extend (
   common-length-reads.Asked,
@@ -149,7 +149,7 @@ first-next : (t : ℕ) (c : count-node-lts.After-known-told (
   capped-sum-reads.Asked,
   capped-sum-reads.Learnt,
 ) (count-node-at t) count-node.Post)
-    → NextChild (c .before .before .before .before .before .before .before .before .before .before .before .before .before .before .before .before .before .before .before .before .before .args .store .now) (c .before .before .before .before .before .before .before .before .before .before .before .before .before .before .before .before .before .before .before .before .before .args .num * 1024 + 8) (c .before .before .before .before .before .before .before .before .before .before .before .before .before .before .before .before .before .before .before .before .before .args .num * 1024 + 8 + c .before .before .before .before .before .before .u16-at .result) (c .before .first .given .0 .0) (c .before .first .given .0 .1 .0) (c .before .first .given .0 .1 .1 .0)
+    → NextChild (c .before .before .before .before .before .before .before .before .before .before .before .before .before .before .before .before .before .before .before .before .before .before .before .args .store .now) (c .before .before .before .before .before .before .before .before .before .before .before .before .before .before .before .before .before .before .before .before .before .before .before .args .node .num * 1024 + 8) (c .before .before .before .before .before .before .before .before .before .before .before .before .before .before .before .before .before .before .before .before .before .before .before .args .node .num * 1024 + 8 + c .before .before .before .before .before .before .u16-at .result) (c .before .first .given .0 .0) (c .before .first .given .0 .1 .0) (c .before .first .given .0 .1 .1 .0)
 first-next t c = pends-child _ _ _ _ _ _ _ (c .before .before .before .read-child .ensures) (c .before .first .given .1)
 
 count-children-loop-holds : (t : ℕ) → count-children-lts.Need-loop-holds (
@@ -160,7 +160,7 @@ count-children-loop-holds : (t : ℕ) → count-children-lts.Need-loop-holds (
   capped-sum-reads.Asked,
   capped-sum-reads.Learnt,
 ) (count-children-at t) count-children.Post count-children-Inv-loop count-children-μ-loop
-count-children-loop-holds t c = ((c .before .before .pre .1 .0) .ends, (c .before .before .pre .1 .0) .place, omega arith, (c .before .before .pre .1 .0) .reads, walk-start _, c .before .before .pre .1 .1)
+count-children-loop-holds t c = ((c .before .before .before .before .before .pre .1 .0) .ends, (c .before .before .before .before .before .pre .1 .0) .place, omega arith, (c .before .before .before .before .before .pre .1 .0) .reads, walk-start _, c .before .before .before .before .before .pre .1 .1)
 
 count-children-read-child-requires : (t : ℕ) → count-children-lts.Need-read-child-requires (
   read-child-reads.Asked,
@@ -230,7 +230,7 @@ count-children-count-node-requires : (t : ℕ) → count-children-lts.Need-count
   capped-sum-reads.Asked,
   capped-sum-reads.Learnt,
 ) (count-children-at t) count-children.Post count-children-Inv-loop count-children-μ-loop
-count-children-count-node-requires t c κs = (omega arith, (child-ready (c .before .before .before .before .before .before .before .args .store .now) (c .before .before .before .before .before .before .before .args .level) (c .before .before .before .before .loop .num) (part (c .before .before .before .before .before .before .before .args .store .now) (c .before .before .before .before .loop .low)) (kidsE (listed (c .before .before .before .before .before .before .before .args .store .now) (c .before .before .before .before .loop .c .at) (c .before .before .before .before .loop .c .end))) (c .before .before .before .before .before .before .before .args .prefix) (c .before .before .before .before .before .before .before .args .trail) (c .before .before .before .before .loop .inv .3) ((c .before .before .before .before .before .before .before .pre .1 .0) .room) ((c .before .before .before .before .before .before .before .pre .1 .0) .trail) ((c .before .before .before .before .before .before .before .pre .1 .0) .deep), last-sound (c .before .before .before .before .before .before .before .args .store .now) (c .before .before .before .before .before .before .before .args .level) (c .before .before .before .before .loop .num) (c .before .before .before .before .loop .low) (c .before .before .before .before .loop .c) (c .before .before .before .before .before .before .before .args .prefix) (c .before .before .before .before .before .before .before .args .hi .now) (c .before .before .before .before .before .before .before .args .trail) (c .before .before .before .before .before .before .before .args .notes .now) (c .before .before .before .before .before .before .before .args .n) (c .before .before .before .before .loop .inv .5) (pends-end _ _ _ _ (c .before .before .before .read-child .ensures) (c .before .enum-told .given .1)), last-told (c .before .before .before .before .before .before .before .args .store .now) (c .before .before .before .before .before .before .before .args .level) (c .before .before .before .before .loop .num) (c .before .before .before .before .loop .low) (c .before .before .before .before .loop .c) (c .before .before .before .before .before .before .before .args .prefix) (c .before .before .before .before .before .before .before .args .hi .now) (c .before .before .before .before .before .before .before .args .trail) (c .before .before .before .before .before .before .before .args .notes .now) (c .before .before .before .before .before .before .before .args .n) (c .before .before .before .before .loop .inv .5) (pends-end _ _ _ _ (c .before .before .before .read-child .ensures) (c .before .enum-told .given .1))))
+count-children-count-node-requires t c κs = (omega arith, (child-ready (c .before .before .before .before .before .before .before .before .before .before .args .store .now) (c .before .before .before .before .before .before .before .before .before .before .args .first .level) (c .before .before .before .before .loop .num) (part (c .before .before .before .before .before .before .before .before .before .before .args .store .now) (c .before .before .before .before .loop .low)) (branchesAmong (listed (c .before .before .before .before .before .before .before .before .before .before .args .store .now) (c .before .before .before .before .loop .c .at) (c .before .before .before .before .loop .c .end))) (c .before .before .before .before .before .before .before .before .before .before .args .first .position .prefix) (c .before .before .before .before .before .before .before .before .before .before .args .first .position .trail) (c .before .before .before .before .loop .inv .3) ((c .before .before .before .before .before .before .before .before .before .before .pre .1 .0) .room) ((c .before .before .before .before .before .before .before .before .before .before .pre .1 .0) .trail) ((c .before .before .before .before .before .before .before .before .before .before .pre .1 .0) .deep), last-sound (c .before .before .before .before .before .before .before .before .before .before .args .store .now) (c .before .before .before .before .before .before .before .before .before .before .args .first .level) (c .before .before .before .before .loop .num) (c .before .before .before .before .loop .low) (c .before .before .before .before .loop .c) (c .before .before .before .before .before .before .before .before .before .before .args .first .position .prefix) (c .before .before .before .before .before .before .before .before .before .before .args .hi .now) (c .before .before .before .before .before .before .before .before .before .before .args .first .position .trail) (c .before .before .before .before .before .before .before .before .before .before .args .notes .now) (c .before .before .before .before .before .before .before .before .before .before .args .first .position .noted) (c .before .before .before .before .loop .inv .5) (pends-end _ _ _ _ (c .before .before .before .read-child .ensures) (c .before .enum-told .given .1)), last-told (c .before .before .before .before .before .before .before .before .before .before .args .store .now) (c .before .before .before .before .before .before .before .before .before .before .args .first .level) (c .before .before .before .before .loop .num) (c .before .before .before .before .loop .low) (c .before .before .before .before .loop .c) (c .before .before .before .before .before .before .before .before .before .before .args .first .position .prefix) (c .before .before .before .before .before .before .before .before .before .before .args .hi .now) (c .before .before .before .before .before .before .before .before .before .before .args .first .position .trail) (c .before .before .before .before .before .before .before .before .before .before .args .notes .now) (c .before .before .before .before .before .before .before .before .before .before .args .first .position .noted) (c .before .before .before .before .loop .inv .5) (pends-end _ _ _ _ (c .before .before .before .read-child .ensures) (c .before .enum-told .given .1))))
 
 count-children-capped-sum-requires : (t : ℕ) → count-children-lts.Need-capped-sum-requires (
   read-child-reads.Asked,
@@ -250,7 +250,7 @@ count-children-returns : (t : ℕ) → count-children-lts.Need-returns (
   capped-sum-reads.Asked,
   capped-sum-reads.Learnt,
 ) (count-children-at t) count-children.Post count-children-Inv-loop count-children-μ-loop
-count-children-returns t c = (walk-last (λ j. treeAt (c .before .before .before .before .before .before .before .before .before .args .level) (c .before .before .before .before .before .before .before .before .before .args .store .now) j) (passing (c .before .before .before .before .before .before .before .before .before .args .store .now) (c .before .before .before .before .before .before .before .before .before .args .trail)) (pathIn (c .before .before .before .before .before .before .before .before .before .args .prefix)) (c .before .before .before .before .before .before .before .before .before .args .hi .now) (c .before .before .before .before .before .before .loop .num) (part (c .before .before .before .before .before .before .before .before .before .args .store .now) (c .before .before .before .before .before .before .loop .low)) _ (c .before .before .before .before .before .before .loop .total) (c .before .count-node .result) _ _ (pends-end _ _ _ _ (c .before .before .before .before .before .read-child .ensures) (c .before .before .before .enum-told .given .1)) (c .before .count-node .ensures .0) (c .capped-sum .ensures .0) (c .before .before .before .before .before .before .loop .inv .4), c .capped-sum .ensures .1)
+count-children-returns t c = (walk-last (λ j. treeAt (c .before .before .before .before .before .before .before .before .before .before .before .before .args .first .level) (c .before .before .before .before .before .before .before .before .before .before .before .before .args .store .now) j) (passing (c .before .before .before .before .before .before .before .before .before .before .before .before .args .store .now) (c .before .before .before .before .before .before .before .before .before .before .before .before .args .first .position .trail)) (pathIn (c .before .before .before .before .before .before .before .before .before .before .before .before .args .first .position .prefix)) (c .before .before .before .before .before .before .before .before .before .before .before .before .args .hi .now) (c .before .before .before .before .before .before .loop .num) (part (c .before .before .before .before .before .before .before .before .before .before .before .before .args .store .now) (c .before .before .before .before .before .before .loop .low)) _ (c .before .before .before .before .before .before .loop .total) (c .before .count-node .result) _ _ (pends-end _ _ _ _ (c .before .before .before .before .before .read-child .ensures) (c .before .before .before .enum-told .given .1)) (c .before .count-node .ensures .0) (c .capped-sum .ensures .0) (c .before .before .before .before .before .before .loop .inv .4), c .capped-sum .ensures .1)
 
 count-children-sub-count-node-2 : (t : ℕ) → count-children-lts.Need-sub-count-node-2 (
   read-child-reads.Asked,
@@ -290,7 +290,7 @@ count-children-sub-count-node-3 : (t : ℕ) → count-children-lts.Need-sub-coun
   capped-sum-reads.Asked,
   capped-sum-reads.Learnt,
 ) (count-children-at t) count-children.Post count-children-Inv-loop count-children-μ-loop
-count-children-sub-count-node-3 t c = let n = kid-next t (c .before) in let w = n .place in omega arith
+count-children-sub-count-node-3 t c = let n = branch-next t (c .before) in let w = n .place in omega arith
 
 count-children-part-count-node-start-3 : (t : ℕ) → count-children-lts.Need-part-count-node-start-3 (
   read-child-reads.Asked,
@@ -300,7 +300,7 @@ count-children-part-count-node-start-3 : (t : ℕ) → count-children-lts.Need-p
   capped-sum-reads.Asked,
   capped-sum-reads.Learnt,
 ) (count-children-at t) count-children.Post count-children-Inv-loop count-children-μ-loop
-count-children-part-count-node-start-3 t c = let n = kid-next t (c .before) in let w = n .place in omega arith
+count-children-part-count-node-start-3 t c = let n = branch-next t (c .before) in let w = n .place in omega arith
 
 count-children-part-count-node-end-3 : (t : ℕ) → count-children-lts.Need-part-count-node-end-3 (
   read-child-reads.Asked,
@@ -310,7 +310,7 @@ count-children-part-count-node-end-3 : (t : ℕ) → count-children-lts.Need-par
   capped-sum-reads.Asked,
   capped-sum-reads.Learnt,
 ) (count-children-at t) count-children.Post count-children-Inv-loop count-children-μ-loop
-count-children-part-count-node-end-3 t c = let n = kid-next t (c .before) in let w = n .place in omega arith
+count-children-part-count-node-end-3 t c = let n = branch-next t (c .before) in let w = n .place in omega arith
 
 count-children-count-node-requires-2 : (t : ℕ) → count-children-lts.Need-count-node-requires-2 (
   read-child-reads.Asked,
@@ -320,7 +320,7 @@ count-children-count-node-requires-2 : (t : ℕ) → count-children-lts.Need-cou
   capped-sum-reads.Asked,
   capped-sum-reads.Learnt,
 ) (count-children-at t) count-children.Post count-children-Inv-loop count-children-μ-loop
-count-children-count-node-requires-2 t c κs = (omega arith, (child-ready (c .before .before .before .before .before .before .before .before .before .args .store .now) (c .before .before .before .before .before .before .before .before .before .args .level) (c .before .before .before .before .before .before .loop .num) (part (c .before .before .before .before .before .before .before .before .before .args .store .now) (c .before .before .before .before .before .before .loop .low)) (kidsE (listed (c .before .before .before .before .before .before .before .before .before .args .store .now) (c .before .before .before .before .before .before .loop .c .at) (c .before .before .before .before .before .before .loop .c .end))) (c .before .before .before .before .before .before .before .before .before .args .prefix) (c .before .before .before .before .before .before .before .before .before .args .trail) (c .before .before .before .before .before .before .loop .inv .3) ((c .before .before .before .before .before .before .before .before .before .pre .1 .0) .room) ((c .before .before .before .before .before .before .before .before .before .pre .1 .0) .trail) ((c .before .before .before .before .before .before .before .before .before .pre .1 .0) .deep), next-sound (c .before .before .before .before .before .before .before .before .before .args .store .now) (c .before .before .before .before .before .before .before .before .before .args .level) (c .before .before .before .before .before .before .loop .num) (c .before .before .before .before .before .before .loop .low) (c .before .before .before .before .before .before .loop .c) (c .before .before .before .before .before .before .before .before .before .args .prefix) (c .before .before .before .before .before .before .before .before .before .args .hi .now) (c .before .before .before .before .before .before .before .before .before .args .trail) (c .before .before .before .before .before .before .before .before .before .args .notes .now) (c .before .before .before .before .before .before .before .before .before .args .n) (c .before .before .before .before .before .before .loop .inv .5) (c .before .before .before .k .given .0 .0) (c .before .before .before .k .given .0 .1 .0) (c .before .before .before .k .given .0 .1 .1 .0) (kid-next t (c .before .before) .lists), next-told (c .before .before .before .before .before .before .before .before .before .args .store .now) (c .before .before .before .before .before .before .before .before .before .args .level) (c .before .before .before .before .before .before .loop .num) (c .before .before .before .before .before .before .loop .low) (c .before .before .before .before .before .before .loop .c) (c .before .before .before .before .before .before .before .before .before .args .prefix) (c .before .before .before .before .before .before .before .before .before .args .hi .now) (c .before .before .before .before .before .before .before .before .before .args .trail) (c .before .before .before .before .before .before .before .before .before .args .notes .now) (c .before .before .before .before .before .before .before .before .before .args .n) (c .before .before .before .before .before .before .loop .inv .5) (c .before .before .before .k .given .0 .0) (c .before .before .before .k .given .0 .1 .0) (c .before .before .before .k .given .0 .1 .1 .0) (kid-next t (c .before .before) .lists)))
+count-children-count-node-requires-2 t c κs = (omega arith, (child-ready (c .before .before .before .before .before .before .before .before .before .before .before .before .args .store .now) (c .before .before .before .before .before .before .before .before .before .before .before .before .args .first .level) (c .before .before .before .before .before .before .loop .num) (part (c .before .before .before .before .before .before .before .before .before .before .before .before .args .store .now) (c .before .before .before .before .before .before .loop .low)) (branchesAmong (listed (c .before .before .before .before .before .before .before .before .before .before .before .before .args .store .now) (c .before .before .before .before .before .before .loop .c .at) (c .before .before .before .before .before .before .loop .c .end))) (c .before .before .before .before .before .before .before .before .before .before .before .before .args .first .position .prefix) (c .before .before .before .before .before .before .before .before .before .before .before .before .args .first .position .trail) (c .before .before .before .before .before .before .loop .inv .3) ((c .before .before .before .before .before .before .before .before .before .before .before .before .pre .1 .0) .room) ((c .before .before .before .before .before .before .before .before .before .before .before .before .pre .1 .0) .trail) ((c .before .before .before .before .before .before .before .before .before .before .before .before .pre .1 .0) .deep), next-sound (c .before .before .before .before .before .before .before .before .before .before .before .before .args .store .now) (c .before .before .before .before .before .before .before .before .before .before .before .before .args .first .level) (c .before .before .before .before .before .before .loop .num) (c .before .before .before .before .before .before .loop .low) (c .before .before .before .before .before .before .loop .c) (c .before .before .before .before .before .before .before .before .before .before .before .before .args .first .position .prefix) (c .before .before .before .before .before .before .before .before .before .before .before .before .args .hi .now) (c .before .before .before .before .before .before .before .before .before .before .before .before .args .first .position .trail) (c .before .before .before .before .before .before .before .before .before .before .before .before .args .notes .now) (c .before .before .before .before .before .before .before .before .before .before .before .before .args .first .position .noted) (c .before .before .before .before .before .before .loop .inv .5) (c .before .before .before .k .given .0 .0) (c .before .before .before .k .given .0 .1 .0) (c .before .before .before .k .given .0 .1 .1 .0) (branch-next t (c .before .before) .lists), next-told (c .before .before .before .before .before .before .before .before .before .before .before .before .args .store .now) (c .before .before .before .before .before .before .before .before .before .before .before .before .args .first .level) (c .before .before .before .before .before .before .loop .num) (c .before .before .before .before .before .before .loop .low) (c .before .before .before .before .before .before .loop .c) (c .before .before .before .before .before .before .before .before .before .before .before .before .args .first .position .prefix) (c .before .before .before .before .before .before .before .before .before .before .before .before .args .hi .now) (c .before .before .before .before .before .before .before .before .before .before .before .before .args .first .position .trail) (c .before .before .before .before .before .before .before .before .before .before .before .before .args .notes .now) (c .before .before .before .before .before .before .before .before .before .before .before .before .args .first .position .noted) (c .before .before .before .before .before .before .loop .inv .5) (c .before .before .before .k .given .0 .0) (c .before .before .before .k .given .0 .1 .0) (c .before .before .before .k .given .0 .1 .1 .0) (branch-next t (c .before .before) .lists)))
 
 count-children-capped-sum-requires-2 : (t : ℕ) → count-children-lts.Need-capped-sum-requires-2 (
   read-child-reads.Asked,
@@ -340,7 +340,7 @@ count-children-loop-less : (t : ℕ) → count-children-lts.Need-loop-less (
   capped-sum-reads.Asked,
   capped-sum-reads.Learnt,
 ) (count-children-at t) count-children.Post count-children-Inv-loop count-children-μ-loop
-count-children-loop-less t c = let n = kid-next t (c .before .before .before .before) in omega arith
+count-children-loop-less t c = let n = branch-next t (c .before .before .before .before) in omega arith
 
 count-children-loop-again : (t : ℕ) → count-children-lts.Need-loop-again (
   read-child-reads.Asked,
@@ -350,13 +350,13 @@ count-children-loop-again : (t : ℕ) → count-children-lts.Need-loop-again (
   capped-sum-reads.Asked,
   capped-sum-reads.Learnt,
 ) (count-children-at t) count-children.Post count-children-Inv-loop count-children-μ-loop
-count-children-loop-again t c = let n = kid-next t (c .before .before .before .before) in (
+count-children-loop-again t c = let n = branch-next t (c .before .before .before .before) in (
   omega arith,
   n .place,
   c .capped-sum2 .ensures .1,
-  later-usable (nodesOf (length (c .before .before .before .before .before .before .before .before .before .before .before .args .store .now))) (λ j. treeAt (c .before .before .before .before .before .before .before .before .before .before .before .args .level) (c .before .before .before .before .before .before .before .before .before .before .before .args .store .now) j) (kid (c .before .before .before .before .before .before .before .before .loop .num) (part (c .before .before .before .before .before .before .before .before .before .before .before .args .store .now) (c .before .before .before .before .before .before .before .before .loop .low))) _ _ (n .lists) (c .before .before .before .before .before .before .before .before .loop .inv .3),
-  walk-on (λ j. treeAt (c .before .before .before .before .before .before .before .before .before .before .before .args .level) (c .before .before .before .before .before .before .before .before .before .before .before .args .store .now) j) (passing (c .before .before .before .before .before .before .before .before .before .before .before .args .store .now) (c .before .before .before .before .before .before .before .before .before .before .before .args .trail)) (pathIn (c .before .before .before .before .before .before .before .before .before .before .before .args .prefix)) (c .before .before .before .before .before .before .before .before .before .before .before .args .hi .now) (c .before .before .before .before .before .before .before .before .loop .num) (part (c .before .before .before .before .before .before .before .before .before .before .before .args .store .now) (c .before .before .before .before .before .before .before .before .loop .low)) (c .before .before .before .before .before .k .given .0 .0) (part (c .before .before .before .before .before .before .before .before .before .before .before .args .store .now) (c .before .before .before .before .before .k .given .0 .1 .0)) _ (kidsE (listed (c .before .before .before .before .before .before .before .before .before .before .before .args .store .now) ((c .before .before .before .before .before .k .given .0 .1 .1 .0) .at) ((c .before .before .before .before .before .k .given .0 .1 .1 .0) .end))) (c .before .before .before .before .before .before .before .before .loop .total) (c .before .count-node2 .result) _ _ (n .lists) (c .before .count-node2 .ensures .0) (c .capped-sum2 .ensures .0) (c .before .before .before .before .before .before .before .before .loop .inv .4),
-  later-sound (c .before .before .before .before .before .before .before .before .before .before .before .args .store .now) (c .before .before .before .before .before .before .before .before .before .before .before .args .level) (c .before .before .before .before .before .before .before .before .loop .num) (c .before .before .before .before .before .before .before .before .loop .low) (c .before .before .before .before .before .before .before .before .loop .c) (c .before .before .before .before .before .before .before .before .before .before .before .args .prefix) (c .before .before .before .before .before .before .before .before .before .before .before .args .hi .now) (c .before .before .before .before .before .before .before .before .before .before .before .args .trail) (c .before .before .before .before .before .before .before .before .before .before .before .args .notes .now) (c .before .before .before .before .before .before .before .before .before .before .before .args .n) (c .before .before .before .before .before .before .before .before .loop .inv .5) _ _ _ (n .lists),
+  later-usable (nodesOf (length (c .before .before .before .before .before .before .before .before .before .before .before .before .before .before .args .store .now))) (λ j. treeAt (c .before .before .before .before .before .before .before .before .before .before .before .before .before .before .args .first .level) (c .before .before .before .before .before .before .before .before .before .before .before .before .before .before .args .store .now) j) (branch (c .before .before .before .before .before .before .before .before .loop .num) (part (c .before .before .before .before .before .before .before .before .before .before .before .before .before .before .args .store .now) (c .before .before .before .before .before .before .before .before .loop .low))) _ _ (n .lists) (c .before .before .before .before .before .before .before .before .loop .inv .3),
+  walk-on (λ j. treeAt (c .before .before .before .before .before .before .before .before .before .before .before .before .before .before .args .first .level) (c .before .before .before .before .before .before .before .before .before .before .before .before .before .before .args .store .now) j) (passing (c .before .before .before .before .before .before .before .before .before .before .before .before .before .before .args .store .now) (c .before .before .before .before .before .before .before .before .before .before .before .before .before .before .args .first .position .trail)) (pathIn (c .before .before .before .before .before .before .before .before .before .before .before .before .before .before .args .first .position .prefix)) (c .before .before .before .before .before .before .before .before .before .before .before .before .before .before .args .hi .now) (c .before .before .before .before .before .before .before .before .loop .num) (part (c .before .before .before .before .before .before .before .before .before .before .before .before .before .before .args .store .now) (c .before .before .before .before .before .before .before .before .loop .low)) (c .before .before .before .before .before .k .given .0 .0) (part (c .before .before .before .before .before .before .before .before .before .before .before .before .before .before .args .store .now) (c .before .before .before .before .before .k .given .0 .1 .0)) _ (branchesAmong (listed (c .before .before .before .before .before .before .before .before .before .before .before .before .before .before .args .store .now) ((c .before .before .before .before .before .k .given .0 .1 .1 .0) .at) ((c .before .before .before .before .before .k .given .0 .1 .1 .0) .end))) (c .before .before .before .before .before .before .before .before .loop .total) (c .before .count-node2 .result) _ _ (n .lists) (c .before .count-node2 .ensures .0) (c .capped-sum2 .ensures .0) (c .before .before .before .before .before .before .before .before .loop .inv .4),
+  later-sound (c .before .before .before .before .before .before .before .before .before .before .before .before .before .before .args .store .now) (c .before .before .before .before .before .before .before .before .before .before .before .before .before .before .args .first .level) (c .before .before .before .before .before .before .before .before .loop .num) (c .before .before .before .before .before .before .before .before .loop .low) (c .before .before .before .before .before .before .before .before .loop .c) (c .before .before .before .before .before .before .before .before .before .before .before .before .before .before .args .first .position .prefix) (c .before .before .before .before .before .before .before .before .before .before .before .before .before .before .args .hi .now) (c .before .before .before .before .before .before .before .before .before .before .before .before .before .before .args .first .position .trail) (c .before .before .before .before .before .before .before .before .before .before .before .before .before .before .args .notes .now) (c .before .before .before .before .before .before .before .before .before .before .before .before .before .before .args .first .position .noted) (c .before .before .before .before .before .before .before .before .loop .inv .5) _ _ _ (n .lists),
 )
 
 count-node-common-length-requires : (t : ℕ) → count-node-lts.Need-common-length-requires (
@@ -409,7 +409,7 @@ count-node-sub-room : (t : ℕ) → count-node-lts.Need-sub-room (
   capped-sum-reads.Asked,
   capped-sum-reads.Learnt,
 ) (count-node-at t) count-node.Post
-count-node-sub-room t c = let r = (c .before .before .before .before .before .pre .1 .0) .room in omega arith
+count-node-sub-room t c = let r = (c .before .before .before .before .before .before .before .pre .1 .0) .room in omega arith
 
 count-node-returns : (t : ℕ) → count-node-lts.Need-returns (
   common-length-reads.Asked,
@@ -435,7 +435,7 @@ count-node-returns : (t : ℕ) → count-node-lts.Need-returns (
   capped-sum-reads.Asked,
   capped-sum-reads.Learnt,
 ) (count-node-at t) count-node.Post
-count-node-returns t c = let p : length ((c .before .before .before .before .before .before .args .prefix) .bytes) ≡ 64 = search needs in let r = (c .before .before .before .before .before .before .pre .1 .0) .room in (node-long (c .before .before .before .before .before .before .args .store .now) (c .before .before .before .before .before .before .args .level) (c .before .before .before .before .before .before .args .num) (c .before .before .before .before .before .before .args .prefix) (c .before .before .before .before .before .before .args .trail) (c .before .before .before .before .before .before .pre .1 .0) (c .before .before .before .before .before .before .args .lo .now) (c .before .before .before .before .before .before .args .hi .now) (c .before .before .common-length .result) (c .before .before .common-length .ensures .0) (omega arith) (omega arith), omega arith)
+count-node-returns t c = let p : length ((c .before .before .before .before .before .before .before .before .args .node .position .prefix) .bytes) ≡ 64 = search needs in let r = (c .before .before .before .before .before .before .before .before .pre .1 .0) .room in (node-long (c .before .before .before .before .before .before .before .before .args .store .now) (c .before .before .before .before .before .before .before .before .args .node .level) (c .before .before .before .before .before .before .before .before .args .node .num) (c .before .before .before .before .before .before .before .before .args .node .position .prefix) (c .before .before .before .before .before .before .before .before .args .node .position .trail) (c .before .before .before .before .before .before .before .before .pre .1 .0) (c .before .before .before .before .before .before .before .before .args .lo .now) (c .before .before .before .before .before .before .before .before .args .hi .now) (c .before .before .common-length .result) (c .before .before .common-length .ensures .0) (omega arith) (omega arith), omega arith)
 
 count-node-sub-extend : (t : ℕ) → count-node-lts.Need-sub-extend (
   common-length-reads.Asked,
@@ -539,7 +539,7 @@ count-node-extend-requires : (t : ℕ) → count-node-lts.Need-extend-requires (
   capped-sum-reads.Asked,
   capped-sum-reads.Learnt,
 ) (count-node-at t) count-node.Post
-count-node-extend-requires t c κs = let l : length (take ((c .before .before .before .common-length .result) - 0) (c .before .before .before .before .before .before .before .args .lo .now)) ≡ (c .before .before .before .common-length .result) - 0 = length-take-le ((c .before .before .before .common-length .result) - 0) (c .before .before .before .before .before .before .before .args .lo .now) (omega arith) in let r = (c .before .before .before .before .before .before .before .pre .1 .0) .room in omega arith
+count-node-extend-requires t c κs = let l : length (take ((c .before .before .before .common-length .result) - 0) (c .before .before .before .before .before .before .before .before .before .args .lo .now)) ≡ (c .before .before .before .common-length .result) - 0 = length-take-le ((c .before .before .before .common-length .result) - 0) (c .before .before .before .before .before .before .before .before .before .args .lo .now) (omega arith) in let r = (c .before .before .before .before .before .before .before .before .before .pre .1 .0) .room in omega arith
 
 count-node-sub-note-above : (t : ℕ) → count-node-lts.Need-sub-note-above (
   common-length-reads.Asked,
@@ -825,7 +825,7 @@ count-node-note-above-requires : (t : ℕ) → count-node-lts.Need-note-above-re
   capped-sum-reads.Asked,
   capped-sum-reads.Learnt,
 ) (count-node-at t) count-node.Post
-count-node-note-above-requires t c κs = let l : length (take ((c .before .before .before .before .before .before .before .before .common-length .result) - 0) (c .before .before .before .before .before .before .before .before .before .before .before .before .args .lo .now)) ≡ (c .before .before .before .before .before .before .before .before .common-length .result) - 0 = length-take-le ((c .before .before .before .before .before .before .before .before .common-length .result) - 0) (c .before .before .before .before .before .before .before .before .before .before .before .before .args .lo .now) (omega arith) in let r = (c .before .before .before .before .before .before .before .before .before .before .before .before .pre .1 .0) .room in (omega arith, trail-wider (c .before .before .before .before .before .before .before .before .before .before .before .before .args .store .now) ((c .before .before .before .before .before .before .before .before .before .before .before .before .args .prefix) .len) ((c .before .before .before .before .extend .result) .len) (c .before .before .before .before .before .before .before .before .before .before .before .before .args .trail) (omega arith) ((c .before .before .before .before .before .before .before .before .before .before .before .before .pre .1 .0) .trail), handed (c .before .before .before .before .before .before .before .before .before .before .before .before .args .prefix) (c .before .before .before .before .before .before .before .before .before .before .before .before .args .lo .now) (c .before .before .before .before .before .before .before .before .before .before .before .before .args .hi .now) (c .before .before .before .before .before .before .before .before .common-length .result) (c .before .before .before .before .before .before .before .before .common-length .ensures .0) (c .before .before .before .before .extend .result) (c .before .before .before .before .extend .ensures .0) (c .before .before .before .before .before .before .before .before .before .before .before .before .args .store .now) (c .before .before .before .before .before .before .before .before .before .before .before .before .args .trail) (c .before .before .before .before .before .before .before .before .before .before .before .before .args .above .now) (c .before .before .before .before .before .before .before .before .before .before .before .before .args .many) (c .before .before .before .before .before .before .before .before .before .before .before .before .pre .1 .2))
+count-node-note-above-requires t c κs = let l : length (take ((c .before .before .before .before .before .before .before .before .common-length .result) - 0) (c .before .before .before .before .before .before .before .before .before .before .before .before .before .before .args .lo .now)) ≡ (c .before .before .before .before .before .before .before .before .common-length .result) - 0 = length-take-le ((c .before .before .before .before .before .before .before .before .common-length .result) - 0) (c .before .before .before .before .before .before .before .before .before .before .before .before .before .before .args .lo .now) (omega arith) in let r = (c .before .before .before .before .before .before .before .before .before .before .before .before .before .before .pre .1 .0) .room in (omega arith, trail-wider (c .before .before .before .before .before .before .before .before .before .before .before .before .before .before .args .store .now) ((c .before .before .before .before .before .before .before .before .before .before .before .before .before .before .args .node .position .prefix) .len) ((c .before .before .before .before .extend .result) .len) (c .before .before .before .before .before .before .before .before .before .before .before .before .before .before .args .node .position .trail) (omega arith) ((c .before .before .before .before .before .before .before .before .before .before .before .before .before .before .pre .1 .0) .trail), handed (c .before .before .before .before .before .before .before .before .before .before .before .before .before .before .args .node .position .prefix) (c .before .before .before .before .before .before .before .before .before .before .before .before .before .before .args .lo .now) (c .before .before .before .before .before .before .before .before .before .before .before .before .before .before .args .hi .now) (c .before .before .before .before .before .before .before .before .common-length .result) (c .before .before .before .before .before .before .before .before .common-length .ensures .0) (c .before .before .before .before .extend .result) (c .before .before .before .before .extend .ensures .0) (c .before .before .before .before .before .before .before .before .before .before .before .before .before .before .args .store .now) (c .before .before .before .before .before .before .before .before .before .before .before .before .before .before .args .node .position .trail) (c .before .before .before .before .before .before .before .before .before .before .before .before .before .before .args .above .now) (c .before .before .before .before .before .before .before .before .before .before .before .before .before .before .args .node .position .noted) (c .before .before .before .before .before .before .before .before .before .before .before .before .before .before .pre .1 .2))
 
 count-node-mul-at : (t : ℕ) → count-node-lts.Need-mul-at (
   common-length-reads.Asked,
@@ -851,7 +851,7 @@ count-node-mul-at : (t : ℕ) → count-node-lts.Need-mul-at (
   capped-sum-reads.Asked,
   capped-sum-reads.Learnt,
 ) (count-node-at t) count-node.Post
-count-node-mul-at t c = let w = node-inside (c .before .before .before .before .before .before .before .before .before .before .before .before .before .before .args .store .now) (c .before .before .before .before .before .before .before .before .before .before .before .before .before .before .args .num) (c .before .before .before .before .before .before .before .before .before .before .before .before .before .before .args .level) ((c .before .before .before .before .before .before .before .before .before .before .before .before .before .before .pre .1 .0) .reads) in omega arith
+count-node-mul-at t c = let w = node-inside (c .before .before .before .before .before .before .before .before .before .before .before .before .before .before .before .before .args .store .now) (c .before .before .before .before .before .before .before .before .before .before .before .before .before .before .before .before .args .node .num) (c .before .before .before .before .before .before .before .before .before .before .before .before .before .before .before .before .args .node .level) ((c .before .before .before .before .before .before .before .before .before .before .before .before .before .before .before .before .pre .1 .0) .reads) in omega arith
 
 count-node-u16-at-requires : (t : ℕ) → count-node-lts.Need-u16-at-requires (
   common-length-reads.Asked,
@@ -877,7 +877,7 @@ count-node-u16-at-requires : (t : ℕ) → count-node-lts.Need-u16-at-requires (
   capped-sum-reads.Asked,
   capped-sum-reads.Learnt,
 ) (count-node-at t) count-node.Post
-count-node-u16-at-requires t c κs = let w = node-inside (c .before .before .before .before .before .before .before .before .before .before .before .before .before .before .args .store .now) (c .before .before .before .before .before .before .before .before .before .before .before .before .before .before .args .num) (c .before .before .before .before .before .before .before .before .before .before .before .before .before .before .args .level) ((c .before .before .before .before .before .before .before .before .before .before .before .before .before .before .pre .1 .0) .reads) in omega arith
+count-node-u16-at-requires t c κs = let w = node-inside (c .before .before .before .before .before .before .before .before .before .before .before .before .before .before .before .before .args .store .now) (c .before .before .before .before .before .before .before .before .before .before .before .before .before .before .before .before .args .node .num) (c .before .before .before .before .before .before .before .before .before .before .before .before .before .before .before .before .args .node .level) ((c .before .before .before .before .before .before .before .before .before .before .before .before .before .before .before .before .pre .1 .0) .reads) in omega arith
 
 count-node-add-from : (t : ℕ) → count-node-lts.Need-add-from (
   common-length-reads.Asked,
@@ -903,7 +903,7 @@ count-node-add-from : (t : ℕ) → count-node-lts.Need-add-from (
   capped-sum-reads.Asked,
   capped-sum-reads.Learnt,
 ) (count-node-at t) count-node.Post
-count-node-add-from t c = let w = node-inside (c .before .before .before .before .before .before .before .before .before .before .before .before .before .before .before .args .store .now) (c .before .before .before .before .before .before .before .before .before .before .before .before .before .before .before .args .num) (c .before .before .before .before .before .before .before .before .before .before .before .before .before .before .before .args .level) ((c .before .before .before .before .before .before .before .before .before .before .before .before .before .before .before .pre .1 .0) .reads) in omega arith
+count-node-add-from t c = let w = node-inside (c .before .before .before .before .before .before .before .before .before .before .before .before .before .before .before .before .before .args .store .now) (c .before .before .before .before .before .before .before .before .before .before .before .before .before .before .before .before .before .args .node .num) (c .before .before .before .before .before .before .before .before .before .before .before .before .before .before .before .before .before .args .node .level) ((c .before .before .before .before .before .before .before .before .before .before .before .before .before .before .before .before .before .pre .1 .0) .reads) in omega arith
 
 count-node-add-end : (t : ℕ) → count-node-lts.Need-add-end (
   common-length-reads.Asked,
@@ -929,7 +929,7 @@ count-node-add-end : (t : ℕ) → count-node-lts.Need-add-end (
   capped-sum-reads.Asked,
   capped-sum-reads.Learnt,
 ) (count-node-at t) count-node.Post
-count-node-add-end t c = let w = node-inside (c .before .before .before .before .before .before .before .before .before .before .before .before .before .before .before .args .store .now) (c .before .before .before .before .before .before .before .before .before .before .before .before .before .before .before .args .num) (c .before .before .before .before .before .before .before .before .before .before .before .before .before .before .before .args .level) ((c .before .before .before .before .before .before .before .before .before .before .before .before .before .before .before .pre .1 .0) .reads) in omega arith
+count-node-add-end t c = let w = node-inside (c .before .before .before .before .before .before .before .before .before .before .before .before .before .before .before .before .before .args .store .now) (c .before .before .before .before .before .before .before .before .before .before .before .before .before .before .before .before .before .args .node .num) (c .before .before .before .before .before .before .before .before .before .before .before .before .before .before .before .before .before .args .node .level) ((c .before .before .before .before .before .before .before .before .before .before .before .before .before .before .before .before .before .pre .1 .0) .reads) in omega arith
 
 count-node-count-leaf-requires : (t : ℕ) → count-node-lts.Need-count-leaf-requires (
   common-length-reads.Asked,
@@ -955,7 +955,7 @@ count-node-count-leaf-requires : (t : ℕ) → count-node-lts.Need-count-leaf-re
   capped-sum-reads.Asked,
   capped-sum-reads.Learnt,
 ) (count-node-at t) count-node.Post
-count-node-count-leaf-requires t c κs = let w = node-inside (c .before .before .before .before .before .before .before .before .before .before .before .before .before .before .before .before .before .args .store .now) (c .before .before .before .before .before .before .before .before .before .before .before .before .before .before .before .before .before .args .num) (c .before .before .before .before .before .before .before .before .before .before .before .before .before .before .before .before .before .args .level) ((c .before .before .before .before .before .before .before .before .before .before .before .before .before .before .before .before .before .pre .1 .0) .reads) in let l : length (take ((c .before .before .before .before .before .before .before .before .before .before .before .before .before .common-length .result) - 0) (c .before .before .before .before .before .before .before .before .before .before .before .before .before .before .before .before .before .args .lo .now)) ≡ (c .before .before .before .before .before .before .before .before .before .before .before .before .before .common-length .result) - 0 = length-take-le ((c .before .before .before .before .before .before .before .before .before .before .before .before .before .common-length .result) - 0) (c .before .before .before .before .before .before .before .before .before .before .before .before .before .before .before .before .before .args .lo .now) (omega arith) in let r = (c .before .before .before .before .before .before .before .before .before .before .before .before .before .before .before .before .before .pre .1 .0) .room in (omega arith, omega arith, omega arith, trail-wider (c .before .before .before .before .before .before .before .before .before .before .before .before .before .before .before .before .before .args .store .now) ((c .before .before .before .before .before .before .before .before .before .before .before .before .before .before .before .before .before .args .prefix) .len) ((c .before .before .before .before .before .before .before .before .before .extend .result) .len) (c .before .before .before .before .before .before .before .before .before .before .before .before .before .before .before .before .before .args .trail) (omega arith) ((c .before .before .before .before .before .before .before .before .before .before .before .before .before .before .before .before .before .pre .1 .0) .trail), leaf-told (c .before .before .before .before .before .before .before .before .before .before .before .before .before .before .before .before .before .args .prefix) (c .before .before .before .before .before .before .before .before .before .before .before .before .before .before .before .before .before .args .lo .now) (c .before .before .before .before .before .before .before .before .before .before .before .before .before .before .before .before .before .args .hi .now) (c .before .before .before .before .before .before .before .before .before .before .before .before .before .common-length .result) (c .before .before .before .before .before .before .before .before .before .before .before .before .before .common-length .ensures .0) (c .before .before .before .before .before .before .before .before .before .extend .result) (c .before .before .before .before .before .before .before .before .before .extend .ensures .0) (c .before .before .before .before .before .before .before .before .before .before .before .before .before .before .before .before .before .args .store .now) (c .before .before .before .before .before .before .before .before .before .before .before .before .before .before .before .before .before .args .level) (c .before .before .before .before .before .before .before .before .before .before .before .before .before .before .before .before .before .args .num) (c .before .before .before .before .before .before .before .before .before .before .before .before .before .before .before .before .before .pre .1 .0 .reads) (c .before .before .before .before .before .before .before .before .before .before .before .before .before .before .before .before .before .pre .1 .1) (c .before .before .u16-at .result) (c .before .before .u16-at .ensures .0) (omega arith) _ _ _ (c .before .before .before .before .note-above .ensures))
+count-node-count-leaf-requires t c κs = let w = node-inside (c .before .before .before .before .before .before .before .before .before .before .before .before .before .before .before .before .before .before .before .args .store .now) (c .before .before .before .before .before .before .before .before .before .before .before .before .before .before .before .before .before .before .before .args .node .num) (c .before .before .before .before .before .before .before .before .before .before .before .before .before .before .before .before .before .before .before .args .node .level) ((c .before .before .before .before .before .before .before .before .before .before .before .before .before .before .before .before .before .before .before .pre .1 .0) .reads) in let l : length (take ((c .before .before .before .before .before .before .before .before .before .before .before .before .before .common-length .result) - 0) (c .before .before .before .before .before .before .before .before .before .before .before .before .before .before .before .before .before .before .before .args .lo .now)) ≡ (c .before .before .before .before .before .before .before .before .before .before .before .before .before .common-length .result) - 0 = length-take-le ((c .before .before .before .before .before .before .before .before .before .before .before .before .before .common-length .result) - 0) (c .before .before .before .before .before .before .before .before .before .before .before .before .before .before .before .before .before .before .before .args .lo .now) (omega arith) in let r = (c .before .before .before .before .before .before .before .before .before .before .before .before .before .before .before .before .before .before .before .pre .1 .0) .room in (omega arith, omega arith, omega arith, trail-wider (c .before .before .before .before .before .before .before .before .before .before .before .before .before .before .before .before .before .before .before .args .store .now) ((c .before .before .before .before .before .before .before .before .before .before .before .before .before .before .before .before .before .before .before .args .node .position .prefix) .len) ((c .before .before .before .before .before .before .before .before .before .extend .result) .len) (c .before .before .before .before .before .before .before .before .before .before .before .before .before .before .before .before .before .before .before .args .node .position .trail) (omega arith) ((c .before .before .before .before .before .before .before .before .before .before .before .before .before .before .before .before .before .before .before .pre .1 .0) .trail), leaf-told (c .before .before .before .before .before .before .before .before .before .before .before .before .before .before .before .before .before .before .before .args .node .position .prefix) (c .before .before .before .before .before .before .before .before .before .before .before .before .before .before .before .before .before .before .before .args .lo .now) (c .before .before .before .before .before .before .before .before .before .before .before .before .before .before .before .before .before .before .before .args .hi .now) (c .before .before .before .before .before .before .before .before .before .before .before .before .before .common-length .result) (c .before .before .before .before .before .before .before .before .before .before .before .before .before .common-length .ensures .0) (c .before .before .before .before .before .before .before .before .before .extend .result) (c .before .before .before .before .before .before .before .before .before .extend .ensures .0) (c .before .before .before .before .before .before .before .before .before .before .before .before .before .before .before .before .before .before .before .args .store .now) (c .before .before .before .before .before .before .before .before .before .before .before .before .before .before .before .before .before .before .before .args .node .level) (c .before .before .before .before .before .before .before .before .before .before .before .before .before .before .before .before .before .before .before .args .node .num) (c .before .before .before .before .before .before .before .before .before .before .before .before .before .before .before .before .before .before .before .pre .1 .0 .reads) (c .before .before .before .before .before .before .before .before .before .before .before .before .before .before .before .before .before .before .before .pre .1 .1) (c .before .before .u16-at .result) (c .before .before .u16-at .ensures .0) (omega arith) _ _ _ (c .before .before .before .before .note-above .ensures))
 
 count-node-returns-2 : (t : ℕ) → count-node-lts.Need-returns-2 (
   common-length-reads.Asked,
@@ -981,7 +981,7 @@ count-node-returns-2 : (t : ℕ) → count-node-lts.Need-returns-2 (
   capped-sum-reads.Asked,
   capped-sum-reads.Learnt,
 ) (count-node-at t) count-node.Post
-count-node-returns-2 t c = let w = node-inside (c .before .before .before .before .before .before .before .before .before .before .before .before .before .before .before .before .before .before .args .store .now) (c .before .before .before .before .before .before .before .before .before .before .before .before .before .before .before .before .before .before .args .num) (c .before .before .before .before .before .before .before .before .before .before .before .before .before .before .before .before .before .before .args .level) ((c .before .before .before .before .before .before .before .before .before .before .before .before .before .before .before .before .before .before .pre .1 .0) .reads) in (node-leaf (c .before .before .before .before .before .before .before .before .before .before .before .before .before .before .before .before .before .before .args .store .now) (c .before .before .before .before .before .before .before .before .before .before .before .before .before .before .before .before .before .before .args .level) (c .before .before .before .before .before .before .before .before .before .before .before .before .before .before .before .before .before .before .args .num) (c .before .before .before .before .before .before .before .before .before .before .before .before .before .before .before .before .before .before .args .prefix) (c .before .before .before .before .before .before .before .before .before .before .before .before .before .before .before .before .before .before .args .trail) (c .before .before .before .before .before .before .before .before .before .before .before .before .before .before .before .before .before .before .pre .1 .0) (c .before .before .before .before .before .before .before .before .before .before .before .before .before .before .before .before .before .before .args .lo .now) (c .before .before .before .before .before .before .before .before .before .before .before .before .before .before .before .before .before .before .args .hi .now) (c .before .before .before .before .before .before .before .before .before .before .before .before .before .before .common-length .result) (c .before .before .before .before .before .before .before .before .before .before .before .before .before .before .common-length .ensures .0) (c .before .before .before .before .before .before .before .before .before .before .extend .result) (c .before .before .before .before .before .before .before .before .before .before .extend .ensures .0) (c .before .before .before .u16-at .result) (c .count-leaf .result) (c .before .before .before .u16-at .ensures .0) (c .count-leaf .ensures .0) (omega arith) (omega arith), omega arith)
+count-node-returns-2 t c = let w = node-inside (c .before .before .before .before .before .before .before .before .before .before .before .before .before .before .before .before .before .before .before .before .args .store .now) (c .before .before .before .before .before .before .before .before .before .before .before .before .before .before .before .before .before .before .before .before .args .node .num) (c .before .before .before .before .before .before .before .before .before .before .before .before .before .before .before .before .before .before .before .before .args .node .level) ((c .before .before .before .before .before .before .before .before .before .before .before .before .before .before .before .before .before .before .before .before .pre .1 .0) .reads) in (node-leaf (c .before .before .before .before .before .before .before .before .before .before .before .before .before .before .before .before .before .before .before .before .args .store .now) (c .before .before .before .before .before .before .before .before .before .before .before .before .before .before .before .before .before .before .before .before .args .node .level) (c .before .before .before .before .before .before .before .before .before .before .before .before .before .before .before .before .before .before .before .before .args .node .num) (c .before .before .before .before .before .before .before .before .before .before .before .before .before .before .before .before .before .before .before .before .args .node .position .prefix) (c .before .before .before .before .before .before .before .before .before .before .before .before .before .before .before .before .before .before .before .before .args .node .position .trail) (c .before .before .before .before .before .before .before .before .before .before .before .before .before .before .before .before .before .before .before .before .pre .1 .0) (c .before .before .before .before .before .before .before .before .before .before .before .before .before .before .before .before .before .before .before .before .args .lo .now) (c .before .before .before .before .before .before .before .before .before .before .before .before .before .before .before .before .before .before .before .before .args .hi .now) (c .before .before .before .before .before .before .before .before .before .before .before .before .before .before .common-length .result) (c .before .before .before .before .before .before .before .before .before .before .before .before .before .before .common-length .ensures .0) (c .before .before .before .before .before .before .before .before .before .before .extend .result) (c .before .before .before .before .before .before .before .before .before .before .extend .ensures .0) (c .before .before .before .u16-at .result) (c .count-leaf .result) (c .before .before .before .u16-at .ensures .0) (c .count-leaf .ensures .0) (omega arith) (omega arith), omega arith)
 
 count-node-count-entries-requires : (t : ℕ) → count-node-lts.Need-count-entries-requires (
   common-length-reads.Asked,
@@ -1007,7 +1007,7 @@ count-node-count-entries-requires : (t : ℕ) → count-node-lts.Need-count-entr
   capped-sum-reads.Asked,
   capped-sum-reads.Learnt,
 ) (count-node-at t) count-node.Post
-count-node-count-entries-requires t c κs = let w = node-inside (c .before .before .before .before .before .before .before .before .before .before .before .before .before .before .before .before .args .store .now) (c .before .before .before .before .before .before .before .before .before .before .before .before .before .before .before .before .args .num) (c .before .before .before .before .before .before .before .before .before .before .before .before .before .before .before .before .args .level) ((c .before .before .before .before .before .before .before .before .before .before .before .before .before .before .before .before .pre .1 .0) .reads) in let l : length (take ((c .before .before .before .before .before .before .before .before .before .before .before .before .common-length .result) - 0) (c .before .before .before .before .before .before .before .before .before .before .before .before .before .before .before .before .args .lo .now)) ≡ (c .before .before .before .before .before .before .before .before .before .before .before .before .common-length .result) - 0 = length-take-le ((c .before .before .before .before .before .before .before .before .before .before .before .before .common-length .result) - 0) (c .before .before .before .before .before .before .before .before .before .before .before .before .before .before .before .before .args .lo .now) (omega arith) in let r = (c .before .before .before .before .before .before .before .before .before .before .before .before .before .before .before .before .pre .1 .0) .room in (omega arith, omega arith, omega arith, trail-wider (c .before .before .before .before .before .before .before .before .before .before .before .before .before .before .before .before .args .store .now) ((c .before .before .before .before .before .before .before .before .before .before .before .before .before .before .before .before .args .prefix) .len) ((c .before .before .before .before .before .before .before .before .extend .result) .len) (c .before .before .before .before .before .before .before .before .before .before .before .before .before .before .before .before .args .trail) (omega arith) ((c .before .before .before .before .before .before .before .before .before .before .before .before .before .before .before .before .pre .1 .0) .trail))
+count-node-count-entries-requires t c κs = let w = node-inside (c .before .before .before .before .before .before .before .before .before .before .before .before .before .before .before .before .before .before .args .store .now) (c .before .before .before .before .before .before .before .before .before .before .before .before .before .before .before .before .before .before .args .node .num) (c .before .before .before .before .before .before .before .before .before .before .before .before .before .before .before .before .before .before .args .node .level) ((c .before .before .before .before .before .before .before .before .before .before .before .before .before .before .before .before .before .before .pre .1 .0) .reads) in let l : length (take ((c .before .before .before .before .before .before .before .before .before .before .before .before .common-length .result) - 0) (c .before .before .before .before .before .before .before .before .before .before .before .before .before .before .before .before .before .before .args .lo .now)) ≡ (c .before .before .before .before .before .before .before .before .before .before .before .before .common-length .result) - 0 = length-take-le ((c .before .before .before .before .before .before .before .before .before .before .before .before .common-length .result) - 0) (c .before .before .before .before .before .before .before .before .before .before .before .before .before .before .before .before .before .before .args .lo .now) (omega arith) in let r = (c .before .before .before .before .before .before .before .before .before .before .before .before .before .before .before .before .before .before .pre .1 .0) .room in (omega arith, omega arith, omega arith, trail-wider (c .before .before .before .before .before .before .before .before .before .before .before .before .before .before .before .before .before .before .args .store .now) ((c .before .before .before .before .before .before .before .before .before .before .before .before .before .before .before .before .before .before .args .node .position .prefix) .len) ((c .before .before .before .before .before .before .before .before .extend .result) .len) (c .before .before .before .before .before .before .before .before .before .before .before .before .before .before .before .before .before .before .args .node .position .trail) (omega arith) ((c .before .before .before .before .before .before .before .before .before .before .before .before .before .before .before .before .before .before .pre .1 .0) .trail))
 
 count-node-read-child-requires : (t : ℕ) → count-node-lts.Need-read-child-requires (
   common-length-reads.Asked,
@@ -1033,7 +1033,7 @@ count-node-read-child-requires : (t : ℕ) → count-node-lts.Need-read-child-re
   capped-sum-reads.Asked,
   capped-sum-reads.Learnt,
 ) (count-node-at t) count-node.Post
-count-node-read-child-requires t c κs = let w = node-inside (c .before .before .before .before .before .before .before .before .before .before .before .before .before .before .before .before .before .args .store .now) (c .before .before .before .before .before .before .before .before .before .before .before .before .before .before .before .before .before .args .num) (c .before .before .before .before .before .before .before .before .before .before .before .before .before .before .before .before .before .args .level) ((c .before .before .before .before .before .before .before .before .before .before .before .before .before .before .before .before .before .pre .1 .0) .reads) in omega arith
+count-node-read-child-requires t c κs = let w = node-inside (c .before .before .before .before .before .before .before .before .before .before .before .before .before .before .before .before .before .before .before .args .store .now) (c .before .before .before .before .before .before .before .before .before .before .before .before .before .before .before .before .before .before .before .args .node .num) (c .before .before .before .before .before .before .before .before .before .before .before .before .before .before .before .before .before .before .before .args .node .level) ((c .before .before .before .before .before .before .before .before .before .before .before .before .before .before .before .before .before .before .before .pre .1 .0) .reads) in omega arith
 
 count-node-enum-known-first : (t : ℕ) → count-node-lts.Need-enum-known-first (
   common-length-reads.Asked,
@@ -1111,7 +1111,7 @@ count-node-returns-3 : (t : ℕ) → count-node-lts.Need-returns-3 (
   capped-sum-reads.Asked,
   capped-sum-reads.Learnt,
 ) (count-node-at t) count-node.Post
-count-node-returns-3 t c = let w = node-inside (c .before .before .before .before .before .before .before .before .before .before .before .before .before .before .before .before .before .before .before .before .args .store .now) (c .before .before .before .before .before .before .before .before .before .before .before .before .before .before .before .before .before .before .before .before .args .num) (c .before .before .before .before .before .before .before .before .before .before .before .before .before .before .before .before .before .before .before .before .args .level) ((c .before .before .before .before .before .before .before .before .before .before .before .before .before .before .before .before .before .before .before .before .pre .1 .0) .reads) in (node-bare (c .before .before .before .before .before .before .before .before .before .before .before .before .before .before .before .before .before .before .before .before .args .store .now) (c .before .before .before .before .before .before .before .before .before .before .before .before .before .before .before .before .before .before .before .before .args .level) (c .before .before .before .before .before .before .before .before .before .before .before .before .before .before .before .before .before .before .before .before .args .num) (c .before .before .before .before .before .before .before .before .before .before .before .before .before .before .before .before .before .before .before .before .args .prefix) (c .before .before .before .before .before .before .before .before .before .before .before .before .before .before .before .before .before .before .before .before .args .trail) (c .before .before .before .before .before .before .before .before .before .before .before .before .before .before .before .before .before .before .before .before .pre .1 .0) (c .before .before .before .before .before .before .before .before .before .before .before .before .before .before .before .before .before .before .before .before .args .lo .now) (c .before .before .before .before .before .before .before .before .before .before .before .before .before .before .before .before .before .before .before .before .args .hi .now) (c .before .before .before .before .before .before .before .before .before .before .before .before .before .before .before .before .common-length .result) (c .before .before .before .before .before .before .before .before .before .before .before .before .before .before .before .before .common-length .ensures .0) (c .before .before .before .before .before .before .before .before .before .before .before .before .extend .result) (c .before .before .before .before .before .before .before .before .before .before .before .before .extend .ensures .0) (c .before .before .before .before .before .u16-at .result) (c .before .before .before .count-entries .result) (c .before .before .before .before .before .u16-at .ensures .0) (c .before .before .before .count-entries .ensures .0) (omega arith) (omega arith) (pends-end _ _ _ _ (c .before .before .read-child .ensures) (c .enum-told .given .1)), omega arith)
+count-node-returns-3 t c = let w = node-inside (c .before .before .before .before .before .before .before .before .before .before .before .before .before .before .before .before .before .before .before .before .before .before .args .store .now) (c .before .before .before .before .before .before .before .before .before .before .before .before .before .before .before .before .before .before .before .before .before .before .args .node .num) (c .before .before .before .before .before .before .before .before .before .before .before .before .before .before .before .before .before .before .before .before .before .before .args .node .level) ((c .before .before .before .before .before .before .before .before .before .before .before .before .before .before .before .before .before .before .before .before .before .before .pre .1 .0) .reads) in (node-bare (c .before .before .before .before .before .before .before .before .before .before .before .before .before .before .before .before .before .before .before .before .before .before .args .store .now) (c .before .before .before .before .before .before .before .before .before .before .before .before .before .before .before .before .before .before .before .before .before .before .args .node .level) (c .before .before .before .before .before .before .before .before .before .before .before .before .before .before .before .before .before .before .before .before .before .before .args .node .num) (c .before .before .before .before .before .before .before .before .before .before .before .before .before .before .before .before .before .before .before .before .before .before .args .node .position .prefix) (c .before .before .before .before .before .before .before .before .before .before .before .before .before .before .before .before .before .before .before .before .before .before .args .node .position .trail) (c .before .before .before .before .before .before .before .before .before .before .before .before .before .before .before .before .before .before .before .before .before .before .pre .1 .0) (c .before .before .before .before .before .before .before .before .before .before .before .before .before .before .before .before .before .before .before .before .before .before .args .lo .now) (c .before .before .before .before .before .before .before .before .before .before .before .before .before .before .before .before .before .before .before .before .before .before .args .hi .now) (c .before .before .before .before .before .before .before .before .before .before .before .before .before .before .before .before .common-length .result) (c .before .before .before .before .before .before .before .before .before .before .before .before .before .before .before .before .common-length .ensures .0) (c .before .before .before .before .before .before .before .before .before .before .before .before .extend .result) (c .before .before .before .before .before .before .before .before .before .before .before .before .extend .ensures .0) (c .before .before .before .before .before .u16-at .result) (c .before .before .before .count-entries .result) (c .before .before .before .before .before .u16-at .ensures .0) (c .before .before .before .count-entries .ensures .0) (omega arith) (omega arith) (pends-end _ _ _ _ (c .before .before .read-child .ensures) (c .enum-told .given .1)), omega arith)
 
 count-node-lengthen-trail-requires : (t : ℕ) → count-node-lts.Need-lengthen-trail-requires (
   common-length-reads.Asked,
@@ -1137,7 +1137,7 @@ count-node-lengthen-trail-requires : (t : ℕ) → count-node-lts.Need-lengthen-
   capped-sum-reads.Asked,
   capped-sum-reads.Learnt,
 ) (count-node-at t) count-node.Post
-count-node-lengthen-trail-requires t c κs = let q = c .before .before .before .before .before .before .before .before .before .before .before .before .before .before .before .before .before .before .before .before .before .pre .0 in let m = c .before .before .before .before .before .before .before .before .before .before .before .before .before .before .before .before .before .common-length .ensures .1 in let i = c .before .before .before .before .before .before .before .before .before .before .before .before .before .before .before .before .before .common-length .ensures .2 in let g = c .before .before .before .before .before .before .before .before .before .before .before .before .before .before .before .if1 .left in let x = c .before .before .before .before .before .before .before .before .before .before .before .before .before .extend .ensures .1 in let v = c .before .before .before .before .before .if2 .left in let l : length (take ((c .before .before .before .before .before .before .before .before .before .before .before .before .before .before .before .before .before .common-length .result) - 0) (c .before .before .before .before .before .before .before .before .before .before .before .before .before .before .before .before .before .before .before .before .before .args .lo .now)) ≡ (c .before .before .before .before .before .before .before .before .before .before .before .before .before .before .before .before .before .common-length .result) - 0 = length-take-le ((c .before .before .before .before .before .before .before .before .before .before .before .before .before .before .before .before .before .common-length .result) - 0) (c .before .before .before .before .before .before .before .before .before .before .before .before .before .before .before .before .before .before .before .before .before .args .lo .now) (omega arith) in let d = (c .before .before .before .before .before .before .before .before .before .before .before .before .before .before .before .before .before .before .before .before .before .pre .1 .0) .deep in (omega arith, trail-wider (c .before .before .before .before .before .before .before .before .before .before .before .before .before .before .before .before .before .before .before .before .before .args .store .now) ((c .before .before .before .before .before .before .before .before .before .before .before .before .before .before .before .before .before .before .before .before .before .args .prefix) .len) ((c .before .before .before .before .before .before .before .before .before .before .before .before .before .extend .result) .len) (c .before .before .before .before .before .before .before .before .before .before .before .before .before .before .before .before .before .before .before .before .before .args .trail) (omega arith) ((c .before .before .before .before .before .before .before .before .before .before .before .before .before .before .before .before .before .before .before .before .before .pre .1 .0) .trail), node-above (c .before .before .before .before .before .before .before .before .before .before .before .before .before .before .before .before .before .before .before .before .before .args .store .now) (c .before .before .before .before .before .before .before .before .before .before .before .before .before .before .before .before .before .before .before .before .before .args .level) (c .before .before .before .before .before .before .before .before .before .before .before .before .before .before .before .before .before .before .before .before .before .args .num) ((c .before .before .before .before .before .before .before .before .before .before .before .before .before .extend .result) .len) ((c .before .before .before .before .before .before .before .before .before .before .before .before .before .before .before .before .before .before .before .before .before .pre .1 .0) .reads))
+count-node-lengthen-trail-requires t c κs = let q = c .before .before .before .before .before .before .before .before .before .before .before .before .before .before .before .before .before .before .before .before .before .before .before .pre .0 in let m = c .before .before .before .before .before .before .before .before .before .before .before .before .before .before .before .before .before .common-length .ensures .1 in let i = c .before .before .before .before .before .before .before .before .before .before .before .before .before .before .before .before .before .common-length .ensures .2 in let g = c .before .before .before .before .before .before .before .before .before .before .before .before .before .before .before .if1 .left in let x = c .before .before .before .before .before .before .before .before .before .before .before .before .before .extend .ensures .1 in let v = c .before .before .before .before .before .if2 .left in let l : length (take ((c .before .before .before .before .before .before .before .before .before .before .before .before .before .before .before .before .before .common-length .result) - 0) (c .before .before .before .before .before .before .before .before .before .before .before .before .before .before .before .before .before .before .before .before .before .before .before .args .lo .now)) ≡ (c .before .before .before .before .before .before .before .before .before .before .before .before .before .before .before .before .before .common-length .result) - 0 = length-take-le ((c .before .before .before .before .before .before .before .before .before .before .before .before .before .before .before .before .before .common-length .result) - 0) (c .before .before .before .before .before .before .before .before .before .before .before .before .before .before .before .before .before .before .before .before .before .before .before .args .lo .now) (omega arith) in let d = (c .before .before .before .before .before .before .before .before .before .before .before .before .before .before .before .before .before .before .before .before .before .before .before .pre .1 .0) .deep in (omega arith, trail-wider (c .before .before .before .before .before .before .before .before .before .before .before .before .before .before .before .before .before .before .before .before .before .before .before .args .store .now) ((c .before .before .before .before .before .before .before .before .before .before .before .before .before .before .before .before .before .before .before .before .before .before .before .args .node .position .prefix) .len) ((c .before .before .before .before .before .before .before .before .before .before .before .before .before .extend .result) .len) (c .before .before .before .before .before .before .before .before .before .before .before .before .before .before .before .before .before .before .before .before .before .before .before .args .node .position .trail) (omega arith) ((c .before .before .before .before .before .before .before .before .before .before .before .before .before .before .before .before .before .before .before .before .before .before .before .pre .1 .0) .trail), node-above (c .before .before .before .before .before .before .before .before .before .before .before .before .before .before .before .before .before .before .before .before .before .before .before .args .store .now) (c .before .before .before .before .before .before .before .before .before .before .before .before .before .before .before .before .before .before .before .before .before .before .before .args .node .level) (c .before .before .before .before .before .before .before .before .before .before .before .before .before .before .before .before .before .before .before .before .before .before .before .args .node .num) ((c .before .before .before .before .before .before .before .before .before .before .before .before .before .extend .result) .len) ((c .before .before .before .before .before .before .before .before .before .before .before .before .before .before .before .before .before .before .before .before .before .before .before .pre .1 .0) .reads))
 
 count-node-sub-note-own : (t : ℕ) → count-node-lts.Need-sub-note-own (
   common-length-reads.Asked,
@@ -1163,7 +1163,7 @@ count-node-sub-note-own : (t : ℕ) → count-node-lts.Need-sub-note-own (
   capped-sum-reads.Asked,
   capped-sum-reads.Learnt,
 ) (count-node-at t) count-node.Post
-count-node-sub-note-own t c = let q = c .before .before .before .before .before .before .before .before .before .before .before .before .before .before .before .before .before .before .before .before .before .before .pre .0 in let m = c .before .before .before .before .before .before .before .before .before .before .before .before .before .before .before .before .before .before .common-length .ensures .1 in let i = c .before .before .before .before .before .before .before .before .before .before .before .before .before .before .before .before .before .before .common-length .ensures .2 in let g = c .before .before .before .before .before .before .before .before .before .before .before .before .before .before .before .before .if1 .left in let x = c .before .before .before .before .before .before .before .before .before .before .before .before .before .before .extend .ensures .1 in let v = c .before .before .before .before .before .before .if2 .left in omega arith
+count-node-sub-note-own t c = let q = c .before .before .before .before .before .before .before .before .before .before .before .before .before .before .before .before .before .before .before .before .before .before .before .before .pre .0 in let m = c .before .before .before .before .before .before .before .before .before .before .before .before .before .before .before .before .before .before .common-length .ensures .1 in let i = c .before .before .before .before .before .before .before .before .before .before .before .before .before .before .before .before .before .before .common-length .ensures .2 in let g = c .before .before .before .before .before .before .before .before .before .before .before .before .before .before .before .before .if1 .left in let x = c .before .before .before .before .before .before .before .before .before .before .before .before .before .before .extend .ensures .1 in let v = c .before .before .before .before .before .before .if2 .left in omega arith
 
 count-node-part-note-own-start : (t : ℕ) → count-node-lts.Need-part-note-own-start (
   common-length-reads.Asked,
@@ -1189,7 +1189,7 @@ count-node-part-note-own-start : (t : ℕ) → count-node-lts.Need-part-note-own
   capped-sum-reads.Asked,
   capped-sum-reads.Learnt,
 ) (count-node-at t) count-node.Post
-count-node-part-note-own-start t c = let q = c .before .before .before .before .before .before .before .before .before .before .before .before .before .before .before .before .before .before .before .before .before .before .pre .0 in let m = c .before .before .before .before .before .before .before .before .before .before .before .before .before .before .before .before .before .before .common-length .ensures .1 in let i = c .before .before .before .before .before .before .before .before .before .before .before .before .before .before .before .before .before .before .common-length .ensures .2 in let g = c .before .before .before .before .before .before .before .before .before .before .before .before .before .before .before .before .if1 .left in let x = c .before .before .before .before .before .before .before .before .before .before .before .before .before .before .extend .ensures .1 in let v = c .before .before .before .before .before .before .if2 .left in omega arith
+count-node-part-note-own-start t c = let q = c .before .before .before .before .before .before .before .before .before .before .before .before .before .before .before .before .before .before .before .before .before .before .before .before .pre .0 in let m = c .before .before .before .before .before .before .before .before .before .before .before .before .before .before .before .before .before .before .common-length .ensures .1 in let i = c .before .before .before .before .before .before .before .before .before .before .before .before .before .before .before .before .before .before .common-length .ensures .2 in let g = c .before .before .before .before .before .before .before .before .before .before .before .before .before .before .before .before .if1 .left in let x = c .before .before .before .before .before .before .before .before .before .before .before .before .before .before .extend .ensures .1 in let v = c .before .before .before .before .before .before .if2 .left in omega arith
 
 count-node-part-note-own-end : (t : ℕ) → count-node-lts.Need-part-note-own-end (
   common-length-reads.Asked,
@@ -1241,7 +1241,7 @@ count-node-sub-note-own-2 : (t : ℕ) → count-node-lts.Need-sub-note-own-2 (
   capped-sum-reads.Asked,
   capped-sum-reads.Learnt,
 ) (count-node-at t) count-node.Post
-count-node-sub-note-own-2 t c = let q = c .before .before .before .before .before .before .before .before .before .before .before .before .before .before .before .before .before .before .before .before .before .before .before .pre .0 in let m = c .before .before .before .before .before .before .before .before .before .before .before .before .before .before .before .before .before .before .before .common-length .ensures .1 in let i = c .before .before .before .before .before .before .before .before .before .before .before .before .before .before .before .before .before .before .before .common-length .ensures .2 in let g = c .before .before .before .before .before .before .before .before .before .before .before .before .before .before .before .before .before .if1 .left in let x = c .before .before .before .before .before .before .before .before .before .before .before .before .before .before .before .extend .ensures .1 in let v = c .before .before .before .before .before .before .before .if2 .left in omega arith
+count-node-sub-note-own-2 t c = let q = c .before .before .before .before .before .before .before .before .before .before .before .before .before .before .before .before .before .before .before .before .before .before .before .before .before .pre .0 in let m = c .before .before .before .before .before .before .before .before .before .before .before .before .before .before .before .before .before .before .before .common-length .ensures .1 in let i = c .before .before .before .before .before .before .before .before .before .before .before .before .before .before .before .before .before .before .before .common-length .ensures .2 in let g = c .before .before .before .before .before .before .before .before .before .before .before .before .before .before .before .before .before .if1 .left in let x = c .before .before .before .before .before .before .before .before .before .before .before .before .before .before .before .extend .ensures .1 in let v = c .before .before .before .before .before .before .before .if2 .left in omega arith
 
 count-node-part-note-own-start-2 : (t : ℕ) → count-node-lts.Need-part-note-own-start-2 (
   common-length-reads.Asked,
@@ -1267,7 +1267,7 @@ count-node-part-note-own-start-2 : (t : ℕ) → count-node-lts.Need-part-note-o
   capped-sum-reads.Asked,
   capped-sum-reads.Learnt,
 ) (count-node-at t) count-node.Post
-count-node-part-note-own-start-2 t c = let q = c .before .before .before .before .before .before .before .before .before .before .before .before .before .before .before .before .before .before .before .before .before .before .before .pre .0 in let m = c .before .before .before .before .before .before .before .before .before .before .before .before .before .before .before .before .before .before .before .common-length .ensures .1 in let i = c .before .before .before .before .before .before .before .before .before .before .before .before .before .before .before .before .before .before .before .common-length .ensures .2 in let g = c .before .before .before .before .before .before .before .before .before .before .before .before .before .before .before .before .before .if1 .left in let x = c .before .before .before .before .before .before .before .before .before .before .before .before .before .before .before .extend .ensures .1 in let v = c .before .before .before .before .before .before .before .if2 .left in omega arith
+count-node-part-note-own-start-2 t c = let q = c .before .before .before .before .before .before .before .before .before .before .before .before .before .before .before .before .before .before .before .before .before .before .before .before .before .pre .0 in let m = c .before .before .before .before .before .before .before .before .before .before .before .before .before .before .before .before .before .before .before .common-length .ensures .1 in let i = c .before .before .before .before .before .before .before .before .before .before .before .before .before .before .before .before .before .before .before .common-length .ensures .2 in let g = c .before .before .before .before .before .before .before .before .before .before .before .before .before .before .before .before .before .if1 .left in let x = c .before .before .before .before .before .before .before .before .before .before .before .before .before .before .before .extend .ensures .1 in let v = c .before .before .before .before .before .before .before .if2 .left in omega arith
 
 count-node-part-note-own-end-2 : (t : ℕ) → count-node-lts.Need-part-note-own-end-2 (
   common-length-reads.Asked,
@@ -1345,7 +1345,33 @@ count-node-note-own-requires : (t : ℕ) → count-node-lts.Need-note-own-requir
   capped-sum-reads.Asked,
   capped-sum-reads.Learnt,
 ) (count-node-at t) count-node.Post
-count-node-note-own-requires t c κs = let w = node-inside (c .before .before .before .before .before .before .before .before .before .before .before .before .before .before .before .before .before .before .before .before .before .before .before .before .before .args .store .now) (c .before .before .before .before .before .before .before .before .before .before .before .before .before .before .before .before .before .before .before .before .before .before .before .before .before .args .num) (c .before .before .before .before .before .before .before .before .before .before .before .before .before .before .before .before .before .before .before .before .before .before .before .before .before .args .level) ((c .before .before .before .before .before .before .before .before .before .before .before .before .before .before .before .before .before .before .before .before .before .before .before .before .before .pre .1 .0) .reads) in (w .0, w .1, c .before .before .before .before .before .before .before .before .before .before .before .before .note-above .ensures .fits)
+count-node-note-own-requires t c κs = let w = node-inside (c .before .before .before .before .before .before .before .before .before .before .before .before .before .before .before .before .before .before .before .before .before .before .before .before .before .before .before .args .store .now) (c .before .before .before .before .before .before .before .before .before .before .before .before .before .before .before .before .before .before .before .before .before .before .before .before .before .before .before .args .node .num) (c .before .before .before .before .before .before .before .before .before .before .before .before .before .before .before .before .before .before .before .before .before .before .before .before .before .before .before .args .node .level) ((c .before .before .before .before .before .before .before .before .before .before .before .before .before .before .before .before .before .before .before .before .before .before .before .before .before .before .before .pre .1 .0) .reads) in (w .0, w .1, c .before .before .before .before .before .before .before .before .before .before .before .before .note-above .ensures .fits)
+
+count-node-sub-below : (t : ℕ) → count-node-lts.Need-sub-below (
+  common-length-reads.Asked,
+  common-length-reads.Learnt,
+  extend-reads.Asked,
+  extend-reads.Learnt,
+  note-above-reads.Asked,
+  note-above-reads.Learnt,
+  u16-at-reads.Asked,
+  u16-at-reads.Learnt,
+  count-leaf-reads.Asked,
+  count-leaf-reads.Learnt,
+  count-entries-reads.Asked,
+  count-entries-reads.Learnt,
+  read-child-reads.Asked,
+  read-child-reads.Learnt,
+  lengthen-trail-reads.Asked,
+  lengthen-trail-reads.Learnt,
+  note-own-reads.Asked,
+  note-own-reads.Learnt,
+  count-children-below t,
+  count-children.Post,
+  capped-sum-reads.Asked,
+  capped-sum-reads.Learnt,
+) (count-node-at t) count-node.Post
+count-node-sub-below t c = search needs
 
 count-node-sub-count-children : (t : ℕ) → count-node-lts.Need-sub-count-children (
   common-length-reads.Asked,
@@ -1371,33 +1397,7 @@ count-node-sub-count-children : (t : ℕ) → count-node-lts.Need-sub-count-chil
   capped-sum-reads.Asked,
   capped-sum-reads.Learnt,
 ) (count-node-at t) count-node.Post
-count-node-sub-count-children t c = search needs
-
-count-node-sub-count-children-2 : (t : ℕ) → count-node-lts.Need-sub-count-children-2 (
-  common-length-reads.Asked,
-  common-length-reads.Learnt,
-  extend-reads.Asked,
-  extend-reads.Learnt,
-  note-above-reads.Asked,
-  note-above-reads.Learnt,
-  u16-at-reads.Asked,
-  u16-at-reads.Learnt,
-  count-leaf-reads.Asked,
-  count-leaf-reads.Learnt,
-  count-entries-reads.Asked,
-  count-entries-reads.Learnt,
-  read-child-reads.Asked,
-  read-child-reads.Learnt,
-  lengthen-trail-reads.Asked,
-  lengthen-trail-reads.Learnt,
-  note-own-reads.Asked,
-  note-own-reads.Learnt,
-  count-children-below t,
-  count-children.Post,
-  capped-sum-reads.Asked,
-  capped-sum-reads.Learnt,
-) (count-node-at t) count-node.Post
-count-node-sub-count-children-2 t c = let q = c .before .before .before .before .before .before .before .before .before .before .before .before .before .before .before .before .before .before .before .before .before .before .before .before .before .before .before .pre .0 in let m = c .before .before .before .before .before .before .before .before .before .before .before .before .before .before .before .before .before .before .before .before .before .before .before .common-length .ensures .1 in let i = c .before .before .before .before .before .before .before .before .before .before .before .before .before .before .before .before .before .before .before .before .before .before .before .common-length .ensures .2 in let g = c .before .before .before .before .before .before .before .before .before .before .before .before .before .before .before .before .before .before .before .before .before .if1 .left in let x = c .before .before .before .before .before .before .before .before .before .before .before .before .before .before .before .before .before .before .before .extend .ensures .1 in let v = c .before .before .before .before .before .before .before .before .before .before .before .if2 .left in omega arith
+count-node-sub-count-children t c = let q = c .before .before .before .before .before .before .before .before .before .before .before .before .before .before .before .before .before .before .before .before .before .before .before .before .before .before .before .before .before .pre .0 in let m = c .before .before .before .before .before .before .before .before .before .before .before .before .before .before .before .before .before .before .before .before .before .before .before .common-length .ensures .1 in let i = c .before .before .before .before .before .before .before .before .before .before .before .before .before .before .before .before .before .before .before .before .before .before .before .common-length .ensures .2 in let g = c .before .before .before .before .before .before .before .before .before .before .before .before .before .before .before .before .before .before .before .before .before .if1 .left in let x = c .before .before .before .before .before .before .before .before .before .before .before .before .before .before .before .before .before .before .before .extend .ensures .1 in let v = c .before .before .before .before .before .before .before .before .before .before .before .if2 .left in omega arith
 
 count-node-part-count-children-start : (t : ℕ) → count-node-lts.Need-part-count-children-start (
   common-length-reads.Asked,
@@ -1423,7 +1423,7 @@ count-node-part-count-children-start : (t : ℕ) → count-node-lts.Need-part-co
   capped-sum-reads.Asked,
   capped-sum-reads.Learnt,
 ) (count-node-at t) count-node.Post
-count-node-part-count-children-start t c = let q = c .before .before .before .before .before .before .before .before .before .before .before .before .before .before .before .before .before .before .before .before .before .before .before .before .before .before .before .pre .0 in let m = c .before .before .before .before .before .before .before .before .before .before .before .before .before .before .before .before .before .before .before .before .before .before .before .common-length .ensures .1 in let i = c .before .before .before .before .before .before .before .before .before .before .before .before .before .before .before .before .before .before .before .before .before .before .before .common-length .ensures .2 in let g = c .before .before .before .before .before .before .before .before .before .before .before .before .before .before .before .before .before .before .before .before .before .if1 .left in let x = c .before .before .before .before .before .before .before .before .before .before .before .before .before .before .before .before .before .before .before .extend .ensures .1 in let v = c .before .before .before .before .before .before .before .before .before .before .before .if2 .left in omega arith
+count-node-part-count-children-start t c = let q = c .before .before .before .before .before .before .before .before .before .before .before .before .before .before .before .before .before .before .before .before .before .before .before .before .before .before .before .before .before .pre .0 in let m = c .before .before .before .before .before .before .before .before .before .before .before .before .before .before .before .before .before .before .before .before .before .before .before .common-length .ensures .1 in let i = c .before .before .before .before .before .before .before .before .before .before .before .before .before .before .before .before .before .before .before .before .before .before .before .common-length .ensures .2 in let g = c .before .before .before .before .before .before .before .before .before .before .before .before .before .before .before .before .before .before .before .before .before .if1 .left in let x = c .before .before .before .before .before .before .before .before .before .before .before .before .before .before .before .before .before .before .before .extend .ensures .1 in let v = c .before .before .before .before .before .before .before .before .before .before .before .if2 .left in omega arith
 
 count-node-part-count-children-end : (t : ℕ) → count-node-lts.Need-part-count-children-end (
   common-length-reads.Asked,
@@ -1475,8 +1475,8 @@ count-node-count-children-requires : (t : ℕ) → count-node-lts.Need-count-chi
   capped-sum-reads.Asked,
   capped-sum-reads.Learnt,
 ) (count-node-at t) count-node.Post
-count-node-count-children-requires t c κs = let q = c .before .before .before .before .before .before .before .before .before .before .before .before .before .before .before .before .before .before .before .before .before .before .before .before .before .before .before .before .before .pre .0 in let m = c .before .before .before .before .before .before .before .before .before .before .before .before .before .before .before .before .before .before .before .before .before .before .before .before .before .common-length .ensures .1 in let g = c .before .before .before .before .before .before .before .before .before .before .before .before .before .before .before .before .before .before .before .before .before .before .before .if1 .left in let x = c .before .before .before .before .before .before .before .before .before .before .before .before .before .before .before .before .before .before .before .before .before .extend .ensures .1 in let v = c .before .before .before .before .before .before .before .before .before .before .before .before .before .if2 .left in let w = node-inside (c .before .before .before .before .before .before .before .before .before .before .before .before .before .before .before .before .before .before .before .before .before .before .before .before .before .before .before .before .before .args .store .now) (c .before .before .before .before .before .before .before .before .before .before .before .before .before .before .before .before .before .before .before .before .before .before .before .before .before .before .before .before .before .args .num) (c .before .before .before .before .before .before .before .before .before .before .before .before .before .before .before .before .before .before .before .before .before .before .before .before .before .before .before .before .before .args .level) ((c .before .before .before .before .before .before .before .before .before .before .before .before .before .before .before .before .before .before .before .before .before .before .before .before .before .before .before .before .before .pre .1 .0) .reads) in let l : length (take ((c .before .before .before .before .before .before .before .before .before .before .before .before .before .before .before .before .before .before .before .before .before .before .before .before .before .common-length .result) - 0) (c .before .before .before .before .before .before .before .before .before .before .before .before .before .before .before .before .before .before .before .before .before .before .before .before .before .before .before .before .before .args .lo .now)) ≡ (c .before .before .before .before .before .before .before .before .before .before .before .before .before .before .before .before .before .before .before .before .before .before .before .before .before .common-length .result) - 0 = length-take-le ((c .before .before .before .before .before .before .before .before .before .before .before .before .before .before .before .before .before .before .before .before .before .before .before .before .before .common-length .result) - 0) (c .before .before .before .before .before .before .before .before .before .before .before .before .before .before .before .before .before .before .before .before .before .before .before .before .before .before .before .before .before .args .lo .now) (omega arith) in let r = (c .before .before .before .before .before .before .before .before .before .before .before .before .before .before .before .before .before .before .before .before .before .before .before .before .before .before .before .before .before .pre .1 .0) .room in let n = first-next t (c .before .before .before .before .before .before .before .before) in
-    (omega arith, (kids-ready (c .before .before .before .before .before .before .before .before .before .before .before .before .before .before .before .before .before .before .before .before .before .before .before .before .before .before .before .before .before .args .store .now) (c .before .before .before .before .before .before .before .before .before .before .before .before .before .before .before .before .before .before .before .before .before .before .before .before .before .before .before .before .before .args .level) (c .before .before .before .before .before .before .before .before .before .before .before .before .before .before .before .before .before .before .before .before .before .before .before .before .before .before .before .before .before .args .num) (c .before .before .before .before .before .before .before .before .before .before .before .before .before .before .before .before .before .before .before .before .before .before .before .before .before .before .before .before .before .args .prefix) (c .before .before .before .before .before .before .before .before .before .before .before .before .before .before .before .before .before .before .before .before .before .before .before .before .before .before .before .before .before .args .trail) (c .before .before .before .before .before .before .before .before .before .before .before .before .before .before .before .before .before .before .before .before .before .before .before .before .before .before .before .before .before .pre .1 .0) (c .before .before .before .before .before .before .before .before .before .before .before .before .before .before .before .before .before .before .before .before .before .before .before .before .before .before .before .before .before .args .lo .now) (c .before .before .before .before .before .before .before .before .before .before .before .before .before .before .before .before .before .before .before .before .before .before .before .before .before .before .before .before .before .args .hi .now) (c .before .before .before .before .before .before .before .before .before .before .before .before .before .before .before .before .before .before .before .before .before .before .before .before .before .common-length .result) (c .before .before .before .before .before .before .before .before .before .before .before .before .before .before .before .before .before .before .before .before .before .before .before .before .before .common-length .ensures .0) (c .before .before .before .before .before .before .before .before .before .before .before .before .before .before .before .before .before .before .before .before .before .extend .result) (c .before .before .before .before .before .before .before .before .before .before .before .before .before .before .before .before .before .before .before .before .before .extend .ensures .0) (c .before .before .before .before .before .before .before .before .before .before .before .before .before .before .u16-at .result) (c .before .before .before .before .before .before .before .before .before .before .before .before .count-entries .result) (c .before .before .before .before .before .before .before .before .before .before .before .before .before .before .u16-at .ensures .0) (c .before .before .before .before .before .before .before .before .before .before .before .before .count-entries .ensures .0) (omega arith) (c .before .before .before .before .before .before .before .before .before .first .given .0 .0) (c .before .before .before .before .before .before .before .before .before .first .given .0 .1 .0) (c .before .before .before .before .before .before .before .before .before .first .given .0 .1 .1 .0) (first-next t (c .before .before .before .before .before .before .before .before)) (c .before .before .before .before .before .before .before .lengthen-trail .result) (c .before .before .before .before .before .before .before .lengthen-trail .ensures) (omega arith) (omega arith), kids-sound (c .before .before .before .before .before .before .before .before .before .before .before .before .before .before .before .before .before .before .before .before .before .before .before .before .before .before .before .before .before .args .prefix) (c .before .before .before .before .before .before .before .before .before .before .before .before .before .before .before .before .before .before .before .before .before .before .before .before .before .before .before .before .before .args .lo .now) (c .before .before .before .before .before .before .before .before .before .before .before .before .before .before .before .before .before .before .before .before .before .before .before .before .before .before .before .before .before .args .hi .now) (c .before .before .before .before .before .before .before .before .before .before .before .before .before .before .before .before .before .before .before .before .before .before .before .before .before .common-length .result) (c .before .before .before .before .before .before .before .before .before .before .before .before .before .before .before .before .before .before .before .before .before .before .before .before .before .common-length .ensures .0) (c .before .before .before .before .before .before .before .before .before .before .before .before .before .before .before .before .before .before .before .before .before .extend .result) (c .before .before .before .before .before .before .before .before .before .before .before .before .before .before .before .before .before .before .before .before .before .extend .ensures .0) (c .before .before .before .before .before .before .before .before .before .before .before .before .before .before .before .before .before .before .before .before .before .before .before .before .before .before .before .before .before .args .store .now) (c .before .before .before .before .before .before .before .before .before .before .before .before .before .before .before .before .before .before .before .before .before .before .before .before .before .before .before .before .before .args .level) (c .before .before .before .before .before .before .before .before .before .before .before .before .before .before .before .before .before .before .before .before .before .before .before .before .before .before .before .before .before .args .num) (c .before .before .before .before .before .before .before .before .before .before .before .before .before .before .before .before .before .before .before .before .before .before .before .before .before .before .before .before .before .pre .1 .0 .reads) (c .before .before .before .before .before .before .before .before .before .before .before .before .before .before .before .before .before .before .before .before .before .before .before .before .before .before .before .before .before .pre .1 .1) (c .before .before .before .before .before .before .before .before .before .before .before .before .before .before .u16-at .result) (c .before .before .before .before .before .before .before .before .before .before .before .before .before .before .u16-at .ensures .0) (omega arith) _ _ _ (first-next t (c .before .before .before .before .before .before .before .before)) _ _ _ (told-joined _ _ _ _ _ _ (c .before .before .before .before .before .before .before .before .before .before .before .before .before .before .before .before .before .before .before .before .before .extend .result) _ _ _ _ (let h = here-length t (c .before .before .before .before .before .before .before .before .before .before .before .before .before .before .before .before .before .before .before .before .before) in omega arith) (c .before .before .before .before .before .before .before .lengthen-trail .ensures) (c .before .before .before .before .before .before .before .before .before .before .before .before .before .before .before .before .note-above .ensures) (c .before .before .before .note-own .ensures))))
+count-node-count-children-requires t c κs = let q = c .before .before .before .before .before .before .before .before .before .before .before .before .before .before .before .before .before .before .before .before .before .before .before .before .before .before .before .before .before .before .before .pre .0 in let m = c .before .before .before .before .before .before .before .before .before .before .before .before .before .before .before .before .before .before .before .before .before .before .before .before .before .common-length .ensures .1 in let g = c .before .before .before .before .before .before .before .before .before .before .before .before .before .before .before .before .before .before .before .before .before .before .before .if1 .left in let x = c .before .before .before .before .before .before .before .before .before .before .before .before .before .before .before .before .before .before .before .before .before .extend .ensures .1 in let v = c .before .before .before .before .before .before .before .before .before .before .before .before .before .if2 .left in let w = node-inside (c .before .before .before .before .before .before .before .before .before .before .before .before .before .before .before .before .before .before .before .before .before .before .before .before .before .before .before .before .before .before .before .args .store .now) (c .before .before .before .before .before .before .before .before .before .before .before .before .before .before .before .before .before .before .before .before .before .before .before .before .before .before .before .before .before .before .before .args .node .num) (c .before .before .before .before .before .before .before .before .before .before .before .before .before .before .before .before .before .before .before .before .before .before .before .before .before .before .before .before .before .before .before .args .node .level) ((c .before .before .before .before .before .before .before .before .before .before .before .before .before .before .before .before .before .before .before .before .before .before .before .before .before .before .before .before .before .before .before .pre .1 .0) .reads) in let l : length (take ((c .before .before .before .before .before .before .before .before .before .before .before .before .before .before .before .before .before .before .before .before .before .before .before .before .before .common-length .result) - 0) (c .before .before .before .before .before .before .before .before .before .before .before .before .before .before .before .before .before .before .before .before .before .before .before .before .before .before .before .before .before .before .before .args .lo .now)) ≡ (c .before .before .before .before .before .before .before .before .before .before .before .before .before .before .before .before .before .before .before .before .before .before .before .before .before .common-length .result) - 0 = length-take-le ((c .before .before .before .before .before .before .before .before .before .before .before .before .before .before .before .before .before .before .before .before .before .before .before .before .before .common-length .result) - 0) (c .before .before .before .before .before .before .before .before .before .before .before .before .before .before .before .before .before .before .before .before .before .before .before .before .before .before .before .before .before .before .before .args .lo .now) (omega arith) in let r = (c .before .before .before .before .before .before .before .before .before .before .before .before .before .before .before .before .before .before .before .before .before .before .before .before .before .before .before .before .before .before .before .pre .1 .0) .room in let n = first-next t (c .before .before .before .before .before .before .before .before) in
+    (omega arith, (branches-ready (c .before .before .before .before .before .before .before .before .before .before .before .before .before .before .before .before .before .before .before .before .before .before .before .before .before .before .before .before .before .before .before .args .store .now) (c .before .before .before .before .before .before .before .before .before .before .before .before .before .before .before .before .before .before .before .before .before .before .before .before .before .before .before .before .before .before .before .args .node .level) (c .before .before .before .before .before .before .before .before .before .before .before .before .before .before .before .before .before .before .before .before .before .before .before .before .before .before .before .before .before .before .before .args .node .num) (c .before .before .before .before .before .before .before .before .before .before .before .before .before .before .before .before .before .before .before .before .before .before .before .before .before .before .before .before .before .before .before .args .node .position .prefix) (c .before .before .before .before .before .before .before .before .before .before .before .before .before .before .before .before .before .before .before .before .before .before .before .before .before .before .before .before .before .before .before .args .node .position .trail) (c .before .before .before .before .before .before .before .before .before .before .before .before .before .before .before .before .before .before .before .before .before .before .before .before .before .before .before .before .before .before .before .pre .1 .0) (c .before .before .before .before .before .before .before .before .before .before .before .before .before .before .before .before .before .before .before .before .before .before .before .before .before .before .before .before .before .before .before .args .lo .now) (c .before .before .before .before .before .before .before .before .before .before .before .before .before .before .before .before .before .before .before .before .before .before .before .before .before .before .before .before .before .before .before .args .hi .now) (c .before .before .before .before .before .before .before .before .before .before .before .before .before .before .before .before .before .before .before .before .before .before .before .before .before .common-length .result) (c .before .before .before .before .before .before .before .before .before .before .before .before .before .before .before .before .before .before .before .before .before .before .before .before .before .common-length .ensures .0) (c .before .before .before .before .before .before .before .before .before .before .before .before .before .before .before .before .before .before .before .before .before .extend .result) (c .before .before .before .before .before .before .before .before .before .before .before .before .before .before .before .before .before .before .before .before .before .extend .ensures .0) (c .before .before .before .before .before .before .before .before .before .before .before .before .before .before .u16-at .result) (c .before .before .before .before .before .before .before .before .before .before .before .before .count-entries .result) (c .before .before .before .before .before .before .before .before .before .before .before .before .before .before .u16-at .ensures .0) (c .before .before .before .before .before .before .before .before .before .before .before .before .count-entries .ensures .0) (omega arith) (c .before .before .before .before .before .before .before .before .before .first .given .0 .0) (c .before .before .before .before .before .before .before .before .before .first .given .0 .1 .0) (c .before .before .before .before .before .before .before .before .before .first .given .0 .1 .1 .0) (first-next t (c .before .before .before .before .before .before .before .before)) (c .before .before .before .before .before .before .before .lengthen-trail .result) (c .before .before .before .before .before .before .before .lengthen-trail .ensures) (omega arith) (omega arith), branches-sound (c .before .before .before .before .before .before .before .before .before .before .before .before .before .before .before .before .before .before .before .before .before .before .before .before .before .before .before .before .before .before .before .args .node .position .prefix) (c .before .before .before .before .before .before .before .before .before .before .before .before .before .before .before .before .before .before .before .before .before .before .before .before .before .before .before .before .before .before .before .args .lo .now) (c .before .before .before .before .before .before .before .before .before .before .before .before .before .before .before .before .before .before .before .before .before .before .before .before .before .before .before .before .before .before .before .args .hi .now) (c .before .before .before .before .before .before .before .before .before .before .before .before .before .before .before .before .before .before .before .before .before .before .before .before .before .common-length .result) (c .before .before .before .before .before .before .before .before .before .before .before .before .before .before .before .before .before .before .before .before .before .before .before .before .before .common-length .ensures .0) (c .before .before .before .before .before .before .before .before .before .before .before .before .before .before .before .before .before .before .before .before .before .extend .result) (c .before .before .before .before .before .before .before .before .before .before .before .before .before .before .before .before .before .before .before .before .before .extend .ensures .0) (c .before .before .before .before .before .before .before .before .before .before .before .before .before .before .before .before .before .before .before .before .before .before .before .before .before .before .before .before .before .before .before .args .store .now) (c .before .before .before .before .before .before .before .before .before .before .before .before .before .before .before .before .before .before .before .before .before .before .before .before .before .before .before .before .before .before .before .args .node .level) (c .before .before .before .before .before .before .before .before .before .before .before .before .before .before .before .before .before .before .before .before .before .before .before .before .before .before .before .before .before .before .before .args .node .num) (c .before .before .before .before .before .before .before .before .before .before .before .before .before .before .before .before .before .before .before .before .before .before .before .before .before .before .before .before .before .before .before .pre .1 .0 .reads) (c .before .before .before .before .before .before .before .before .before .before .before .before .before .before .before .before .before .before .before .before .before .before .before .before .before .before .before .before .before .before .before .pre .1 .1) (c .before .before .before .before .before .before .before .before .before .before .before .before .before .before .u16-at .result) (c .before .before .before .before .before .before .before .before .before .before .before .before .before .before .u16-at .ensures .0) (omega arith) _ _ _ (first-next t (c .before .before .before .before .before .before .before .before)) _ _ _ (told-joined _ _ _ _ _ _ (c .before .before .before .before .before .before .before .before .before .before .before .before .before .before .before .before .before .before .before .before .before .extend .result) _ _ _ _ (let h = here-length t (c .before .before .before .before .before .before .before .before .before .before .before .before .before .before .before .before .before .before .before .before .before) in omega arith) (c .before .before .before .before .before .before .before .lengthen-trail .ensures) (c .before .before .before .before .before .before .before .before .before .before .before .before .before .before .before .before .note-above .ensures) (c .before .before .before .note-own .ensures))))
 
 count-node-capped-sum-requires : (t : ℕ) → count-node-lts.Need-capped-sum-requires (
   common-length-reads.Asked,
@@ -1528,9 +1528,9 @@ count-node-returns-4 : (t : ℕ) → count-node-lts.Need-returns-4 (
   capped-sum-reads.Asked,
   capped-sum-reads.Learnt,
 ) (count-node-at t) count-node.Post
-count-node-returns-4 t c = let q = c .before .before .before .before .before .before .before .before .before .before .before .before .before .before .before .before .before .before .before .before .before .before .before .before .before .before .before .before .before .before .before .pre .0 in let m = c .before .before .before .before .before .before .before .before .before .before .before .before .before .before .before .before .before .before .before .before .before .before .before .before .before .before .before .common-length .ensures .1 in let g = c .before .before .before .before .before .before .before .before .before .before .before .before .before .before .before .before .before .before .before .before .before .before .before .before .before .if1 .left in let x = c .before .before .before .before .before .before .before .before .before .before .before .before .before .before .before .before .before .before .before .before .before .before .before .extend .ensures .1 in let v = c .before .before .before .before .before .before .before .before .before .before .before .before .before .before .before .if2 .left in let l : length (take ((c .before .before .before .before .before .before .before .before .before .before .before .before .before .before .before .before .before .before .before .before .before .before .before .before .before .before .before .common-length .result) - 0) (c .before .before .before .before .before .before .before .before .before .before .before .before .before .before .before .before .before .before .before .before .before .before .before .before .before .before .before .before .before .before .before .args .lo .now)) ≡ (c .before .before .before .before .before .before .before .before .before .before .before .before .before .before .before .before .before .before .before .before .before .before .before .before .before .before .before .common-length .result) - 0 = length-take-le ((c .before .before .before .before .before .before .before .before .before .before .before .before .before .before .before .before .before .before .before .before .before .before .before .before .before .before .before .common-length .result) - 0) (c .before .before .before .before .before .before .before .before .before .before .before .before .before .before .before .before .before .before .before .before .before .before .before .before .before .before .before .before .before .before .before .args .lo .now) (omega arith) in let r = (c .before .before .before .before .before .before .before .before .before .before .before .before .before .before .before .before .before .before .before .before .before .before .before .before .before .before .before .before .before .before .before .pre .1 .0) .room in
+count-node-returns-4 t c = let q = c .before .before .before .before .before .before .before .before .before .before .before .before .before .before .before .before .before .before .before .before .before .before .before .before .before .before .before .before .before .before .before .before .before .pre .0 in let m = c .before .before .before .before .before .before .before .before .before .before .before .before .before .before .before .before .before .before .before .before .before .before .before .before .before .before .before .common-length .ensures .1 in let g = c .before .before .before .before .before .before .before .before .before .before .before .before .before .before .before .before .before .before .before .before .before .before .before .before .before .if1 .left in let x = c .before .before .before .before .before .before .before .before .before .before .before .before .before .before .before .before .before .before .before .before .before .before .before .extend .ensures .1 in let v = c .before .before .before .before .before .before .before .before .before .before .before .before .before .before .before .if2 .left in let l : length (take ((c .before .before .before .before .before .before .before .before .before .before .before .before .before .before .before .before .before .before .before .before .before .before .before .before .before .before .before .common-length .result) - 0) (c .before .before .before .before .before .before .before .before .before .before .before .before .before .before .before .before .before .before .before .before .before .before .before .before .before .before .before .before .before .before .before .before .before .args .lo .now)) ≡ (c .before .before .before .before .before .before .before .before .before .before .before .before .before .before .before .before .before .before .before .before .before .before .before .before .before .before .before .common-length .result) - 0 = length-take-le ((c .before .before .before .before .before .before .before .before .before .before .before .before .before .before .before .before .before .before .before .before .before .before .before .before .before .before .before .common-length .result) - 0) (c .before .before .before .before .before .before .before .before .before .before .before .before .before .before .before .before .before .before .before .before .before .before .before .before .before .before .before .before .before .before .before .before .before .args .lo .now) (omega arith) in let r = (c .before .before .before .before .before .before .before .before .before .before .before .before .before .before .before .before .before .before .before .before .before .before .before .before .before .before .before .before .before .before .before .before .before .pre .1 .0) .room in
     let h = here-length t (c .before .before .before .before .before .before .before .before .before .before .before .before .before .before .before .before .before .before .before .before .before .before .before) in
-    (node-inner (c .before .before .before .before .before .before .before .before .before .before .before .before .before .before .before .before .before .before .before .before .before .before .before .before .before .before .before .before .before .before .before .args .store .now) (c .before .before .before .before .before .before .before .before .before .before .before .before .before .before .before .before .before .before .before .before .before .before .before .before .before .before .before .before .before .before .before .args .level) (c .before .before .before .before .before .before .before .before .before .before .before .before .before .before .before .before .before .before .before .before .before .before .before .before .before .before .before .before .before .before .before .args .num) (c .before .before .before .before .before .before .before .before .before .before .before .before .before .before .before .before .before .before .before .before .before .before .before .before .before .before .before .before .before .before .before .args .prefix) (c .before .before .before .before .before .before .before .before .before .before .before .before .before .before .before .before .before .before .before .before .before .before .before .before .before .before .before .before .before .before .before .args .trail) (c .before .before .before .before .before .before .before .before .before .before .before .before .before .before .before .before .before .before .before .before .before .before .before .before .before .before .before .before .before .before .before .pre .1 .0) (c .before .before .before .before .before .before .before .before .before .before .before .before .before .before .before .before .before .before .before .before .before .before .before .before .before .before .before .before .before .before .before .args .lo .now) (c .before .before .before .before .before .before .before .before .before .before .before .before .before .before .before .before .before .before .before .before .before .before .before .before .before .before .before .before .before .before .before .args .hi .now) (c .before .before .before .before .before .before .before .before .before .before .before .before .before .before .before .before .before .before .before .before .before .before .before .before .before .before .before .common-length .result) (c .before .before .before .before .before .before .before .before .before .before .before .before .before .before .before .before .before .before .before .before .before .before .before .before .before .before .before .common-length .ensures .0) (c .before .before .before .before .before .before .before .before .before .before .before .before .before .before .before .before .before .before .before .before .before .before .before .extend .result) (c .before .before .before .before .before .before .before .before .before .before .before .before .before .before .before .before .before .before .before .before .before .before .before .extend .ensures .0) (c .before .before .before .before .before .before .before .before .before .before .before .before .before .before .before .before .u16-at .result) (c .before .before .before .before .before .before .before .before .before .before .before .before .before .before .count-entries .result) (c .before .before .before .before .before .before .before .before .before .before .before .before .before .before .before .before .u16-at .ensures .0) (c .before .before .before .before .before .before .before .before .before .before .before .before .before .before .count-entries .ensures .0) (omega arith) (c .before .before .before .before .before .before .before .before .before .before .before .first .given .0 .0) (c .before .before .before .before .before .before .before .before .before .before .before .first .given .0 .1 .0) (c .before .before .before .before .before .before .before .before .before .before .before .first .given .0 .1 .1 .0) (first-next t (c .before .before .before .before .before .before .before .before .before .before)) (c .before .before .before .before .before .before .before .before .before .lengthen-trail .result) (c .before .before .before .before .before .before .before .before .before .lengthen-trail .ensures) (c .before .count-children .result) _ (omega arith) (c .before .count-children .ensures .0) (c .capped-sum .ensures .0), c .capped-sum .ensures .1)
+    (node-inner (c .before .before .before .before .before .before .before .before .before .before .before .before .before .before .before .before .before .before .before .before .before .before .before .before .before .before .before .before .before .before .before .before .before .args .store .now) (c .before .before .before .before .before .before .before .before .before .before .before .before .before .before .before .before .before .before .before .before .before .before .before .before .before .before .before .before .before .before .before .before .before .args .node .level) (c .before .before .before .before .before .before .before .before .before .before .before .before .before .before .before .before .before .before .before .before .before .before .before .before .before .before .before .before .before .before .before .before .before .args .node .num) (c .before .before .before .before .before .before .before .before .before .before .before .before .before .before .before .before .before .before .before .before .before .before .before .before .before .before .before .before .before .before .before .before .before .args .node .position .prefix) (c .before .before .before .before .before .before .before .before .before .before .before .before .before .before .before .before .before .before .before .before .before .before .before .before .before .before .before .before .before .before .before .before .before .args .node .position .trail) (c .before .before .before .before .before .before .before .before .before .before .before .before .before .before .before .before .before .before .before .before .before .before .before .before .before .before .before .before .before .before .before .before .before .pre .1 .0) (c .before .before .before .before .before .before .before .before .before .before .before .before .before .before .before .before .before .before .before .before .before .before .before .before .before .before .before .before .before .before .before .before .before .args .lo .now) (c .before .before .before .before .before .before .before .before .before .before .before .before .before .before .before .before .before .before .before .before .before .before .before .before .before .before .before .before .before .before .before .before .before .args .hi .now) (c .before .before .before .before .before .before .before .before .before .before .before .before .before .before .before .before .before .before .before .before .before .before .before .before .before .before .before .common-length .result) (c .before .before .before .before .before .before .before .before .before .before .before .before .before .before .before .before .before .before .before .before .before .before .before .before .before .before .before .common-length .ensures .0) (c .before .before .before .before .before .before .before .before .before .before .before .before .before .before .before .before .before .before .before .before .before .before .before .extend .result) (c .before .before .before .before .before .before .before .before .before .before .before .before .before .before .before .before .before .before .before .before .before .before .before .extend .ensures .0) (c .before .before .before .before .before .before .before .before .before .before .before .before .before .before .before .before .u16-at .result) (c .before .before .before .before .before .before .before .before .before .before .before .before .before .before .count-entries .result) (c .before .before .before .before .before .before .before .before .before .before .before .before .before .before .before .before .u16-at .ensures .0) (c .before .before .before .before .before .before .before .before .before .before .before .before .before .before .count-entries .ensures .0) (omega arith) (c .before .before .before .before .before .before .before .before .before .before .before .first .given .0 .0) (c .before .before .before .before .before .before .before .before .before .before .before .first .given .0 .1 .0) (c .before .before .before .before .before .before .before .before .before .before .before .first .given .0 .1 .1 .0) (first-next t (c .before .before .before .before .before .before .before .before .before .before)) (c .before .before .before .before .before .before .before .before .before .lengthen-trail .result) (c .before .before .before .before .before .before .before .before .before .lengthen-trail .ensures) (c .before .count-children .result) _ (omega arith) (c .before .count-children .ensures .0) (c .capped-sum .ensures .0), c .capped-sum .ensures .1)
 
 pub +count-children+count-node-spec : {M : Type 1} → statement M
 +count-children+count-node-spec =
@@ -1630,8 +1630,8 @@ pub +count-children+count-node-spec : {M : Type 1} → statement M
     (count-node-part-note-own-end-2 t)
     (count-node-slice-aggregate-note-own t)
     (count-node-note-own-requires t)
+    (count-node-sub-below t)
     (count-node-sub-count-children t)
-    (count-node-sub-count-children-2 t)
     (count-node-part-count-children-start t)
     (count-node-part-count-children-end t)
     (count-node-count-children-requires t)

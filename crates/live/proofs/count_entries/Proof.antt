@@ -3,7 +3,7 @@
 use Rattle.node.specs.Places.{Next, step-bad-is, step-read-is, entry-wider}
 use Rattle.node.specs.Entries.{listed, listed-end}
 use Rattle.live.specs.PathBuffers.{pathIn}
-use Rattle.live.specs.Walk.{countE, passing}
+use Rattle.live.specs.Walk.{countAmong, passing}
 use Rattle.live.specs.Steps.{count-end, count-step}
 use borrow.Author.Needs.{needs}
 use Prim.Native.Nat.{_≤_, _-_, _+_}
@@ -14,7 +14,7 @@ use Rattle.live.proofs.count_entries.Statement.{statement}
 use Rattle.live.proofs.count_entries.Tie as tie
 
 abbrev Inv-loop : tie.InvT-loop
-Inv-loop store from end prefix trail c₀ n₀ c n = (c .end ≡ end) × (c .at ≤ end) × (n + from ≤ c .at) × (n + countE (passing store trail) (pathIn prefix) (listed store (c .at) (c .end)) ≡ countE (passing store trail) (pathIn prefix) (listed store from end))
+Inv-loop store from end prefix trail c₀ n₀ c n = (c .end ≡ end) × (c .at ≤ end) × (n + from ≤ c .at) × (n + countAmong (passing store trail) (pathIn prefix) (listed store (c .at) (c .end)) ≡ countAmong (passing store trail) (pathIn prefix) (listed store from end))
 
 abbrev μ-loop : tie.MeasureT-loop
 μ-loop store from end prefix trail c₀ n₀ c n = end - c .at

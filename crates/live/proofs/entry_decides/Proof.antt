@@ -2,7 +2,7 @@
 -- Relies on specs/Steps.
 use mathlib.Core.Path.{subst}
 use Rattle.node.specs.Places.{Within, EntryWithin}
-use Rattle.node.specs.Search.Hear.{message-places}
+use Rattle.node.specs.Search.Latest.{message-places}
 use Rattle.live.specs.Steps.{pair-decides, child-decides, message-decides}
 use native.Mathlib.Omega.{arith}
 use lib.ListN.{length}

@@ -5,7 +5,7 @@ use Prim.Native.Nat.{_≤_, _-_}
 use native.Mathlib.Omega.{arith}
 use mathlib.Core.Path.{_≡_, refl}
 use Rattle.live.specs.Walk.{passes}
-use Rattle.live.specs.Steps.{trail-hears, trail-quiet, trail-over}
+use Rattle.live.specs.Steps.{trail-latest, trail-quiet, trail-over}
 use Rattle.live.proofs.is_visible.Statement.{statement}
 use Rattle.live.proofs.is_visible.Tie as tie
 
@@ -33,26 +33,26 @@ mul-k c = search needs
 array-read-k : tie.Need-array-read-k Inv-loop μ-loop
 array-read-k c = search needs
 
-sub-is-node-silent : tie.Need-sub-is-node-silent Inv-loop μ-loop
-sub-is-node-silent c = let a = c .before .before .before .before .before .before .pre .1 .each (c .before .loop .d - 1) (omega arith) in omega arith
+sub-none-in-node-covers : tie.Need-sub-none-in-node-covers Inv-loop μ-loop
+sub-none-in-node-covers c = let a = c .before .before .before .before .before .before .pre .1 .each (c .before .loop .d - 1) (omega arith) in omega arith
 
-part-is-node-silent-start : tie.Need-part-is-node-silent-start Inv-loop μ-loop
-part-is-node-silent-start c = let a = c .before .before .before .before .before .before .pre .1 .each (c .before .loop .d - 1) (omega arith) in omega arith
+part-none-in-node-covers-start : tie.Need-part-none-in-node-covers-start Inv-loop μ-loop
+part-none-in-node-covers-start c = let a = c .before .before .before .before .before .before .pre .1 .each (c .before .loop .d - 1) (omega arith) in omega arith
 
-part-is-node-silent-end : tie.Need-part-is-node-silent-end Inv-loop μ-loop
-part-is-node-silent-end c = search needs
+part-none-in-node-covers-end : tie.Need-part-none-in-node-covers-end Inv-loop μ-loop
+part-none-in-node-covers-end c = search needs
 
-is-node-silent-requires : tie.Need-is-node-silent-requires Inv-loop μ-loop
-is-node-silent-requires c κs = let a = c .before .before .before .before .before .before .before .pre .1 .each (c .before .before .loop .d - 1) (omega arith) in (a .inside, a .fits)
+none-in-node-covers-requires : tie.Need-none-in-node-covers-requires Inv-loop μ-loop
+none-in-node-covers-requires c κs = let a = c .before .before .before .before .before .before .before .pre .1 .each (c .before .before .loop .d - 1) (omega arith) in (a .inside, a .fits)
 
 returns : tie.Need-returns Inv-loop μ-loop
-returns c = trail-hears _ _ _ _ _ _ _ (omega arith) (c .before .before .before .before .loop .inv .2) (c .before .is-node-silent .ensures) (c .if1 .taken)
+returns c = trail-latest _ _ _ _ _ _ _ (omega arith) (c .before .before .before .before .loop .inv .2) (c .before .none-in-node-covers .ensures) (c .if1 .taken)
 
 loop-less : tie.Need-loop-less Inv-loop μ-loop
 loop-less c = search needs
 
 loop-again : tie.Need-loop-again Inv-loop μ-loop
-loop-again c = (omega arith, omega arith, trail-quiet _ _ _ _ _ _ _ (omega arith) (c .before .before .before .before .loop .inv .2) (c .before .is-node-silent .ensures) (c .if1 .left))
+loop-again c = (omega arith, omega arith, trail-quiet _ _ _ _ _ _ _ (omega arith) (c .before .before .before .before .loop .inv .2) (c .before .none-in-node-covers .ensures) (c .if1 .left))
 
 returns-2 : tie.Need-returns-2 Inv-loop μ-loop
 returns-2 c = trail-over _ _ _ _ _ _ (omega arith) (omega arith) (c .before .loop .inv .2)
@@ -69,10 +69,10 @@ is-visible-spec =
     array-read-num
     mul-k
     array-read-k
-    sub-is-node-silent
-    part-is-node-silent-start
-    part-is-node-silent-end
-    is-node-silent-requires
+    sub-none-in-node-covers
+    part-none-in-node-covers-start
+    part-none-in-node-covers-end
+    none-in-node-covers-requires
     returns
     loop-less
     loop-again

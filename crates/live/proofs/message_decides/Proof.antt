@@ -1,7 +1,7 @@
 -- `message_decides` meets its contract: only a put can decide, and only where nothing later in its node names it.
 -- Relies on specs/Steps.
 use Rattle.node.specs.Places.{Within}
-use Rattle.node.specs.Search.Hear.{put-places}
+use Rattle.node.specs.Search.Latest.{put-places}
 use Rattle.live.specs.Steps.{put-hidden, put-decides, drop-decides, clear-decides}
 use native.Mathlib.Omega.{arith}
 use lib.ListN.{length}
@@ -15,20 +15,20 @@ place-in c = put-places _ _ _ _ (c .before .before .before .before .pre .2) (c .
 enum-known-m : tie.Need-enum-known-m
 enum-known-m c = search needs
 
-sub-is-silent : tie.Need-sub-is-silent
-sub-is-silent c = let w = place-in c in omega arith
+sub-none-covers : tie.Need-sub-none-covers
+sub-none-covers c = let w = place-in c in omega arith
 
-part-is-silent-start : tie.Need-part-is-silent-start
-part-is-silent-start c = let w = place-in c in omega arith
+part-none-covers-start : tie.Need-part-none-covers-start
+part-none-covers-start c = let w = place-in c in omega arith
 
-part-is-silent-end : tie.Need-part-is-silent-end
-part-is-silent-end c = let w = place-in c in omega arith
+part-none-covers-end : tie.Need-part-none-covers-end
+part-none-covers-end c = let w = place-in c in omega arith
 
-is-silent-requires : tie.Need-is-silent-requires
-is-silent-requires c κs = search needs
+none-covers-requires : tie.Need-none-covers-requires
+none-covers-requires c κs = search needs
 
 returns : tie.Need-returns
-returns c = put-hidden _ _ _ _ _ _ _ _ (c .before .before .before .before .m .given .1) (c .before .is-silent .ensures) (c .if1 .taken)
+returns c = put-hidden _ _ _ _ _ _ _ _ (c .before .before .before .before .m .given .1) (c .before .none-covers .ensures) (c .if1 .taken)
 
 sub-is-live : tie.Need-sub-is-live
 sub-is-live c = let w = place-in (c .before .before .before) in omega arith
@@ -49,7 +49,7 @@ enum-told-2 : tie.Need-enum-told-2
 enum-told-2 c = search needs
 
 returns-2 : tie.Need-returns-2
-returns-2 c = put-decides _ _ _ _ _ _ _ _ _ (c .before .before .before .before .before .before .m .given .1) (c .before .before .before .is-silent .ensures) (c .before .before .if1 .left) (c .is-live .ensures)
+returns-2 c = put-decides _ _ _ _ _ _ _ _ _ (c .before .before .before .before .before .before .m .given .1) (c .before .before .before .none-covers .ensures) (c .before .before .if1 .left) (c .is-live .ensures)
 
 returns-3 : tie.Need-returns-3
 returns-3 c = drop-decides _ _ _ _ _ _ (c .enum-told .given .1)
@@ -62,10 +62,10 @@ message-decides-spec =
     tie.close
     (tie.spec
     enum-known-m
-    sub-is-silent
-    part-is-silent-start
-    part-is-silent-end
-    is-silent-requires
+    sub-none-covers
+    part-none-covers-start
+    part-none-covers-end
+    none-covers-requires
     returns
     sub-is-live
     part-is-live-start

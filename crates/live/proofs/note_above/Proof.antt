@@ -17,18 +17,18 @@ same-length : tie.Need-same-length
 same-length c = search needs
 
 returns : tie.Need-returns
-returns c = let b : length (c .before .before .before .before .before .before .before .before .before .before .args .here .bytes) ≡ 64 = search needs in
-    let l = path-length (c .before .before .before .before .before .before .before .before .before .before .args .here) (omega arith) in
-    told-trail _ _ _ (c .before .before .before .before .before .before .before .before .before .before .args .lo .now) (c .before .before .before .before .before .before .before .before .before .before .args .hi .now) _ _ _ (trail-wider _ (c .before .before .before .before .before .before .before .before .before .before .args .here .len) _ _ (omega arith) (c .before .before .before .before .before .before .before .before .before .before .pre .1)) (c .before .before .note-trail .ensures)
+returns c = let b : length (c .before .before .before .before .before .before .before .before .before .before .before .args .here .prefix .bytes) ≡ 64 = search needs in
+    let l = path-length (c .before .before .before .before .before .before .before .before .before .before .before .args .here .prefix) (omega arith) in
+    told-trail _ _ _ (c .before .before .before .before .before .before .before .before .before .before .before .args .lo .now) (c .before .before .before .before .before .before .before .before .before .before .before .args .hi .now) _ _ _ (trail-wider _ (c .before .before .before .before .before .before .before .before .before .before .before .args .here .prefix .len) _ _ (omega arith) (c .before .before .before .before .before .before .before .before .before .before .before .pre .1)) (c .before .before .note-trail .ensures)
 
 narrow-requires : tie.Need-narrow-requires
-narrow-requires c κs = (omega arith, c .before .before .before .before .before .before .before .pre .2 .fits (omega arith))
+narrow-requires c κs = (omega arith, c .before .before .before .before .before .before .before .before .pre .2 .fits (omega arith))
 
 same-length-2 : tie.Need-same-length-2
 same-length-2 c = search needs
 
 returns-2 : tie.Need-returns-2
-returns-2 c = told-narrowed _ _ _ (c .before .before .before .before .before .before .before .before .before .before .args .lo .now) (c .before .before .before .before .before .before .before .before .before .before .args .hi .now) _ _ _ (c .before .before .before .before .before .before .before .before .before .before .args .w .now) (c .before .before .before .before .before .before .before .before .before .before .args .above .now) (c .before .before .before .before .before .before .before .before .before .before .args .many) (c .before .before .before .before .before .before .before .before .before .before .pre .2) (omega arith) (c .before .before .narrow .ensures)
+returns-2 c = told-narrowed _ _ _ (c .before .before .before .before .before .before .before .before .before .before .before .args .lo .now) (c .before .before .before .before .before .before .before .before .before .before .before .args .hi .now) _ _ _ (c .before .before .before .before .before .before .before .before .before .before .before .args .w .now) (c .before .before .before .before .before .before .before .before .before .before .before .args .above .now) (c .before .before .before .before .before .before .before .before .before .before .before .args .here .noted) (c .before .before .before .before .before .before .before .before .before .before .before .pre .2) (omega arith) (c .before .before .narrow .ensures)
 
 pub note-above-spec : {M : Type 1} → statement M
 note-above-spec =

@@ -19,8 +19,8 @@ u16-at-requires c κs = search needs
 add-from : tie.Need-add-from
 add-from c = search needs
 
-add-note-entries : tie.Need-add-note-entries
-add-note-entries c = search needs
+add-end : tie.Need-add-end
+add-end c = search needs
 
 sub-note-entries : tie.Need-sub-note-entries
 sub-note-entries c = search needs
@@ -48,7 +48,7 @@ note-own-spec =
     mul-at
     u16-at-requires
     add-from
-    add-note-entries
+    add-end
     sub-note-entries
     part-note-entries-start
     part-note-entries-end

@@ -46,8 +46,8 @@ u16-at-requires c κs = let a = c .before .before .before .before .before .befor
 add-from : tie.Need-add-from Inv-loop μ-loop
 add-from c = let a = c .before .before .before .before .before .before .before .before .before .before .pre .1 .each (c .before .before .loop .d - 1) (omega arith) in omega arith
 
-add-note-entries : tie.Need-add-note-entries Inv-loop μ-loop
-add-note-entries c = let a = c .before .before .before .before .before .before .before .before .before .before .pre .1 .each (c .before .before .loop .d - 1) (omega arith) in omega arith
+add-end : tie.Need-add-end Inv-loop μ-loop
+add-end c = let a = c .before .before .before .before .before .before .before .before .before .before .pre .1 .each (c .before .before .loop .d - 1) (omega arith) in omega arith
 
 sub-note-entries : tie.Need-sub-note-entries Inv-loop μ-loop
 sub-note-entries c = let a = c .before .before .before .before .before .before .before .before .before .before .pre .1 .each (c .before .before .loop .d - 1) (omega arith) in omega arith
@@ -94,7 +94,7 @@ note-trail-spec =
     mul-at
     u16-at-requires
     add-from
-    add-note-entries
+    add-end
     sub-note-entries
     part-note-entries-start
     part-note-entries-end

@@ -1,7 +1,7 @@
--- `pass_any` meets its contract: one law of specs/SilentSteps for each way out.
+-- `pass_any` meets its contract: one law of specs/CoverSteps for each way out.
 use lib.ListN.{length}
 use Rattle.node.specs.Places.{Next, step-read-is, entry-wider}
-use Rattle.live.specs.SilentSteps.{any-end, any-speaks, any-silent}
+use Rattle.live.specs.CoverSteps.{any-end, any-covers, any-uncovered}
 use borrow.Author.Needs.{needs}
 use native.Mathlib.Omega.{arith}
 use Rattle.live.proofs.pass_any.Statement.{statement}
@@ -22,14 +22,14 @@ enum-told c = search needs
 returns : tie.Need-returns
 returns c = any-end _ _ _ _ _ (c .before .before .step .ensures) (omega arith) (c .enum-told .given .1)
 
-entry-speaks-requires : tie.Need-entry-speaks-requires
-entry-speaks-requires c κs = let n = next-is c in entry-wider (c .before .before .before .before .before .before .args .at) (c .before .before .before .before .before .before .args .end) 0 (length (c .before .before .before .before .before .before .args .s .now)) (c .before .e .given .0 .0) (omega arith) (omega arith) (n .reachable)
+entry-covers-requires : tie.Need-entry-covers-requires
+entry-covers-requires c κs = let n = next-is c in entry-wider (c .before .before .before .before .before .before .args .at) (c .before .before .before .before .before .before .args .end) 0 (length (c .before .before .before .before .before .before .args .s .now)) (c .before .e .given .0 .0) (omega arith) (omega arith) (n .reachable)
 
 returns-2 : tie.Need-returns-2
-returns-2 c = any-speaks _ _ _ _ _ (c .before .before .before .before .before .step .ensures) (omega arith) _ _ (c .before .before .before .e .given .1) _ (c .before .entry-speaks .ensures) (c .if1 .taken)
+returns-2 c = any-covers _ _ _ _ _ (c .before .before .before .before .before .step .ensures) (omega arith) _ _ (c .before .before .before .e .given .1) _ (c .before .entry-covers .ensures) (c .if1 .taken)
 
 returns-3 : tie.Need-returns-3
-returns-3 c = any-silent _ _ _ _ _ (c .before .before .before .before .before .step .ensures) (omega arith) _ _ (c .before .before .before .e .given .1) _ (c .before .entry-speaks .ensures) (c .if1 .left)
+returns-3 c = any-uncovered _ _ _ _ _ (c .before .before .before .before .before .step .ensures) (omega arith) _ _ (c .before .before .before .e .given .1) _ (c .before .entry-covers .ensures) (c .if1 .left)
 
 pub pass-any-spec : {M : Type 1} → statement M
 pass-any-spec =
@@ -39,6 +39,6 @@ pass-any-spec =
     enum-known-e
     enum-told
     returns
-    entry-speaks-requires
+    entry-covers-requires
     returns-2
     returns-3)

@@ -1,5 +1,5 @@
--- `pass_entry` meets its contract: the quick look, or any entry. Relies on specs/SilentSteps.
-use Rattle.live.specs.SilentSteps.{quick-passing}
+-- `pass_entry` meets its contract: the quick look, or any entry. Relies on specs/CoverSteps.
+use Rattle.live.specs.CoverSteps.{quick-passing}
 use borrow.Author.Needs.{needs}
 use native.Mathlib.Omega.{arith}
 use Rattle.live.proofs.pass_entry.Statement.{statement}

@@ -1,6 +1,6 @@
--- `pass_put` meets its contract: a put is told by its own numbers. Relies on specs/SilentSteps.
+-- `pass_put` meets its contract: a put is told by its own numbers. Relies on specs/CoverSteps.
 use Rattle.node.specs.Places.{split-at-is}
-use Rattle.live.specs.SilentSteps.{no-pass, put-passed}
+use Rattle.live.specs.CoverSteps.{no-pass, put-passed}
 use borrow.Author.Needs.{needs}
 use native.Mathlib.Omega.{arith}
 use Rattle.live.proofs.pass_put.Statement.{statement}

@@ -23,8 +23,8 @@ enum-told c = search needs
 returns : tie.Need-returns
 returns c = child-bad _ _ _ (step-bad-is _ _ _ _ (c .before .before .step .ensures) (c .enum-told .given .1) .1)
 
-kid-of-requires : tie.Need-kid-of-requires
-kid-of-requires c κs = search needs
+branch-of-requires : tie.Need-branch-of-requires
+branch-of-requires c κs = search needs
 
 enum-known-k : tie.Need-enum-known-k
 enum-known-k c = search needs
@@ -33,10 +33,10 @@ enum-told-2 : tie.Need-enum-told-2
 enum-told-2 c = search needs
 
 returns-2 : tie.Need-returns-2
-returns-2 c = child-other _ _ _ _ _ (next-is (c .before .before .before)) (sym (c .before .before .kid-of .ensures) ∙ c .enum-told2 .given .1)
+returns-2 c = child-other _ _ _ _ _ (next-is (c .before .before .before)) (sym (c .before .before .branch-of .ensures) ∙ c .enum-told2 .given .1)
 
 returns-3 : tie.Need-returns-3
-returns-3 c = child-next _ _ _ _ _ _ _ (c .before .before .before .before .before .before .before .before .before .pre) (next-is (c .before .before .before .before)) (sym (c .before .before .before .kid-of .ensures) ∙ c .before .k .given .1)
+returns-3 c = child-next _ _ _ _ _ _ _ (c .before .before .before .before .before .before .before .before .before .pre) (next-is (c .before .before .before .before)) (sym (c .before .before .before .branch-of .ensures) ∙ c .before .k .given .1)
 
 pub read-child-spec : {M : Type 1} → statement M
 read-child-spec =
@@ -46,7 +46,7 @@ read-child-spec =
     enum-known-e
     enum-told
     returns
-    kid-of-requires
+    branch-of-requires
     enum-known-k
     enum-told-2
     returns-2

@@ -14,7 +14,7 @@ use Rattle.octets.specs.Beginnings.{begins-length, shared-right, begins-not-bef
 use Rattle.laws.specs.LookupTable.{not-low, under-high}
 use Rattle.node.specs.Cut.{cut, cut-drop, cut-length, cut-nil}
 use Rattle.live.specs.declared.notes.Concern.{Concern}
-use Rattle.live.specs.Notes.Notes.{on, noteSpeaks, quiet, Concerns}
+use Rattle.live.specs.Notes.Notes.{on, noteCovers, quiet, Concerns}
 
 -- two strings that differ in a byte of both
 pub differ-begins : (x w k : List ℕ) → length (shared x w) < length x → length (shared x w) < length w → begins x (w ++ k) ≡ false
@@ -115,26 +115,26 @@ too-low y lo hi k h o = same-false y k (λ e. not-so {A = ⊥} (rw (← e) h) (n
 
 -- whether a note is on a key
 module _ (s : List ℕ) (v : ℕ) (key : List ℕ) (r : Bool) where
-  pub clear-speaks : v / 2048 % 2 ≡ 1 → r ≡ begins (cut s (v / 4096) (v / 4096 + v % 2048)) key → r ≡ noteSpeaks s v key
-  unfolding noteSpeaks on
-  clear-speaks e h = rw e h
+  pub clear-covers : v / 2048 % 2 ≡ 1 → r ≡ begins (cut s (v / 4096) (v / 4096 + v % 2048)) key → r ≡ noteCovers s v key
+  unfolding noteCovers on
+  clear-covers e h = rw e h
 
-  pub name-speaks : (v / 2048 % 2 ≡ 1 → ⊥) → r ≡ same (cut s (v / 4096) (v / 4096 + v % 2048)) key → r ≡ noteSpeaks s v key
-  unfolding noteSpeaks
-  name-speaks e h = h ∙ sym (unfold on in ap (λ x. on x (cut s (v / 4096) (v / 4096 + v % 2048)) key) (ne-eqb (v / 2048 % 2) 1 e))
+  pub name-covers : (v / 2048 % 2 ≡ 1 → ⊥) → r ≡ same (cut s (v / 4096) (v / 4096 + v % 2048)) key → r ≡ noteCovers s v key
+  unfolding noteCovers
+  name-covers e h = h ∙ sym (unfold on in ap (λ x. on x (cut s (v / 4096) (v / 4096 + v % 2048)) key) (ne-eqb (v / 2048 % 2) 1 e))
 
 -- the notes, from the last one up
 module _ (s notes key : List ℕ) where
-  quiet-step : (i : ℕ) → 0 < i → quiet s notes i key ≡ quiet s notes (i - 1) key && not (noteSpeaks s (getD notes (i - 1) 0) key)
+  quiet-step : (i : ℕ) → 0 < i → quiet s notes i key ≡ quiet s notes (i - 1) key && not (noteCovers s (getD notes (i - 1) 0) key)
   unfolding quiet
   quiet-step zero h = absurd (omega arith)
   quiet-step (suc i) h = let e : suc i - 1 ≡ i = omega arith in rw e
 
-  pub heard-one : (i : ℕ) (r P : Bool) → 0 < i → P ≡ quiet s notes i key → r ≡ noteSpeaks s (getD notes (i - 1) 0) key → r ≡ true → false ≡ P
-  heard-one i r P h inv e t =
+  pub latest-one : (i : ℕ) (r P : Bool) → 0 < i → P ≡ quiet s notes i key → r ≡ noteCovers s (getD notes (i - 1) 0) key → r ≡ true → false ≡ P
+  latest-one i r P h inv e t =
       sym (inv ∙ quiet-step i h ∙ ap (λ x. quiet s notes (i - 1) key && not x) (sym e ∙ t) ∙ and-false (quiet s notes (i - 1) key))
 
-  pub passed-one : (i : ℕ) (r P : Bool) → 0 < i → P ≡ quiet s notes i key → r ≡ noteSpeaks s (getD notes (i - 1) 0) key → r ≡ false → P ≡ quiet s notes (i - 1) key
+  pub passed-one : (i : ℕ) (r P : Bool) → 0 < i → P ≡ quiet s notes i key → r ≡ noteCovers s (getD notes (i - 1) 0) key → r ≡ false → P ≡ quiet s notes (i - 1) key
   passed-one i r P h inv e t =
       inv ∙ quiet-step i h ∙ ap (λ x. quiet s notes (i - 1) key && not x) (sym e ∙ t) ∙ and-true (quiet s notes (i - 1) key)
 
@@ -148,8 +148,8 @@ nil-begins : (q : List ℕ) → begins [] q ≡ true
 unfolding begins
 nil-begins q = refl
 
-clear-note : (s : List ℕ) (x n : ℕ) (k : List ℕ) → n ≤ 2047 → noteSpeaks s (x * 4096 + 2048 + n) k ≡ begins (cut s x (x + n)) k
-unfolding noteSpeaks on
+clear-note : (s : List ℕ) (x n : ℕ) (k : List ℕ) → n ≤ 2047 → noteCovers s (x * 4096 + 2048 + n) k ≡ begins (cut s x (x + n)) k
+unfolding noteCovers on
 clear-note s x n k h =
     let a : (x * 4096 + 2048 + n) / 4096 ≡ x = omega arith in
     let b : (x * 4096 + 2048 + n) % 2048 ≡ n = omega arith in
@@ -158,8 +158,8 @@ clear-note s x n k h =
     let c : (x * 4096 + 2048 + n) / 2048 % 2 ≡ 1 = ap (λ z. z % 2) d ∙ f in
     rw (c, a, b)
 
-name-note : (s : List ℕ) (x n : ℕ) (k : List ℕ) → n ≤ 2047 → noteSpeaks s (x * 4096 + n) k ≡ same (cut s x (x + n)) k
-unfolding noteSpeaks on
+name-note : (s : List ℕ) (x n : ℕ) (k : List ℕ) → n ≤ 2047 → noteCovers s (x * 4096 + n) k ≡ same (cut s x (x + n)) k
+unfolding noteCovers on
 name-note s x n k h =
     let a : (x * 4096 + n) / 4096 ≡ x = omega arith in
     let b : (x * 4096 + n) % 2048 ≡ n = omega arith in
@@ -187,13 +187,13 @@ module _ (s : List ℕ) (a b : ℕ) (c : Bool) (w lo hi : List ℕ) (h : a ≤ b
         let i : (b * 4096 + 2048) / 4096 + (b * 4096 + 2048) % 2048 ≤ length s = omega arith in
         (i, λ q o. told q)
       where
-        told : (q : List ℕ) → on c (cut s a b) (w ++ q) ≡ noteSpeaks s (b * 4096 + 2048) q
+        told : (q : List ℕ) → on c (cut s a b) (w ++ q) ≡ noteCovers s (b * 4096 + 2048) q
         told q =
             let z : b * 4096 + 2048 + 0 ≡ b * 4096 + 2048 = omega arith in
             let y : cut s b (b + 0) ≡ [] = cut-nil s b (b + 0) (omega arith) in
             let u : begins (cut s b (b + 0)) q ≡ true = ap (λ x. begins x q) y ∙ nil-begins q in
             let v : begins (cut s a b) (w ++ q) ≡ true = shared-whole (cut s a b) w q (let g = size in omega arith) in
-            on-clear c (cut s a b) (w ++ q) t ∙ v ∙ sym u ∙ sym (clear-note s b 0 q (omega arith)) ∙ ap (λ x. noteSpeaks s x q) z
+            on-clear c (cut s a b) (w ++ q) t ∙ v ∙ sym u ∙ sym (clear-note s b 0 q (omega arith)) ∙ ap (λ x. noteCovers s x q) z
 
     pub too-short : k < length w → b - a ≤ k → c ≡ false → Concerns s c (cut s a b) w lo hi Concern.Nothing
     unfolding Concerns
@@ -222,7 +222,7 @@ module _ (s : List ℕ) (a b : ℕ) (c : Bool) (w lo hi : List ℕ) (h : a ≤ b
           let i : ((a + k) * 4096 + 2048 + (b - (a + k))) / 4096 + ((a + k) * 4096 + 2048 + (b - (a + k))) % 2048 ≤ length s = omega arith in
           (i, λ q o. rest q ∙ told q)
         where
-          told : (q : List ℕ) → on c (cut s (a + k) b) q ≡ noteSpeaks s ((a + k) * 4096 + 2048 + (b - (a + k))) q
+          told : (q : List ℕ) → on c (cut s (a + k) b) q ≡ noteCovers s ((a + k) * 4096 + 2048 + (b - (a + k))) q
           told q =
               let z : a + k + (b - (a + k)) ≡ b = omega arith in
               on-clear c (cut s (a + k) b) q t ∙ ap (λ x. begins (cut s (a + k) x) q) (sym z) ∙ sym (clear-note s (a + k) (b - (a + k)) q (omega arith))
@@ -233,7 +233,7 @@ module _ (s : List ℕ) (a b : ℕ) (c : Bool) (w lo hi : List ℕ) (h : a ≤ b
           let i : ((a + k) * 4096 + (b - (a + k))) / 4096 + ((a + k) * 4096 + (b - (a + k))) % 2048 ≤ length s = omega arith in
           (i, λ q o. rest q ∙ told q)
         where
-          told : (q : List ℕ) → on c (cut s (a + k) b) q ≡ noteSpeaks s ((a + k) * 4096 + (b - (a + k))) q
+          told : (q : List ℕ) → on c (cut s (a + k) b) q ≡ noteCovers s ((a + k) * 4096 + (b - (a + k))) q
           told q =
               let z : a + k + (b - (a + k)) ≡ b = omega arith in
               on-name c (cut s (a + k) b) q t ∙ ap (λ x. same (cut s (a + k) x) q) (sym z) ∙ sym (name-note s (a + k) (b - (a + k)) q (omega arith))

@@ -10,7 +10,7 @@ use Rattle.image.specs.Path.{owns}
 use Rattle.image.specs.Entry as defined
 use Rattle.image.specs.Meaning.{saysOf}
 use Rattle.node.specs.Cut.{cut}
-use Rattle.node.specs.Search.Hear.{saysE, speaks}
+use Rattle.node.specs.Search.Latest.{entrySays, covers}
 use Rattle.live.specs.declared.notes.Concern.{Concern}
 
 -- a message that clears x, or else names it, is on a rest
@@ -18,13 +18,13 @@ unfoldable pub on : Bool → List ℕ → List ℕ → Bool
 on true x r = begins x r
 on false x r = same x r
 
-unfoldable pub noteSpeaks : List ℕ → ℕ → List ℕ → Bool
-noteSpeaks s v k = on (eqb (v / 2048 % 2) 1) (cut s (v / 4096) (v / 4096 + v % 2048)) k
+unfoldable pub noteCovers : List ℕ → ℕ → List ℕ → Bool
+noteCovers s v k = on (eqb (v / 2048 % 2) 1) (cut s (v / 4096) (v / 4096 + v % 2048)) k
 
 -- none of the first n notes is on a key
 unfoldable pub quiet : List ℕ → List ℕ → ℕ → List ℕ → Bool
 quiet s notes zero k = true
-quiet s notes (suc n) k = quiet s notes n k && not (noteSpeaks s (getD notes n 0) k)
+quiet s notes (suc n) k = quiet s notes n k && not (noteCovers s (getD notes n 0) k)
 
 -- the notes lie in the store
 abbrev pub NotesFit : List ℕ → List ℕ → ℕ → Type 0
@@ -34,26 +34,26 @@ NotesFit s notes n = (i : ℕ) → i < n → getD notes i 0 / 4096 + getD notes 
 unfoldable pub Concerns : List ℕ → Bool → List ℕ → List ℕ → List ℕ → List ℕ → Concern → Type 0
 Concerns s c x w lo hi Concern.Nothing = (k : List ℕ) → owns lo hi k ≡ true → on c x (w ++ k) ≡ false
 Concerns s c x w lo hi (Concern.Note v) =
-    (v / 4096 + v % 2048 ≤ length s) × ((k : List ℕ) → owns lo hi k ≡ true → on c x (w ++ k) ≡ noteSpeaks s v k)
+    (v / 4096 + v % 2048 ≤ length s) × ((k : List ℕ) → owns lo hi k ≡ true → on c x (w ++ k) ≡ noteCovers s v k)
 Concerns s c x w lo hi Concern.Full = Unit
 
 -- the same of a message
 unfoldable pub Concerned : List ℕ → List ℕ → List ℕ → List ℕ → (List ℕ → Bool) → Concern → Type 0
 Concerned s w lo hi test Concern.Nothing = (k : List ℕ) → owns lo hi k ≡ true → test (w ++ k) ≡ true
 Concerned s w lo hi test (Concern.Note v) =
-    (v / 4096 + v % 2048 ≤ length s) × ((k : List ℕ) → owns lo hi k ≡ true → test (w ++ k) ≡ not (noteSpeaks s v k))
+    (v / 4096 + v % 2048 ≤ length s) × ((k : List ℕ) → owns lo hi k ≡ true → test (w ++ k) ≡ not (noteCovers s v k))
 Concerned s w lo hi test Concern.Full = Unit
 
 -- a message, an entry, and entries, none of which is on a rest
-abbrev pub isSilent : defined.Message → List ℕ → Bool
-isSilent m r = not (speaks (saysOf m r))
+abbrev pub notCovers : defined.Message → List ℕ → Bool
+notCovers m r = not (covers (saysOf m r))
 
-abbrev pub isSilentE : defined.Entry → List ℕ → Bool
-isSilentE e r = not (speaks (saysE e r))
+abbrev pub entryNotCovers : defined.Entry → List ℕ → Bool
+entryNotCovers e r = not (covers (entrySays e r))
 
-unfoldable pub areSilent : List defined.Entry → List ℕ → Bool
-areSilent [] r = true
-areSilent (e ∷ es) r = isSilentE e r && areSilent es r
+unfoldable pub noneCovers : List defined.Entry → List ℕ → Bool
+noneCovers [] r = true
+noneCovers (e ∷ es) r = entryNotCovers e r && noneCovers es r
 
 -- Notes added for what passes a test: the first n of the notes, and then the first m of them as they are after. 65 tells that there is no room.
 pub record Gathered (s : List ℕ) (lo hi : List ℕ) (test : List ℕ → Bool) (notes : List ℕ) (n : ℕ) (after : List ℕ) (m : ℕ) : Type 0 where
@@ -63,10 +63,10 @@ pub record Gathered (s : List ℕ) (lo hi : List ℕ) (test : List ℕ → Bool)
 
 -- two notes on the same keys, where r says that they are seen to be; and the last of n notes and one more
 unfoldable pub Alike : List ℕ → ℕ → ℕ → Bool → Type 0
-Alike s u v r = r ≡ true → (k : List ℕ) → noteSpeaks s u k ≡ noteSpeaks s v k
+Alike s u v r = r ≡ true → (k : List ℕ) → noteCovers s u k ≡ noteCovers s v k
 
 unfoldable pub Repeats : List ℕ → List ℕ → ℕ → ℕ → Bool → Type 0
-Repeats s notes n v r = r ≡ true → (1 ≤ n) × ((k : List ℕ) → noteSpeaks s (getD notes (n - 1) 0) k ≡ noteSpeaks s v k)
+Repeats s notes n v r = r ≡ true → (1 ≤ n) × ((k : List ℕ) → noteCovers s (getD notes (n - 1) 0) k ≡ noteCovers s v k)
 
 -- what a message is to the keys, kept: whatever it is told of, the notes tell after
 unfoldable pub Kept : List ℕ → Concern → List ℕ → ℕ → List ℕ → ℕ → Type 0

@@ -3,7 +3,7 @@ use borrow.Author.Needs.{needs}
 use Rattle.questions.specs.Callers.{to-act}
 use Rattle.questions.specs.Asked.{asked-fit, refused-meets}
 use Rattle.questions.specs.Acted.{passed}
-use Rattle.maintain.specs.Steps.{quiet}
+use Rattle.tree_check.specs.Callers.{messages-settled}
 use Rattle.maintain.proofs.settle.Statement.{statement}
 use Rattle.maintain.proofs.settle.Tie as tie
 
@@ -17,7 +17,7 @@ enum-known-ready-2 : tie.Need-enum-known-ready-2
 enum-known-ready-2 c = search needs
 
 settle-fit-requires : tie.Need-settle-fit-requires
-settle-fit-requires c κs = let f = asked-fit _ _ _ _ (c .before .before .before .before .before .before .ask .ensures) _ (c .before .before .before .before .ready2 .given .1) in (passed _ _ _ _ f, quiet _ _ _ (f .holds))
+settle-fit-requires c κs = let f = asked-fit _ _ _ _ (c .before .before .before .before .before .before .ask .ensures) _ (c .before .before .before .before .ready2 .given .1) in (passed _ _ _ _ f, messages-settled _ _ _ (f .holds))
 
 same-length : tie.Need-same-length
 same-length c = search needs

@@ -3,7 +3,7 @@
 use borrow.Author.Needs.{needs}
 use lib.ListN.{length}
 use mathlib.Core.Path.{_≡_, refl}
-use Rattle.merge.specs.Laws.Mended.{Mendable, SoFar, kidsLeft, starts}
+use Rattle.merge.specs.Laws.Mended.{Mendable, SoFar, branchesLeft, starts}
 use Rattle.merge.specs.NodeSteps.{goes, is-done}
 use Rattle.merge.proofs.mend_node.Statement.{statement}
 use Rattle.merge.proofs.mend_node.Tie as tie
@@ -12,7 +12,7 @@ abbrev Inv-loop : tie.InvT-loop
 Inv-loop store₀ num hi store = Mendable store num hi × SoFar store₀ num store × (length store ≡ length store₀)
 
 abbrev μ-loop : tie.MeasureT-loop
-μ-loop store₀ num hi store = kidsLeft store num
+μ-loop store₀ num hi store = branchesLeft store num
 
 loop-holds : tie.Need-loop-holds Inv-loop μ-loop
 loop-holds c = (c .before .before .pre, starts _ _, refl)

@@ -27,8 +27,8 @@ use Rattle.laws.specs.Upkeep.Reading.{inside-entries}
 use Rattle.lookup.specs.Look.{listing, LeafAt, leaf-at, InteriorAt, interior-at, node-inside}
 use Rattle.merge.specs.Laws.Joined.{prefixed, prefixedAll, weight, weights, nodeWeight, leftMore, rightMore, pairFits, smallEntry, smallEntries, bothEntries}
 use Rattle.merge.specs.Laws.Weights.{weights-rise}
-use Rattle.laws.specs.Upkeep.Size.{pairs-for-append as pairs-more, kids-for-append as kids-more}
-use Rattle.laws.specs.Upkeep.Reading.{kids-for-forest as kids-for}
+use Rattle.laws.specs.Upkeep.Size.{pairs-for-append as pairs-more, branches-for-append as branches-more}
+use Rattle.laws.specs.Upkeep.Reading.{branches-for-forest as branches-for}
 use Rattle.push.specs.Laws.LeafLaws.{pairs-entries}
 
 -- THE SUM OF ALL WEIGHTS
@@ -70,31 +70,31 @@ module _ (J L m : List ℕ) (grows : (k : List ℕ) → drop (length J) (L ++ k)
   pairs-grow [] = refl
   pairs-grow (r ∷ rs) = ap₂ (λ k l. pair k (r .value) ∷ l) (sym (grows (r .key))) (pairs-grow rs)
 
-  kids-grow : (f : Forest) → prefixedAll m (childEntries f) ≡ childEntries (repointed J L f)
+  branches-grow : (f : Forest) → prefixedAll m (childEntries f) ≡ childEntries (repointed J L f)
   unfolding prefixedAll prefixed childEntries repointed
-  kids-grow end = refl
-  kids-grow (tree s t f) = ap₂ (λ k l. child (numberOf t) k ∷ l) (sym (grows s)) (kids-grow f)
+  branches-grow end = refl
+  branches-grow (tree s t f) = ap₂ (λ k l. child (numberOf t) k ∷ l) (sym (grows s)) (branches-grow f)
 
   pairs-total : (rs : List Row) → total (length m) (pairEntries rs) ≡ pairBytes J L rs
   unfolding total weight pairEntries pairBytes
   pairs-total [] = refl
   pairs-total (r ∷ rs) = ap₂ (λ a b. 6 + a + length (r .value) + b) (sym (long (r .key))) (pairs-total rs)
 
-  kids-total : (f : Forest) → smallEntries (childEntries f) ≡ true → shortPivots J L f ≡ true → total (length m) (childEntries f) ≡ childBytes J L f
+  branches-total : (f : Forest) → smallEntries (childEntries f) ≡ true → shortPivots J L f ≡ true → total (length m) (childEntries f) ≡ childBytes J L f
   unfolding total weight childEntries childBytes shortPivots smallEntries smallEntry
-  kids-total end sm e = refl
-  kids-total (tree s t f) sm e =
+  branches-total end sm e = refl
+  branches-total (tree s t f) sm e =
       let short : leb (length m + length s) 65 ≡ true = ap (λ z. leb z 65) (sym (long s)) ∙ and-left (leb (length (drop (length J) (L ++ s))) 65) _ e in
       let ok : leb (length m + length s) 65 && ltb (numberOf t) 65536 ≡ true = both short (and-left (ltb (numberOf t) 65536) _ sm) in
       let one : cond (leb (length m + length s) 65 && ltb (numberOf t) 65536) (6 + (length m + length s)) 1017 ≡ 6 + (length m + length s) = rw ok in
-      let rest = kids-total f (and-right (ltb (numberOf t) 65536) _ sm) (and-right (leb (length (drop (length J) (L ++ s))) 65) _ e) in
+      let rest = branches-total f (and-right (ltb (numberOf t) 65536) _ sm) (and-right (leb (length (drop (length J) (L ++ s))) 65) _ e) in
       let z = long s in
       omega arith
 
-  kids-heavy : (f : Forest) → shortPivots J L f ≡ false → 1016 < total (length m) (childEntries f)
+  branches-heavy : (f : Forest) → shortPivots J L f ≡ false → 1016 < total (length m) (childEntries f)
   unfolding total weight childEntries shortPivots
-  kids-heavy end e = absurd (false≢true (sym e))
-  kids-heavy (tree s t f) e = go (leb (length (drop (length J) (L ++ s))) 65) refl (λ h. kids-heavy f h)
+  branches-heavy end e = absurd (false≢true (sym e))
+  branches-heavy (tree s t f) e = go (leb (length (drop (length J) (L ++ s))) 65) refl (λ h. branches-heavy f h)
     where
       go : (x : Bool) → leb (length (drop (length J) (L ++ s))) 65 ≡ x → (shortPivots J L f ≡ false → 1016 < total (length m) (childEntries f))
           → 1016 < cond (leb (length m + length s) 65 && ltb (numberOf t) 65536) (6 + (length m + length s)) 1017 + total (length m) (childEntries f)
@@ -107,14 +107,14 @@ module _ (J L m : List ℕ) (grows : (k : List ℕ) → drop (length J) (L ++ k)
   tree-total (unread i) sm e = unfold total in refl
   tree-total (leaf i rs) sm e = pairs-total rs
   tree-total (interior i f []) sm e =
-      ap (total (length m)) (append-nil (childEntries f)) ∙ kids-total f (ap smallEntries (sym (append-nil (childEntries f))) ∙ sm) e
+      ap (total (length m)) (append-nil (childEntries f)) ∙ branches-total f (ap smallEntries (sym (append-nil (childEntries f))) ∙ sm) e
   tree-total (interior i f (n ∷ ns)) sm e = absurd (false≢true e)
 
   pub tree-heavy : (t : Tree) → noMessage t && treeShort J L t ≡ false → 1016 < total (length m) (entriesFor t)
   unfolding entriesFor noMessage treeShort messageEntries
   tree-heavy (unread i) e = absurd (false≢true (sym e))
   tree-heavy (leaf i rs) e = absurd (false≢true (sym e))
-  tree-heavy (interior i f []) e = subst (λ l. 1016 < total (length m) l) (sym (append-nil (childEntries f))) (kids-heavy f e)
+  tree-heavy (interior i f []) e = subst (λ l. 1016 < total (length m) l) (sym (append-nil (childEntries f))) (branches-heavy f e)
   tree-heavy (interior i f (n ∷ ns)) e =
       let a = total-append (length m) (childEntries f) (message n ∷ messageEntries ns) in
       let b : 1017 ≤ total (length m) (message n ∷ messageEntries ns) = unfold total weight in omega arith in
@@ -129,9 +129,9 @@ merged-entries (Pair.leaves i j rs qs) lo mid hi m n g h =
     ap₂ (λ a b. a ++ b) (pairs-grow (shared lo hi) (shared lo mid) m g rs) (pairs-grow (shared lo hi) (shared mid hi) n h qs)
     ∙ sym (pairs-more (rewritten (shared lo hi) (shared lo mid) rs) (rewritten (shared lo hi) (shared mid hi) qs))
 merged-entries (Pair.inners i j f k) lo mid hi m n g h =
-    ap₂ (λ a b. a ++ b) (ap (prefixedAll m) (append-nil (childEntries f)) ∙ kids-grow (shared lo hi) (shared lo mid) m g f)
-    (ap (prefixedAll n) (append-nil (childEntries k)) ∙ kids-grow (shared lo hi) (shared mid hi) n h k)
-    ∙ sym (kids-more (repointed (shared lo hi) (shared lo mid) f) (repointed (shared lo hi) (shared mid hi) k))
+    ap₂ (λ a b. a ++ b) (ap (prefixedAll m) (append-nil (childEntries f)) ∙ branches-grow (shared lo hi) (shared lo mid) m g f)
+    (ap (prefixedAll n) (append-nil (childEntries k)) ∙ branches-grow (shared lo hi) (shared mid hi) n h k)
+    ∙ sym (branches-more (repointed (shared lo hi) (shared lo mid) f) (repointed (shared lo hi) (shared mid hi) k))
     ∙ sym (append-nil (childEntries (followed (repointed (shared lo hi) (shared lo mid) f) (repointed (shared lo hi) (shared mid hi) k))))
 
 pub lists-tree : (s : List ℕ) (i level : ℕ) → usable (nodesOf (length s)) (treeAt level s i) ≡ true → listing s i ≡ entriesFor (treeAt level s i)
@@ -143,7 +143,7 @@ lists-tree s i (suc zero) u =
 lists-tree s i (suc (suc l)) u =
     let a : InteriorAt s i (suc (suc l)) (suc (suc l) - 1) = interior-at s i (suc (suc l)) (omega arith) u in
     a .node .lists ∙ inside-entries (a .es) (a .x) (a .splits)
-    ∙ ap (λ es. es ++ messageEntries (a .x .messages)) (sym (kids-for (λ j. treeAt (suc (suc l) - 1) s j) (λ j. number-read (suc (suc l) - 1) s j) (a .x .kids)))
+    ∙ ap (λ es. es ++ messageEntries (a .x .messages)) (sym (branches-for (λ j. treeAt (suc (suc l) - 1) s j) (λ j. number-read (suc (suc l) - 1) s j) (a .x .branches)))
     ∙ sym (ap entriesFor (a .tree))
 
 messages-small : (ns : List Message) → smallEntries (messageEntries ns) ≡ true
@@ -151,12 +151,12 @@ unfolding messageEntries smallEntries smallEntry
 messages-small [] = refl
 messages-small (m ∷ ns) = messages-small ns
 
-kids-small : (n : ℕ) (f : Forest) (ms : List Message) → n ≤ 1024 → usableIn n f ≡ true → smallEntries (childEntries f ++ messageEntries ms) ≡ true
+branches-small : (n : ℕ) (f : Forest) (ms : List Message) → n ≤ 1024 → usableIn n f ≡ true → smallEntries (childEntries f ++ messageEntries ms) ≡ true
 unfolding usableIn childEntries smallEntries smallEntry
-kids-small n end ms h u = messages-small ms
-kids-small n (tree s t f) ms h u =
+branches-small n end ms h u = messages-small ms
+branches-small n (tree s t f) ms h u =
     let a = number-under n t (and-left (usable n t) _ u) in
-    both (lt-ltb (numberOf t) 65536 (omega arith)) (kids-small n f ms h (and-right (usable n t) _ u))
+    both (lt-ltb (numberOf t) 65536 (omega arith)) (branches-small n f ms h (and-right (usable n t) _ u))
 
 pairs-small : (rs : List Row) → smallEntries (pairEntries rs) ≡ true
 unfolding pairEntries smallEntries smallEntry
@@ -167,7 +167,7 @@ pub tree-small : (n : ℕ) (t : Tree) → n ≤ 1024 → usable n t ≡ true →
 unfolding entriesFor usable
 tree-small n (unread i) h u = absurd (false≢true u)
 tree-small n (leaf i rs) h u = pairs-small rs
-tree-small n (interior i f ms) h u = kids-small n f ms h (and-right (ltb i n) _ u)
+tree-small n (interior i f ms) h u = branches-small n f ms h (and-right (ltb i n) _ u)
 
 -- WHAT A NODE WEIGHS
 pub node-total : (n : ℕ) (s : List ℕ) (i level used : ℕ) → usable (nodesOf (length s)) (treeAt level s i) ≡ true → nodeWeight n s i used ≡ weights n (entriesFor (treeAt level s i)) used

@@ -1,5 +1,5 @@
 -- The high pivot of a node without what it lifts is short: it is the root's, or a pivot that an entry holds.
-use Prim.Native.Nat.{ℕ, zero, suc, _+_, _≤_}
+use Prim.Native.Nat.{ℕ, zero, suc, _≤_}
 use mathlib.Core.Path.{_≡_, refl, sym, ap, subst, _∙_}
 use mathlib.Core.List.{List, [], _∷_, _++_}
 use mathlib.Core.Bool.{Bool, true, false, _&&_, cond}
@@ -10,14 +10,14 @@ use lib.Dec.{leb, eqb}
 use borrow.Author.Tests.{leb-true}
 use Rattle.image.specs.Entry.{Entry}
 use Rattle.image.specs.Table.{Row}
-use Rattle.image.specs.Image.{Tree, unread, leaf, interior, Forest, end, tree, Kid, Inside, nodeBytes, nodeEntries, pairsOf, insideOf, orNone, forestOf, leafOf, interiorOf, treeAt}
+use Rattle.image.specs.Image.{Tree, unread, leaf, interior, Forest, end, tree, Branch, Inside, nodeBytes, nodeEntries, pairsOf, insideOf, orNone, forestOf, leafOf, interiorOf, treeAt}
 use Rattle.image.specs.Meaning.{highOf}
 use Rattle.octets.specs.Order.{and-left, and-right}
 use Rattle.laws.specs.Rising.{both}
 use Rattle.laws.specs.Encode.{allowed, allAllowed}
 use Rattle.laws.specs.Reading.Relative.{lifts}
 use Rattle.laws.specs.Upkeep.Size.{messageEntries}
-use Rattle.laws.specs.Upkeep.Reading.{kidEntries, inside-entries, node-good}
+use Rattle.laws.specs.Upkeep.Reading.{branchEntries, inside-entries, node-good}
 use Rattle.push.specs.Laws.High.{orElse, highHere, highIn}
 
 -- every pivot of the tree is at most 65 bytes
@@ -36,17 +36,17 @@ unfolding leafOf shortIn
 leaf-short i none = refl
 leaf-short i (some rs) = refl
 
-kids-short : (under : ℕ → Tree) → ((j : ℕ) → shortIn (under j) ≡ true) → (ks : List Kid) (es : List Entry) → allAllowed (kidEntries ks ++ es) ≡ true → shortAll (forestOf under ks) ≡ true
-unfolding shortAll forestOf kidEntries allAllowed allowed
-kids-short under law [] es a = refl
-kids-short under law (k ∷ ks) es a =
-    both (both (and-left (leb (length (k .pivot)) 65) _ a) (law (k .number))) (kids-short under law ks es (and-right (leb (length (k .pivot)) 65) _ a))
+branches-short : (under : ℕ → Tree) → ((j : ℕ) → shortIn (under j) ≡ true) → (ks : List Branch) (es : List Entry) → allAllowed (branchEntries ks ++ es) ≡ true → shortAll (forestOf under ks) ≡ true
+unfolding shortAll forestOf branchEntries allAllowed allowed
+branches-short under law [] es a = refl
+branches-short under law (k ∷ ks) es a =
+    both (both (and-left (leb (length (k .pivot)) 65) _ a) (law (k .number))) (branches-short under law ks es (and-right (leb (length (k .pivot)) 65) _ a))
 
 inside-short : (under : ℕ → Tree) → ((j : ℕ) → shortIn (under j) ≡ true) → (i : ℕ) (es : List Entry) → allAllowed es ≡ true → (o : Option Inside) → insideOf es ≡ o
     → shortIn (interiorOf under i o) ≡ true
 unfolding interiorOf shortIn
 inside-short under law i es a none q = refl
-inside-short under law i es a (some y) q = kids-short under law (y .kids) (messageEntries (y .messages)) (ap allAllowed (sym (inside-entries es y q)) ∙ a)
+inside-short under law i es a (some y) q = branches-short under law (y .branches) (messageEntries (y .messages)) (ap allAllowed (sym (inside-entries es y q)) ∙ a)
 
 none-short : (under : ℕ → Tree) (i : ℕ) → shortIn (interiorOf under i none) ≡ true
 unfolding interiorOf shortIn

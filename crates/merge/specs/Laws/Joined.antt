@@ -7,11 +7,11 @@ use lib.ListN.{length, drop}
 use lib.Dec.{ltb, leb, eqb}
 use Rattle.image.specs.Bytes.{u16, shared}
 use Rattle.image.specs.Entry.{Entry, pair, child, message}
-use Rattle.image.specs.Image.{Kid, nodesOf}
+use Rattle.image.specs.Image.{Branch, nodesOf}
 use Rattle.laws.specs.Encode.{bytesOfAll}
 use Rattle.laws.specs.WriteNode.{writeNode}
 use Rattle.laws.specs.Page.{page}
-use Rattle.laws.specs.Reading.Relative.{kidHigh}
+use Rattle.laws.specs.Reading.Relative.{branchHigh}
 use Rattle.lookup.specs.Look.{listing}
 
 -- an entry with more bytes in front of its suffix
@@ -88,15 +88,15 @@ unfoldable pub joinedIf : ℕ → ℕ → List Entry → ℕ → ℕ → List �
 joinedIf n level es a b lo mid hi s = cond (pairFits s a b lo mid hi) (pairJoined n level es a b lo mid hi s) s
 
 -- the first two neighbours that one node holds; whether there are any
-unfoldable pub firstJoined : ℕ → ℕ → List Entry → List Kid → List ℕ → List ℕ → List ℕ
+unfoldable pub firstJoined : ℕ → ℕ → List Entry → List Branch → List ℕ → List ℕ → List ℕ
 firstJoined n level es [] hi s = s
 firstJoined n level es (k ∷ []) hi s = s
 firstJoined n level es (k ∷ q ∷ ks) hi s =
-    cond (pairFits s (k .number) (q .number) (k .pivot) (q .pivot) (kidHigh hi ks))
-    (pairJoined n level es (k .number) (q .number) (k .pivot) (q .pivot) (kidHigh hi ks) s) (firstJoined n level es (q ∷ ks) hi s)
+    cond (pairFits s (k .number) (q .number) (k .pivot) (q .pivot) (branchHigh hi ks))
+    (pairJoined n level es (k .number) (q .number) (k .pivot) (q .pivot) (branchHigh hi ks) s) (firstJoined n level es (q ∷ ks) hi s)
 
-unfoldable pub anyFits : List Kid → List ℕ → List ℕ → Bool
+unfoldable pub anyFits : List Branch → List ℕ → List ℕ → Bool
 anyFits [] hi s = false
 anyFits (k ∷ []) hi s = false
 anyFits (k ∷ q ∷ ks) hi s =
-    cond (pairFits s (k .number) (q .number) (k .pivot) (q .pivot) (kidHigh hi ks)) true (anyFits (q ∷ ks) hi s)
+    cond (pairFits s (k .number) (q .number) (k .pivot) (q .pivot) (branchHigh hi ks)) true (anyFits (q ∷ ks) hi s)

@@ -10,7 +10,7 @@ use lib.ListN.{length}
 use borrow.Author.Tests.{lt-ltb}
 use Rattle.image.specs.Bytes.{shared, u16}
 use Rattle.image.specs.Entry.{Entry}
-use Rattle.image.specs.Image.{Tree, interior, Forest, end, tree, Kid, nodeBytes, forestOf, treeAt, treeOf, nodesOf, wholeNodes, header, headerOf}
+use Rattle.image.specs.Image.{Tree, interior, Forest, end, tree, Branch, nodeBytes, forestOf, treeAt, treeOf, nodesOf, wholeNodes, header, headerOf}
 use Rattle.image.specs.Meaning.{highOf}
 use Rattle.image.specs.Sound.{sound, soundForest, tableOf, numbersIn, once, lowest, highest}
 use Rattle.image.specs.Upkeep.{Reachable, reachable, reachableAt, reachableNodes, unmergeable, unmergeableAt, healed}
@@ -22,13 +22,13 @@ use Rattle.laws.specs.Rising.{both}
 use Rattle.laws.specs.Encode.{bytesOfAll}
 use Rattle.laws.specs.Page.{page, childEntries}
 use Rattle.laws.specs.WriteNode.{writeNode}
-use Rattle.laws.specs.Reading.Relative.{kidHigh, usable, usableIn, sound-usable-in}
+use Rattle.laws.specs.Reading.Relative.{branchHigh, usable, usableIn, sound-usable-in}
 use Rattle.laws.specs.Upkeep.Sublists.{range-sub}
 use Rattle.laws.specs.Upkeep.Merge.{merged, tallIn}
 use Rattle.laws.specs.Upkeep.Size.{messageEntries, entriesFor, sizeOf}
-use Rattle.laws.specs.Upkeep.Join.{joins, joinAt, firstPair, mended, kidCount, heads}
+use Rattle.laws.specs.Upkeep.Join.{joins, joinAt, firstPair, mended, branchCount, heads}
 use Rattle.laws.specs.Upkeep.Loop.{join-less}
-use Rattle.laws.specs.Upkeep.Alter.{altered, onKids}
+use Rattle.laws.specs.Upkeep.Alter.{altered, onBranches}
 use Rattle.laws.specs.Upkeep.Healed.{goodPlace, place-test, places-good, rechilded, rechild, place-altered}
 use Rattle.laws.specs.Upkeep.Steps.{stepped}
 use Rattle.laws.specs.Upkeep.Bridge.{image-tall}
@@ -36,11 +36,11 @@ use Rattle.laws.specs.Upkeep.Page.{pageOf}
 use Rattle.laws.specs.Upkeep.HealImage.{pageFor, pairAt, leftAt, mergedAt}
 use Rattle.laws.specs.Upkeep.HealWrite.{stepBytes, wrote-length, wrote-zero, wrote-first, wrote-keeps}
 use Rattle.laws.specs.Upkeep.Rules.{first-pair, loop-starts, loop-goes, loop-ends}
-use Rattle.node.specs.Search.Own.{kidsE}
+use Rattle.node.specs.Search.Own.{branchesAmong}
 use Rattle.lookup.specs.Look.{listing}
 use Rattle.push.specs.Laws.High.{highHere}
 use Rattle.push.specs.Laws.HighLaws.{ownHigh, some-here}
-use Rattle.push.specs.Laws.PushedDown.{interior-place, few-nodes, at-place, whole-sound, whole-range, kids-high, two-levels, l, level-is, node-there, sub, n-range, inside, short, stored-level, lists, forest-is, heads-are, kids-once, good-entries}
+use Rattle.push.specs.Laws.PushedDown.{interior-place, few-nodes, at-place, whole-sound, whole-range, branches-high, two-levels, l, level-is, node-there, sub, n-range, inside, short, stored-level, lists, forest-is, heads-are, branches-once, good-entries}
 use Rattle.merge.specs.Laws.Joined.{withoutChild, pairFits, pairJoined, firstJoined, anyFits, smallEntries}
 use Rattle.merge.specs.Laws.HighShort.{tree-short, here-short}
 use Rattle.merge.specs.Laws.Fits.{lists-tree, tree-small}
@@ -57,7 +57,7 @@ pub record Mendable (s : List ℕ) (n : ℕ) (h : List ℕ) : Type 0 where
 -- WHAT SOME STEPS LEAVE
 pub record SoFar (s₀ : List ℕ) (n : ℕ) (s : List ℕ) : Type 0 where
   pub steps : ℕ
-  pub tree-is : treeOf s ≡ altered (treeOf s₀) n (onKids (mended steps)) lowest highest
+  pub tree-is : treeOf s ≡ altered (treeOf s₀) n (onBranches (mended steps)) lowest highest
   pub size : length s ≡ length s₀
   pub zero-is : nodeBytes s 0 ≡ nodeBytes s₀ 0
   pub table : tableOf s ≡ tableOf s₀
@@ -70,18 +70,18 @@ pub record HealedNode (s : List ℕ) (n : ℕ) (s′ : List ℕ) : Type 0 where
   pub rule : upkeepRule heal (reachableAt n (reachableNodes s)) (reachableNodes s) (reachableNodes s′) ≡ true
 
 -- how many children the node has
-abbrev pub kidsLeft : List ℕ → ℕ → ℕ
-kidsLeft s n = length (kidsE (listing s n))
+abbrev pub branchesLeft : List ℕ → ℕ → ℕ
+branchesLeft s n = length (branchesAmong (listing s n))
 
 pub record Step (s₀ : List ℕ) (n : ℕ) (h s s′ : List ℕ) : Type 0 where
   pub ready : Mendable s′ n h
   pub so-far : SoFar s₀ n s′
-  pub fewer : kidsLeft s′ n < kidsLeft s n
+  pub fewer : branchesLeft s′ n < branchesLeft s n
 
-kid-count : (under : ℕ → Tree) (ks : List Kid) → kidCount (forestOf under ks) ≡ length ks
-unfolding kidCount forestOf
-kid-count under [] = refl
-kid-count under (k ∷ ks) = ap suc (kid-count under ks)
+branch-count : (under : ℕ → Tree) (ks : List Branch) → branchCount (forestOf under ks) ≡ length ks
+unfolding branchCount forestOf
+branch-count under [] = refl
+branch-count under (k ∷ ks) = ap suc (branch-count under ks)
 
 joined-some : (k : ℕ) (f : Forest) (lifted hi : List ℕ) → hasChildren f ≡ true → hasChildren (joinAt k f lifted hi) ≡ true
 unfolding hasChildren joinAt
@@ -135,8 +135,8 @@ module _ (s : List ℕ) (n : ℕ) (h : List ℕ) (m : Mendable s n h) where
   abbrev d : ℕ
   d = l s n x e p c
 
-  abbrev K : List Kid
-  K = kidsE (listing s n)
+  abbrev K : List Branch
+  K = branchesAmong (listing s n)
 
   few : nodesOf (length s) ≤ 1024
   few = few-nodes (length s) (m .whole)
@@ -150,27 +150,27 @@ module _ (s : List ℕ) (n : ℕ) (h : List ℕ) (m : Mendable s n h) where
   forest : forestOf (λ j. treeAt (suc d) s j) K ≡ x .children
   forest = forest-is s n x e p c
 
-  kids-sound : soundForest (x .children) P (x .low) (x .high) ≡ true
+  branches-sound : soundForest (x .children) P (x .low) (x .high) ≡ true
   unfolding goodPlace
-  kids-sound =
+  branches-sound =
       and-left (soundForest (x .children) P (x .low) (x .high)) _
       (place-test goodPlace n (reachable (treeOf s) (headerOf s .levels) lowest highest) x
       (places-good (treeOf s) (headerOf s .levels) lowest highest (whole-sound s n x e p c) (image-tall s (whole-sound s n x e p c))) (at-place s n x e p c))
 
-  kids-tall : tallIn (x .children) (suc d) ≡ true
-  kids-tall =
+  branches-tall : tallIn (x .children) (suc d) ≡ true
+  branches-tall =
       let two = two-levels s n x e p c in
       let down : x .level - 1 ≡ suc d = omega arith in
-      ap (tallIn (x .children)) (sym down) ∙ kids-high s n x e p c
+      ap (tallIn (x .children)) (sym down) ∙ branches-high s n x e p c
 
-  kids-usable : usableIn (nodesOf (length s)) (x .children) ≡ true
-  kids-usable =
-      sound-usable-in (x .children) (nodesOf (length s)) P (x .low) (x .high) kids-sound
+  branches-usable : usableIn (nodesOf (length s)) (x .children) ≡ true
+  branches-usable =
+      sound-usable-in (x .children) (nodesOf (length s)) P (x .low) (x .high) branches-sound
       (range-later (nodesOf (length s)) n (numbersIn (x .children)) (range-sub (nodesOf (length s)) (sub s n x e p c) (whole-range s n x e p c)))
 
   own-usable : usable (nodesOf (length s)) (treeAt (x .level) s n) ≡ true
   unfolding usable
-  own-usable = ap (usable (nodesOf (length s))) (node-there s n x e p c) ∙ both (lt-ltb n (nodesOf (length s)) (n-range s n x e p c .1)) kids-usable
+  own-usable = ap (usable (nodesOf (length s))) (node-there s n x e p c) ∙ both (lt-ltb n (nodesOf (length s)) (n-range s n x e p c .1)) branches-usable
 
   own-entries : listing s n ≡ childEntries (x .children) ++ messageEntries (x .messages)
   unfolding entriesFor
@@ -192,13 +192,13 @@ module _ (s : List ℕ) (n : ℕ) (h : List ℕ) (m : Mendable s n h) where
 
   -- the search
   f-sound : soundForest (forestOf (λ j. treeAt (suc d) s j) K) P (x .low) (P ++ h) ≡ true
-  f-sound = ap₂ (λ f z. soundForest f P (x .low) z) forest high-whole ∙ kids-sound
+  f-sound = ap₂ (λ f z. soundForest f P (x .low) z) forest high-whole ∙ branches-sound
 
   f-usable : usableIn (nodesOf (length s)) (forestOf (λ j. treeAt (suc d) s j) K) ≡ true
-  f-usable = ap (usableIn (nodesOf (length s))) forest ∙ kids-usable
+  f-usable = ap (usableIn (nodesOf (length s))) forest ∙ branches-usable
 
   f-tall : tallIn (forestOf (λ j. treeAt (suc d) s j) K) (suc d) ≡ true
-  f-tall = ap (λ f. tallIn f (suc d)) forest ∙ kids-tall
+  f-tall = ap (λ f. tallIn f (suc d)) forest ∙ branches-tall
 
   any-is : anyFits K h s ≡ not (unmergeable (x .children) P (x .high))
   any-is = any-mergeable s d P h (x .low) few K f-sound f-usable ∙ ap₂ (λ f z. not (unmergeable f P z)) forest high-whole
@@ -217,10 +217,10 @@ module _ (s : List ℕ) (n : ℕ) (h : List ℕ) (m : Mendable s n h) where
     some-fit = not-flip (anyFits K h s) (unmergeable (x .children) P (x .high)) q any-is
 
     joined : pairAt k (x .children) P (x .high) ≡ true
-    joined = first-pair (x .children) P (x .high) (suc d) kids-tall some-fit
+    joined = first-pair (x .children) P (x .high) (suc d) branches-tall some-fit
 
     heads-once : once (heads (x .children)) ≡ true
-    heads-once = ap once (heads-are s n x e p c) ∙ kids-once s n x e p c
+    heads-once = ap once (heads-are s n x e p c) ∙ branches-once s n x e p c
 
     node-page : page 2 level (bytesOfAll (withoutChild (rightAt k (x .children)) (listing s n))) ≡ pageFor (suc (suc d)) (interior n (joinAt k (x .children) P (x .high)) (x .messages))
     unfolding pageFor pageOf
@@ -254,14 +254,14 @@ module _ (s : List ℕ) (n : ℕ) (h : List ℕ) (m : Mendable s n h) where
       new-table : tableOf s′ ≡ tableOf s
       new-table = ap tableOf same ∙ wrote-keeps s n x d k e (at-place s n x e p c) (level-is s n x e p c) joined .1
 
-      new-tree : treeOf s′ ≡ altered (treeOf s) n (onKids stepped) lowest highest
+      new-tree : treeOf s′ ≡ altered (treeOf s) n (onBranches stepped) lowest highest
       new-tree = ap treeOf same ∙ wrote-first s n x d k e (at-place s n x e p c) (level-is s n x e p c) joined refl
 
       levels-stay : headerOf s′ .levels ≡ headerOf s .levels
       unfolding headerOf
       levels-stay = ap (λ z. header z .levels) zero-stays
 
-      new-places : reachable (treeOf s′) (headerOf s′ .levels) lowest highest ≡ reachable (altered (treeOf s) n (onKids stepped) lowest highest) (headerOf s .levels) lowest highest
+      new-places : reachable (treeOf s′) (headerOf s′ .levels) lowest highest ≡ reachable (altered (treeOf s) n (onBranches stepped) lowest highest) (headerOf s .levels) lowest highest
       new-places = ap₂ (λ t v. reachable t v lowest highest) new-tree levels-stay
 
       place : reachableAt n (reachableNodes s′) ≡ some (rechilded stepped x)
@@ -290,18 +290,18 @@ module _ (s : List ℕ) (n : ℕ) (h : List ℕ) (m : Mendable s n h) where
       pub still-mendable : Mendable s′ n h
       still-mendable = record { whole = ap wholeNodes size-stays ∙ m .whole; is-sound = new-sound; reached = interior-still; high = still-high }
 
-      new-kids : kidCount (rechilded stepped x .children) ≡ kidCount (joinAt k (x .children) P (x .high))
+      new-branches : branchCount (rechilded stepped x .children) ≡ branchCount (joinAt k (x .children) P (x .high))
       unfolding rechilded stepped
-      new-kids = refl
+      new-branches = refl
 
-      pub fewer-kids : kidsLeft s′ n < kidsLeft s n
-      fewer-kids =
-          let a : kidCount (rechilded stepped x .children) ≡ kidsLeft s′ n =
-          ap kidCount (sym (forest-is s′ n (rechilded stepped x) new-sound place has-some))
-          ∙ kid-count (λ j. treeAt (suc (l s′ n (rechilded stepped x) new-sound place has-some)) s′ j) (kidsE (listing s′ n)) in
-          let b : kidCount (x .children) ≡ kidsLeft s n = ap kidCount (sym forest) ∙ kid-count (λ j. treeAt (suc d) s j) K in
-          let g = join-less (x .children) P (x .high) (suc d) kids-tall some-fit in
-          let r = new-kids in
+      pub fewer-branches : branchesLeft s′ n < branchesLeft s n
+      fewer-branches =
+          let a : branchCount (rechilded stepped x .children) ≡ branchesLeft s′ n =
+          ap branchCount (sym (forest-is s′ n (rechilded stepped x) new-sound place has-some))
+          ∙ branch-count (λ j. treeAt (suc (l s′ n (rechilded stepped x) new-sound place has-some)) s′ j) (branchesAmong (listing s′ n)) in
+          let b : branchCount (x .children) ≡ branchesLeft s n = ap branchCount (sym forest) ∙ branch-count (λ j. treeAt (suc d) s j) K in
+          let g = join-less (x .children) P (x .high) (suc d) branches-tall some-fit in
+          let r = new-branches in
           omega arith
 
       pub goes-on : (s₀ : List ℕ) → SoFar s₀ n s → SoFar s₀ n s′
@@ -315,7 +315,7 @@ module _ (s : List ℕ) (n : ℕ) (h : List ℕ) (m : Mendable s n h) where
           }
 
       pub steps-on : (s₀ : List ℕ) → SoFar s₀ n s → Step s₀ n h s s′
-      steps-on s₀ r = record { ready = still-mendable; so-far = goes-on s₀ r; fewer = fewer-kids }
+      steps-on s₀ r = record { ready = still-mendable; so-far = goes-on s₀ r; fewer = fewer-branches }
 
 as-rule : (x : Reachable) (was after : List Reachable) → healed x was after ≡ true → upkeepRule heal (some x) was after ≡ true
 unfolding upkeepRule
@@ -325,7 +325,7 @@ as-rule x was after e = e
 pub starts : (s : List ℕ) (n : ℕ) → SoFar s n s
 starts s n = record { steps = 0; tree-is = loop-starts s n; size = refl; zero-is = refl; table = refl }
 
-pub ends : (s₀ : List ℕ) (n : ℕ) (h s : List ℕ) → Mendable s₀ n h → (m : Mendable s n h) → SoFar s₀ n s → anyFits (kidsE (listing s n)) h s ≡ false → HealedNode s₀ n s
+pub ends : (s₀ : List ℕ) (n : ℕ) (h s : List ℕ) → Mendable s₀ n h → (m : Mendable s n h) → SoFar s₀ n s → anyFits (branchesAmong (listing s n)) h s ≡ false → HealedNode s₀ n s
 ends s₀ n h s m₀ m r q =
     record {
       size = r .size;
@@ -347,15 +347,15 @@ ends s₀ n h s m₀ m r q =
         (loop-ends s₀ s (m₀ .is-sound) (r .zero-is) n (r .steps) x₀ y (r .tree-is) (found s₀ n h m₀ .1 .0) (found s n h m .1 .0) (none-fits s n h m q))
 
 -- where none fits, nothing is written
-pub none-joined : (n level : ℕ) (es : List Entry) (ks : List Kid) (h s : List ℕ) → anyFits ks h s ≡ false → firstJoined n level es ks h s ≡ s
+pub none-joined : (n level : ℕ) (es : List Entry) (ks : List Branch) (h s : List ℕ) → anyFits ks h s ≡ false → firstJoined n level es ks h s ≡ s
 unfolding anyFits firstJoined
 none-joined n level es [] h s q = refl
 none-joined n level es (k ∷ []) h s q = refl
 none-joined n level es (k ∷ q ∷ ks) h s z =
-    go (pairFits s (k .number) (q .number) (k .pivot) (q .pivot) (kidHigh h ks)) z (λ w. none-joined n level es (q ∷ ks) h s w)
+    go (pairFits s (k .number) (q .number) (k .pivot) (q .pivot) (branchHigh h ks)) z (λ w. none-joined n level es (q ∷ ks) h s w)
   where
     go : (b : Bool) → cond b true (anyFits (q ∷ ks) h s) ≡ false → (anyFits (q ∷ ks) h s ≡ false → firstJoined n level es (q ∷ ks) h s ≡ s)
-        → cond b (pairJoined n level es (k .number) (q .number) (k .pivot) (q .pivot) (kidHigh h ks) s) (firstJoined n level es (q ∷ ks) h s) ≡ s
+        → cond b (pairJoined n level es (k .number) (q .number) (k .pivot) (q .pivot) (branchHigh h ks) s) (firstJoined n level es (q ∷ ks) h s) ≡ s
     go true w ih = absurd (true≢false w)
     go false w ih = ih w
 

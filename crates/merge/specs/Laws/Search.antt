@@ -11,7 +11,7 @@ use borrow.Author.Tests.{eqb-true, eq-eqb}
 use Rattle.image.specs.Bytes.{before, u16}
 use Rattle.image.specs.Entry.{Message, Entry, child, message}
 use Rattle.image.specs.Table.{Row}
-use Rattle.image.specs.Image.{Tree, unread, leaf, interior, Forest, end, tree, Kid, Inside, nodeBytes, nodeEntries, pairsOf, insideOf, orNone, forestOf, leafOf, interiorOf, treeAt, nodesOf}
+use Rattle.image.specs.Image.{Tree, unread, leaf, interior, Forest, end, tree, Branch, Inside, nodeBytes, nodeEntries, pairsOf, insideOf, orNone, forestOf, leafOf, interiorOf, treeAt, nodesOf}
 use Rattle.image.specs.Meaning.{highOf}
 use Rattle.image.specs.Sound.{soundForest, isIn, once}
 use Rattle.image.specs.Upkeep.{wouldFit, unmergeable}
@@ -22,7 +22,7 @@ use Rattle.laws.specs.LookupTable.{parts}
 use Rattle.laws.specs.Encode.{bytesOfAll}
 use Rattle.laws.specs.Page.{page, numberOf, childEntries, number-read}
 use Rattle.laws.specs.WriteNode.{writeNode}
-use Rattle.laws.specs.Reading.Relative.{kidHigh, usable, usableIn}
+use Rattle.laws.specs.Reading.Relative.{branchHigh, usable, usableIn}
 use Rattle.laws.specs.Upkeep.Merge.{sameKind, merged, tallIn, Pair, merged-number}
 use Rattle.laws.specs.Upkeep.Size.{messageEntries, entriesFor}
 use Rattle.laws.specs.Upkeep.Mends.{tall-first, tall-later}
@@ -180,13 +180,13 @@ module _ (s : List ℕ) (l : ℕ) (P h low : List ℕ) (few : nodesOf (length s)
   abbrev under : ℕ → Tree
   under j = treeAt (suc l) s j
 
-  high-is : (ks : List Kid) → highOf P (P ++ h) (forestOf under ks) ≡ P ++ kidHigh h ks
-  unfolding highOf forestOf kidHigh
+  high-is : (ks : List Branch) → highOf P (P ++ h) (forestOf under ks) ≡ P ++ branchHigh h ks
+  unfolding highOf forestOf branchHigh
   high-is [] = refl
   high-is (k ∷ ks) = refl
 
   -- one pair
-  module _ (k q : Kid) (ks : List Kid) (sn : soundForest (forestOf under (k ∷ q ∷ ks)) P low (P ++ h) ≡ true) (us : usableIn (nodesOf (length s)) (forestOf under (k ∷ q ∷ ks)) ≡ true) where
+  module _ (k q : Branch) (ks : List Branch) (sn : soundForest (forestOf under (k ∷ q ∷ ks)) P low (P ++ h) ≡ true) (us : usableIn (nodesOf (length s)) (forestOf under (k ∷ q ∷ ks)) ≡ true) where
     abbrev t : Tree
     t = under (k .number)
 
@@ -200,10 +200,10 @@ module _ (s : List ℕ) (l : ℕ) (P h low : List ℕ) (few : nodesOf (length s)
     unfolding forestOf highOf
     first-rises = sym (before-append P (k .pivot) (q .pivot)) ∙ parts (k .pivot) t (tree (q .pivot) u f) P low (P ++ h) sn .rises
 
-    second-rises : before (q .pivot) (kidHigh h ks) ≡ true
+    second-rises : before (q .pivot) (branchHigh h ks) ≡ true
     unfolding forestOf
     second-rises =
-        sym (before-append P (q .pivot) (kidHigh h ks)) ∙ ap (before (P ++ q .pivot)) (sym (high-is ks))
+        sym (before-append P (q .pivot) (branchHigh h ks)) ∙ ap (before (P ++ q .pivot)) (sym (high-is ks))
         ∙ parts (q .pivot) u f P low (P ++ h) (parts (k .pivot) t (tree (q .pivot) u f) P low (P ++ h) sn .later) .rises
 
     left-usable : usable (nodesOf (length s)) t ≡ true
@@ -214,20 +214,20 @@ module _ (s : List ℕ) (l : ℕ) (P h low : List ℕ) (few : nodesOf (length s)
     unfolding forestOf usableIn
     right-usable = and-left (usable (nodesOf (length s)) u) _ (and-right (usable (nodesOf (length s)) t) _ us)
 
-    pub pair-would : pairFits s (k .number) (q .number) (k .pivot) (q .pivot) (kidHigh h ks) ≡ wouldFit t u (P ++ k .pivot) (P ++ q .pivot) (highOf P (P ++ h) f)
+    pub pair-would : pairFits s (k .number) (q .number) (k .pivot) (q .pivot) (branchHigh h ks) ≡ wouldFit t u (P ++ k .pivot) (P ++ q .pivot) (highOf P (P ++ h) f)
     pair-would =
-        fits-would P (k .pivot) (q .pivot) (kidHigh h ks) first-rises second-rises s (suc l) (k .number) (q .number) few left-usable right-usable
+        fits-would P (k .pivot) (q .pivot) (branchHigh h ks) first-rises second-rises s (suc l) (k .number) (q .number) few left-usable right-usable
         ∙ ap (wouldFit t u (P ++ k .pivot) (P ++ q .pivot)) (sym (high-is ks))
 
-    pub left-page : Pair t u → leftWritten s (k .number) (q .number) (k .pivot) (q .pivot) (kidHigh h ks)
+    pub left-page : Pair t u → leftWritten s (k .number) (q .number) (k .pivot) (q .pivot) (branchHigh h ks)
         ≡ writeNode s (numberOf t) (pageFor (suc l) (merged t u (P ++ k .pivot) (P ++ q .pivot) (highOf P (P ++ h) f)))
     unfolding leftWritten
     left-page p =
         let d = head-of s (k .number) (suc l) left-usable in
-        let e : bothEntries s (k .number) (q .number) (k .pivot) (q .pivot) (kidHigh h ks) ≡ bytesOfAll (entriesFor (merged t u (P ++ k .pivot) (P ++ q .pivot) (highOf P (P ++ h) f))) =
-        both-merged P (k .pivot) (q .pivot) (kidHigh h ks) first-rises second-rises s (suc l) (k .number) (q .number) few left-usable right-usable p
+        let e : bothEntries s (k .number) (q .number) (k .pivot) (q .pivot) (branchHigh h ks) ≡ bytesOfAll (entriesFor (merged t u (P ++ k .pivot) (P ++ q .pivot) (highOf P (P ++ h) f))) =
+        both-merged P (k .pivot) (q .pivot) (branchHigh h ks) first-rises second-rises s (suc l) (k .number) (q .number) few left-usable right-usable p
         ∙ ap (λ z. bytesOfAll (entriesFor (merged t u (P ++ k .pivot) (P ++ q .pivot) z))) (sym (high-is ks)) in
-        ap₂ (λ a b. writeNode s (k .number) (page a b (bothEntries s (k .number) (q .number) (k .pivot) (q .pivot) (kidHigh h ks)))) (d .kind) (d .level-is)
+        ap₂ (λ a b. writeNode s (k .number) (page a b (bothEntries s (k .number) (q .number) (k .pivot) (q .pivot) (branchHigh h ks)))) (d .kind) (d .level-is)
         ∙ ap (λ b. writeNode s (k .number) (page (kindFor t) (suc l) b)) e
         ∙ ap₂ (λ a b. writeNode s a b) (sym (number-read (suc l) s (k .number))) (page-merged p (suc l) (P ++ k .pivot) (P ++ q .pivot) (highOf P (P ++ h) f))
 
@@ -237,22 +237,22 @@ module _ (s : List ℕ) (l : ℕ) (P h low : List ℕ) (few : nodesOf (length s)
   any-choice false true c d e f = absurd (false≢true e)
   any-choice false false c d e f = f
 
-  later-usable : (k : Kid) (ks : List Kid) → usableIn (nodesOf (length s)) (forestOf under (k ∷ ks)) ≡ true → usableIn (nodesOf (length s)) (forestOf under ks) ≡ true
+  later-usable : (k : Branch) (ks : List Branch) → usableIn (nodesOf (length s)) (forestOf under (k ∷ ks)) ≡ true → usableIn (nodesOf (length s)) (forestOf under ks) ≡ true
   unfolding forestOf usableIn
   later-usable k ks us = and-right (usable (nodesOf (length s)) (under (k .number))) _ us
 
-  later-sound : (k : Kid) (ks : List Kid) → soundForest (forestOf under (k ∷ ks)) P low (P ++ h) ≡ true → soundForest (forestOf under ks) P low (P ++ h) ≡ true
+  later-sound : (k : Branch) (ks : List Branch) → soundForest (forestOf under (k ∷ ks)) P low (P ++ h) ≡ true → soundForest (forestOf under ks) P low (P ++ h) ≡ true
   unfolding forestOf
   later-sound k ks sn = parts (k .pivot) (under (k .number)) (forestOf under ks) P low (P ++ h) sn .later
 
   -- there are such two just where the rule finds them
-  pub any-mergeable : (ks : List Kid) → soundForest (forestOf under ks) P low (P ++ h) ≡ true → usableIn (nodesOf (length s)) (forestOf under ks) ≡ true
+  pub any-mergeable : (ks : List Branch) → soundForest (forestOf under ks) P low (P ++ h) ≡ true → usableIn (nodesOf (length s)) (forestOf under ks) ≡ true
       → anyFits ks h s ≡ not (unmergeable (forestOf under ks) P (P ++ h))
   unfolding anyFits unmergeable forestOf
   any-mergeable [] sn us = refl
   any-mergeable (k ∷ []) sn us = refl
   any-mergeable (k ∷ q ∷ ks) sn us =
-      any-choice (pairFits s (k .number) (q .number) (k .pivot) (q .pivot) (kidHigh h ks)) _ _ _ (pair-would k q ks sn us)
+      any-choice (pairFits s (k .number) (q .number) (k .pivot) (q .pivot) (branchHigh h ks)) _ _ _ (pair-would k q ks sn us)
       (any-mergeable (q ∷ ks) (later-sound k (q ∷ ks) sn) (later-usable k (q ∷ ks) us))
 
   -- the store after the first two are joined
@@ -261,15 +261,15 @@ module _ (s : List ℕ) (l : ℕ) (P h low : List ℕ) (few : nodesOf (length s)
     joinedAt k f = writeNode (writeNode s (leftAt k f) (pageFor (suc l) (mergedAt k f P (P ++ h)))) n (page 2 level (bytesOfAll (withoutChild (rightAt k f) es)))
 
     -- the two in front are joined, or the search goes on
-    module _ (k q : Kid) (ks : List Kid) (kind : sameKind (under (k .number)) (under (q .number)) ≡ true) where
+    module _ (k q : Branch) (ks : List Branch) (kind : sameKind (under (k .number)) (under (q .number)) ≡ true) where
       abbrev full : Bool
       full = wouldFit (under (k .number)) (under (q .number)) (P ++ k .pivot) (P ++ q .pivot) (highOf P (P ++ h) (forestOf under ks))
 
       abbrev fits : Bool
-      fits = pairFits s (k .number) (q .number) (k .pivot) (q .pivot) (kidHigh h ks)
+      fits = pairFits s (k .number) (q .number) (k .pivot) (q .pivot) (branchHigh h ks)
 
       here : fits ≡ true → full ≡ true
-          → (Pair (under (k .number)) (under (q .number)) → leftWritten s (k .number) (q .number) (k .pivot) (q .pivot) (kidHigh h ks)
+          → (Pair (under (k .number)) (under (q .number)) → leftWritten s (k .number) (q .number) (k .pivot) (q .pivot) (branchHigh h ks)
           ≡ writeNode s (numberOf (under (k .number))) (pageFor (suc l) (merged (under (k .number)) (under (q .number)) (P ++ k .pivot) (P ++ q .pivot) (highOf P (P ++ h) (forestOf under ks)))))
           → firstJoined n level es (k ∷ q ∷ ks) h s ≡ joinedAt (firstPair (forestOf under (k ∷ q ∷ ks)) P (P ++ h)) (forestOf under (k ∷ q ∷ ks))
       unfolding firstJoined firstPair forestOf joins leftAt mergedAt rightAt pairJoined nodeWithout
@@ -289,7 +289,7 @@ module _ (s : List ℕ) (l : ℕ) (P h low : List ℕ) (few : nodesOf (length s)
       unfolding anyFits
       rest-any e a = rw e at a
 
-    pub first-joined : (ks : List Kid) → soundForest (forestOf under ks) P low (P ++ h) ≡ true → usableIn (nodesOf (length s)) (forestOf under ks) ≡ true
+    pub first-joined : (ks : List Branch) → soundForest (forestOf under ks) P low (P ++ h) ≡ true → usableIn (nodesOf (length s)) (forestOf under ks) ≡ true
         → tallIn (forestOf under ks) (suc l) ≡ true → anyFits ks h s ≡ true → firstJoined n level es ks h s ≡ joinedAt (firstPair (forestOf under ks) P (P ++ h)) (forestOf under ks)
     unfolding anyFits forestOf
     first-joined [] sn us ta e = absurd (false≢true e)

@@ -33,11 +33,11 @@ pairIs (Entry.Child i p) = Pair.Other
 pairIs (Entry.Message m) = Pair.Other
 
 -- the first pair on a rest, in front of anything else
-unfoldable pub findE : List defined.Entry → List ℕ → Option (List ℕ)
-findE [] rest = none
-findE (defined.pair k v ∷ es) rest = cond (same rest k) (some v) (findE es rest)
-findE (defined.child i k ∷ es) rest = none
-findE (defined.message m ∷ es) rest = none
+unfoldable pub findAmong : List defined.Entry → List ℕ → Option (List ℕ)
+findAmong [] rest = none
+findAmong (defined.pair k v ∷ es) rest = cond (same rest k) (some v) (findAmong es rest)
+findAmong (defined.child i k ∷ es) rest = none
+findAmong (defined.message m ∷ es) rest = none
 
 pub nothing-is : (s : List ℕ) (x : Option (List ℕ)) → x ≡ none → Finds s x Found.Nothing
 unfolding foundIn FoundFits
@@ -47,19 +47,19 @@ pub value-is : (s : List ℕ) (x : Option (List ℕ)) (v : Place) → x ≡ some
 unfolding foundIn FoundFits
 value-is s x v h w = record { meant = sym h; fits = w }
 
-pub find-end : (es : List defined.Entry) (rest : List ℕ) (X : Option (List ℕ)) → es ≡ [] → findE es rest ≡ X → X ≡ none
-unfolding findE
+pub find-end : (es : List defined.Entry) (rest : List ℕ) (X : Option (List ℕ)) → es ≡ [] → findAmong es rest ≡ X → X ≡ none
+unfolding findAmong
 find-end es rest X q inv = sym inv ∙ rw q
 
-other-none : (e : Entry) (s rest : List ℕ) (ts : List defined.Entry) → pairIs e ≡ Pair.Other → findE (entryIn s e ∷ ts) rest ≡ none
-unfolding pairIs findE
+other-none : (e : Entry) (s rest : List ℕ) (ts : List defined.Entry) → pairIs e ≡ Pair.Other → findAmong (entryIn s e ∷ ts) rest ≡ none
+unfolding pairIs findAmong
 other-none (Entry.Pair p v) s rest ts h = let z : _≡_ {A = ℕ} 0 1 = cc in absurd (omega arith)
 other-none (Entry.Child i p) s rest ts h = refl
 other-none (Entry.Message m) s rest ts h = refl
 
 pub find-other : (e : Entry) (s : List ℕ) (es ts : List defined.Entry) (rest : List ℕ) (X : Option (List ℕ)) → es ≡ entryIn s e ∷ ts → pairIs e ≡ Pair.Other
-    → findE es rest ≡ X → X ≡ none
-find-other e s es ts rest X q h inv = sym inv ∙ ap (λ l. findE l rest) q ∙ other-none e s rest ts h
+    → findAmong es rest ≡ X → X ≡ none
+find-other e s es ts rest X q h inv = sym inv ∙ ap (λ l. findAmong l rest) q ∙ other-none e s rest ts h
 
 -- the entry is the pair
 pub pair-entry : (e : Entry) (p v : Place) → pairIs e ≡ Pair.Of p v → e ≡ Entry.Pair p v
@@ -72,17 +72,17 @@ pub pair-places : (a b : ℕ) (e : Entry) (p v : Place) → pairIs e ≡ Pair.Of
 pair-places a b e p v h w = subst (EntryWithin a b) (pair-entry e p v h) w
 
 pub find-here : (e : Entry) (p v : Place) (s : List ℕ) (es ts : List defined.Entry) (rest : List ℕ) (X : Option (List ℕ)) (b : Bool) → es ≡ entryIn s e ∷ ts
-    → pairIs e ≡ Pair.Of p v → b ≡ same rest (part s p) → b ≡ true → findE es rest ≡ X → X ≡ some (part s v)
-unfolding findE
+    → pairIs e ≡ Pair.Of p v → b ≡ same rest (part s p) → b ≡ true → findAmong es rest ≡ X → X ≡ some (part s v)
+unfolding findAmong
 find-here e p v s es ts rest X b q h f g inv =
-    let w : findE (defined.pair (part s p) (part s v) ∷ ts) rest ≡ X = rw (q, pair-entry e p v h) at inv in
+    let w : findAmong (defined.pair (part s p) (part s v) ∷ ts) rest ≡ X = rw (q, pair-entry e p v h) at inv in
     sym w ∙ rw (sym f ∙ g)
 
 pub find-on : (e : Entry) (p v : Place) (s : List ℕ) (es ts : List defined.Entry) (rest : List ℕ) (X : Option (List ℕ)) (b : Bool) → es ≡ entryIn s e ∷ ts
-    → pairIs e ≡ Pair.Of p v → b ≡ same rest (part s p) → b ≡ false → findE es rest ≡ X → findE ts rest ≡ X
-unfolding findE
+    → pairIs e ≡ Pair.Of p v → b ≡ same rest (part s p) → b ≡ false → findAmong es rest ≡ X → findAmong ts rest ≡ X
+unfolding findAmong
 find-on e p v s es ts rest X b q h f g inv =
-    let w : findE (defined.pair (part s p) (part s v) ∷ ts) rest ≡ X = rw (q, pair-entry e p v h) at inv in
+    let w : findAmong (defined.pair (part s p) (part s v) ∷ ts) rest ≡ X = rw (q, pair-entry e p v h) at inv in
     rw (sym f ∙ g) at w
 
 pub pair-is : (e : Entry) (p v : Place) → e ≡ Entry.Pair p v → Pair.Of p v ≡ pairIs e

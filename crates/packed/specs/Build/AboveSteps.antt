@@ -12,8 +12,8 @@ use Rattle.packed.specs.Form.Tower.{room, Level, level-above, few-raised
 use Rattle.laws.specs.Page.{numberOf}
 use Rattle.packed.specs.Form.Tidy.{Page, writeAll}
 use Rattle.packed.specs.Form.Sweep.{ownPages, climbPages}
-use Rattle.packed.specs.Form.Marks.{kidOf, kidWeight, pivotOf, mapped, mapGroup, groups-mapped, mapped-length, firstKids, nodePages, raised-kids, raised-pages, topNumber}
-use Rattle.packed.specs.Rows.Kids.{markAt, kidsOf, kids-take, aboveFrom, nodePagesFrom}
+use Rattle.packed.specs.Form.Marks.{branchOf, branchWeight, pivotOf, mapped, mapGroup, groups-mapped, mapped-length, firstBranches, nodePages, raised-branches, raised-pages, topNumber}
+use Rattle.packed.specs.Rows.Branches.{markAt, branchesOf, branches-take, aboveFrom, nodePagesFrom}
 use Rattle.packed.specs.Rows.Remark.{stays-trans, stays-fit}
 use Rattle.packed.specs.Pages.Raise.{nodesFrom}
 use Rattle.packed.specs.Build.Handed.{handedFrom}
@@ -21,23 +21,23 @@ use Rattle.packed.specs.Build.HandedLaws.{handed-length, handed-drop}
 use Rattle.packed.specs.Build.Passes.{LevelMade, Reached, Ascends, Ascended}
 
 -- a level by its marks
-module _ (m : ℕ) (area : List ℕ) (nums : List ℕ) (xs : List Item) (e : kidsOf m area 0 ≡ mapped kidOf xs) where
-  whole : kidsOf (m - 0) area 0 ≡ mapped kidOf xs
-  whole = let z : m - 0 ≡ m = omega arith in ap (λ k. kidsOf k area 0) z ∙ e
+module _ (m : ℕ) (area : List ℕ) (nums : List ℕ) (xs : List Item) (e : branchesOf m area 0 ≡ mapped branchOf xs) where
+  whole : branchesOf (m - 0) area 0 ≡ mapped branchOf xs
+  whole = let z : m - 0 ≡ m = omega arith in ap (λ k. branchesOf k area 0) z ∙ e
 
   level-count : nodesFrom m area 0 ≡ length (raised nums xs)
   unfolding nodesFrom
   level-count =
-      ap (λ ks. length (groups kidWeight ks)) whole ∙ ap length (groups-mapped kidOf kidWeight xs)
-      ∙ mapped-length (mapGroup kidOf kidWeight) (groups childWeight xs) ∙ sym (raised-length nums xs)
+      ap (λ ks. length (groups branchWeight ks)) whole ∙ ap length (groups-mapped branchOf branchWeight xs)
+      ∙ mapped-length (mapGroup branchOf branchWeight) (groups childWeight xs) ∙ sym (raised-length nums xs)
 
-  level-kids : aboveFrom m area 0 nums ≡ mapped kidOf (raised nums xs)
+  level-branches : aboveFrom m area 0 nums ≡ mapped branchOf (raised nums xs)
   unfolding aboveFrom
-  level-kids = ap (λ ks. firstKids pivotOf nums (groups kidWeight ks)) whole ∙ raised-kids nums xs
+  level-branches = ap (λ ks. firstBranches pivotOf nums (groups branchWeight ks)) whole ∙ raised-branches nums xs
 
   level-pages : (l : ℕ) → nodePagesFrom l m area 0 nums ≡ ownPages l (raised nums xs)
   unfolding nodePagesFrom
-  level-pages l = ap (λ ks. nodePages l nums (groups kidWeight ks)) whole ∙ raised-pages l nums xs
+  level-pages l = ap (λ ks. nodePages l nums (groups branchWeight ks)) whole ∙ raised-pages l nums xs
 
 pub write-append : (ps qs : List Page) (s : List ℕ) → writeAll (ps ++ qs) s ≡ writeAll qs (writeAll ps s)
 unfolding writeAll
@@ -122,7 +122,7 @@ module _ (m : ℕ) (numbers area store : List ℕ) (level used : ℕ) (b : Built
         let one = some-raised nums xs (omega arith) in
         record {
           stands = subst (λ l. Level l ys) up (level-above nums level xs (r .stands));
-          marks = made .marks ∙ level-kids m area nums xs (r .marks);
+          marks = made .marks ∙ level-branches m area nums xs (r .marks);
           room-left = let d = roomy (r .room-left) in omega arith;
           enough =
               (let d = handed-length numbers next in
@@ -163,10 +163,10 @@ ascent-next m numbers area₀ area store₀ store level used count b s a h area�
     }
 
 -- one node is left
-top-mark : (m : ℕ) (area : List ℕ) → 1 ≤ m → 1 ≤ markAt area 0 → topNumber (kidsOf m area 0) ≡ markAt area 0
+top-mark : (m : ℕ) (area : List ℕ) → 1 ≤ m → 1 ≤ markAt area 0 → topNumber (branchesOf m area 0) ≡ markAt area 0
 unfolding topNumber
 top-mark zero area o h = absurd (omega arith)
-top-mark (suc m) area o h = ap topNumber (kids-take m area 0 h)
+top-mark (suc m) area o h = ap topNumber (branches-take m area 0 h)
 
 reached-last : (m : ℕ) (numbers area store : List ℕ) (level used : ℕ) (b : Built) (s : List ℕ) (xs : List Item) (fuel : ℕ)
     → Reached m numbers area store level used b s xs fuel → length xs ≤ 1 → 1 ≤ m → 1 ≤ markAt area 0 → Ascended area store level b s
@@ -188,7 +188,7 @@ reached-last m numbers area store level used b s (x ∷ []) fuel r h o k =
     is-built zero = unfold climb topOf in refl
     is-built (suc f) = unfold climb in refl
 
-    top-is : topNumber (mapped kidOf (x ∷ [])) ≡ numberOf (x .node)
+    top-is : topNumber (mapped branchOf (x ∷ [])) ≡ numberOf (x .node)
     top-is = unfold topNumber mapped in refl
 
 pub ascent-last : (m : ℕ) (numbers area₀ area store₀ store : List ℕ) (level used count : ℕ) (b : Built) (s : List ℕ)

@@ -21,9 +21,9 @@ use Rattle.laws.specs.Page.{page, pairEntries, numberOf, headPage}
 use Rattle.packed.specs.Form.Tidy.{writeAll, imageOf}
 use Rattle.packed.specs.Form.Sweep.{ownPage, ownPages, climbPages, orderPages}
 use Rattle.packed.specs.Form.Ordered.{orderImage, order-image}
-use Rattle.packed.specs.Form.Marks.{kidOf, mapped}
+use Rattle.packed.specs.Form.Marks.{branchOf, mapped}
 use Rattle.packed.specs.Rows.Area.{rowsOf, RowsFit}
-use Rattle.packed.specs.Rows.Kids.{markAt, kidsOf}
+use Rattle.packed.specs.Rows.Branches.{markAt, branchesOf}
 use Rattle.packed.specs.Rows.Steps.{leafPagesFrom, rows-length}
 use Rattle.packed.specs.Rows.Remark.{stays-refl, stays-fit}
 use Rattle.packed.specs.Build.Handed.{handedFrom, handed}
@@ -31,7 +31,7 @@ use Rattle.packed.specs.Build.HandedLaws.{handed-is, handed-length, hand
 use Rattle.packed.specs.Build.Grow.{rows-same}
 use Rattle.packed.specs.Build.AboveSteps.{write-append}
 use Rattle.packed.specs.Build.Built.{Asks, builtImage}
-use Rattle.packed.specs.Build.Passes.{leavesFrom, leafKids, LeavesMade, Ascends, Ascended, treeAbove, pagesAbove}
+use Rattle.packed.specs.Build.Passes.{leavesFrom, leafBranches, LeavesMade, Ascends, Ascended, treeAbove, pagesAbove}
 use Rattle.packed.specs.Build.BuiltLaws.{good-fit}
 
 -- the leaves of the rows, by the level's groups
@@ -133,11 +133,11 @@ module _ (store area : List ℕ) (m : ℕ) (given : List ℕ) (a : Asks store ar
         shown : leafPagesFrom m area 0 [] (handed given) ≡ ownPages 1 (leaves nums rows)
         shown = unfold leafPagesFrom in ap (ownPages 1) (sym (leaves-are m area nums o))
 
-    leaf-marks : kidsOf m area₁ 0 ≡ mapped kidOf (leaves nums (rowsOf m area₁ 0))
-    leaf-marks = l .marks ∙ shown ∙ ap (λ t. mapped kidOf (leaves nums t)) (sym same-rows)
+    leaf-marks : branchesOf m area₁ 0 ≡ mapped branchOf (leaves nums (rowsOf m area₁ 0))
+    leaf-marks = l .marks ∙ shown ∙ ap (λ t. mapped branchOf (leaves nums t)) (sym same-rows)
       where
-        shown : leafKids m area 0 [] (handed given) ≡ mapped kidOf (leaves nums rows)
-        shown = unfold leafKids in ap (mapped kidOf) (sym (leaves-are m area nums o))
+        shown : leafBranches m area 0 [] (handed given) ≡ mapped branchOf (leaves nums rows)
+        shown = unfold leafBranches in ap (mapped branchOf) (sym (leaves-are m area nums o))
 
     pub ascent-first : Ascends m given area₁ area₁ store₁ store₁ 1 made made (treeAbove m given area₁ made) (writeAll (pagesAbove m given area₁ made) store₁)
     ascent-first =

@@ -9,9 +9,9 @@ use native.Mathlib.Omega.{arith}
 use lib.Dec.{ltb}
 use borrow.Author.Tests.{ltb-true, ltb-false}
 use Rattle.packed.specs.Rows.Area.{rowsOf, RowsFit}
-use Rattle.packed.specs.Rows.Kids.{markAt, lowOfRow, kidsOf, kids-take}
+use Rattle.packed.specs.Rows.Branches.{markAt, lowOfRow, branchesOf, branches-take}
 use Rattle.packed.specs.Rows.Puts.{putMark, mark-same, mark-other}
-use Rattle.packed.specs.Rows.Remark.{clearMarks, clear-before, clear-after, clear-in, clear-stays, Stays, stays-trans, stays-fit, put-stays, kids-agree, kids-none, kids-split, low-same}
+use Rattle.packed.specs.Rows.Remark.{clearMarks, clear-before, clear-after, clear-in, clear-stays, Stays, stays-trans, stays-fit, put-stays, branches-agree, branches-none, branches-split, low-same}
 
 -- the rows of two areas that differ in marks alone
 pub rows-same : (m : ℕ) (a b : List ℕ) → Stays m a b → (k i : ℕ) → i + k ≤ m → rowsOf k b i ≡ rowsOf k a i
@@ -54,24 +54,24 @@ module _ (m : ℕ) (area : List ℕ) (fit : RowsFit m area) (i j num : ℕ) (aft
           let x = ap (markAt after) y ∙ mark-i in
           omega arith
 
-  pub grow-later : kidsOf (m - j) after j ≡ kidsOf (m - j) area j
-  grow-later = kids-agree (m - j) area after j (λ t a b. (mark-out t (inr a), grow-stays .row t (omega arith)))
+  pub grow-later : branchesOf (m - j) after j ≡ branchesOf (m - j) area j
+  grow-later = branches-agree (m - j) area after j (λ t a b. (mark-out t (inr a), grow-stays .row t (omega arith)))
 
-  kids-before : kidsOf i after 0 ≡ kidsOf i area 0
-  kids-before = kids-agree i area after 0 (λ t a b. (mark-out t (inl (omega arith)), grow-stays .row t (omega arith)))
+  branches-before : branchesOf i after 0 ≡ branchesOf i area 0
+  branches-before = branches-agree i area after 0 (λ t a b. (mark-out t (inl (omega arith)), grow-stays .row t (omega arith)))
 
-  kids-here : kidsOf (j - i) after i ≡ record { number = num; pivot = lowOfRow area i } ∷ []
-  kids-here =
+  branches-here : branchesOf (j - i) after i ≡ record { number = num; pivot = lowOfRow area i } ∷ []
+  branches-here =
       let z : j - i ≡ suc (j - (i + 1)) = omega arith in
-      ap (λ k. kidsOf k after i) z
-      ∙ kids-take (j - (i + 1)) after i (rw mark-i pos)
+      ap (λ k. branchesOf k after i) z
+      ∙ branches-take (j - (i + 1)) after i (rw mark-i pos)
       ∙ ap₂ (λ k l. k ∷ l)
       (ap₂ (λ x y. record { number = x; pivot = y }) mark-i (low-same area after i (grow-stays .row i (omega arith))))
-      (kids-none (j - (i + 1)) after (suc i) (λ t a b. mark-in t (omega arith) (omega arith)))
+      (branches-none (j - (i + 1)) after (suc i) (λ t a b. mark-in t (omega arith) (omega arith)))
 
   -- one node more
-  pub grow-kids : kidsOf j after 0 ≡ kidsOf i area 0 ++ (record { number = num; pivot = lowOfRow area i } ∷ [])
-  grow-kids =
+  pub grow-branches : branchesOf j after 0 ≡ branchesOf i area 0 ++ (record { number = num; pivot = lowOfRow area i } ∷ [])
+  grow-branches =
       let z : j ≡ i + (j - i) = omega arith in
       let y : 0 + i ≡ i = omega arith in
-      ap (λ k. kidsOf k after 0) z ∙ kids-split i (j - i) after 0 ∙ ap₂ (λ a b. a ++ b) kids-before (ap (λ x. kidsOf (j - i) after x) y ∙ kids-here)
+      ap (λ k. branchesOf k after 0) z ∙ branches-split i (j - i) after 0 ∙ ap₂ (λ a b. a ++ b) branches-before (ap (λ x. branchesOf (j - i) after x) y ∙ branches-here)

@@ -18,7 +18,7 @@ use Rattle.laws.specs.Page.{page, pairEntries, numberOf}
 use Rattle.packed.specs.Form.Tidy.{Page, writeAll}
 use Rattle.packed.specs.Form.Marks.{mapped}
 use Rattle.packed.specs.Rows.Area.{rowAt, rowsOf, RowsFit, row-weight, leafEnd}
-use Rattle.packed.specs.Rows.Kids.{markAt, lowOfRow, kidsOf}
+use Rattle.packed.specs.Rows.Branches.{markAt, lowOfRow, branchesOf}
 use Rattle.packed.specs.Rows.Steps.{highAt, leafPage, leafPagesFrom, leaf-pages-step, leaf-pages-done, groups-are, end-in}
 use Rattle.packed.specs.Rows.Puts.{putMark}
 use Rattle.packed.specs.Rows.Remark.{clearMarks, Stays, stays-refl, stays-trans, stays-fit, low-same}
@@ -26,8 +26,8 @@ use Rattle.packed.specs.Build.Handed.{handedFrom, handed}
 use Rattle.packed.specs.Build.HandedLaws.{handed-step, handed-range}
 use Rattle.packed.specs.Build.Pairs.{leafBytes}
 use Rattle.packed.specs.Build.PairLaws.{high-low, leaf-fits}
-use Rattle.packed.specs.Build.Grow.{rows-same, grow-stays, grow-kids, grow-first}
-use Rattle.packed.specs.Build.Passes.{leavesFrom, leafKids, LeavesMade}
+use Rattle.packed.specs.Build.Grow.{rows-same, grow-stays, grow-branches, grow-first}
+use Rattle.packed.specs.Build.Passes.{leavesFrom, leafBranches, LeavesMade}
 
 -- what holds before each turn
 pub record LeafTurns (m : ℕ) (numbers area₀ area store₀ store : List ℕ) (i made : ℕ) : Type 0 where
@@ -37,16 +37,16 @@ pub record LeafTurns (m : ℕ) (numbers area₀ area store₀ store : List ℕ) 
   pub size : length store ≡ length store₀
   pub first-marked : 0 < i → 1 ≤ markAt area 0
   pub counted : made + leavesFrom m area₀ i ≡ leavesFrom m area₀ 0
-  pub marks : kidsOf i area 0 ++ leafKids m area₀ i (lowOfRow area₀ i) (handedFrom numbers made) ≡ leafKids m area₀ 0 [] (handed numbers)
+  pub marks : branchesOf i area 0 ++ leafBranches m area₀ i (lowOfRow area₀ i) (handedFrom numbers made) ≡ leafBranches m area₀ 0 [] (handed numbers)
   pub pages : writeAll (leafPagesFrom m area₀ i (lowOfRow area₀ i) (handedFrom numbers made)) store ≡ writeAll (leafPagesFrom m area₀ 0 [] (handed numbers)) store₀
 
 leaves-done : (m : ℕ) (area : List ℕ) (i : ℕ) → m ≤ i → leavesFrom m area i ≡ 0
 unfolding leavesFrom rowsOf groups
 leaves-done m area i h = let z : m - i ≡ 0 = omega arith in rw z refl
 
-kids-done : (m : ℕ) (area : List ℕ) (i : ℕ) (lo nums : List ℕ) → m ≤ i → leafKids m area i lo nums ≡ []
-unfolding leafKids rowsOf groups leafLevel mapped
-kids-done m area i lo nums h = let z : m - i ≡ 0 = omega arith in rw z refl
+branches-done : (m : ℕ) (area : List ℕ) (i : ℕ) (lo nums : List ℕ) → m ≤ i → leafBranches m area i lo nums ≡ []
+unfolding leafBranches rowsOf groups leafLevel mapped
+branches-done m area i lo nums h = let z : m - i ≡ 0 = omega arith in rw z refl
 
 -- the low pivot of what starts at row j is the high pivot of what ends there
 low-on : {A : Type 0} (m : ℕ) (area : List ℕ) (j : ℕ) → 1 ≤ j → (f : List ℕ → A) → (m ≤ j → (a b : List ℕ) → f a ≡ f b) → f (highAt m area j) ≡ f (lowOfRow area j)
@@ -64,14 +64,14 @@ module _ (m : ℕ) (area : List ℕ) (i : ℕ) (h : i < m) (w : ℕ) (e : pairWe
   later : 1 ≤ j
   later = let a = end-in m area i h w e j f .0 in omega arith
 
-  kids-step : (lo : List ℕ) (num : ℕ) (nums : List ℕ) → leafKids m area i lo (num ∷ nums) ≡ record { number = num; pivot = lo } ∷ leafKids m area j (lowOfRow area j) nums
-  kids-step lo num nums =
+  branches-step : (lo : List ℕ) (num : ℕ) (nums : List ℕ) → leafBranches m area i lo (num ∷ nums) ≡ record { number = num; pivot = lo } ∷ leafBranches m area j (lowOfRow area j) nums
+  branches-step lo num nums =
       opened
       ∙ ap (λ ks. record { number = num; pivot = lo } ∷ ks)
-      (low-on m area j later (λ x. leafKids m area j x nums) (λ p a b. kids-done m area j a nums p ∙ sym (kids-done m area j b nums p)))
+      (low-on m area j later (λ x. leafBranches m area j x nums) (λ p a b. branches-done m area j a nums p ∙ sym (branches-done m area j b nums p)))
     where
-      opened : leafKids m area i lo (num ∷ nums) ≡ record { number = num; pivot = lo } ∷ leafKids m area j (highAt m area j) nums
-      opened = unfold leafKids highAt leafLevel leafFrom mapped numberOf in
+      opened : leafBranches m area i lo (num ∷ nums) ≡ record { number = num; pivot = lo } ∷ leafBranches m area j (highAt m area j) nums
+      opened = unfold leafBranches highAt leafLevel leafFrom mapped numberOf in
           rw (groups-are m area i h w e j f, groups-flat pairWeight (rowsOf (m - j) area j)) refl
 
   pages-step : (lo : List ℕ) (num : ℕ) (nums : List ℕ)
@@ -96,7 +96,7 @@ page-same m a b s i j h k =
         (rows-same m a b s (m - j) j (omega arith)) (rows-same m a b s (j - i) i (omega arith))
 
 pub leaf-first : (m : ℕ) (numbers area store : List ℕ) → RowsFit m area → LeafTurns m numbers area area store store 0 0
-unfolding kidsOf handed lowOfRow
+unfolding branchesOf handed lowOfRow
 leaf-first m numbers area store f =
     record { in-range = omega arith; fit = f; stays = stays-refl m area; size = refl; first-marked = λ h. absurd (omega arith); counted = omega arith; marks = refl; pages = refl }
 
@@ -148,7 +148,7 @@ module _ (m : ℕ) (numbers area₀ area store₀ store : List ℕ) (i made : �
       let y = leaf-ready in
       let pos : 1 ≤ num = let z = y .positive in omega arith in
       let s = grow-stays m area (t .fit) i j num (y .later) (y .last) pos cleared after p q in
-      let k = grow-kids m area (t .fit) i j num (y .later) (y .last) pos cleared after p q in
+      let k = grow-branches m area (t .fit) i j num (y .later) (y .last) pos cleared after p q in
       let nums : handedFrom numbers made ≡ num ∷ handedFrom numbers (made + 1) = handed-step numbers made (y .left) ∙ ap (λ v. v ∷ handedFrom numbers (made + 1)) (sym n) in
       let low : lowOfRow area i ≡ lowOfRow area₀ i = low-same area₀ area i (t .stays .row i h) in
       record {
@@ -159,11 +159,11 @@ module _ (m : ℕ) (numbers area₀ area store₀ store : List ℕ) (i made : �
         first-marked = λ z. grow-first m area (t .fit) i j num (y .later) (y .last) pos cleared after p q (t .first-marked);
         counted = let a = t .counted in let b = more-left in omega arith;
         marks =
-            ap (λ ks. ks ++ leafKids m area₀ j (lowOfRow area₀ j) (handedFrom numbers (made + 1)))
-            (k ∙ ap (λ lo. kidsOf i area 0 ++ (record { number = num; pivot = lo } ∷ [])) low)
-            ∙ append-assoc (kidsOf i area 0) (record { number = num; pivot = lowOfRow area₀ i } ∷ []) (leafKids m area₀ j (lowOfRow area₀ j) (handedFrom numbers (made + 1)))
-            ∙ ap (λ ks. kidsOf i area 0 ++ ks)
-            (sym (ap (leafKids m area₀ i (lowOfRow area₀ i)) nums ∙ kids-step m area₀ i h w weight₀ j end₀ (lowOfRow area₀ i) num (handedFrom numbers (made + 1))))
+            ap (λ ks. ks ++ leafBranches m area₀ j (lowOfRow area₀ j) (handedFrom numbers (made + 1)))
+            (k ∙ ap (λ lo. branchesOf i area 0 ++ (record { number = num; pivot = lo } ∷ [])) low)
+            ∙ append-assoc (branchesOf i area 0) (record { number = num; pivot = lowOfRow area₀ i } ∷ []) (leafBranches m area₀ j (lowOfRow area₀ j) (handedFrom numbers (made + 1)))
+            ∙ ap (λ ks. branchesOf i area 0 ++ ks)
+            (sym (ap (leafBranches m area₀ i (lowOfRow area₀ i)) nums ∙ branches-step m area₀ i h w weight₀ j end₀ (lowOfRow area₀ i) num (handedFrom numbers (made + 1))))
             ∙ t .marks;
         pages =
             ap (writeAll (leafPagesFrom m area₀ j (lowOfRow area₀ j) (handedFrom numbers (made + 1))))
@@ -184,8 +184,8 @@ leaf-last m numbers area₀ area store₀ store i made t o h =
     record {
       stays = t .stays;
       marks =
-          ap (λ k. kidsOf k area 0) z ∙ sym (append-nil (kidsOf i area 0))
-          ∙ ap (λ l. kidsOf i area 0 ++ l) (sym (kids-done m area₀ i (lowOfRow area₀ i) (handedFrom numbers made) h)) ∙ t .marks;
+          ap (λ k. branchesOf k area 0) z ∙ sym (append-nil (branchesOf i area 0))
+          ∙ ap (λ l. branchesOf i area 0 ++ l) (sym (branches-done m area₀ i (lowOfRow area₀ i) (handedFrom numbers made) h)) ∙ t .marks;
       pages = done (leaf-pages-done m area₀ i (lowOfRow area₀ i) (handedFrom numbers made) h) ∙ t .pages;
       counted = let a = leaves-done m area₀ i h in let b = t .counted in omega arith;
       marked = t .first-marked (omega arith);

@@ -1,5 +1,5 @@
 -- Steps of the pass that writes one level of interior nodes and makes its marks, with numbers from the list.
--- Rely on rows/specs/Kids (one node, and on) and on the turn of the marks (Grow).
+-- Rely on rows/specs/Branches (one node, and on) and on the turn of the marks (Grow).
 use Prim.Native.Nat.{ℕ, suc, _+_, _*_, _-_, _/_, _≤_, _<_}
 use mathlib.Core.Path.{_≡_, refl, sym, ap, ap₂, _∙_}
 use mathlib.Core.List.{List, [], _∷_, _++_, append-assoc, append-nil}
@@ -11,16 +11,16 @@ use Rattle.image.specs.Sound.{inRange}
 use Rattle.laws.specs.WriteNode.{writeNode}
 use Rattle.packed.specs.Form.Chunk.{groups}
 use Rattle.packed.specs.Form.Tidy.{Page, writeAll}
-use Rattle.packed.specs.Form.Marks.{pivotOf, kidWeight, firstKids, nodePages}
+use Rattle.packed.specs.Form.Marks.{pivotOf, branchWeight, firstBranches, nodePages}
 use Rattle.packed.specs.Rows.Area.{RowsFit}
-use Rattle.packed.specs.Rows.Kids.{markAt, lowOfRow, kidsOf, nodeEnd, node-in, node-next, nodePage, nodePagesFrom, aboveFrom, node-pages-step, above-step, node-pages-done, above-done}
+use Rattle.packed.specs.Rows.Branches.{markAt, lowOfRow, branchesOf, nodeEnd, node-in, node-next, nodePage, nodePagesFrom, aboveFrom, node-pages-step, above-step, node-pages-done, above-done}
 use Rattle.packed.specs.Rows.Puts.{putMark}
 use Rattle.packed.specs.Rows.Remark.{clearMarks, startWeight, Stays, stays-refl, stays-trans, stays-fit}
 use Rattle.packed.specs.Pages.Nodes.{nodeBytesOf}
 use Rattle.packed.specs.Pages.Raise.{nodesFrom, node-fits, nodes-step}
 use Rattle.packed.specs.Build.Handed.{handedFrom, handed}
 use Rattle.packed.specs.Build.HandedLaws.{handed-step, handed-range}
-use Rattle.packed.specs.Build.Grow.{grow-stays, grow-kids, grow-later, grow-next, grow-first}
+use Rattle.packed.specs.Build.Grow.{grow-stays, grow-branches, grow-later, grow-next, grow-first}
 use Rattle.packed.specs.Build.Passes.{LevelMade}
 
 -- what holds before each turn
@@ -32,11 +32,11 @@ pub record NodeTurns (l m : ℕ) (numbers : List ℕ) (from : ℕ) (area₀ area
   pub marked : i < m → 1 ≤ markAt area i
   pub first-marked : 0 < i → 1 ≤ markAt area 0
   pub counted : made + nodesFrom m area i ≡ from + nodesFrom m area₀ 0
-  pub marks : kidsOf i area 0 ++ aboveFrom m area i (handedFrom numbers made) ≡ aboveFrom m area₀ 0 (handedFrom numbers from)
+  pub marks : branchesOf i area 0 ++ aboveFrom m area i (handedFrom numbers made) ≡ aboveFrom m area₀ 0 (handedFrom numbers from)
   pub pages : writeAll (nodePagesFrom l m area i (handedFrom numbers made)) store ≡ writeAll (nodePagesFrom l m area₀ 0 (handedFrom numbers from)) store₀
 
 pub level-first : (l m : ℕ) (numbers : List ℕ) (from : ℕ) (area store : List ℕ) → RowsFit m area → 1 ≤ markAt area 0 → NodeTurns l m numbers from area area store store 0 from
-unfolding kidsOf
+unfolding branchesOf
 level-first l m numbers from area store f o =
     record {
       in-range = omega arith;
@@ -95,7 +95,7 @@ module _ (l m : ℕ) (numbers : List ℕ) (from : ℕ) (area₀ area store₀ st
       let y = node-ready in
       let pos : 1 ≤ num = let z = y .positive in omega arith in
       let s = grow-stays m area (t .fit) i j num (y .later) (y .last) pos cleared after p q in
-      let k = grow-kids m area (t .fit) i j num (y .later) (y .last) pos cleared after p q in
+      let k = grow-branches m area (t .fit) i j num (y .later) (y .last) pos cleared after p q in
       let g = grow-later m area (t .fit) i j num (y .later) (y .last) pos cleared after p q in
       let d : nodesFrom m after j ≡ nodesFrom m area j = nodes-by j after g in
       let nums : handedFrom numbers made ≡ num ∷ handedFrom numbers (made + 1) = handed-step numbers made (y .left) ∙ ap (λ v. v ∷ handedFrom numbers (made + 1)) (sym n) in
@@ -109,8 +109,8 @@ module _ (l m : ℕ) (numbers : List ℕ) (from : ℕ) (area₀ area store₀ st
         counted = let a = t .counted in let b = more-left in omega arith;
         marks =
             ap₂ (λ a b. a ++ b) k (above-by j after (handedFrom numbers (made + 1)) g)
-            ∙ append-assoc (kidsOf i area 0) (record { number = num; pivot = lowOfRow area i } ∷ []) (aboveFrom m area j (handedFrom numbers (made + 1)))
-            ∙ ap (λ ks. kidsOf i area 0 ++ ks)
+            ∙ append-assoc (branchesOf i area 0) (record { number = num; pivot = lowOfRow area i } ∷ []) (aboveFrom m area j (handedFrom numbers (made + 1)))
+            ∙ ap (λ ks. branchesOf i area 0 ++ ks)
             (sym (ap (aboveFrom m area i) nums ∙ above-step m area i h (t .marked h) w weight j f num (handedFrom numbers (made + 1))))
             ∙ t .marks;
         pages =
@@ -124,14 +124,14 @@ module _ (l m : ℕ) (numbers : List ℕ) (from : ℕ) (area₀ area store₀ st
       written : (bs : List ℕ) (ps : List Page) → writeAll ps (writeNode store num bs) ≡ writeAll (record { number = num; bytes = bs } ∷ ps) store
       written bs ps = unfold writeAll in refl
 
-      nodes-by : (k : ℕ) (b : List ℕ) → kidsOf (m - k) b k ≡ kidsOf (m - k) area k → nodesFrom m b k ≡ nodesFrom m area k
-      nodes-by k b g = unfold nodesFrom in ap (λ ks. length (groups kidWeight ks)) g
+      nodes-by : (k : ℕ) (b : List ℕ) → branchesOf (m - k) b k ≡ branchesOf (m - k) area k → nodesFrom m b k ≡ nodesFrom m area k
+      nodes-by k b g = unfold nodesFrom in ap (λ ks. length (groups branchWeight ks)) g
 
-      above-by : (k : ℕ) (b nums : List ℕ) → kidsOf (m - k) b k ≡ kidsOf (m - k) area k → aboveFrom m b k nums ≡ aboveFrom m area k nums
-      above-by k b nums g = unfold aboveFrom in ap (λ ks. firstKids pivotOf nums (groups kidWeight ks)) g
+      above-by : (k : ℕ) (b nums : List ℕ) → branchesOf (m - k) b k ≡ branchesOf (m - k) area k → aboveFrom m b k nums ≡ aboveFrom m area k nums
+      above-by k b nums g = unfold aboveFrom in ap (λ ks. firstBranches pivotOf nums (groups branchWeight ks)) g
 
-      pages-by : (k : ℕ) (b nums : List ℕ) → kidsOf (m - k) b k ≡ kidsOf (m - k) area k → nodePagesFrom l m b k nums ≡ nodePagesFrom l m area k nums
-      pages-by k b nums g = unfold nodePagesFrom in ap (λ ks. nodePages l nums (groups kidWeight ks)) g
+      pages-by : (k : ℕ) (b nums : List ℕ) → branchesOf (m - k) b k ≡ branchesOf (m - k) area k → nodePagesFrom l m b k nums ≡ nodePagesFrom l m area k nums
+      pages-by k b nums g = unfold nodePagesFrom in ap (λ ks. nodePages l nums (groups branchWeight ks)) g
 
 pub level-last : (l m : ℕ) (numbers : List ℕ) (from : ℕ) (area₀ area store₀ store : List ℕ) (i made : ℕ) → NodeTurns l m numbers from area₀ area store₀ store i made
     → 1 ≤ m → m ≤ i → LevelMade l m numbers from area₀ area store₀ store made
@@ -140,8 +140,8 @@ level-last l m numbers from area₀ area store₀ store i made t o h =
     record {
       stays = t .stays;
       marks =
-          ap (λ k. kidsOf k area 0) z ∙ sym (append-nil (kidsOf i area 0))
-          ∙ ap (λ ks. kidsOf i area 0 ++ ks) (sym (above-done m area i (handedFrom numbers made) h)) ∙ t .marks;
+          ap (λ k. branchesOf k area 0) z ∙ sym (append-nil (branchesOf i area 0))
+          ∙ ap (λ ks. branchesOf i area 0 ++ ks) (sym (above-done m area i (handedFrom numbers made) h)) ∙ t .marks;
       pages = done (node-pages-done l m area i (handedFrom numbers made) h) ∙ t .pages;
       counted = (let a : nodesFrom m area i ≡ 0 = none-left in let b = t .counted in omega arith);
       marked = t .first-marked (omega arith);
@@ -151,4 +151,4 @@ level-last l m numbers from area₀ area store₀ store i made t o h =
     done e = unfold writeAll in sym (ap (λ ps. writeAll ps store) e)
 
     none-left : nodesFrom m area i ≡ 0
-    none-left = unfold nodesFrom kidsOf groups in (let z : m - i ≡ 0 = omega arith in ap (λ k. length (groups kidWeight (kidsOf k area i))) z)
+    none-left = unfold nodesFrom branchesOf groups in (let z : m - i ≡ 0 = omega arith in ap (λ k. length (groups branchWeight (branchesOf k area i))) z)

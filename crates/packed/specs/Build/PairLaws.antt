@@ -19,7 +19,7 @@ use Rattle.laws.specs.Page.{pairEntries}
 use Rattle.packed.specs.Form.Pages.{pairs-length}
 use Rattle.packed.specs.Form.Neat.{short-weight}
 use Rattle.packed.specs.Rows.Area.{rowAt, rowsOf, RowsFit, rows-step, row-weight, leafEnd}
-use Rattle.packed.specs.Rows.Kids.{lowOfRow}
+use Rattle.packed.specs.Rows.Branches.{lowOfRow}
 use Rattle.packed.specs.Rows.Steps.{highAt, groups-are, end-in}
 use Rattle.packed.specs.Pages.Entries.{drop-take}
 use Rattle.packed.specs.Build.Pairs.{pairBytes, pathFrom, leafLifts, leafBytes}

@@ -10,7 +10,7 @@ use Rattle.laws.specs.Encode.{bytesOfAll}
 use Rattle.packed.specs.Form.Packed.{shortRows}
 use Rattle.laws.specs.Page.{pairEntries}
 use Rattle.packed.specs.Rows.Area.{rowsOf}
-use Rattle.packed.specs.Rows.Kids.{lowOfRow}
+use Rattle.packed.specs.Rows.Branches.{lowOfRow}
 use Rattle.packed.specs.Rows.Steps.{highAt}
 
 -- n rows from row i on

@@ -4,15 +4,15 @@ use Prim.Native.Nat.{ℕ, _+_, _*_, _-_, _≤_}
 use mathlib.Core.Path.{_≡_}
 use mathlib.Core.List.{List, []}
 use lib.ListN.{length}
-use Rattle.image.specs.Image.{Kid}
+use Rattle.image.specs.Image.{Branch}
 use Rattle.packed.specs.Form.Chunk.{groups}
 use Rattle.packed.specs.Form.Packed.{pairWeight, leafLevel, leaves, Item, Built, climb}
 use Rattle.laws.specs.Page.{numberOf}
 use Rattle.packed.specs.Form.Tidy.{Page, writeAll}
 use Rattle.packed.specs.Form.Sweep.{climbPages}
-use Rattle.packed.specs.Form.Marks.{kidOf, mapped}
+use Rattle.packed.specs.Form.Marks.{branchOf, mapped}
 use Rattle.packed.specs.Rows.Area.{rowsOf, RowsFit}
-use Rattle.packed.specs.Rows.Kids.{markAt, kidsOf, nodePagesFrom, aboveFrom}
+use Rattle.packed.specs.Rows.Branches.{markAt, branchesOf, nodePagesFrom, aboveFrom}
 use Rattle.packed.specs.Rows.Steps.{leafPagesFrom}
 use Rattle.packed.specs.Rows.Remark.{Stays}
 use Rattle.packed.specs.Build.Handed.{handedFrom, handed}
@@ -23,13 +23,13 @@ use Rattle.packed.specs.Form.Tower.{room, Level}
 unfoldable pub leavesFrom : ℕ → List ℕ → ℕ → ℕ
 leavesFrom m area i = length (groups pairWeight (rowsOf (m - i) area i))
 
-unfoldable pub leafKids : ℕ → List ℕ → ℕ → List ℕ → List ℕ → List Kid
-leafKids m area i lo nums = mapped kidOf (leafLevel nums lo (groups pairWeight (rowsOf (m - i) area i)))
+unfoldable pub leafBranches : ℕ → List ℕ → ℕ → List ℕ → List ℕ → List Branch
+leafBranches m area i lo nums = mapped branchOf (leafLevel nums lo (groups pairWeight (rowsOf (m - i) area i)))
 
 -- what the pass ensures: made is how many leaves it wrote
 pub record LeavesMade (m : ℕ) (numbers area₀ area store₀ store : List ℕ) (made : ℕ) : Type 0 where
   pub stays : Stays m area₀ area
-  pub marks : kidsOf m area 0 ≡ leafKids m area₀ 0 [] (handed numbers)
+  pub marks : branchesOf m area 0 ≡ leafBranches m area₀ 0 [] (handed numbers)
   pub pages : store ≡ writeAll (leafPagesFrom m area₀ 0 [] (handed numbers)) store₀
   pub counted : made ≡ leavesFrom m area₀ 0
   pub marked : 1 ≤ markAt area 0
@@ -37,7 +37,7 @@ pub record LeavesMade (m : ℕ) (numbers area₀ area store₀ store : List ℕ)
 -- what the pass ensures: from is how many numbers were used before it, made how many after it
 pub record LevelMade (l m : ℕ) (numbers : List ℕ) (from : ℕ) (area₀ area store₀ store : List ℕ) (made : ℕ) : Type 0 where
   pub stays : Stays m area₀ area
-  pub marks : kidsOf m area 0 ≡ aboveFrom m area₀ 0 (handedFrom numbers from)
+  pub marks : branchesOf m area 0 ≡ aboveFrom m area₀ 0 (handedFrom numbers from)
   pub pages : store ≡ writeAll (nodePagesFrom l m area₀ 0 (handedFrom numbers from)) store₀
   pub counted : made ≡ from + nodesFrom m area₀ 0
   pub marked : 1 ≤ markAt area 0
@@ -45,7 +45,7 @@ pub record LevelMade (l m : ℕ) (numbers : List ℕ) (from : ℕ) (area₀ area
 -- the marks say the nodes xs; this is where the climb stands that ends in the tree b and the store s
 pub record Reached (m : ℕ) (numbers area store : List ℕ) (level used : ℕ) (b : Built) (s : List ℕ) (xs : List Item) (fuel : ℕ) : Type 0 where
   pub stands : Level level xs
-  pub marks : kidsOf m area 0 ≡ mapped kidOf xs
+  pub marks : branchesOf m area 0 ≡ mapped branchOf xs
   pub room-left : length xs ≤ room fuel
   pub enough : length xs ≤ 2 * length (handedFrom numbers used) + 1
   pub levels-left : level + fuel ≡ 8

@@ -9,33 +9,33 @@ use lib.ListN.{length, drop, getD}
 use lib.Dec.{leb}
 use Rattle.image.specs.Bytes.{shared}
 use Rattle.image.specs.Entry.{Entry, child}
-use Rattle.image.specs.Image.{Kid}
+use Rattle.image.specs.Image.{Branch}
 use Rattle.image.specs.Sound.{highest}
 use Rattle.laws.specs.Encode.{bytesOfAll}
 use Rattle.packed.specs.Form.Chunk.{Group, members, flat, cut, cut-opens, groups}
-use Rattle.packed.specs.Form.Packed.{Item, lowOf, childWeight, first, kids, nodeFrom, nodeLevel, raised}
+use Rattle.packed.specs.Form.Packed.{Item, lowOf, childWeight, first, branches, nodeFrom, nodeLevel, raised}
 use Rattle.laws.specs.Page.{page, childEntries, numberOf}
 use Rattle.packed.specs.Form.Tidy.{Page}
 use Rattle.packed.specs.Form.Sweep.{ownPage, ownPages}
 
 -- a node's number and its low pivot in full
-abbrev pub kidOf : Item → Kid
-kidOf x = record { number = numberOf (x .node); pivot = x .low }
+abbrev pub branchOf : Item → Branch
+branchOf x = record { number = numberOf (x .node); pivot = x .low }
 
-abbrev pub pivotOf : Kid → List ℕ
+abbrev pub pivotOf : Branch → List ℕ
 pivotOf k = k .pivot
 
-abbrev pub kidWeight : Kid → ℕ
-kidWeight k = 6 + length (k .pivot)
+abbrev pub branchWeight : Branch → ℕ
+branchWeight k = 6 + length (k .pivot)
 
 unfoldable pub mapped : {A B : Type 0} → (A → B) → List A → List B
 mapped f [] = []
 mapped f (x ∷ xs) = f x ∷ mapped f xs
 
 -- the first of each group, with the next numbers
-unfoldable pub firstKids : {A : Type 0} → (A → List ℕ) → List ℕ → List (Group A) → List Kid
-firstKids low nums [] = []
-firstKids low nums (g ∷ gs) = record { number = getD nums 0 0; pivot = low (g .head) } ∷ firstKids low (drop 1 nums) gs
+unfoldable pub firstBranches : {A : Type 0} → (A → List ℕ) → List ℕ → List (Group A) → List Branch
+firstBranches low nums [] = []
+firstBranches low nums (g ∷ gs) = record { number = getD nums 0 0; pivot = low (g .head) } ∷ firstBranches low (drop 1 nums) gs
 
 module _ {A : Type 0} (weight : A → ℕ) where
   -- the groups are what is cut off when nothing more fits
@@ -65,15 +65,15 @@ module _ {A B : Type 0} (f : A → B) (w : B → ℕ) where
   pub groups-mapped : (xs : List A) → groups w (mapped f xs) ≡ mapped mapGroup (groups (λ x. w (f x)) xs)
   groups-mapped xs = groups-cut w (mapped f xs) ∙ cut-mapped 1017 xs .1 ∙ ap (mapped mapGroup) (sym (groups-cut (λ x. w (f x)) xs))
 
-first-mapped : (nums : List ℕ) (gs : List (Group Item)) → firstKids pivotOf nums (mapped (mapGroup kidOf kidWeight) gs) ≡ mapped kidOf (nodeLevel nums gs)
-unfolding mapped firstKids nodeLevel nodeFrom numberOf
+first-mapped : (nums : List ℕ) (gs : List (Group Item)) → firstBranches pivotOf nums (mapped (mapGroup branchOf branchWeight) gs) ≡ mapped branchOf (nodeLevel nums gs)
+unfolding mapped firstBranches nodeLevel nodeFrom numberOf
 first-mapped nums [] = refl
 first-mapped nums (g ∷ gs) = ap (λ ks. record { number = getD nums 0 0; pivot = g .head .low } ∷ ks) (first-mapped (drop 1 nums) gs)
 
 -- the level above, by numbers and pivots alone
-pub raised-kids : (nums : List ℕ) (xs : List Item) → firstKids pivotOf nums (groups kidWeight (mapped kidOf xs)) ≡ mapped kidOf (raised nums xs)
+pub raised-branches : (nums : List ℕ) (xs : List Item) → firstBranches pivotOf nums (groups branchWeight (mapped branchOf xs)) ≡ mapped branchOf (raised nums xs)
 unfolding raised
-raised-kids nums xs = ap (firstKids pivotOf nums) (groups-mapped kidOf kidWeight xs) ∙ first-mapped nums (groups childWeight xs)
+raised-branches nums xs = ap (firstBranches pivotOf nums) (groups-mapped branchOf branchWeight xs) ∙ first-mapped nums (groups childWeight xs)
 
 pub mapped-length : {A B : Type 0} (f : A → B) (xs : List A) → length (mapped f xs) ≡ length xs
 unfolding mapped
@@ -81,41 +81,41 @@ mapped-length f [] = refl
 mapped-length f (x ∷ xs) = ap suc (mapped-length f xs)
 
 -- the pages of a level above, by numbers and pivots alone
-unfoldable pub kidEntries : ℕ → List Kid → List Entry
-kidEntries k [] = []
-kidEntries k (x ∷ xs) = child (x .number) (drop k (x .pivot)) ∷ kidEntries k xs
+unfoldable pub branchEntries : ℕ → List Branch → List Entry
+branchEntries k [] = []
+branchEntries k (x ∷ xs) = child (x .number) (drop k (x .pivot)) ∷ branchEntries k xs
 
-unfoldable pub nodePages : ℕ → List ℕ → List (Group Kid) → List Page
+unfoldable pub nodePages : ℕ → List ℕ → List (Group Branch) → List Page
 nodePages l nums [] = []
 nodePages l nums (g ∷ gs) =
     record {
       number = getD nums 0 0;
-      bytes = page 0x0002 l (bytesOfAll (kidEntries (length (shared (g .head .pivot) (first pivotOf highest (flat gs)))) (members g)));
+      bytes = page 0x0002 l (bytesOfAll (branchEntries (length (shared (g .head .pivot) (first pivotOf highest (flat gs)))) (members g)));
     }
     ∷ nodePages l (drop 1 nums) gs
 
-kids-entries : (k : ℕ) (xs : List Item) → childEntries (kids k xs) ≡ kidEntries k (mapped kidOf xs)
-unfolding childEntries kids kidEntries mapped
-kids-entries k [] = refl
-kids-entries k (x ∷ xs) = ap (λ es. child (numberOf (x .node)) (drop k (x .low)) ∷ es) (kids-entries k xs)
+branches-entries : (k : ℕ) (xs : List Item) → childEntries (branches k xs) ≡ branchEntries k (mapped branchOf xs)
+unfolding childEntries branches branchEntries mapped
+branches-entries k [] = refl
+branches-entries k (x ∷ xs) = ap (λ es. child (numberOf (x .node)) (drop k (x .low)) ∷ es) (branches-entries k xs)
 
-first-flat : (gs : List (Group Item)) → first pivotOf highest (flat (mapped (mapGroup kidOf kidWeight) gs)) ≡ first lowOf highest (flat gs)
+first-flat : (gs : List (Group Item)) → first pivotOf highest (flat (mapped (mapGroup branchOf branchWeight) gs)) ≡ first lowOf highest (flat gs)
 unfolding first flat mapped
 first-flat [] = refl
 first-flat (g ∷ gs) = refl
 
-nodeLevel-pages : (l : ℕ) (nums : List ℕ) (gs : List (Group Item)) → nodePages l nums (mapped (mapGroup kidOf kidWeight) gs) ≡ ownPages l (nodeLevel nums gs)
+nodeLevel-pages : (l : ℕ) (nums : List ℕ) (gs : List (Group Item)) → nodePages l nums (mapped (mapGroup branchOf branchWeight) gs) ≡ ownPages l (nodeLevel nums gs)
 unfolding nodePages ownPages ownPage nodeLevel nodeFrom mapped numberOf
 nodeLevel-pages l nums [] = refl
 nodeLevel-pages l nums (g ∷ gs) =
     ap₂ (λ es ps. record { number = getD nums 0 0; bytes = page 0x0002 l (bytesOfAll es) } ∷ ps)
-    (ap (λ h. kidEntries (length (shared (g .head .low) h)) (mapped kidOf (members g))) (first-flat gs)
-    ∙ sym (kids-entries (length (shared (g .head .low) (first lowOf highest (flat gs)))) (members g)))
+    (ap (λ h. branchEntries (length (shared (g .head .low) h)) (mapped branchOf (members g))) (first-flat gs)
+    ∙ sym (branches-entries (length (shared (g .head .low) (first lowOf highest (flat gs)))) (members g)))
     (nodeLevel-pages l (drop 1 nums) gs)
 
-pub raised-pages : (l : ℕ) (nums : List ℕ) (xs : List Item) → nodePages l nums (groups kidWeight (mapped kidOf xs)) ≡ ownPages l (raised nums xs)
+pub raised-pages : (l : ℕ) (nums : List ℕ) (xs : List Item) → nodePages l nums (groups branchWeight (mapped branchOf xs)) ≡ ownPages l (raised nums xs)
 unfolding raised
-raised-pages l nums xs = ap (nodePages l nums) (groups-mapped kidOf kidWeight xs) ∙ nodeLevel-pages l nums (groups childWeight xs)
+raised-pages l nums xs = ap (nodePages l nums) (groups-mapped branchOf branchWeight xs) ∙ nodeLevel-pages l nums (groups childWeight xs)
 
 -- the climb, by numbers and pivots alone: the pages it writes, the root's number, and the levels
 pub record Run : Type 0 where
@@ -123,6 +123,6 @@ pub record Run : Type 0 where
   pub root : ℕ
   pub levels : ℕ
 
-unfoldable pub topNumber : List Kid → ℕ
+unfoldable pub topNumber : List Branch → ℕ
 topNumber [] = 0
 topNumber (k ∷ ks) = k .number

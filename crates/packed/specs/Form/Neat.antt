@@ -14,7 +14,7 @@ use Rattle.image.specs.Sound.{highest}
 use Rattle.image.specs.Upkeep.{reachable, reachableIn, holdsNoMessage, every}
 use Rattle.laws.specs.Rising.{both}
 use Rattle.packed.specs.Form.Chunk.{All, all-left, all-right, all-map, Group, members, flat, groups, groups-flat, total, Fits, groups-fit}
-use Rattle.packed.specs.Form.Packed.{Item, keyOf, lowOf, pairWeight, childWeight, first, shortRows, kids, leafFrom, nodeFrom, leafLevel, nodeLevel, leaves, raised}
+use Rattle.packed.specs.Form.Packed.{Item, keyOf, lowOf, pairWeight, childWeight, first, shortRows, branches, leafFrom, nodeFrom, leafLevel, nodeLevel, leaves, raised}
 use Rattle.packed.specs.Form.Leaves.{Good, value-length}
 use Rattle.laws.specs.LiveCount.{every-both as every-append}
 use Rattle.laws.specs.Follow.{formed-length}
@@ -45,16 +45,16 @@ unfolding total shortRows
 short-weight k [] = omega arith
 short-weight k (r ∷ rs) = let h = short-weight k rs in let d = length-drop k (r .key) in omega arith
 
-kids-weight : (k : ℕ) (xs : List Item) → pivotBytes (kids k xs) ≤ total childWeight xs
-unfolding total kids pivotBytes
-kids-weight k [] = omega arith
-kids-weight k (x ∷ xs) = let h = kids-weight k xs in let d = length-drop k (x .low) in omega arith
+branches-weight : (k : ℕ) (xs : List Item) → pivotBytes (branches k xs) ≤ total childWeight xs
+unfolding total branches pivotBytes
+branches-weight k [] = omega arith
+branches-weight k (x ∷ xs) = let h = branches-weight k xs in let d = length-drop k (x .low) in omega arith
 
-kids-neat : (k l : ℕ) (xs : List Item) → All (Trim l) xs → NeatIn (kids k xs) l
-unfolding NeatIn kids
-kids-neat k l [] h = tt
-kids-neat k l (x ∷ xs) h =
-    ((let d = length-drop k (x .low) in let b = h .0 .1 in omega arith), h .0 .0, kids-neat k l xs (h .1))
+branches-neat : (k l : ℕ) (xs : List Item) → All (Trim l) xs → NeatIn (branches k xs) l
+unfolding NeatIn branches
+branches-neat k l [] h = tt
+branches-neat k l (x ∷ xs) h =
+    ((let d = length-drop k (x .low) in let b = h .0 .1 in omega arith), h .0 .0, branches-neat k l xs (h .1))
 
 leafLevel-trim : (nums lo : List ℕ) (gs : List (Group Row)) → length lo ≤ 64 → All (λ r. length (r .key) ≤ 64) (flat gs) → All (Fits pairWeight) gs
     → All (Trim 1) (leafLevel nums lo gs)
@@ -84,8 +84,8 @@ nodeLevel-trim nums l (g ∷ gs) o s f =
         (
           o,
           refl,
-          (let w = kids-weight k (members g) in let q = f .0 in omega arith),
-          kids-neat k l (members g) (all-left (Trim l) (members g) (flat gs) s),
+          (let w = branches-weight k (members g) in let q = f .0 in omega arith),
+          branches-neat k l (members g) (all-left (Trim l) (members g) (flat gs) s),
         ),
         s .0 .1,
       ),

@@ -14,7 +14,7 @@ use Rattle.image.specs.Sound.{numbers, numbersIn, isIn, once, inRange, highest}
 use Rattle.octets.specs.Order.{and-left, and-right, not-true, not-false}
 use Rattle.laws.specs.Rising.{both}
 use Rattle.packed.specs.Form.Chunk.{Group, members, flat, groups, groups-flat}
-use Rattle.packed.specs.Form.Packed.{Item, keyOf, lowOf, pairWeight, childWeight, first, kids, leafFrom, nodeFrom, leafLevel, nodeLevel, leaves, raised}
+use Rattle.packed.specs.Form.Packed.{Item, keyOf, lowOf, pairWeight, childWeight, first, branches, leafFrom, nodeFrom, leafLevel, nodeLevel, leaves, raised}
 
 -- how often a number stands in a list
 unfoldable pub times : ℕ → List ℕ → ℕ
@@ -30,10 +30,10 @@ unfoldable pub levelNumbers : List Item → List ℕ
 levelNumbers [] = []
 levelNumbers (x ∷ xs) = numbers (x .node) ++ levelNumbers xs
 
-pub kids-numbers : (k : ℕ) (xs : List Item) → numbersIn (kids k xs) ≡ levelNumbers xs
-unfolding numbersIn kids levelNumbers
-kids-numbers k [] = refl
-kids-numbers k (x ∷ xs) = ap (λ l. numbers (x .node) ++ l) (kids-numbers k xs)
+pub branches-numbers : (k : ℕ) (xs : List Item) → numbersIn (branches k xs) ≡ levelNumbers xs
+unfolding numbersIn branches levelNumbers
+branches-numbers k [] = refl
+branches-numbers k (x ∷ xs) = ap (λ l. numbers (x .node) ++ l) (branches-numbers k xs)
 
 numbers-append : (xs ys : List Item) → levelNumbers (xs ++ ys) ≡ levelNumbers xs ++ levelNumbers ys
 unfolding levelNumbers
@@ -60,9 +60,9 @@ nodeLevel-length nums (g ∷ gs) = ap suc (nodeLevel-length (drop 1 nums) gs)
 
 -- a level above takes the next ones
 node-times : (j i k : ℕ) (xs : List Item) (rest : List ℕ)
-    → times j ((i ∷ numbersIn (kids k xs)) ++ rest) ≡ cond (eqb j i) 1 0 + (times j (levelNumbers xs) + times j rest)
+    → times j ((i ∷ numbersIn (branches k xs)) ++ rest) ≡ cond (eqb j i) 1 0 + (times j (levelNumbers xs) + times j rest)
 unfolding times
-node-times j i k xs rest = rw (kids-numbers k xs, times-append j (levelNumbers xs) rest)
+node-times j i k xs rest = rw (branches-numbers k xs, times-append j (levelNumbers xs) rest)
 
 flat-times : (j : ℕ) (xs ys : List Item) → times j (levelNumbers (xs ++ ys)) ≡ times j (levelNumbers xs) + times j (levelNumbers ys)
 flat-times j xs ys = rw (numbers-append xs ys, times-append j (levelNumbers xs) (levelNumbers ys))
@@ -90,7 +90,7 @@ unfolding nodeLevel nodeFrom levelNumbers numbers flat
 nodeLevel-size nums [] = refl
 nodeLevel-size nums (g ∷ gs) =
     ap suc (ap (λ l. length (l ++ levelNumbers (nodeLevel (drop 1 nums) gs)))
-    (kids-numbers (length (shared (g .head .low) (first lowOf highest (flat gs)))) (members g))
+    (branches-numbers (length (shared (g .head .low) (first lowOf highest (flat gs)))) (members g))
     ∙ length-append (levelNumbers (members g)) (levelNumbers (nodeLevel (drop 1 nums) gs)))
     ∙ mix-size (length (levelNumbers (members g))) (length (levelNumbers (nodeLevel (drop 1 nums) gs))) (length gs) (length (levelNumbers (flat gs)))
     (nodeLevel-size (drop 1 nums) gs)

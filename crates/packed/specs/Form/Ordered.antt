@@ -19,12 +19,12 @@ use Rattle.packed.specs.Form.Neat.{Neat}
 use Rattle.packed.specs.Form.Numbered.{times, times-in, in-times, times-once, once-times, range-times, times-range}
 use Rattle.laws.specs.Page.{numberOf, headPage, head-length}
 use Rattle.packed.specs.Form.Pages.{Written}
-use Rattle.packed.specs.Form.Stored.{written-stays, Holds}
-use Rattle.packed.specs.Form.Tidy.{Page, pageNumbers, writeAll, Ready, In, all-length, all-other, all-same, range-ready, zero-out, same-in, nodes-ext, pages, pages-numbers, written-pages, imageOf, Table, built-holds, built-other, built-packs, root-parts}
+use Rattle.packed.specs.Form.Stored.{written-stays, HoldsTree}
+use Rattle.packed.specs.Form.Tidy.{Page, pageNumbers, writeAll, PageFits, In, all-length, all-other, all-same, range-ready, zero-out, same-in, nodes-ext, pages, pages-numbers, written-pages, imageOf, Table, built-holds, built-other, built-packs, root-parts}
 use Rattle.packed.specs.Form.Sweep.{orderPages, Ordered, ordered}
 
 -- images that hold one tree, and agree elsewhere
-pub one-over : (s s′ : List ℕ) (n live : ℕ) (b : Built) → Neat (b .root) (b .levels) → Holds s n live b → Holds s′ n live b
+pub one-over : (s s′ : List ℕ) (n live : ℕ) (b : Built) → Neat (b .root) (b .levels) → HoldsTree s n live b → HoldsTree s′ n live b
     → ((j : ℕ) → 1 ≤ j → isIn j (numbers (b .root)) ≡ false → nodeBytes s j ≡ nodeBytes s′ j) → s ≡ s′
 one-over s s′ n live b h c d rest = nodes-ext n s s′ (c .size) (d .size) each
   where
@@ -40,7 +40,7 @@ one-over s s′ n live b h c d rest = nodes-ext n s s′ (c .size) (d .size) eac
 
 -- any list of pages that makes up a tree, written in any order, and node 0 last
 module _ (base : List ℕ) (n live : ℕ) (b : Built) (ps : List Page) (size : length base ≡ 1024 * n) (some-nodes : 1 ≤ n)
-    (ready : All (Ready n) ps) (o : once (pageNumbers ps) ≡ true) (r : inRange n (pageNumbers ps) ≡ true)
+    (ready : All (PageFits n) ps) (o : once (pageNumbers ps) ≡ true) (r : inRange n (pageNumbers ps) ≡ true)
     (makes : (image : List ℕ) → All (In image) ps → Written (b .root) (b .levels) image)
     (same-numbers : (j : ℕ) → times j (numbers (b .root)) ≡ times j (pageNumbers ps)) where
   poured-size : length (writeAll ps base) ≡ 1024 * n
@@ -66,7 +66,7 @@ module _ (base : List ℕ) (n live : ℕ) (b : Built) (ps : List Page) (size : l
   unfolding Keeps
   poured-stays j e = write-other (writeAll ps base) 0 headed poured-fits headed-full j (λ q. not-so e (rw q zero-not))
 
-  pub poured-holds : Holds (writeNode (writeAll ps base) 0 (headPage n (numberOf (b .root)) (b .levels) live)) n live b
+  pub poured-holds : HoldsTree (writeNode (writeAll ps base) 0 (headPage n (numberOf (b .root)) (b .levels) live)) n live b
   unfolding headed
   poured-holds =
       record {
@@ -101,10 +101,10 @@ module _ (base nums : List ℕ) (n : ℕ) (t : List Row) (size : length base ≡
       times-range n (pageNumbers (orderPages nums t))
       (λ j k. range-times n (numbers (packed nums t .root)) (root-parts base nums n t size least most enough o r tab .1) j (let a = order-is .counted j in omega arith))
 
-  order-ready : All (Ready n) (orderPages nums t)
+  order-ready : All (PageFits n) (orderPages nums t)
   order-ready = range-ready n (orderPages nums t) order-range (order-is .all-full)
 
-  pub order-holds : Holds (orderImage base nums n t) n (length t) (packed nums t)
+  pub order-holds : HoldsTree (orderImage base nums n t) n (length t) (packed nums t)
   unfolding orderImage
   order-holds =
       poured-holds base n (length t) (packed nums t) (orderPages nums t) size (omega arith) order-ready order-once order-range (order-is .makes) (order-is .counted)

@@ -36,16 +36,16 @@ unfoldable pub shortRows : ℕ → List Row → List Row
 shortRows k [] = []
 shortRows k (r ∷ t) = record { key = drop k (r .key); value = r .value } ∷ shortRows k t
 
-unfoldable pub kids : ℕ → List Item → Forest
-kids k [] = end
-kids k (x ∷ xs) = tree (drop k (x .low)) (x .node) (kids k xs)
+unfoldable pub branches : ℕ → List Item → Forest
+branches k [] = end
+branches k (x ∷ xs) = tree (drop k (x .low)) (x .node) (branches k xs)
 
 -- one node of a group, with its two pivots
 unfoldable pub leafFrom : ℕ → List ℕ → List ℕ → Group Row → Item
 leafFrom i lo hi g = record { low = lo; node = leaf i (shortRows (length (shared lo hi)) (members g)) }
 
 unfoldable pub nodeFrom : ℕ → List ℕ → Group Item → Item
-nodeFrom i hi g = record { low = g .head .low; node = interior i (kids (length (shared (g .head .low) hi)) (members g)) [] }
+nodeFrom i hi g = record { low = g .head .low; node = interior i (branches (length (shared (g .head .low) hi)) (members g)) [] }
 
 -- the nodes of a level, one for each group, numbered in order
 unfoldable pub leafLevel : List ℕ → List ℕ → List (Group Row) → List Item

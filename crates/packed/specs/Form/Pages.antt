@@ -10,7 +10,7 @@ use Rattle.image.specs.Table.{Row}
 use Rattle.image.specs.Image.{Tree, unread, leaf, interior, Forest, end, tree, nodeBytes, forestOf, leafOf, interiorOf, orNone, treeAt}
 use Rattle.laws.specs.Encode.{restOf, bytesOf, bytesOfAll, allowed, allAllowed}
 use Rattle.laws.specs.Rising.{both}
-use Rattle.laws.specs.Page.{page, page-back, numberOf, pairEntries, childEntries, kidsOf, pairs-back, pairs-allowed, kids-back}
+use Rattle.laws.specs.Page.{page, page-back, numberOf, pairEntries, childEntries, branchesOf, pairs-back, pairs-allowed, branches-back}
 use Rattle.packed.specs.Form.Chunk.{total}
 use Rattle.packed.specs.Form.Packed.{pairWeight}
 use Rattle.packed.specs.Form.Neat.{pivotBytes, Neat, NeatIn}
@@ -24,15 +24,15 @@ pairs-length (r ∷ rs) =
     let c = pairs-length rs in
     omega arith
 
-kids-allowed : (f : Forest) (l : ℕ) → NeatIn f l → allAllowed (childEntries f) ≡ true
+branches-allowed : (f : Forest) (l : ℕ) → NeatIn f l → allAllowed (childEntries f) ≡ true
 unfolding allAllowed allowed childEntries NeatIn
-kids-allowed end l h = refl
-kids-allowed (tree s t f) l h = both (le-leb (length s) 65 (h .0)) (kids-allowed f l (h .2))
+branches-allowed end l h = refl
+branches-allowed (tree s t f) l h = both (le-leb (length s) 65 (h .0)) (branches-allowed f l (h .2))
 
-pub kids-length : (f : Forest) → length (bytesOfAll (childEntries f)) ≡ pivotBytes f
+pub branches-length : (f : Forest) → length (bytesOfAll (childEntries f)) ≡ pivotBytes f
 unfolding bytesOfAll bytesOf restOf childEntries pivotBytes
-kids-length end = refl
-kids-length (tree s t f) = let a = length-append s (bytesOfAll (childEntries f)) in let c = kids-length f in omega arith
+branches-length end = refl
+branches-length (tree s t f) = let a = length-append s (bytesOfAll (childEntries f)) in let c = branches-length f in omega arith
 
 -- the image holds the pages of this tree
 unfoldable mutual
@@ -58,14 +58,14 @@ leaf-at i rs l image e h =
     subst (λ k. nodeBytes image i ≡ page 0x0001 k (bytesOfAll (pairEntries rs)) → treeAt k image i ≡ leaf i rs) (sym e) (leaf-back i rs image h)
 
 interior-back : (i : ℕ) (f : Forest) (l : ℕ) (image : List ℕ) → pivotBytes f ≤ 1016 → NeatIn f (suc l)
-    → nodeBytes image i ≡ page 0x0002 (suc (suc l)) (bytesOfAll (childEntries f)) → forestOf (λ j. treeAt (suc l) image j) (kidsOf f) ≡ f
+    → nodeBytes image i ≡ page 0x0002 (suc (suc l)) (bytesOfAll (childEntries f)) → forestOf (λ j. treeAt (suc l) image j) (branchesOf f) ≡ f
     → treeAt (suc (suc l)) image i ≡ interior i f []
 unfolding treeAt interiorOf orNone
 interior-back i f l image h n e k =
-    rw (e, page-back 0x0002 (suc (suc l)) (childEntries f) (rw (kids-length f) h) (kids-allowed f (suc l) n), kids-back f) (ap (λ g. interior i g []) k)
+    rw (e, page-back 0x0002 (suc (suc l)) (childEntries f) (rw (branches-length f) h) (branches-allowed f (suc l) n), branches-back f) (ap (λ g. interior i g []) k)
 
 mutual
-  unfolding Written WrittenIn Neat NeatIn numberOf forestOf kidsOf
+  unfolding Written WrittenIn Neat NeatIn numberOf forestOf branchesOf
 
   pub reads-back : (t : Tree) (l : ℕ) (image : List ℕ) → Neat t l → Written t l image → treeAt l image (numberOf t) ≡ t
   reads-back (unread i) l image h w = absurd h
@@ -75,6 +75,6 @@ mutual
   reads-back (interior i f ms) (suc (suc l)) image h w =
       interior-back i f l image (h .2) (h .3) (w .0) (reads-back-in f (suc l) image (h .3) (w .1)) ∙ ap (interior i f) (sym (h .1))
 
-  pub reads-back-in : (f : Forest) (l : ℕ) (image : List ℕ) → NeatIn f l → WrittenIn f l image → forestOf (λ j. treeAt l image j) (kidsOf f) ≡ f
+  pub reads-back-in : (f : Forest) (l : ℕ) (image : List ℕ) → NeatIn f l → WrittenIn f l image → forestOf (λ j. treeAt l image j) (branchesOf f) ≡ f
   reads-back-in end l image h w = refl
   reads-back-in (tree s t f) l image h w = ap₂ (λ u g. tree s u g) (reads-back t l image (h .1) (w .0)) (reads-back-in f l image (h .2) (w .1))

@@ -11,7 +11,7 @@ use Rattle.image.specs.Sound.{soundTree, soundForest, soundMessages, firstPivot
 use Rattle.octets.specs.Order.{same-refl, before-irrefl}
 use Rattle.laws.specs.Rising.{both}
 use Rattle.packed.specs.Form.Chunk.{All, Group, members, flat, groups, groups-flat}
-use Rattle.packed.specs.Form.Packed.{Item, lowOf, childWeight, first, kids, nodeFrom, nodeLevel, raised}
+use Rattle.packed.specs.Form.Packed.{Item, lowOf, childWeight, first, branches, nodeFrom, nodeLevel, raised}
 use Rattle.packed.specs.Form.Climbs.{Climbs, climbs-under, Between, climbs-between, Splits, between-splits, first-append}
 use Rattle.packed.specs.Form.Leaves.{Stands, levelRows}
 
@@ -40,22 +40,22 @@ rows-append hi (x ∷ xs) ys =
     ∙ sym (append-assoc (rows (x .node) (x .low) (first lowOf (first lowOf hi ys) xs)) (levelRows (first lowOf hi ys) xs) (levelRows hi ys))
 
 -- the children of a node, their pivots without what the node lifts
-kids-high : (l hi : List ℕ) (xs : List Item) → All (Splits lowOf l) xs → highOf l hi (kids (length l) xs) ≡ first lowOf hi xs
-unfolding highOf kids first
-kids-high l hi [] s = refl
-kids-high l hi (x ∷ xs) s = s .0
+branches-high : (l hi : List ℕ) (xs : List Item) → All (Splits lowOf l) xs → highOf l hi (branches (length l) xs) ≡ first lowOf hi xs
+unfolding highOf branches first
+branches-high l hi [] s = refl
+branches-high l hi (x ∷ xs) s = s .0
 
-kids-rows : (l hi : List ℕ) (xs : List Item) → All (Splits lowOf l) xs → rowsIn (kids (length l) xs) l hi ≡ levelRows hi xs
-unfolding rowsIn kids levelRows
-kids-rows l hi [] s = refl
-kids-rows l hi (x ∷ xs) s = rw (s .0, kids-high l hi xs (s .1)) (ap (λ t. rows (x .node) (x .low) (first lowOf hi xs) ++ t) (kids-rows l hi xs (s .1)))
+branches-rows : (l hi : List ℕ) (xs : List Item) → All (Splits lowOf l) xs → rowsIn (branches (length l) xs) l hi ≡ levelRows hi xs
+unfolding rowsIn branches levelRows
+branches-rows l hi [] s = refl
+branches-rows l hi (x ∷ xs) s = rw (s .0, branches-high l hi xs (s .1)) (ap (λ t. rows (x .node) (x .low) (first lowOf hi xs) ++ t) (branches-rows l hi xs (s .1)))
 
-kids-sound : (l lo hi : List ℕ) (xs : List Item) → All (Splits lowOf l) xs → All (Between lowOf lo hi) xs → Stands hi xs
-    → soundForest (kids (length l) xs) l lo hi ≡ true
-unfolding soundForest kids
-kids-sound l lo hi [] s b h = refl
-kids-sound l lo hi (x ∷ xs) s b h =
-    rw (s .0, kids-high l hi xs (s .1)) (both (both (both (b .0) (h .0)) (h .1)) (kids-sound l lo hi xs (s .1) (b .1) (h .2)))
+branches-sound : (l lo hi : List ℕ) (xs : List Item) → All (Splits lowOf l) xs → All (Between lowOf lo hi) xs → Stands hi xs
+    → soundForest (branches (length l) xs) l lo hi ≡ true
+unfolding soundForest branches
+branches-sound l lo hi [] s b h = refl
+branches-sound l lo hi (x ∷ xs) s b h =
+    rw (s .0, branches-high l hi xs (s .1)) (both (both (both (b .0) (h .0)) (h .1)) (branches-sound l lo hi xs (s .1) (b .1) (h .2)))
 
 -- one node over a group
 module _ (i : ℕ) (hi : List ℕ) (x : Item) (xs : List Item) (st : Stands hi (x ∷ xs)) where
@@ -66,17 +66,17 @@ module _ (i : ℕ) (hi : List ℕ) (x : Item) (xs : List Item) (st : Stands hi (
   low-splits : All (Splits lowOf (shared (x .low) hi)) (x ∷ xs)
   low-splits = between-splits lowOf (x .low) hi (x ∷ xs) low-between
 
-  pub node-sound : soundTree (interior i (kids (length (shared (x .low) hi)) (x ∷ xs)) []) (x .low) hi ≡ true
+  pub node-sound : soundTree (interior i (branches (length (shared (x .low) hi)) (x ∷ xs)) []) (x .low) hi ≡ true
   unfolding soundTree soundMessages
   node-sound =
-      both (both first-is (kids-sound (shared (x .low) hi) (x .low) hi (x ∷ xs) low-splits low-between st)) refl
+      both (both first-is (branches-sound (shared (x .low) hi) (x .low) hi (x ∷ xs) low-splits low-between st)) refl
     where
-      first-is : firstPivot (shared (x .low) hi) (x .low) (kids (length (shared (x .low) hi)) (x ∷ xs)) ≡ true
-      first-is = unfold firstPivot kids in rw (low-splits .0) (same-refl (x .low))
+      first-is : firstPivot (shared (x .low) hi) (x .low) (branches (length (shared (x .low) hi)) (x ∷ xs)) ≡ true
+      first-is = unfold firstPivot branches in rw (low-splits .0) (same-refl (x .low))
 
-  pub node-rows : rows (interior i (kids (length (shared (x .low) hi)) (x ∷ xs)) []) (x .low) hi ≡ levelRows hi (x ∷ xs)
+  pub node-rows : rows (interior i (branches (length (shared (x .low) hi)) (x ∷ xs)) []) (x .low) hi ≡ levelRows hi (x ∷ xs)
   unfolding rows applyAll
-  node-rows = kids-rows (shared (x .low) hi) hi (x ∷ xs) low-splits
+  node-rows = branches-rows (shared (x .low) hi) hi (x ∷ xs) low-splits
 
   pub node-under : before (x .low) hi ≡ true
   node-under = climbs-under lowOf hi x xs (stands-climbs hi (x ∷ xs) st)

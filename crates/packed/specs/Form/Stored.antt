@@ -38,7 +38,7 @@ mutual
   )
 
 -- the image holds this tree, with this many live paths
-pub record Holds (image : List ℕ) (n live : ℕ) (b : Built) : Type 0 where
+pub record HoldsTree (image : List ℕ) (n live : ℕ) (b : Built) : Type 0 where
   pub size : length image ≡ 1024 * n
   pub head : nodeBytes image 0 ≡ headPage n (numberOf (b .root)) (b .levels) live
   pub pages : Written (b .root) (b .levels) image
@@ -50,7 +50,7 @@ number-in (unread i) = rw (eq-eqb i i refl) (omega arith)
 number-in (leaf i rs) = rw (eq-eqb i i refl) (omega arith)
 number-in (interior i f ms) = rw (eq-eqb i i refl) (omega arith)
 
-module _ (image : List ℕ) (n live : ℕ) (b : Built) (h : Holds image n live b) where
+module _ (image : List ℕ) (n live : ℕ) (b : Built) (h : HoldsTree image n live b) where
   held-nodes : nodesOf (length image) ≡ n
   unfolding nodesOf
   held-nodes = rw (h .size) (omega arith)
@@ -64,7 +64,7 @@ module _ (image : List ℕ) (n live : ℕ) (b : Built) (h : Holds image n live b
   held-tree x = rw held-header (reads-back (b .root) (b .levels) image x (h .pages))
 
 module _ (image nums : List ℕ) (t : List Row) (n : ℕ) (few : length t ≤ n) (p : Packs nums t n) (o : once nums ≡ true) (r : inRange n nums ≡ true)
-    (h : Holds image n (length t) (packed nums t)) where
+    (h : HoldsTree image n (length t) (packed nums t)) where
   pub image-tree : treeOf image ≡ packed nums t .root
   image-tree = held-tree image n (length t) (packed nums t) h (p .neat)
 

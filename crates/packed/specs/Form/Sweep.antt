@@ -11,13 +11,13 @@ use Rattle.image.specs.Image.{Tree, unread, leaf, interior, nodeBytes}
 use Rattle.image.specs.Sound.{numbers, highest}
 use Rattle.laws.specs.Encode.{bytesOfAll}
 use Rattle.packed.specs.Form.Chunk.{All, all-append, all-left, all-right, Group, members, flat, groups, groups-flat}
-use Rattle.packed.specs.Form.Packed.{Item, Built, lowOf, childWeight, first, kids, nodeFrom, nodeLevel, leaves, raised, topOf, climb, packed}
+use Rattle.packed.specs.Form.Packed.{Item, Built, lowOf, childWeight, first, branches, nodeFrom, nodeLevel, leaves, raised, topOf, climb, packed}
 use Rattle.packed.specs.Form.Leaves.{Tabled}
 use Rattle.packed.specs.Form.Neat.{Neat, Trim}
 use Rattle.packed.specs.Form.Numbered.{times, times-append, levelNumbers, raised-length, raised-times, leaves-numbers}
 use Rattle.packed.specs.Form.Tower.{Level, level-above, few-raised, some-raised, few-leaves, leaf-level, room, room-7}
 use Rattle.laws.specs.Page.{page, page-length, pairEntries, childEntries, numberOf}
-use Rattle.packed.specs.Form.Pages.{pairs-length, kids-length, Written, WrittenIn}
+use Rattle.packed.specs.Form.Pages.{pairs-length, branches-length, Written, WrittenIn}
 use Rattle.packed.specs.Form.Tidy.{Page, pageNumbers, page-numbers-append, In}
 
 -- the page of a tree's top node
@@ -110,19 +110,19 @@ own-full l (x ∷ xs) h = (full (x .node) l (h .0 .0), own-full l xs (h .1))
     full (unread i) k n = unfold Neat in absurd n
     full (leaf i rs) k n = unfold ownPage Neat in page-length 0x0001 k (bytesOfAll (pairEntries rs)) (rw (pairs-length rs) (n .1))
     full (interior i f ms) zero n = unfold Neat in absurd n
-    full (interior i f ms) (suc k) n = unfold ownPage Neat in page-length 0x0002 (suc k) (bytesOfAll (childEntries f)) (rw (kids-length f) (n .2))
+    full (interior i f ms) (suc k) n = unfold ownPage Neat in page-length 0x0002 (suc k) (bytesOfAll (childEntries f)) (rw (branches-length f) (n .2))
 
-kids-written : (k l : ℕ) (image : List ℕ) (xs : List Item) → All (λ x. Written (x .node) l image) xs → WrittenIn (kids k xs) l image
-unfolding WrittenIn kids
-kids-written k l image [] h = tt
-kids-written k l image (x ∷ xs) h = (h .0, kids-written k l image xs (h .1))
+branches-written : (k l : ℕ) (image : List ℕ) (xs : List Item) → All (λ x. Written (x .node) l image) xs → WrittenIn (branches k xs) l image
+unfolding WrittenIn branches
+branches-written k l image [] h = tt
+branches-written k l image (x ∷ xs) h = (h .0, branches-written k l image xs (h .1))
 
 nodeLevel-written : (l : ℕ) (image nums : List ℕ) (gs : List (Group Item)) → All (λ x. Written (x .node) l image) (flat gs)
     → All (In image) (ownPages (suc l) (nodeLevel nums gs)) → All (λ x. Written (x .node) (suc l) image) (nodeLevel nums gs)
 unfolding ownPages ownPage nodeLevel nodeFrom Written numberOf flat
 nodeLevel-written l image nums [] h a = tt
 nodeLevel-written l image nums (g ∷ gs) h a = (
-  (a .0, kids-written (length (shared (g .head .low) (first lowOf highest (flat gs)))) l image (members g) (all-left (λ x. Written (x .node) l image) (members g) (flat gs) h)),
+  (a .0, branches-written (length (shared (g .head .low) (first lowOf highest (flat gs)))) l image (members g) (all-left (λ x. Written (x .node) l image) (members g) (flat gs) h)),
   nodeLevel-written l image (drop 1 nums) gs (all-right (λ x. Written (x .node) l image) (members g) (flat gs) h) (a .1),
 )
 

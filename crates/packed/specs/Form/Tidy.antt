@@ -24,8 +24,8 @@ use Rattle.packed.specs.Form.Leaves.{tabled}
 use Rattle.packed.specs.Form.Neat.{Neat, NeatIn}
 use Rattle.packed.specs.Form.Tower.{Packs, packs, once-and-range, from-range, from-once, from-length}
 use Rattle.laws.specs.Page.{page, page-length, pairEntries, childEntries, numberOf, headPage, head-length}
-use Rattle.packed.specs.Form.Pages.{pairs-length, kids-length, Written, WrittenIn}
-use Rattle.packed.specs.Form.Stored.{written-stays, Holds, image-tree, image-table, image-sound, image-tidied}
+use Rattle.packed.specs.Form.Pages.{pairs-length, branches-length, Written, WrittenIn}
+use Rattle.packed.specs.Form.Stored.{written-stays, HoldsTree, image-tree, image-table, image-sound, image-tidied}
 
 -- a node's number and its 1,024 bytes
 pub record Page : Type 0 where
@@ -70,13 +70,13 @@ unfoldable pub packedImage : ℕ → List Row → List ℕ
 packedImage n t = imageOf (blank n) n (length t) (packed (numbersFrom 1 (n - 1)) t)
 
 -- pages that can be written into n nodes
-abbrev pub Ready : ℕ → Page → Type 0
-Ready n p = (p .number < n) × (length (p .bytes) ≡ 1024)
+abbrev pub PageFits : ℕ → Page → Type 0
+PageFits n p = (p .number < n) × (length (p .bytes) ≡ 1024)
 
 fits-node : (n i : ℕ) (image : List ℕ) → length image ≡ 1024 * n → i < n → 1024 * i + 1024 ≤ length image
 fits-node n i image e h = omega arith
 
-pub all-length : (n : ℕ) (ps : List Page) (image : List ℕ) → All (Ready n) ps → length image ≡ 1024 * n → length (writeAll ps image) ≡ 1024 * n
+pub all-length : (n : ℕ) (ps : List Page) (image : List ℕ) → All (PageFits n) ps → length image ≡ 1024 * n → length (writeAll ps image) ≡ 1024 * n
 unfolding writeAll
 all-length n [] image r e = e
 all-length n (p ∷ ps) image r e =
@@ -90,7 +90,7 @@ or-false false b e = (refl, e)
 eqb-no : (a b : ℕ) → eqb a b ≡ false → a ≡ b → ⊥
 eqb-no a b e q = true≢false (sym (eq-eqb a b q) ∙ e)
 
-pub all-other : (n : ℕ) (ps : List Page) (image : List ℕ) → All (Ready n) ps → length image ≡ 1024 * n
+pub all-other : (n : ℕ) (ps : List Page) (image : List ℕ) → All (PageFits n) ps → length image ≡ 1024 * n
     → (j : ℕ) → isIn j (pageNumbers ps) ≡ false → nodeBytes (writeAll ps image) j ≡ nodeBytes image j
 unfolding writeAll isIn pageNumbers
 all-other n [] image r e j h = refl
@@ -103,7 +103,7 @@ all-other n (p ∷ ps) image r e j h =
 abbrev pub In : List ℕ → Page → Type 0
 In image p = nodeBytes image (p .number) ≡ p .bytes
 
-pub all-same : (n : ℕ) (ps : List Page) (image : List ℕ) → All (Ready n) ps → length image ≡ 1024 * n → once (pageNumbers ps) ≡ true
+pub all-same : (n : ℕ) (ps : List Page) (image : List ℕ) → All (PageFits n) ps → length image ≡ 1024 * n → once (pageNumbers ps) ≡ true
     → All (In (writeAll ps image)) ps
 unfolding writeAll once pageNumbers
 all-same n [] image r e o = tt
@@ -143,7 +143,7 @@ mutual
   pages-full (leaf i rs) l h = (page-length 0x0001 l (bytesOfAll (pairEntries rs)) (rw (pairs-length rs) (h .1)), tt)
   pages-full (interior i f ms) zero h = absurd h
   pages-full (interior i f ms) (suc l) h =
-      (page-length 0x0002 (suc l) (bytesOfAll (childEntries f)) (rw (kids-length f) (h .2)), pages-full-in f l (h .3))
+      (page-length 0x0002 (suc l) (bytesOfAll (childEntries f)) (rw (branches-length f) (h .2)), pages-full-in f l (h .3))
 
   pub pages-full-in : (f : Forest) (l : ℕ) → NeatIn f l → All (λ p. length (p .bytes) ≡ 1024) (pagesIn f l)
   pages-full-in end l h = tt
@@ -188,7 +188,7 @@ nodes-ext (suc n) s s′ e f h =
     ∙ take-append-drop 1024 s′
 
 -- pages with numbers in range
-pub range-ready : (n : ℕ) (ps : List Page) → inRange n (pageNumbers ps) ≡ true → All (λ p. length (p .bytes) ≡ 1024) ps → All (Ready n) ps
+pub range-ready : (n : ℕ) (ps : List Page) → inRange n (pageNumbers ps) ≡ true → All (λ p. length (p .bytes) ≡ 1024) ps → All (PageFits n) ps
 unfolding inRange pageNumbers
 range-ready n [] r f = tt
 range-ready n (p ∷ ps) r f = (
@@ -259,7 +259,7 @@ same-in s s′ (p ∷ ps) a b j h = go (eqb j (p .number)) refl (same-in s s′ 
 
 -- an image that holds a tree, and zeros in its free nodes
 pub record Clean (image : List ℕ) (n live : ℕ) (b : Built) : Type 0 where
-  pub holds : Holds image n live b
+  pub holds : HoldsTree image n live b
   pub zeroed : (j : ℕ) → 1 ≤ j → j < n → isIn j (numbers (b .root)) ≡ false → nodeBytes image j ≡ blankNode
 
 -- there is one such image
@@ -279,7 +279,7 @@ one-image s s′ n live b h c d = nodes-ext n s s′ (c .holds .size) (d .holds 
 -- what is written holds the tree; the other nodes keep their bytes
 module _ (base : List ℕ) (n live : ℕ) (b : Built) (size : length base ≡ 1024 * n) (some-nodes : 1 ≤ n) (h : Neat (b .root) (b .levels))
     (o : once (numbers (b .root)) ≡ true) (r : inRange n (numbers (b .root)) ≡ true) where
-  ready : All (Ready n) (pages (b .root) (b .levels))
+  ready : All (PageFits n) (pages (b .root) (b .levels))
   ready = range-ready n (pages (b .root) (b .levels)) (rw (pages-numbers (b .root) (b .levels) h) r) (pages-full (b .root) (b .levels) h)
 
   written-size : length (writeAll (pages (b .root) (b .levels)) base) ≡ 1024 * n
@@ -294,7 +294,7 @@ module _ (base : List ℕ) (n live : ℕ) (b : Built) (size : length base ≡ 10
       write-other (writeAll (pages (b .root) (b .levels)) base) 0 (headPage n (numberOf (b .root)) (b .levels) live) fits-0
       (head-length n (numberOf (b .root)) (b .levels) live) j (λ q. not-so e (rw q (zero-out n (numbers (b .root)) r)))
 
-  pub image-holds : Holds (imageOf base n live b) n live b
+  pub image-holds : HoldsTree (imageOf base n live b) n live b
   image-holds =
       record {
         size = unfold imageOf in (write-length (writeAll (pages (b .root) (b .levels)) base) 0 _ fits-0 (head-length n (numberOf (b .root)) (b .levels) live) ∙ written-size);
@@ -328,7 +328,7 @@ module _ (base nums : List ℕ) (n : ℕ) (t : List Row) (size : length base ≡
   pub root-parts : (once (numbers (packed nums t .root)) ≡ true) × (inRange n (numbers (packed nums t .root)) ≡ true)
   root-parts = once-and-range nums t n built-packs o r
 
-  pub built-holds : Holds (imageOf base n (length t) (packed nums t)) n (length t) (packed nums t)
+  pub built-holds : HoldsTree (imageOf base n (length t) (packed nums t)) n (length t) (packed nums t)
   built-holds =
       image-holds base n (length t) (packed nums t) size (omega arith) (built-packs .neat) (root-parts .0) (root-parts .1)
 

@@ -7,52 +7,51 @@ use native.Mathlib.Omega.{arith}
 use mathlib.Core.Logic.{_≢_}
 use lib.Dec.{eqb, ltb}
 use borrow.Author.Tests.{eq-eqb, ne-eqb, eqb-true, eqb-false, lt-ltb, le-ltb, ltb-true, ltb-false}
-use lib.ListN.{length, take, drop, getD, length-append, length-drop, drop-of-length-le}
+use lib.ListN.{length, take, drop, getD, length-drop, drop-of-length-le}
 use lib.Seq.{length-take-le, drop-drop, take-nil}
 use Rattle.image.specs.Entry.{child}
-use Rattle.image.specs.Image.{Kid}
+use Rattle.image.specs.Image.{Branch}
 use Rattle.laws.specs.Encode.{bytesOf, bytesOfAll}
-use Rattle.packed.specs.Form.Marks.{kidEntries}
+use Rattle.packed.specs.Form.Marks.{branchEntries}
 use Rattle.packed.specs.Rows.Area.{rowAt, RowsFit}
-use Rattle.packed.specs.Rows.Kids.{markAt, lowOfRow, kidsOf, kids-take, kids-pass}
-use Rattle.packed.specs.Rows.Remark.{kids-split}
-use Rattle.octets.specs.Put.{put, put-put, put-nil, put-size}
+use Rattle.packed.specs.Rows.Branches.{markAt, lowOfRow, branchesOf, branches-take, branches-pass}
+use Rattle.packed.specs.Rows.Remark.{branches-split}
 
 -- the bytes of the marked ones of n rows from row i
-unfoldable pub kidBytes : ℕ → ℕ → List ℕ → ℕ → List ℕ
-kidBytes k n area i = bytesOfAll (kidEntries k (kidsOf n area i))
+unfoldable pub branchBytes : ℕ → ℕ → List ℕ → ℕ → List ℕ
+branchBytes k n area i = bytesOfAll (branchEntries k (branchesOf n area i))
 
-entries-append : (k : ℕ) (xs ys : List Kid) → bytesOfAll (kidEntries k (xs ++ ys)) ≡ bytesOfAll (kidEntries k xs) ++ bytesOfAll (kidEntries k ys)
-unfolding kidEntries bytesOfAll
+entries-append : (k : ℕ) (xs ys : List Branch) → bytesOfAll (branchEntries k (xs ++ ys)) ≡ bytesOfAll (branchEntries k xs) ++ bytesOfAll (branchEntries k ys)
+unfolding branchEntries bytesOfAll
 entries-append k [] ys = refl
 entries-append k (x ∷ xs) ys =
     ap (λ l. bytesOf (child (x .number) (drop k (x .pivot))) ++ l) (entries-append k xs ys)
-    ∙ sym (append-assoc (bytesOf (child (x .number) (drop k (x .pivot)))) (bytesOfAll (kidEntries k xs)) (bytesOfAll (kidEntries k ys)))
+    ∙ sym (append-assoc (bytesOf (child (x .number) (drop k (x .pivot)))) (bytesOfAll (branchEntries k xs)) (bytesOfAll (branchEntries k ys)))
 
-pub bytes-step : (k to : ℕ) (area : List ℕ) (i : ℕ) → i < to → kidBytes k (to - i) area i ≡ kidBytes k 1 area i ++ kidBytes k (to - (i + 1)) area (i + 1)
-unfolding kidBytes
+pub bytes-step : (k to : ℕ) (area : List ℕ) (i : ℕ) → i < to → branchBytes k (to - i) area i ≡ branchBytes k 1 area i ++ branchBytes k (to - (i + 1)) area (i + 1)
+unfolding branchBytes
 bytes-step k to area i h =
     let z : to - i ≡ 1 + (to - (i + 1)) = omega arith in
-    ap (λ n. bytesOfAll (kidEntries k (kidsOf n area i))) z
-    ∙ ap (λ ks. bytesOfAll (kidEntries k ks)) (kids-split 1 (to - (i + 1)) area i)
-    ∙ entries-append k (kidsOf 1 area i) (kidsOf (to - (i + 1)) area (i + 1))
+    ap (λ n. bytesOfAll (branchEntries k (branchesOf n area i))) z
+    ∙ ap (λ ks. bytesOfAll (branchEntries k ks)) (branches-split 1 (to - (i + 1)) area i)
+    ∙ entries-append k (branchesOf 1 area i) (branchesOf (to - (i + 1)) area (i + 1))
 
-pub bytes-done : (k to : ℕ) (area : List ℕ) (i : ℕ) → to ≤ i → kidBytes k (to - i) area i ≡ []
-unfolding kidBytes kidsOf kidEntries bytesOfAll
+pub bytes-done : (k to : ℕ) (area : List ℕ) (i : ℕ) → to ≤ i → branchBytes k (to - i) area i ≡ []
+unfolding branchBytes branchesOf branchEntries bytesOfAll
 bytes-done k to area i h = let z : to - i ≡ 0 = omega arith in rw z refl
 
 -- one row
-pub bytes-none : (k : ℕ) (area : List ℕ) (i : ℕ) → markAt area i ≡ 0 → kidBytes k 1 area i ≡ []
-bytes-none k area i h = unfold kidBytes in (ap (λ ks. bytesOfAll (kidEntries k ks)) (kids-pass 0 area i h) ∙ (unfold kidsOf kidEntries bytesOfAll in refl))
+pub bytes-none : (k : ℕ) (area : List ℕ) (i : ℕ) → markAt area i ≡ 0 → branchBytes k 1 area i ≡ []
+bytes-none k area i h = unfold branchBytes in (ap (λ ks. bytesOfAll (branchEntries k ks)) (branches-pass 0 area i h) ∙ (unfold branchesOf branchEntries bytesOfAll in refl))
 
-pub bytes-some : (k : ℕ) (area : List ℕ) (i : ℕ) → (markAt area i ≡ 0 → ⊥) → kidBytes k 1 area i ≡ bytesOf (child (markAt area i) (drop k (lowOfRow area i)))
+pub bytes-some : (k : ℕ) (area : List ℕ) (i : ℕ) → (markAt area i ≡ 0 → ⊥) → branchBytes k 1 area i ≡ bytesOf (child (markAt area i) (drop k (lowOfRow area i)))
 bytes-some k area i h = go (markAt area i) refl
   where
-    one : 1 ≤ markAt area i → kidBytes k 1 area i ≡ bytesOf (child (markAt area i) (drop k (lowOfRow area i)))
-    one o = unfold kidBytes kidsOf kidEntries bytesOfAll in
-        (ap (λ ks. bytesOfAll (kidEntries k ks)) (kids-take 0 area i o) ∙ append-nil (bytesOf (child (markAt area i) (drop k (lowOfRow area i)))))
+    one : 1 ≤ markAt area i → branchBytes k 1 area i ≡ bytesOf (child (markAt area i) (drop k (lowOfRow area i)))
+    one o = unfold branchBytes branchesOf branchEntries bytesOfAll in
+        (ap (λ ks. bytesOfAll (branchEntries k ks)) (branches-take 0 area i o) ∙ append-nil (bytesOf (child (markAt area i) (drop k (lowOfRow area i)))))
 
-    go : (v : ℕ) → markAt area i ≡ v → kidBytes k 1 area i ≡ bytesOf (child (markAt area i) (drop k (lowOfRow area i)))
+    go : (v : ℕ) → markAt area i ≡ v → branchBytes k 1 area i ≡ bytesOf (child (markAt area i) (drop k (lowOfRow area i)))
     go zero e = absurd (h e)
     go (suc v) e = one (omega arith)
 
@@ -158,48 +157,3 @@ span m area f k i h s e a b = go (eqb i 0) refl (ltb (getD area (i * 128) 0) k) 
           inside = omega arith;
           bytes = ap₂ (λ x y. take (x - y) (drop y area)) d c ∙ suffix-is m area f k i h z (getD area (i * 128) 0) refl l;
         }
-
--- what holds before each turn of the loop over the rows
-pub record Emits (page₀ area : List ℕ) (from to k at : ℕ) (page : List ℕ) (t p : ℕ) : Type 0 where
-  pub in-range : t ≤ to
-  pub not-before : from ≤ t
-  pub size : length page ≡ length page₀
-  pub place : p + length (kidBytes k (to - t) area t) ≡ at + length (kidBytes k (to - from) area from)
-  pub so-far : put page p (kidBytes k (to - t) area t) ≡ put page₀ at (kidBytes k (to - from) area from)
-
-pub emits-first : (page area : List ℕ) (from to k at : ℕ) → from ≤ to → Emits page area from to k at page from at
-emits-first page area from to k at h = record { in-range = h; not-before = omega arith; size = refl; place = refl; so-far = refl }
-
-pub emits-room : (page₀ area : List ℕ) (from to k at : ℕ) (page : List ℕ) (t p : ℕ) → Emits page₀ area from to k at page t p → t < to
-    → p + length (kidBytes k 1 area t) ≤ at + length (kidBytes k (to - from) area from)
-emits-room page₀ area from to k at page t p e h =
-    let a = ap length (bytes-step k to area t h) ∙ length-append (kidBytes k 1 area t) (kidBytes k (to - (t + 1)) area (t + 1)) in
-    let b = e .place in
-    omega arith
-
-pub emits-next : (page₀ area : List ℕ) (from to k at : ℕ) (page : List ℕ) (t p : ℕ) → Emits page₀ area from to k at page t p → t < to
-    → at + length (kidBytes k (to - from) area from) ≤ length page₀
-    → (page′ : List ℕ) (p′ : ℕ) → page′ ≡ put page p (kidBytes k 1 area t) → p′ ≡ p + length (kidBytes k 1 area t)
-    → Emits page₀ area from to k at page′ (t + 1) p′
-emits-next page₀ area from to k at page t p e h r page′ p′ x y =
-    let a = ap length (bytes-step k to area t h) ∙ length-append (kidBytes k 1 area t) (kidBytes k (to - (t + 1)) area (t + 1)) in
-    let b = e .place in
-    let c = e .size in
-    rw (x, y)
-    (record {
-      in-range = omega arith;
-      not-before = let q = e .not-before in omega arith;
-      size = put-size page p (kidBytes k 1 area t) (omega arith) ∙ c;
-      place = omega arith;
-      so-far =
-          put-put page p (kidBytes k 1 area t) (kidBytes k (to - (t + 1)) area (t + 1)) (omega arith)
-          ∙ ap (put page p) (sym (bytes-step k to area t h)) ∙ e .so-far;
-    })
-
-pub emits-last : (page₀ area : List ℕ) (from to k at : ℕ) (page : List ℕ) (t p : ℕ) → Emits page₀ area from to k at page t p → to ≤ t
-    → (page ≡ put page₀ at (kidBytes k (to - from) area from)) × (p ≡ at + length (kidBytes k (to - from) area from))
-emits-last page₀ area from to k at page t p e h =
-    let d = bytes-done k to area t h in
-    let a = ap length d in
-    let b = e .place in
-    (sym (put-nil page p) ∙ ap (put page p) (sym d) ∙ e .so-far, omega arith)

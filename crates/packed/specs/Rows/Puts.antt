@@ -11,7 +11,7 @@ use lib.Dec.{ltb}
 use borrow.Author.Tests.{ltb-true, ltb-false}
 use Rattle.image.specs.Bytes.{u16}
 use Rattle.packed.specs.Rows.Area.{rowAt}
-use Rattle.packed.specs.Rows.Kids.{markAt}
+use Rattle.packed.specs.Rows.Branches.{markAt}
 
 -- a part that a store does not touch
 part-set : (l : List ℕ) (a n p v : ℕ) → (p < a) ⊎ (a + n ≤ p) → take n (drop a (set l p v)) ≡ take n (drop a l)

@@ -9,7 +9,7 @@ use lib.ListN.{length, getD}
 use lib.Dec.{eqb}
 use borrow.Author.Tests.{eqb-true, eqb-false}
 use Rattle.packed.specs.Rows.Area.{rowAt, RowsFit}
-use Rattle.packed.specs.Rows.Kids.{markAt, lowOfRow, kidAt, kidsOf, kids-take, kids-pass, low-length}
+use Rattle.packed.specs.Rows.Branches.{markAt, lowOfRow, branchAt, branchesOf, branches-take, branches-pass, low-length}
 use Rattle.packed.specs.Rows.Puts.{putMark, put-length, put-byte, mark-same, mark-other, row-stays}
 
 unfoldable pub clearMarks : ℕ → List ℕ → ℕ → List ℕ
@@ -84,36 +84,36 @@ clear-in (suc k) area i t r a b = go (eqb t i) refl (clear-in k (putMark area i 
     go false e ih = let n : t ≢ i = eqb-false t i e in ih (omega arith) (omega arith)
 
 -- marked rows of two areas that agree
-pub kids-agree : (k : ℕ) (a b : List ℕ) (i : ℕ) → ((t : ℕ) → i ≤ t → t < i + k → (markAt b t ≡ markAt a t) × (rowAt b t ≡ rowAt a t)) → kidsOf k b i ≡ kidsOf k a i
-unfolding kidsOf
-kids-agree zero a b i h = refl
-kids-agree (suc k) a b i h =
+pub branches-agree : (k : ℕ) (a b : List ℕ) (i : ℕ) → ((t : ℕ) → i ≤ t → t < i + k → (markAt b t ≡ markAt a t) × (rowAt b t ≡ rowAt a t)) → branchesOf k b i ≡ branchesOf k a i
+unfolding branchesOf
+branches-agree zero a b i h = refl
+branches-agree (suc k) a b i h =
     let x = h i (omega arith) (omega arith) in
-    rw (x .0, low-agree i (x .1), kids-agree k a b (suc i) (λ t p q. h t (omega arith) (omega arith)))
+    rw (x .0, low-agree i (x .1), branches-agree k a b (suc i) (λ t p q. h t (omega arith) (omega arith)))
   where
     low-agree : (t : ℕ) → rowAt b t ≡ rowAt a t → lowOfRow b t ≡ lowOfRow a t
     low-agree zero e = unfold lowOfRow in refl
     low-agree (suc t) e = unfold lowOfRow in ap (λ r. r .key) e
 
-pub kids-none : (k : ℕ) (a : List ℕ) (i : ℕ) → ((t : ℕ) → i ≤ t → t < i + k → markAt a t ≡ 0) → kidsOf k a i ≡ []
-kids-none zero a i h = unfold kidsOf in refl
-kids-none (suc k) a i h = kids-pass k a i (h i (omega arith) (omega arith)) ∙ kids-none k a (suc i) (λ t p q. h t (omega arith) (omega arith))
+pub branches-none : (k : ℕ) (a : List ℕ) (i : ℕ) → ((t : ℕ) → i ≤ t → t < i + k → markAt a t ≡ 0) → branchesOf k a i ≡ []
+branches-none zero a i h = unfold branchesOf in refl
+branches-none (suc k) a i h = branches-pass k a i (h i (omega arith) (omega arith)) ∙ branches-none k a (suc i) (λ t p q. h t (omega arith) (omega arith))
 
-pub kids-split : (k n : ℕ) (a : List ℕ) (i : ℕ) → kidsOf (k + n) a i ≡ kidsOf k a i ++ kidsOf n a (i + k)
-kids-split zero n a i =
+pub branches-split : (k n : ℕ) (a : List ℕ) (i : ℕ) → branchesOf (k + n) a i ≡ branchesOf k a i ++ branchesOf n a (i + k)
+branches-split zero n a i =
     let x : 0 + n ≡ n = omega arith in
     let y : i ≡ i + 0 = omega arith in
-    ap₂ (λ p q. kidsOf p a q) x y ∙ (unfold kidsOf in refl)
-kids-split (suc k) n a i =
+    ap₂ (λ p q. branchesOf p a q) x y ∙ (unfold branchesOf in refl)
+branches-split (suc k) n a i =
     let x : suc k + n ≡ suc (k + n) = omega arith in
     let y : suc i + k ≡ i + suc k = omega arith in
-    ap (λ p. kidsOf p a i) x ∙ by (markAt a i) refl (kids-split k n a (suc i) ∙ ap (λ q. kidsOf k a (suc i) ++ kidsOf n a q) y)
+    ap (λ p. branchesOf p a i) x ∙ by (markAt a i) refl (branches-split k n a (suc i) ∙ ap (λ q. branchesOf k a (suc i) ++ branchesOf n a q) y)
   where
-    by : (v : ℕ) → markAt a i ≡ v → kidsOf (k + n) a (suc i) ≡ kidsOf k a (suc i) ++ kidsOf n a (i + suc k)
-        → kidsOf (suc (k + n)) a i ≡ kidsOf (suc k) a i ++ kidsOf n a (i + suc k)
-    by zero e ih = kids-pass (k + n) a i e ∙ ih ∙ ap (λ l. l ++ kidsOf n a (i + suc k)) (sym (kids-pass k a i e))
+    by : (v : ℕ) → markAt a i ≡ v → branchesOf (k + n) a (suc i) ≡ branchesOf k a (suc i) ++ branchesOf n a (i + suc k)
+        → branchesOf (suc (k + n)) a i ≡ branchesOf (suc k) a i ++ branchesOf n a (i + suc k)
+    by zero e ih = branches-pass (k + n) a i e ∙ ih ∙ ap (λ l. l ++ branchesOf n a (i + suc k)) (sym (branches-pass k a i e))
     by (suc v) e ih =
-        kids-take (k + n) a i (omega arith) ∙ ap (λ l. kidAt a i ∷ l) ih ∙ ap (λ l. l ++ kidsOf n a (i + suc k)) (sym (kids-take k a i (omega arith)))
+        branches-take (k + n) a i (omega arith) ∙ ap (λ l. branchAt a i ∷ l) ih ∙ ap (λ l. l ++ branchesOf n a (i + suc k)) (sym (branches-take k a i (omega arith)))
 
 pub low-same : (a b : List ℕ) (t : ℕ) → rowAt b t ≡ rowAt a t → lowOfRow b t ≡ lowOfRow a t
 unfolding lowOfRow

@@ -2,7 +2,7 @@
 -- Relies on specs/NodeSteps.
 use native.Mathlib.Omega.{arith}
 use Rattle.packed.specs.Form.Tidy.{zerosOf}
-use Rattle.push.specs.NodeSteps.{node-in, node-short, apart, children-short, silent, rooms, small, stays-long, all-done, no-room}
+use Rattle.push.specs.NodeSteps.{node-in, node-short, apart, children-short, uncovered, rooms, small, stays-long, all-done, no-room}
 use borrow.Author.Needs.{needs}
 use Rattle.push.proofs.push_node.Statement.{statement}
 use Rattle.push.proofs.push_node.Tie as tie
@@ -51,7 +51,7 @@ same-length c = search needs
 
 returns : tie.Need-returns
 unfolding zerosOf
-returns c = silent (c .before .before .before .before .before .before .before .before .before .before .before .before .before .before .args .store .now) (c .before .before .before .before .before .before .before .before .before .before .before .before .before .before .args .num) (c .before .before .before .before .before .before .before .before .before .before .before .before .before .before .args .hi .now) (c .before .before .before .before .before .before .before .before .before .before .before .before .before .before .pre) (c .before .before .before .before .before .before .before .before .before .before .u16-at .result) (c .before .before .before .before .before .before .before .before .before .before .u16-at .ensures .0) _ (c .before .before .before .before .copy-at .ensures) _ (c .before .has-messages .ensures) (c .if1 .taken)
+returns c = uncovered (c .before .before .before .before .before .before .before .before .before .before .before .before .before .before .args .store .now) (c .before .before .before .before .before .before .before .before .before .before .before .before .before .before .args .num) (c .before .before .before .before .before .before .before .before .before .before .before .before .before .before .args .hi .now) (c .before .before .before .before .before .before .before .before .before .before .before .before .before .before .pre) (c .before .before .before .before .before .before .before .before .before .before .u16-at .result) (c .before .before .before .before .before .before .before .before .before .before .u16-at .ensures .0) _ (c .before .before .before .before .copy-at .ensures) _ (c .before .has-messages .ensures) (c .if1 .taken)
 
 slice-aggregate-all-fit : tie.Need-slice-aggregate-all-fit
 slice-aggregate-all-fit c = search needs

@@ -11,7 +11,7 @@ use Rattle.node.specs.Places.{part, Within}
 use Rattle.node.specs.Entries.{listed}
 use Rattle.node.specs.declared.Place.{Place}
 use Rattle.node.specs.declared.Cursor.{Cursor}
-use Rattle.node.specs.Search.Own.{kid, kidsE}
+use Rattle.node.specs.Search.Own.{branch, branchesAmong}
 use Rattle.push.specs.declared.high.Sought.{Sought}
 
 -- n is the length of h, which stands at the front of the buffer if it fits there
@@ -29,7 +29,7 @@ unfoldable pub Seen : Option (List ℕ) → Sought → List ℕ → Type 0
 Seen x (Sought.Found n) out = Kept x n out
 Seen x Sought.Missing out = x ≡ none
 
-pub record SeekKids (s : List ℕ) (level first : ℕ) (pivot : Place) (start : Cursor) : Type 0 where
-  pub reads : usableIn (nodesOf (length s)) (forestOf (λ j. treeAt level s j) (kid first (part s pivot) ∷ kidsE (listed s (start .at) (start .end)))) ≡ true
+pub record SeekBranches (s : List ℕ) (level first : ℕ) (pivot : Place) (start : Cursor) : Type 0 where
+  pub reads : usableIn (nodesOf (length s)) (forestOf (λ j. treeAt level s j) (branch first (part s pivot) ∷ branchesAmong (listed s (start .at) (start .end)))) ≡ true
   pub ends : start .end ≤ length s
   pub place : Within 0 (length s) pivot

@@ -13,7 +13,7 @@ use borrow.Author.Tests.{eq-eqb, ne-eqb}
 use Rattle.image.specs.Bytes.{u16, shared}
 use Rattle.image.specs.Entry.{Message}
 use Rattle.image.specs.Table.{Row}
-use Rattle.image.specs.Image.{Tree, interior, Forest, end, tree, Kid, nodesOf, nodeBytes, nodeEntries, pairsOf, orNone, leafOf, forestOf, treeAt, treeOf}
+use Rattle.image.specs.Image.{Tree, interior, Forest, end, tree, Branch, nodesOf, nodeBytes, nodeEntries, pairsOf, orNone, leafOf, forestOf, treeAt, treeOf}
 use Rattle.image.specs.Sound.{sound, highest}
 use Rattle.image.specs.Meaning.{highOf}
 use Rattle.octets.specs.Put.{put}
@@ -22,13 +22,13 @@ use Rattle.node.specs.Places.{part}
 use Rattle.node.specs.Entries.{listed}
 use Rattle.node.specs.declared.Place.{Place}
 use Rattle.node.specs.declared.Cursor.{Cursor}
-use Rattle.node.specs.Search.Own.{kid, kidsE}
+use Rattle.node.specs.Search.Own.{branch, branchesAmong}
 use Rattle.lookup.specs.Look.{listing, interior-at, inside-splits, part-rest}
 use Rattle.lookup.specs.Root.{root-is}
 use Rattle.live.specs.Walk.{NextChild}
-use Rattle.live.specs.WalkLaws.{kids-usable}
+use Rattle.live.specs.WalkLaws.{branches-usable}
 use Rattle.push.specs.Laws.High.{orElse, highHere, highIn}
-use Rattle.push.specs.High.Sought.{Held, Kept, Seen, SeekKids}
+use Rattle.push.specs.High.Sought.{Held, Kept, Seen, SeekBranches}
 use Rattle.push.specs.declared.high.Sought.{Sought}
 
 -- THE BUFFER
@@ -82,14 +82,14 @@ module _ (n level : ℕ) (s : List ℕ) (i : ℕ) (u : usable (nodesOf (length s
   unfolding lifts
   rest-is = ap (λ m. drop m hi) (sym ek)
 
-  by-node : (b : Bool) → eqb n i ≡ b → highHere n (treeAt level s i) lo hi ≡ cond b (some (drop k hi)) (highIn n (forestOf (λ j. treeAt (level - 1) s j) (kidsE (listing s i))) (drop k hi))
+  by-node : (b : Bool) → eqb n i ≡ b → highHere n (treeAt level s i) lo hi ≡ cond b (some (drop k hi)) (highIn n (forestOf (λ j. treeAt (level - 1) s j) (branchesAmong (listing s i))) (drop k hi))
   by-node b e =
       let m = interior-at s i level two u in
       let p = inside-splits (m .es) (m .x) (m .splits) in
-      let ks : kidsE (listing s i) ≡ m .x .kids = ap (λ es. kidsE es) (m .node .lists) ∙ p .kids in
+      let ks : branchesAmong (listing s i) ≡ m .x .branches = ap (λ es. branchesAmong es) (m .node .lists) ∙ p .branches in
       ap (λ t. highHere n t lo hi) (m .tree)
-      ∙ interior-high n i (forestOf (λ j. treeAt (level - 1) s j) (m .x .kids)) (m .x .messages) lo hi
-      ∙ ap₂ (λ c h. cond c (some h) (highIn n (forestOf (λ j. treeAt (level - 1) s j) (m .x .kids)) h)) e rest-is
+      ∙ interior-high n i (forestOf (λ j. treeAt (level - 1) s j) (m .x .branches)) (m .x .messages) lo hi
+      ∙ ap₂ (λ c h. cond c (some h) (highIn n (forestOf (λ j. treeAt (level - 1) s j) (m .x .branches)) h)) e rest-is
       ∙ ap (λ l. cond b (some (drop k hi)) (highIn n (forestOf (λ j. treeAt (level - 1) s j) l) (drop k hi))) (sym ks)
 
   pub node-found : i ≡ n → (r : ℕ) (out : List ℕ) → Held (take (length hi - k) (drop k hi)) r out → Seen (highHere n (treeAt level s i) lo hi) (Sought.Found r) out
@@ -98,38 +98,38 @@ module _ (n level : ℕ) (s : List ℕ) (i : ℕ) (u : usable (nodesOf (length s
       (by-node true (eq-eqb n i (sym e)) ∙ ap some (sym (part-rest k hi))) h
 
   module _ (e : i ≡ n → ⊥) (len : ℕ) (el : len ≡ u16 s (i * 1024)) where
-    kids-are : (ks : List Kid) → kidsE (listed s (i * 1024 + 8) (i * 1024 + 8 + len)) ≡ ks → kidsE (listing s i) ≡ ks
-    kids-are ks q = ap (λ m. kidsE (listed s (i * 1024 + 8) (i * 1024 + 8 + m))) (sym el) ∙ q
+    branches-are : (ks : List Branch) → branchesAmong (listed s (i * 1024 + 8) (i * 1024 + 8 + len)) ≡ ks → branchesAmong (listing s i) ≡ ks
+    branches-are ks q = ap (λ m. branchesAmong (listed s (i * 1024 + 8) (i * 1024 + 8 + m))) (sym el) ∙ q
 
-    no-kids : (under : ℕ → Tree) (h : List ℕ) → highIn n (forestOf under []) h ≡ none
+    no-branches : (under : ℕ → Tree) (h : List ℕ) → highIn n (forestOf under []) h ≡ none
     unfolding highIn forestOf
-    no-kids under h = refl
+    no-branches under h = refl
 
-    below : highHere n (treeAt level s i) lo hi ≡ highIn n (forestOf (λ j. treeAt (level - 1) s j) (kidsE (listing s i))) (drop k hi)
+    below : highHere n (treeAt level s i) lo hi ≡ highIn n (forestOf (λ j. treeAt (level - 1) s j) (branchesAmong (listing s i))) (drop k hi)
     below = by-node false (ne-eqb n i (λ q. e (sym q)))
 
-    pub node-bare : (out : List ℕ) → kidsE (listed s (i * 1024 + 8) (i * 1024 + 8 + len)) ≡ [] → Seen (highHere n (treeAt level s i) lo hi) Sought.Missing out
+    pub node-bare : (out : List ℕ) → branchesAmong (listed s (i * 1024 + 8) (i * 1024 + 8 + len)) ≡ [] → Seen (highHere n (treeAt level s i) lo hi) Sought.Missing out
     node-bare out q =
         seen-missing _ out
-        (below ∙ ap (λ ks. highIn n (forestOf (λ j. treeAt (level - 1) s j) ks) (drop k hi)) (kids-are [] q) ∙ no-kids (λ j. treeAt (level - 1) s j) (drop k hi))
+        (below ∙ ap (λ ks. highIn n (forestOf (λ j. treeAt (level - 1) s j) ks) (drop k hi)) (branches-are [] q) ∙ no-branches (λ j. treeAt (level - 1) s j) (drop k hi))
 
     module _ (first : ℕ) (pivot : Place) (next : Cursor) (nc : NextChild s (i * 1024 + 8) (i * 1024 + 8 + len) first pivot next) where
-      abbrev kids : List Kid
-      kids = kid first (part s pivot) ∷ kidsE (listed s (next .at) (next .end))
+      abbrev branches : List Branch
+      branches = branch first (part s pivot) ∷ branchesAmong (listed s (next .at) (next .end))
 
-      pub kids-ready : next .end ≤ length s → SeekKids s (level - 1) first pivot next
-      kids-ready f =
+      pub branches-ready : next .end ≤ length s → SeekBranches s (level - 1) first pivot next
+      branches-ready f =
           record {
-            reads = ap (λ ks. usableIn (nodesOf (length s)) (forestOf (λ j. treeAt (level - 1) s j) ks)) (sym (kids-are kids (nc .lists))) ∙ kids-usable s i level u two;
+            reads = ap (λ ks. usableIn (nodesOf (length s)) (forestOf (λ j. treeAt (level - 1) s j) ks)) (sym (branches-are branches (nc .lists))) ∙ branches-usable s i level u two;
             ends = f;
             place = nc .place;
           }
 
-      pub node-above : (r : Sought) (out : List ℕ) → Seen (highIn n (forestOf (λ j. treeAt (level - 1) s j) kids) (take (length hi - k) (drop k hi))) r out
+      pub node-above : (r : Sought) (out : List ℕ) → Seen (highIn n (forestOf (λ j. treeAt (level - 1) s j) branches) (take (length hi - k) (drop k hi))) r out
           → Seen (highHere n (treeAt level s i) lo hi) r out
       node-above r out h =
           seen-as _ _ r out
-          (ap₂ (λ ks q. highIn n (forestOf (λ j. treeAt (level - 1) s j) ks) q) (sym (kids-are kids (nc .lists))) (part-rest k hi) ∙ sym below) h
+          (ap₂ (λ ks q. highIn n (forestOf (λ j. treeAt (level - 1) s j) ks) q) (sym (branches-are branches (nc .lists))) (part-rest k hi) ∙ sym below) h
 
 -- CHILDREN, ONE AT A TIME
 or-none : (x : Option (List ℕ)) → orElse x none ≡ x
@@ -137,28 +137,28 @@ unfolding orElse
 or-none none = refl
 or-none (some h) = refl
 
-module _ (n : ℕ) (under : ℕ → Tree) (hi : List ℕ) (i : ℕ) (low : List ℕ) (ks : List Kid) (X : Option (List ℕ)) (inv : highIn n (forestOf under (kid i low ∷ ks)) hi ≡ X) where
+module _ (n : ℕ) (under : ℕ → Tree) (hi : List ℕ) (i : ℕ) (low : List ℕ) (ks : List Branch) (X : Option (List ℕ)) (inv : highIn n (forestOf under (branch i low ∷ ks)) hi ≡ X) where
   last-is : ks ≡ [] → highHere n (under i) low hi ≡ X
   unfolding highIn forestOf highOf
-  last-is e = sym (or-none (highHere n (under i) low hi)) ∙ ap (λ l. highIn n (forestOf under (kid i low ∷ l)) hi) (sym e) ∙ inv
+  last-is e = sym (or-none (highHere n (under i) low hi)) ∙ ap (λ l. highIn n (forestOf under (branch i low ∷ l)) hi) (sym e) ∙ inv
 
   pub at-last : (r : Sought) (out : List ℕ) → ks ≡ [] → Seen (highHere n (under i) low hi) r out → Seen X r out
   at-last r out e h = seen-as _ _ r out (last-is e) h
 
-  module _ (k : ℕ) (p : List ℕ) (us : List Kid) (e : ks ≡ kid k p ∷ us) where
-    more-is : orElse (highHere n (under i) low p) (highIn n (forestOf under (kid k p ∷ us)) hi) ≡ X
+  module _ (k : ℕ) (p : List ℕ) (us : List Branch) (e : ks ≡ branch k p ∷ us) where
+    more-is : orElse (highHere n (under i) low p) (highIn n (forestOf under (branch k p ∷ us)) hi) ≡ X
     unfolding highIn forestOf highOf
-    more-is = ap (λ l. highIn n (forestOf under (kid i low ∷ l)) hi) (sym e) ∙ inv
+    more-is = ap (λ l. highIn n (forestOf under (branch i low ∷ l)) hi) (sym e) ∙ inv
 
-    pub not-here : (r : Sought) (out : List ℕ) → Seen (highHere n (under i) low p) r out → r ≡ Sought.Missing → highIn n (forestOf under (kid k p ∷ us)) hi ≡ X
+    pub not-here : (r : Sought) (out : List ℕ) → Seen (highHere n (under i) low p) r out → r ≡ Sought.Missing → highIn n (forestOf under (branch k p ∷ us)) hi ≡ X
     unfolding orElse
-    not-here r out h q = ap (λ x. orElse x (highIn n (forestOf under (kid k p ∷ us)) hi)) (sym (missing-is _ r out h q)) ∙ more-is
+    not-here r out h q = ap (λ x. orElse x (highIn n (forestOf under (branch k p ∷ us)) hi)) (sym (missing-is _ r out h q)) ∙ more-is
 
     found-here : (r : Sought) (m : ℕ) (out : List ℕ) → r ≡ Sought.Found m → Kept (highHere n (under i) low p) m out → Seen X r out
     unfolding orElse
     found-here r m out q w =
         subst (λ z. Seen X z out) (sym q)
-        (seen-found X (w .high) m out (sym (ap (λ x. orElse x (highIn n (forestOf under (kid k p ∷ us)) hi)) (sym (w .is)) ∙ more-is)) (w .held))
+        (seen-found X (w .high) m out (sym (ap (λ x. orElse x (highIn n (forestOf under (branch k p ∷ us)) hi)) (sym (w .is)) ∙ more-is)) (w .held))
 
     pub is-here : (r : Sought) (m : ℕ) (out : List ℕ) → Seen (highHere n (under i) low p) r out → r ≡ Sought.Found m → Seen X r out
     is-here r m out h q = found-here r m out q (found-is _ r m out h q)

@@ -10,14 +10,14 @@ use Rattle.image.specs.Bytes.{begins, shared}
 use Rattle.image.specs.Path.{owns}
 use Rattle.image.specs.Entry.{Message, puts, drops, clears, Entry, pair, child, message}
 use Rattle.image.specs.Table.{Row}
-use Rattle.image.specs.Image.{Tree, leaf, interior, Forest, end, tree, Kid, forestOf}
-use Rattle.image.specs.Meaning.{highOf, apply, applyAll}
+use Rattle.image.specs.Image.{Tree, leaf, interior, Forest, end, tree, Branch, forestOf}
+use Rattle.image.specs.Meaning.{apply, applyAll}
 use Rattle.octets.specs.Order.{before-append, begins-append, shared-append}
 use Rattle.laws.specs.Encode.{bytesOf, bytesOfAll}
 use Rattle.laws.specs.PushDown.{taken, touches, lowered, sent, raised}
 use Rattle.laws.specs.Upkeep.Size.{messageEntries}
 use Rattle.laws.specs.Upkeep.Room.{sentAll, sentEach}
-use Rattle.laws.specs.Reading.Relative.{kidHigh}
+use Rattle.laws.specs.Reading.Relative.{branchHigh, high-joined}
 use Rattle.push.specs.Laws.Arriving.{waiting, loweredBy, arriving, brought, broughtAll}
 
 -- WITH THE LIFTED PREFIX IN FRONT OF EVERYTHING
@@ -79,21 +79,16 @@ leaf-taken [] i rs = refl
 leaf-taken (n ∷ ns) i rs = leaf-taken ns i (apply [] n rs)
 
 -- ALL CHILDREN
-unfoldable pub takenEach : List Message → (ℕ → Tree) → List Kid → List ℕ → Forest
+unfoldable pub takenEach : List Message → (ℕ → Tree) → List Branch → List ℕ → Forest
 takenEach ms under [] h = end
-takenEach ms under (k ∷ ks) h = tree (k .pivot) (takenAll (arriving ms (k .pivot) (kidHigh h ks)) (under (k .number))) (takenEach ms under ks h)
+takenEach ms under (k ∷ ks) h = tree (k .pivot) (takenAll (arriving ms (k .pivot) (branchHigh h ks)) (under (k .number))) (takenEach ms under ks h)
 
-high-under : (under : ℕ → Tree) (l h : List ℕ) (ks : List Kid) → highOf l (l ++ h) (forestOf under ks) ≡ l ++ kidHigh h ks
-unfolding highOf forestOf kidHigh
-high-under under l h [] = refl
-high-under under l h (k ∷ ks) = refl
-
-pub each-under : (ms : List Message) (under : ℕ → Tree) (ks : List Kid) (l h : List ℕ) → sentEach ms (forestOf under ks) l (l ++ h) ≡ takenEach ms under ks h
+pub each-under : (ms : List Message) (under : ℕ → Tree) (ks : List Branch) (l h : List ℕ) → sentEach ms (forestOf under ks) l (l ++ h) ≡ takenEach ms under ks h
 unfolding sentEach forestOf takenEach
 each-under ms under [] l h = refl
 each-under ms under (k ∷ ks) l h =
     ap₂ (λ t f. tree (k .pivot) t f)
-    (ap (λ z. sentAll l ms (under (k .number)) (l ++ k .pivot) z) (high-under under l h ks) ∙ all-under l (k .pivot) (kidHigh h ks) ms (under (k .number)))
+    (ap (λ z. sentAll l ms (under (k .number)) (l ++ k .pivot) z) (high-joined under l h ks) ∙ all-under l (k .pivot) (branchHigh h ks) ms (under (k .number)))
     (each-under ms under ks l h)
 
 -- THE BYTES

@@ -11,7 +11,7 @@ use lib.Dec.{ltb, leb, eqb}
 use borrow.Author.Tests.{leb-true, le-leb}
 use Rattle.image.specs.Bytes.{u16, same, before, begins, shared}
 use Rattle.image.specs.Entry.{Message, puts, drops, clears, Entry, pair, child, message, entryOf}
-use Rattle.image.specs.Image.{Kid, nodeBytes, nodesOf}
+use Rattle.image.specs.Image.{Branch, nodeBytes, nodesOf}
 use Rattle.image.specs.Sound.{once}
 use Rattle.octets.specs.Order.{and-left, before-asym}
 use Rattle.laws.specs.Encode.{bytesOf, bytesOfAll, pair-size}
@@ -19,14 +19,14 @@ use Rattle.laws.specs.Rising.{both}
 use Rattle.laws.specs.PushDown.{touches}
 use Rattle.laws.specs.WriteNode.{write-length, write-same, write-other}
 use Rattle.laws.specs.Page.{page, page-length, page-0}
-use Rattle.laws.specs.Reading.Relative.{kidHigh}
+use Rattle.laws.specs.Reading.Relative.{branchHigh}
 use Rattle.laws.specs.Upkeep.Size.{sizeOf, size-cons, size-nil, size-append, put-size}
 use Rattle.laws.specs.Upkeep.Reading.{entry-good}
 use Rattle.node.specs.Entries.{consThen, readSome, listOf, listed}
 use Rattle.lookup.specs.Look.{listing, count-is}
 use Rattle.push.specs.Laws.Arriving.{loweredBy, brought, broughtAll}
 use Rattle.push.specs.Laws.Leaves.{kept, pairsAfter, applied, leafTakesOne, leafTakes}
-use Rattle.push.specs.Laws.Written.{bodyOf, childTakes, interiorTakes, hasRoom, allHaveRoom, kidNumbers}
+use Rattle.push.specs.Laws.Written.{bodyOf, childTakes, interiorTakes, hasRoom, allHaveRoom, branchNumbers}
 use Rattle.push.specs.Laws.Only.{Only, room-inside, room-fits, body-short, interior-only, rooms-stay, once-first, room-first, room-later}
 
 -- THE SIZE OF WHAT STAYS
@@ -201,8 +201,8 @@ child-only es i lo hi s r = go (eqb (u16 s (i * 1024 + 2)) 1)
     go false = interior-only es i lo hi s r
 
 -- the rest of the children after the first took its messages
-pub rooms-on : (es : List Entry) (k : Kid) (ks : List Kid) (hi s : List ℕ) → once (kidNumbers (k ∷ ks)) ≡ true → allHaveRoom es (k ∷ ks) hi s ≡ true
-    → allHaveRoom es ks hi (childTakes es (k .number) (k .pivot) (kidHigh hi ks) s) ≡ true
+pub rooms-on : (es : List Entry) (k : Branch) (ks : List Branch) (hi s : List ℕ) → once (branchNumbers (k ∷ ks)) ≡ true → allHaveRoom es (k ∷ ks) hi s ≡ true
+    → allHaveRoom es ks hi (childTakes es (k .number) (k .pivot) (branchHigh hi ks) s) ≡ true
 rooms-on es k ks hi s o e =
-    rooms-stay es ks hi s (childTakes es (k .number) (k .pivot) (kidHigh hi ks) s) (k .number)
-    (child-only es (k .number) (k .pivot) (kidHigh hi ks) s (room-first es k ks hi s e)) (once-first k ks o .0) (room-later es k ks hi s e)
+    rooms-stay es ks hi s (childTakes es (k .number) (k .pivot) (branchHigh hi ks) s) (k .number)
+    (child-only es (k .number) (k .pivot) (branchHigh hi ks) s (room-first es k ks hi s e)) (once-first k ks o .0) (room-later es k ks hi s e)

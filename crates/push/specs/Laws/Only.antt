@@ -10,16 +10,16 @@ use lib.Dec.{ltb, leb, eqb}
 use borrow.Author.Tests.{leb-true, eqb-false}
 use Rattle.image.specs.Bytes.{u16}
 use Rattle.image.specs.Entry.{Entry}
-use Rattle.image.specs.Image.{Kid, nodeBytes, nodesOf}
+use Rattle.image.specs.Image.{Branch, nodeBytes, nodesOf}
 use Rattle.image.specs.Sound.{isIn, once}
 use Rattle.octets.specs.Order.{and-left, and-right, not-true, or-none-right, or-none-left}
 use Rattle.laws.specs.Rising.{both}
 use Rattle.laws.specs.WriteNode.{write-length, write-same, write-other}
 use Rattle.laws.specs.Page.{page, page-length}
-use Rattle.laws.specs.Reading.Relative.{kidHigh}
+use Rattle.laws.specs.Reading.Relative.{branchHigh}
 use Rattle.lookup.specs.Look.{below-length, count-is}
 use Rattle.push.specs.Laws.Arriving.{broughtAll}
-use Rattle.push.specs.Laws.Written.{bodyOf, lengthened, interiorTakes, hasRoom, allHaveRoom, kidNumbers}
+use Rattle.push.specs.Laws.Written.{bodyOf, lengthened, interiorTakes, hasRoom, allHaveRoom, branchNumbers}
 
 -- only node i differs
 pub record Only (s s′ : List ℕ) (i : ℕ) : Type 0 where
@@ -74,28 +74,28 @@ unfolding hasRoom
 room-stays es j lo hi s s′ i o n e =
     ap₂ (λ a b. ltb j (nodesOf a) && leb (b + length (broughtAll es lo hi)) 1016) (o .size) (size-stays s s′ i j o n (room-inside es j lo hi s e)) ∙ e
 
-no-kid : (i : ℕ) (k : Kid) (ks : List Kid) → isIn i (kidNumbers (k ∷ ks)) ≡ false → (k .number ≡ i → ⊥) × (isIn i (kidNumbers ks) ≡ false)
-unfolding kidNumbers isIn
-no-kid i k ks e =
-    (λ q. eqb-false i (k .number) (or-none-left (eqb i (k .number)) (isIn i (kidNumbers ks)) e) (sym q), or-none-right (eqb i (k .number)) (isIn i (kidNumbers ks)) e)
+no-branch : (i : ℕ) (k : Branch) (ks : List Branch) → isIn i (branchNumbers (k ∷ ks)) ≡ false → (k .number ≡ i → ⊥) × (isIn i (branchNumbers ks) ≡ false)
+unfolding branchNumbers isIn
+no-branch i k ks e =
+    (λ q. eqb-false i (k .number) (or-none-left (eqb i (k .number)) (isIn i (branchNumbers ks)) e) (sym q), or-none-right (eqb i (k .number)) (isIn i (branchNumbers ks)) e)
 
-pub rooms-stay : (es : List Entry) (ks : List Kid) (hi s s′ : List ℕ) (i : ℕ) → Only s s′ i → isIn i (kidNumbers ks) ≡ false
+pub rooms-stay : (es : List Entry) (ks : List Branch) (hi s s′ : List ℕ) (i : ℕ) → Only s s′ i → isIn i (branchNumbers ks) ≡ false
     → allHaveRoom es ks hi s ≡ true → allHaveRoom es ks hi s′ ≡ true
 unfolding allHaveRoom
 rooms-stay es [] hi s s′ i o n e = refl
 rooms-stay es (k ∷ ks) hi s s′ i o n e =
-    both (room-stays es (k .number) (k .pivot) (kidHigh hi ks) s s′ i o (no-kid i k ks n .0) (and-left _ _ e))
-    (rooms-stay es ks hi s s′ i o (no-kid i k ks n .1) (and-right (hasRoom es (k .number) (k .pivot) (kidHigh hi ks) s) _ e))
+    both (room-stays es (k .number) (k .pivot) (branchHigh hi ks) s s′ i o (no-branch i k ks n .0) (and-left _ _ e))
+    (rooms-stay es ks hi s s′ i o (no-branch i k ks n .1) (and-right (hasRoom es (k .number) (k .pivot) (branchHigh hi ks) s) _ e))
 
 -- ONE CHILD AFTER ANOTHER
-pub once-first : (k : Kid) (ks : List Kid) → once (kidNumbers (k ∷ ks)) ≡ true → (isIn (k .number) (kidNumbers ks) ≡ false) × (once (kidNumbers ks) ≡ true)
-unfolding kidNumbers once
-once-first k ks e = (not-true (isIn (k .number) (kidNumbers ks)) (and-left _ _ e), and-right (not (isIn (k .number) (kidNumbers ks))) _ e)
+pub once-first : (k : Branch) (ks : List Branch) → once (branchNumbers (k ∷ ks)) ≡ true → (isIn (k .number) (branchNumbers ks) ≡ false) × (once (branchNumbers ks) ≡ true)
+unfolding branchNumbers once
+once-first k ks e = (not-true (isIn (k .number) (branchNumbers ks)) (and-left _ _ e), and-right (not (isIn (k .number) (branchNumbers ks))) _ e)
 
-pub room-first : (es : List Entry) (k : Kid) (ks : List Kid) (hi s : List ℕ) → allHaveRoom es (k ∷ ks) hi s ≡ true → hasRoom es (k .number) (k .pivot) (kidHigh hi ks) s ≡ true
+pub room-first : (es : List Entry) (k : Branch) (ks : List Branch) (hi s : List ℕ) → allHaveRoom es (k ∷ ks) hi s ≡ true → hasRoom es (k .number) (k .pivot) (branchHigh hi ks) s ≡ true
 unfolding allHaveRoom
 room-first es k ks hi s e = and-left _ _ e
 
-pub room-later : (es : List Entry) (k : Kid) (ks : List Kid) (hi s : List ℕ) → allHaveRoom es (k ∷ ks) hi s ≡ true → allHaveRoom es ks hi s ≡ true
+pub room-later : (es : List Entry) (k : Branch) (ks : List Branch) (hi s : List ℕ) → allHaveRoom es (k ∷ ks) hi s ≡ true → allHaveRoom es ks hi s ≡ true
 unfolding allHaveRoom
-room-later es k ks hi s e = and-right (hasRoom es (k .number) (k .pivot) (kidHigh hi ks) s) _ e
+room-later es k ks hi s e = and-right (hasRoom es (k .number) (k .pivot) (branchHigh hi ks) s) _ e

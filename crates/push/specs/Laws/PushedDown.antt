@@ -11,7 +11,7 @@ use lib.Dec.{leb, eqb}
 use borrow.Author.Tests.{eqb-false, eq-eqb, ne-eqb, leb-true, leb-false, ltb-true, lt-ltb}
 use Rattle.image.specs.Bytes.{u16, shared}
 use Rattle.image.specs.Entry.{Message, Entry, entriesOf}
-use Rattle.image.specs.Image.{unread, leaf, interior, Forest, end, tree, Kid, Inside, entryBytes, nodeBytes, nodeEntries, insideOf, orNone, forestOf, interiorOf, treeAt, treeOf, nodesOf, wholeNodes, headerOf}
+use Rattle.image.specs.Image.{unread, leaf, interior, Forest, end, tree, Branch, Inside, entryBytes, nodeBytes, nodeEntries, insideOf, orNone, forestOf, interiorOf, treeAt, treeOf, nodesOf, wholeNodes, headerOf}
 use Rattle.image.specs.Sound.{sound, soundTree, soundForest, tableOf, numbers, numbersIn, isIn, once, inRange, lowest, highest}
 use Rattle.image.specs.Upkeep.{Reachable, reachable, reachableAt, reachableNodes}
 use Rattle.image.specs.Calls.{flush}
@@ -23,7 +23,7 @@ use Rattle.laws.specs.Frame.{Keeps, or-left, or-right}
 use Rattle.laws.specs.WriteNode.{write-length, write-same, write-other}
 use Rattle.laws.specs.Page.{page, page-length, number-read}
 use Rattle.octets.specs.Beginnings.{shared-right}
-use Rattle.laws.specs.Reading.Relative.{kidHigh}
+use Rattle.laws.specs.Reading.Relative.{branchHigh}
 use Rattle.laws.specs.Upkeep.Sublists.{Sub, once-sub, sub-in}
 use Rattle.laws.specs.Upkeep.Merge.{tall, tallIn}
 use Rattle.laws.specs.Upkeep.Size.{messageEntries, sizeOf, size-append}
@@ -31,7 +31,7 @@ use Rattle.laws.specs.Upkeep.Join.{heads}
 use Rattle.laws.specs.Upkeep.Healed.{place-test, goodPlace, places-good}
 use Rattle.laws.specs.Upkeep.Flush.{pushedAll, flushedNode, flush-sane, flushedTree}
 use Rattle.laws.specs.Upkeep.Room.{sentEach, pushed-each}
-use Rattle.laws.specs.Upkeep.Reading.{kidEntries, inside-entries, node-good}
+use Rattle.laws.specs.Upkeep.Reading.{branchEntries, inside-entries, node-good}
 use Rattle.laws.specs.Upkeep.Bridge.{place-sub, image-tall, image-tree, image-mends}
 use Rattle.laws.specs.Upkeep.HealImage.{place-tree}
 use Rattle.laws.specs.Upkeep.HealWrite.{range-of, whole-fits}
@@ -39,15 +39,15 @@ use Rattle.laws.specs.Upkeep.FlushImage.{deepIn, heads-in, deep-in, deep-apart,
 use Rattle.laws.specs.Upkeep.FlushWrite.{heads-sub}
 use Rattle.laws.specs.Upkeep.Rules.{flush-rule}
 use Rattle.node.specs.Entries.{listed, listOf, all-listed}
-use Rattle.node.specs.Search.Own.{kidsE}
+use Rattle.node.specs.Search.Own.{branchesAmong}
 use Rattle.lookup.specs.Look.{listing, count-is, bytes-is, inside-splits}
 use Rattle.push.specs.Laws.Arriving.{waiting}
 use Rattle.push.specs.Laws.ArrivingLaws.{takenEach, each-under}
 use Rattle.push.specs.Laws.High.{highHere}
 use Rattle.push.specs.Laws.HighLaws.{ownHigh, some-here}
-use Rattle.push.specs.Laws.Written.{childTakes, eachTakes, hasRoom, allHaveRoom, kidNumbers, smallNumbers, childBytes, emptied}
+use Rattle.push.specs.Laws.Written.{childTakes, eachTakes, hasRoom, allHaveRoom, branchNumbers, smallNumbers, childBytes, emptied}
 use Rattle.push.specs.Laws.ReadBack.{page-reads, Laid, laid, inside-back, child-bytes}
-use Rattle.push.specs.Laws.TakesLaws.{Arrived, each-size, each-other, each-arrives, arrived-on, sortedIn, sound-sorted, kids-take, level-at}
+use Rattle.push.specs.Laws.TakesLaws.{Arrived, each-size, each-other, each-arrives, arrived-on, sortedIn, sound-sorted, branches-take, level-at}
 use Rattle.laws.specs.ButLive.{sound-parts}
 
 -- WHAT A FLUSH LEAVES
@@ -63,7 +63,7 @@ pub record NodeIs (l : ℕ) (s : List ℕ) (n : ℕ) (f : Forest) (ms : List Mes
   pub y : Inside
   pub entries : nodeEntries 0x0002 (suc (suc l)) (nodeBytes s n) ≡ some es
   pub splits : insideOf es ≡ some y
-  pub kids : forestOf (λ j. treeAt (suc l) s j) (y .kids) ≡ f
+  pub branches : forestOf (λ j. treeAt (suc l) s j) (y .branches) ≡ f
   pub messages : y .messages ≡ ms
 
 pub node-is : (l : ℕ) (s : List ℕ) (n : ℕ) (f : Forest) (ms : List Message) → treeAt (suc (suc l)) s n ≡ interior n f ms → NodeIs l s n f ms
@@ -74,10 +74,10 @@ node-is l s n f ms e = go (nodeEntries 0x0002 (suc (suc l)) (nodeBytes s n)) ref
         → interiorOf (λ j. treeAt (suc l) s j) n w ≡ interior n f ms → NodeIs l s n f ms
     inner es p none q r = let r2 : unread n ≡ interior n f ms = unfold interiorOf in r in let z : _≡_ {A = ℕ} 0 1 = cc in absurd (omega arith)
     inner es p (some y) q r =
-        let r2 : interior n (forestOf (λ j. treeAt (suc l) s j) (y .kids)) (y .messages) ≡ interior n f ms = unfold interiorOf in r in
-        let a : forestOf (λ j. treeAt (suc l) s j) (y .kids) ≡ f = cc in
+        let r2 : interior n (forestOf (λ j. treeAt (suc l) s j) (y .branches)) (y .messages) ≡ interior n f ms = unfold interiorOf in r in
+        let a : forestOf (λ j. treeAt (suc l) s j) (y .branches) ≡ f = cc in
         let b : y .messages ≡ ms = cc in
-        record { es = es; y = y; entries = p; splits = q; kids = a; messages = b }
+        record { es = es; y = y; entries = p; splits = q; branches = a; messages = b }
 
     go : (o : Option (List Entry)) → nodeEntries 0x0002 (suc (suc l)) (nodeBytes s n) ≡ o → interiorOf (λ j. treeAt (suc l) s j) n (orNone insideOf o) ≡ interior n f ms → NodeIs l s n f ms
     go none p r = let r2 : unread n ≡ interior n f ms = unfold interiorOf orNone in r in let z : _≡_ {A = ℕ} 0 1 = cc in absurd (omega arith)
@@ -89,27 +89,27 @@ unfolding waiting messageEntries
 waiting-messages [] = refl
 waiting-messages (m ∷ ms) = ap (λ l. m ∷ l) (waiting-messages ms)
 
-waiting-kids : (ks : List Kid) (es : List Entry) → waiting (kidEntries ks ++ es) ≡ waiting es
-unfolding waiting kidEntries
-waiting-kids [] es = refl
-waiting-kids (k ∷ ks) es = waiting-kids ks es
+waiting-branches : (ks : List Branch) (es : List Entry) → waiting (branchEntries ks ++ es) ≡ waiting es
+unfolding waiting branchEntries
+waiting-branches [] es = refl
+waiting-branches (k ∷ ks) es = waiting-branches ks es
 
 pub waiting-inside : (es : List Entry) (y : Inside) → insideOf es ≡ some y → waiting es ≡ y .messages
-waiting-inside es y e = ap waiting (inside-entries es y e) ∙ waiting-kids (y .kids) (messageEntries (y .messages)) ∙ waiting-messages (y .messages)
+waiting-inside es y e = ap waiting (inside-entries es y e) ∙ waiting-branches (y .branches) (messageEntries (y .messages)) ∙ waiting-messages (y .messages)
 
 -- the numbers of the children
-pub kid-heads : (l : ℕ) (s : List ℕ) (ks : List Kid) → heads (forestOf (λ j. treeAt l s j) ks) ≡ kidNumbers ks
-unfolding heads forestOf kidNumbers
-kid-heads l s [] = refl
-kid-heads l s (k ∷ ks) = ap₂ (λ a b. a ∷ b) (number-read l s (k .number)) (kid-heads l s ks)
+pub branch-heads : (l : ℕ) (s : List ℕ) (ks : List Branch) → heads (forestOf (λ j. treeAt l s j) ks) ≡ branchNumbers ks
+unfolding heads forestOf branchNumbers
+branch-heads l s [] = refl
+branch-heads l s (k ∷ ks) = ap₂ (λ a b. a ∷ b) (number-read l s (k .number)) (branch-heads l s ks)
 
 -- children that have room have small numbers
-pub small-kids : (es : List Entry) (ks : List Kid) (h s : List ℕ) → nodesOf (length s) ≤ 1024 → allHaveRoom es ks h s ≡ true → smallNumbers ks ≡ true
+pub small-branches : (es : List Entry) (ks : List Branch) (h s : List ℕ) → nodesOf (length s) ≤ 1024 → allHaveRoom es ks h s ≡ true → smallNumbers ks ≡ true
 unfolding allHaveRoom hasRoom smallNumbers
-small-kids es [] h s w e = refl
-small-kids es (k ∷ ks) h s w e =
+small-branches es [] h s w e = refl
+small-branches es (k ∷ ks) h s w e =
     let a : k .number < nodesOf (length s) = ltb-true (k .number) (nodesOf (length s)) (and-left _ _ (and-left _ _ e)) in
-    both (lt-ltb (k .number) 65536 (omega arith)) (small-kids es ks h s w (and-right (hasRoom es (k .number) (k .pivot) (kidHigh h ks) s) _ e))
+    both (lt-ltb (k .number) 65536 (omega arith)) (small-branches es ks h s w (and-right (hasRoom es (k .number) (k .pivot) (branchHigh h ks) s) _ e))
 
 pub few-nodes : (len : ℕ) → wholeNodes len ≡ true → nodesOf len ≤ 1024
 unfolding wholeNodes
@@ -146,16 +146,16 @@ module _ (s : List ℕ) (n : ℕ) (x : Reachable) (e : sound s ≡ true) (p : re
   pub whole-range : inRange (nodesOf (length s)) (numbers (treeOf s)) ≡ true
   whole-range = sound-parts s e .range
 
-  pub kids-high : tallIn (x .children) (x .level - 1) ≡ true
+  pub branches-high : tallIn (x .children) (x .level - 1) ≡ true
   unfolding goodPlace
-  kids-high =
+  branches-high =
       and-right (soundForest (x .children) (shared (x .low) (x .high)) (x .low) (x .high)) _
       (place-test goodPlace n (reachable (treeOf s) (headerOf s .levels) lowest highest) x
       (places-good (treeOf s) (headerOf s .levels) lowest highest whole-sound (image-tall s whole-sound)) at-place)
 
-  kids-sorted : sortedIn (x .children) ≡ true
+  branches-sorted : sortedIn (x .children) ≡ true
   unfolding goodPlace
-  kids-sorted =
+  branches-sorted =
       sound-sorted (x .children) (shared (x .low) (x .high)) (x .low) (x .high)
       (and-left (soundForest (x .children) (shared (x .low) (x .high)) (x .low) (x .high)) _
       (place-test goodPlace n (reachable (treeOf s) (headerOf s .levels) lowest highest) x
@@ -169,7 +169,7 @@ module _ (s : List ℕ) (n : ℕ) (x : Reachable) (e : sound s ≡ true) (p : re
       go false q =
           let low : x .level < 2 = under-two (x .level) q in
           let z : x .level - 1 ≡ 0 = omega arith in
-          absurd (tall-zero (x .children) c (ap (tallIn (x .children)) (sym z) ∙ kids-high))
+          absurd (tall-zero (x .children) c (ap (tallIn (x .children)) (sym z) ∙ branches-high))
 
   abbrev pub l : ℕ
   l = x .level - 2
@@ -191,9 +191,9 @@ module _ (s : List ℕ) (n : ℕ) (x : Reachable) (e : sound s ≡ true) (p : re
   pub sub-once : once (n ∷ numbersIn (x .children)) ≡ true
   sub-once = once-sub sub whole-once
 
-  pub kids-apart : once (numbersIn (x .children)) ≡ true
+  pub branches-apart : once (numbersIn (x .children)) ≡ true
   unfolding once
-  kids-apart = and-right (not (isIn n (numbersIn (x .children)))) _ sub-once
+  branches-apart = and-right (not (isIn n (numbersIn (x .children)))) _ sub-once
 
   pub n-away : isIn n (numbersIn (x .children)) ≡ false
   unfolding once
@@ -222,41 +222,41 @@ module _ (s : List ℕ) (n : ℕ) (x : Reachable) (e : sound s ≡ true) (p : re
   unfolding listed
   lists = ap (λ b. listOf b) (sym (bytes-is s n inside short)) ∙ all-listed (entryBytes (nodeBytes s n)) (node .es) (laid-n .reads)
 
-  pub kids-are : kidsE (listing s n) ≡ node .y .kids
-  kids-are = ap kidsE lists ∙ inside-splits (node .es) (node .y) (node .splits) .kids
+  pub branches-are : branchesAmong (listing s n) ≡ node .y .branches
+  branches-are = ap branchesAmong lists ∙ inside-splits (node .es) (node .y) (node .splits) .branches
 
   waiting-is : waiting (listing s n) ≡ x .messages
   waiting-is = ap waiting lists ∙ waiting-inside (node .es) (node .y) (node .splits) ∙ node .messages
 
-  pub forest-is : forestOf (λ j. treeAt (suc l) s j) (kidsE (listing s n)) ≡ x .children
-  forest-is = ap (forestOf (λ j. treeAt (suc l) s j)) kids-are ∙ node .kids
+  pub forest-is : forestOf (λ j. treeAt (suc l) s j) (branchesAmong (listing s n)) ≡ x .children
+  forest-is = ap (forestOf (λ j. treeAt (suc l) s j)) branches-are ∙ node .branches
 
-  pub heads-are : heads (x .children) ≡ kidNumbers (kidsE (listing s n))
-  heads-are = ap heads (sym forest-is) ∙ kid-heads (suc l) s (kidsE (listing s n))
+  pub heads-are : heads (x .children) ≡ branchNumbers (branchesAmong (listing s n))
+  heads-are = ap heads (sym forest-is) ∙ branch-heads (suc l) s (branchesAmong (listing s n))
 
-  pub kids-once : once (kidNumbers (kidsE (listing s n))) ≡ true
-  kids-once = ap once (sym heads-are) ∙ once-sub (heads-sub (x .children)) kids-apart
+  pub branches-once : once (branchNumbers (branchesAmong (listing s n))) ≡ true
+  branches-once = ap once (sym heads-are) ∙ once-sub (heads-sub (x .children)) branches-apart
 
-  pub own-entries : node .es ≡ kidEntries (kidsE (listing s n)) ++ messageEntries (node .y .messages)
-  own-entries = inside-entries (node .es) (node .y) (node .splits) ∙ ap (λ ks. kidEntries ks ++ messageEntries (node .y .messages)) (sym kids-are)
+  pub own-entries : node .es ≡ branchEntries (branchesAmong (listing s n)) ++ messageEntries (node .y .messages)
+  own-entries = inside-entries (node .es) (node .y) (node .splits) ∙ ap (λ ks. branchEntries ks ++ messageEntries (node .y .messages)) (sym branches-are)
 
   pub good-entries : (sizeOf (node .es) ≤ 1016) × (allAllowed (node .es) ≡ true)
   good-entries = node-good 0x0002 (suc (suc l)) (nodeBytes s n) (node .es) (node .entries)
 
-  pub children-fit : length (childBytes (kidsE (listing s n))) ≤ 1016
+  pub children-fit : length (childBytes (branchesAmong (listing s n))) ≤ 1016
   unfolding sizeOf
   children-fit =
-      let a = size-append (kidEntries (kidsE (listing s n))) (messageEntries (node .y .messages)) in
-      let b : sizeOf (node .es) ≡ sizeOf (kidEntries (kidsE (listing s n)) ++ messageEntries (node .y .messages)) = ap sizeOf own-entries in
-      let d : length (childBytes (kidsE (listing s n))) ≡ length (bytesOfAll (kidEntries (kidsE (listing s n)))) = ap length (child-bytes (kidsE (listing s n))) in
+      let a = size-append (branchEntries (branchesAmong (listing s n))) (messageEntries (node .y .messages)) in
+      let b : sizeOf (node .es) ≡ sizeOf (branchEntries (branchesAmong (listing s n)) ++ messageEntries (node .y .messages)) = ap sizeOf own-entries in
+      let d : length (childBytes (branchesAmong (listing s n))) ≡ length (bytesOfAll (branchEntries (branchesAmong (listing s n)))) = ap length (child-bytes (branchesAmong (listing s n))) in
       omega (arith, good-entries .0)
 
-  children-read : nodeEntries 0x0002 (suc (suc l)) (page 2 (suc (suc l)) (childBytes (kidsE (listing s n)))) ≡ some (kidEntries (kidsE (listing s n)))
+  children-read : nodeEntries 0x0002 (suc (suc l)) (page 2 (suc (suc l)) (childBytes (branchesAmong (listing s n)))) ≡ some (branchEntries (branchesAmong (listing s n)))
   children-read =
-      page-reads 2 (suc (suc l)) (childBytes (kidsE (listing s n))) (kidEntries (kidsE (listing s n))) children-fit
-      (ap entriesOf (child-bytes (kidsE (listing s n)))
-      ∙ all-back (kidEntries (kidsE (listing s n)))
-      (allowed-left (kidEntries (kidsE (listing s n))) (messageEntries (node .y .messages)) (ap allAllowed (sym own-entries) ∙ good-entries .1)))
+      page-reads 2 (suc (suc l)) (childBytes (branchesAmong (listing s n))) (branchEntries (branchesAmong (listing s n))) children-fit
+      (ap entriesOf (child-bytes (branchesAmong (listing s n)))
+      ∙ all-back (branchEntries (branchesAmong (listing s n)))
+      (allowed-left (branchEntries (branchesAmong (listing s n))) (messageEntries (node .y .messages)) (ap allAllowed (sym own-entries) ∙ good-entries .1)))
 
   -- ANY STORE s′ in which the node alone is changed, to what flush makes of it
   module _ (s′ : List ℕ) (len : length s′ ≡ length s) (z : nodeBytes s′ 0 ≡ nodeBytes s 0)
@@ -286,9 +286,9 @@ module _ (s : List ℕ) (n : ℕ) (x : Reachable) (e : sound s ≡ true) (p : re
   nothing-waits q = flush-meets s refl refl (no-message (sym waiting-is ∙ q)) (λ j a b. refl)
 
   -- THE FLUSH
-  module _ (h : List ℕ) (eh : highHere n (treeOf s) [] highest ≡ some h) (rooms : allHaveRoom (listing s n) (kidsE (listing s n)) h s ≡ true) where
-    abbrev K : List Kid
-    K = kidsE (listing s n)
+  module _ (h : List ℕ) (eh : highHere n (treeOf s) [] highest ≡ some h) (rooms : allHaveRoom (listing s n) (branchesAmong (listing s n)) h s ≡ true) where
+    abbrev K : List Branch
+    K = branchesAmong (listing s n)
 
     abbrev s₁ : List ℕ
     s₁ = eachTakes (childTakes (listing s n)) K h s
@@ -303,7 +303,7 @@ module _ (s : List ℕ) (n : ℕ) (x : Reachable) (e : sound s ≡ true) (p : re
     high-splits = ap (λ q. shared (x .low) (x .high) ++ q) h-is ∙ begins-split (shared (x .low) (x .high)) (x .high) (shared-right (x .low) (x .high))
 
     size-one : length s₁ ≡ length s
-    size-one = each-size (listing s n) K h s kids-once rooms
+    size-one = each-size (listing s n) K h s branches-once rooms
 
     fits-n : 1024 * n + 1024 ≤ length s₁
     fits-n = omega (arith, inside, size-one)
@@ -330,31 +330,31 @@ module _ (s : List ℕ) (n : ℕ) (x : Reachable) (e : sound s ≡ true) (p : re
     no-true true f = absurd (f refl)
     no-true false f = refl
 
-    kid-in : (j : ℕ) → isIn j (kidNumbers K) ≡ true → isIn j (numbersIn (x .children)) ≡ true
-    kid-in j q = heads-in j (x .children) (ap (isIn j) heads-are ∙ q)
+    branch-in : (j : ℕ) → isIn j (branchNumbers K) ≡ true → isIn j (numbersIn (x .children)) ≡ true
+    branch-in j q = heads-in j (x .children) (ap (isIn j) heads-are ∙ q)
 
-    kid-not-n : (j : ℕ) → isIn j (kidNumbers K) ≡ true → j ≡ n → ⊥
-    kid-not-n j q r = true-false (isIn n (numbersIn (x .children))) (ap (λ i. isIn i (numbersIn (x .children))) (sym r) ∙ kid-in j q) n-away
+    branch-not-n : (j : ℕ) → isIn j (branchNumbers K) ≡ true → j ≡ n → ⊥
+    branch-not-n j q r = true-false (isIn n (numbersIn (x .children))) (ap (λ i. isIn i (numbersIn (x .children))) (sym r) ∙ branch-in j q) n-away
 
-    rest : (j : ℕ) → eqb j n ≡ false → isIn j (kidNumbers K) ≡ false → nodeBytes s₂ j ≡ nodeBytes s j
-    rest j a b = beside j (eqb-false j n a) ∙ each-other (listing s n) K h s kids-once rooms j b
+    rest : (j : ℕ) → eqb j n ≡ false → isIn j (branchNumbers K) ≡ false → nodeBytes s₂ j ≡ nodeBytes s j
+    rest j a b = beside j (eqb-false j n a) ∙ each-other (listing s n) K h s branches-once rooms j b
 
     arrived : Arrived (listing s n) s s₂ h K
     arrived = arrived-on (listing s n) s s₁ s₂ h K
-        (each-arrives (listing s n) K h s s kids-once rooms rooms (λ j q. refl)) (λ j q. beside j (kid-not-n j q))
+        (each-arrives (listing s n) K h s s branches-once rooms rooms (λ j q. refl)) (λ j q. beside j (branch-not-n j q))
 
     deep-keeps : Keeps s s₂ (deepIn (x .children))
     unfolding Keeps
     deep-keeps = λ j q.
         rest j (ne-eqb j n (λ r. true-false (isIn n (numbersIn (x .children))) (ap (λ i. isIn i (numbersIn (x .children))) (sym r) ∙ deep-in j (x .children) q) n-away))
-        (ap (isIn j) (sym heads-are) ∙ deep-apart j (x .children) kids-apart q)
+        (ap (isIn j) (sym heads-are) ∙ deep-apart j (x .children) branches-apart q)
 
-    kids-tall : tallIn (x .children) (suc l) ≡ true
-    kids-tall = let down : x .level - 1 ≡ suc l = omega (arith, two-levels) in ap (tallIn (x .children)) (sym down) ∙ kids-high
+    branches-tall : tallIn (x .children) (suc l) ≡ true
+    branches-tall = let down : x .level - 1 ≡ suc l = omega (arith, two-levels) in ap (tallIn (x .children)) (sym down) ∙ branches-high
 
-    new-kids : forestOf (λ j. treeAt (suc l) s₂ j) K ≡ pushedAll (x .messages) (x .children) (shared (x .low) (x .high)) (x .high)
-    new-kids =
-        kids-take l (listing s n) s s₂ h arrived (ap (λ f. tallIn f (suc l)) forest-is ∙ kids-tall) (ap sortedIn forest-is ∙ kids-sorted) (subst (λ f. Keeps s s₂ (deepIn f)) (sym forest-is) deep-keeps)
+    new-branches : forestOf (λ j. treeAt (suc l) s₂ j) K ≡ pushedAll (x .messages) (x .children) (shared (x .low) (x .high)) (x .high)
+    new-branches =
+        branches-take l (listing s n) s s₂ h arrived (ap (λ f. tallIn f (suc l)) forest-is ∙ branches-tall) (ap sortedIn forest-is ∙ branches-sorted) (subst (λ f. Keeps s s₂ (deepIn f)) (sym forest-is) deep-keeps)
         ∙ ap (λ ms. takenEach ms (λ j. treeAt (suc l) s j) K h) waiting-is
         ∙ sym (each-under (x .messages) (λ j. treeAt (suc l) s j) K (shared (x .low) (x .high)) h)
         ∙ ap₂ (λ f q. sentEach (x .messages) f (shared (x .low) (x .high)) q) forest-is high-splits
@@ -364,13 +364,13 @@ module _ (s : List ℕ) (n : ℕ) (x : Reachable) (e : sound s ≡ true) (p : re
     unfolding treeAt interiorOf orNone
     new-node = rw (top, children-read, empty-inside K)
       where
-        empty-inside : (ks : List Kid) → insideOf (kidEntries ks) ≡ some (record { kids = ks; messages = [] })
-        empty-inside ks = ap insideOf (sym (append-nil (kidEntries ks))) ∙ (unfold messageEntries in inside-back ks [])
+        empty-inside : (ks : List Branch) → insideOf (branchEntries ks) ≡ some (record { branches = ks; messages = [] })
+        empty-inside ks = ap insideOf (sym (append-nil (branchEntries ks))) ∙ (unfold messageEntries in inside-back ks [])
 
     changed-node : treeAt (x .level) s₂ n ≡ flushedNode (treeAt (x .level) s n) (x .low) (x .high)
     unfolding flushedNode
     changed-node =
-        ap (λ m. treeAt m s₂ n) level-is ∙ new-node ∙ ap (λ f. interior n f []) new-kids
+        ap (λ m. treeAt m s₂ n) level-is ∙ new-node ∙ ap (λ f. interior n f []) new-branches
         ∙ sym (ap (λ t. flushedNode t (x .low) (x .high)) node-there)
 
     other-nodes : (j : ℕ) → isIn j (numbers (treeOf s)) ≡ true → isIn j (numbers (treeAt (x .level) s n)) ≡ false → nodeBytes s₂ j ≡ nodeBytes s j
@@ -378,13 +378,13 @@ module _ (s : List ℕ) (n : ℕ) (x : Reachable) (e : sound s ≡ true) (p : re
     other-nodes j a b =
         let out : eqb j n || isIn j (numbersIn (x .children)) ≡ false = ap (λ t. isIn j (numbers t)) (sym node-there) ∙ b in
         rest j (or-none-left (eqb j n) (isIn j (numbersIn (x .children))) out)
-        (no-true (isIn j (kidNumbers K)) (λ q. true-false (isIn j (numbersIn (x .children))) (kid-in j q) (or-none-right (eqb j n) (isIn j (numbersIn (x .children))) out)))
+        (no-true (isIn j (branchNumbers K)) (λ q. true-false (isIn j (numbersIn (x .children))) (branch-in j q) (or-none-right (eqb j n) (isIn j (numbersIn (x .children))) out)))
 
     node-zero : nodeBytes s₂ 0 ≡ nodeBytes s 0
     unfolding isIn
     node-zero =
         rest 0 (ne-eqb 0 n (λ q. omega (arith, n-range .0)))
-        (no-true (isIn 0 (kidNumbers K)) (λ q. absurd (omega (arith, range-of-all 0 (or-right (eqb 0 n) (isIn 0 (numbersIn (x .children))) (kid-in 0 q)) .0))))
+        (no-true (isIn 0 (branchNumbers K)) (λ q. absurd (omega (arith, range-of-all 0 (or-right (eqb 0 n) (isIn 0 (numbersIn (x .children))) (branch-in 0 q)) .0))))
 
     pub pushed-down : PushedDown s n s₂
     pushed-down = flush-meets s₂ size-two node-zero changed-node other-nodes

@@ -1,6 +1,6 @@
 -- Pages that are written read back: bytes of entries after bytes of entries, a node with its children alone, an interior node with more
 -- messages. Relies on Encode and on packed's `page`.
-use Prim.Native.Nat.{ℕ, _+_, _≤_}
+use Prim.Native.Nat.{ℕ, _≤_}
 use mathlib.Core.Path.{_≡_, refl, sym, ap, _∙_}
 use mathlib.Core.List.{List, [], _∷_, _++_, append-assoc}
 use mathlib.Core.Bool.{Bool, true, false, _&&_}
@@ -11,12 +11,12 @@ use lib.Dec.{leb, eqb}
 use borrow.Author.Tests.{leb-true, eqb-true}
 use Rattle.image.specs.Bytes.{u16}
 use Rattle.image.specs.Entry.{Message, Entry, child, message, entriesOf}
-use Rattle.image.specs.Image.{Kid, Inside, laidOut, entryBytes, nodeEntries, messagesOf, noKids, kidThen, insideOf}
+use Rattle.image.specs.Image.{Branch, Inside, laidOut, entryBytes, nodeEntries, messagesOf, noBranches, branchThen, insideOf}
 use Rattle.octets.specs.Order.{and-left, and-right}
 use Rattle.laws.specs.Encode.{bytesOf, bytesOfAll, allAllowed, all-back, reads-append}
 use Rattle.laws.specs.Page.{page, page-laid, page-entries}
 use Rattle.laws.specs.Upkeep.Size.{messageEntries, messages-back}
-use Rattle.laws.specs.Upkeep.Reading.{kidEntries, inside-entries}
+use Rattle.laws.specs.Upkeep.Reading.{branchEntries, inside-entries}
 use Rattle.push.specs.Laws.Written.{childBytes}
 
 pub entries-append : (x : List ℕ) (es fs : List Entry) → allAllowed fs ≡ true → entriesOf x ≡ some es → entriesOf (x ++ bytesOfAll fs) ≡ some (es ++ fs)
@@ -52,17 +52,17 @@ laid kind level node es h = go (laidOut kind level node) refl
         }
     go false e = let q : none ≡ some es = rw e at h in absurd (Option·none-ne-some es q)
 
-pub inside-back : (ks : List Kid) (ms : List Message) → insideOf (kidEntries ks ++ messageEntries ms) ≡ some (record { kids = ks; messages = ms })
-unfolding insideOf kidEntries kidThen messageEntries
+pub inside-back : (ks : List Branch) (ms : List Message) → insideOf (branchEntries ks ++ messageEntries ms) ≡ some (record { branches = ks; messages = ms })
+unfolding insideOf branchEntries branchThen messageEntries
 inside-back [] [] = refl
 inside-back [] (m ∷ ms) = go (m ∷ ms)
   where
-    go : (ns : List Message) → noKids (messagesOf (messageEntries ns)) ≡ some (record { kids = []; messages = ns })
-    go ns = ap noKids (messages-back ns) ∙ (unfold noKids in refl)
+    go : (ns : List Message) → noBranches (messagesOf (messageEntries ns)) ≡ some (record { branches = []; messages = ns })
+    go ns = ap noBranches (messages-back ns) ∙ (unfold noBranches in refl)
 inside-back (k ∷ ks) ms = rw (inside-back ks ms)
 
-pub child-bytes : (ks : List Kid) → childBytes ks ≡ bytesOfAll (kidEntries ks)
-unfolding childBytes kidEntries bytesOfAll
+pub child-bytes : (ks : List Branch) → childBytes ks ≡ bytesOfAll (branchEntries ks)
+unfolding childBytes branchEntries bytesOfAll
 child-bytes [] = refl
 child-bytes (k ∷ ks) = ap (λ l. bytesOf (child (k .number) (k .pivot)) ++ l) (child-bytes ks)
 
@@ -73,10 +73,10 @@ messages-more (m ∷ ms) ns = ap (λ l. message m ∷ l) (messages-more ms ns)
 
 -- more messages after the entries of an interior node
 pub inside-more : (es : List Entry) (y : Inside) (ns : List Message) → insideOf es ≡ some y
-    → insideOf (es ++ messageEntries ns) ≡ some (record { kids = y .kids; messages = y .messages ++ ns })
+    → insideOf (es ++ messageEntries ns) ≡ some (record { branches = y .branches; messages = y .messages ++ ns })
 inside-more es y ns e =
-    let a : es ≡ kidEntries (y .kids) ++ messageEntries (y .messages) = inside-entries es y e in
-    let b : es ++ messageEntries ns ≡ kidEntries (y .kids) ++ messageEntries (y .messages ++ ns) =
-    ap (λ l. l ++ messageEntries ns) a ∙ append-assoc (kidEntries (y .kids)) (messageEntries (y .messages)) (messageEntries ns)
-    ∙ ap (λ l. kidEntries (y .kids) ++ l) (sym (messages-more (y .messages) ns)) in
-    ap insideOf b ∙ inside-back (y .kids) (y .messages ++ ns)
+    let a : es ≡ branchEntries (y .branches) ++ messageEntries (y .messages) = inside-entries es y e in
+    let b : es ++ messageEntries ns ≡ branchEntries (y .branches) ++ messageEntries (y .messages ++ ns) =
+    ap (λ l. l ++ messageEntries ns) a ∙ append-assoc (branchEntries (y .branches)) (messageEntries (y .messages)) (messageEntries ns)
+    ∙ ap (λ l. branchEntries (y .branches) ++ l) (sym (messages-more (y .messages) ns)) in
+    ap insideOf b ∙ inside-back (y .branches) (y .messages ++ ns)

@@ -11,7 +11,7 @@ use lib.Dec.{eqb}
 use borrow.Author.Tests.{eq-eqb, ne-eqb}
 use Rattle.image.specs.Bytes.{u16}
 use Rattle.image.specs.Entry.{Entry, entriesOf}
-use Rattle.image.specs.Image.{Tree, unread, leaf, interior, Forest, end, tree, Kid, Inside, entryBytes, nodeBytes, nodeEntries, pairsOf, insideOf, orNone, forestOf, leafOf, interiorOf, treeAt}
+use Rattle.image.specs.Image.{Tree, unread, leaf, interior, Forest, end, tree, Branch, Inside, entryBytes, nodeBytes, nodeEntries, pairsOf, insideOf, orNone, forestOf, leafOf, interiorOf, treeAt}
 use Rattle.image.specs.Meaning.{highOf}
 use Rattle.image.specs.Sound.{isIn, once, soundTree, soundForest}
 use Rattle.octets.specs.Order.{and-left, and-right, or-none-right}
@@ -21,7 +21,7 @@ use Rattle.laws.specs.LookupTable.{parts}
 use Rattle.laws.specs.Encode.{bytesOfAll}
 use Rattle.laws.specs.Frame.{Keeps, forest-stays, tree-stays, keeps-left, keeps-right, or-left, or-right}
 use Rattle.laws.specs.Page.{page}
-use Rattle.laws.specs.Reading.Relative.{kidHigh}
+use Rattle.laws.specs.Reading.Relative.{branchHigh}
 use Rattle.laws.specs.Upkeep.Merge.{tall, tallIn}
 use Rattle.laws.specs.Upkeep.Mends.{tall-first, tall-later}
 use Rattle.laws.specs.Upkeep.Size.{messageEntries, messages-allowed}
@@ -30,7 +30,7 @@ use Rattle.node.specs.Cut.{cut-u16}
 use Rattle.lookup.specs.Look.{node-is, count-is, bytes-is}
 use Rattle.push.specs.Laws.Arriving.{waiting, arriving, broughtAll}
 use Rattle.push.specs.Laws.ArrivingLaws.{takenAll, interior-taken, takenEach, brought-is}
-use Rattle.push.specs.Laws.Written.{bodyOf, childTakes, interiorTakes, eachTakes, hasRoom, allHaveRoom, kidNumbers}
+use Rattle.push.specs.Laws.Written.{bodyOf, childTakes, interiorTakes, eachTakes, hasRoom, allHaveRoom, branchNumbers}
 use Rattle.push.specs.Laws.Leaves.{leafTakes}
 use Rattle.push.specs.Laws.Only.{Only, interior-same, body-fits, room-inside, room-fits, room-first, room-later, once-first}
 use Rattle.push.specs.Laws.LeafRoom.{child-only, rooms-on}
@@ -97,8 +97,8 @@ module _ (l : ℕ) (es : List Entry) (i : ℕ) (lo hi s s′ : List ℕ) (room :
   by-inside fs e (some y) q h k =
       rw (more-entries fs e, inside-more fs y (arriving (waiting es) lo hi) q)
       (ap (λ f. interior i f (y .messages ++ arriving (waiting es) lo hi))
-      (forest-stays s s′ (λ j. treeAt (suc l) s j) (λ j. treeAt (suc l) s′ j) (λ j b. tree-stays (suc l) s s′ j b) (y .kids) k)
-      ∙ sym (interior-taken (arriving (waiting es) lo hi) i (forestOf (λ j. treeAt (suc l) s j) (y .kids)) (y .messages)))
+      (forest-stays s s′ (λ j. treeAt (suc l) s j) (λ j. treeAt (suc l) s′ j) (λ j b. tree-stays (suc l) s s′ j b) (y .branches) k)
+      ∙ sym (interior-taken (arriving (waiting es) lo hi) i (forestOf (λ j. treeAt (suc l) s j) (y .branches)) (y .messages)))
 
   by-entries : (o : Option (List Entry)) → nodeEntries 0x0002 (suc (suc l)) (nodeBytes s i) ≡ o
       → tall (interiorOf (λ j. treeAt (suc l) s j) i (orNone insideOf o)) (suc (suc l)) ≡ true → Keeps s s′ (numbersUnder (interiorOf (λ j. treeAt (suc l) s j) i (orNone insideOf o)))
@@ -115,33 +115,33 @@ module _ (l : ℕ) (es : List Entry) (i : ℕ) (lo hi s s′ : List ℕ) (room :
       ∙ ap (takenAll (arriving (waiting es) lo hi)) (sym is)
 
 -- ALL CHILDREN, ONE AFTER ANOTHER
-pub data Arrived (es : List Entry) (s s′ h : List ℕ) : List Kid → Type 0 where
+pub data Arrived (es : List Entry) (s s′ h : List ℕ) : List Branch → Type 0 where
   no-more : Arrived es s s′ h []
-  one-more : {k : Kid} {ks : List Kid} → nodeBytes s′ (k .number) ≡ nodeBytes (childTakes es (k .number) (k .pivot) (kidHigh h ks) s) (k .number)
-      → hasRoom es (k .number) (k .pivot) (kidHigh h ks) s ≡ true → Arrived es s s′ h ks → Arrived es s s′ h (k ∷ ks)
+  one-more : {k : Branch} {ks : List Branch} → nodeBytes s′ (k .number) ≡ nodeBytes (childTakes es (k .number) (k .pivot) (branchHigh h ks) s) (k .number)
+      → hasRoom es (k .number) (k .pivot) (branchHigh h ks) s ≡ true → Arrived es s s′ h ks → Arrived es s s′ h (k ∷ ks)
 
-pub each-size : (es : List Entry) (ks : List Kid) (h s : List ℕ) → once (kidNumbers ks) ≡ true → allHaveRoom es ks h s ≡ true → length (eachTakes (childTakes es) ks h s) ≡ length s
+pub each-size : (es : List Entry) (ks : List Branch) (h s : List ℕ) → once (branchNumbers ks) ≡ true → allHaveRoom es ks h s ≡ true → length (eachTakes (childTakes es) ks h s) ≡ length s
 unfolding eachTakes
 each-size es [] h s o e = refl
 each-size es (k ∷ ks) h s o e =
-    each-size es ks h (childTakes es (k .number) (k .pivot) (kidHigh h ks) s) (once-first k ks o .1) (rooms-on es k ks h s o e)
-    ∙ child-only es (k .number) (k .pivot) (kidHigh h ks) s (room-first es k ks h s e) .size
+    each-size es ks h (childTakes es (k .number) (k .pivot) (branchHigh h ks) s) (once-first k ks o .1) (rooms-on es k ks h s o e)
+    ∙ child-only es (k .number) (k .pivot) (branchHigh h ks) s (room-first es k ks h s e) .size
 
-is-kid : (j : ℕ) (k : Kid) (ks : List Kid) → j ≡ k .number → isIn j (kidNumbers (k ∷ ks)) ≡ false → ⊥
-unfolding kidNumbers isIn
-is-kid j k ks q e = false≢true (sym e ∙ ap (λ b. b || isIn j (kidNumbers ks)) (eq-eqb j (k .number) q))
+is-branch : (j : ℕ) (k : Branch) (ks : List Branch) → j ≡ k .number → isIn j (branchNumbers (k ∷ ks)) ≡ false → ⊥
+unfolding branchNumbers isIn
+is-branch j k ks q e = false≢true (sym e ∙ ap (λ b. b || isIn j (branchNumbers ks)) (eq-eqb j (k .number) q))
 
-no-later : (j : ℕ) (k : Kid) (ks : List Kid) → isIn j (kidNumbers (k ∷ ks)) ≡ false → isIn j (kidNumbers ks) ≡ false
-unfolding kidNumbers isIn
-no-later j k ks e = or-none-right (eqb j (k .number)) (isIn j (kidNumbers ks)) e
+no-later : (j : ℕ) (k : Branch) (ks : List Branch) → isIn j (branchNumbers (k ∷ ks)) ≡ false → isIn j (branchNumbers ks) ≡ false
+unfolding branchNumbers isIn
+no-later j k ks e = or-none-right (eqb j (k .number)) (isIn j (branchNumbers ks)) e
 
-pub each-other : (es : List Entry) (ks : List Kid) (h s : List ℕ) → once (kidNumbers ks) ≡ true → allHaveRoom es ks h s ≡ true → (j : ℕ) → isIn j (kidNumbers ks) ≡ false
+pub each-other : (es : List Entry) (ks : List Branch) (h s : List ℕ) → once (branchNumbers ks) ≡ true → allHaveRoom es ks h s ≡ true → (j : ℕ) → isIn j (branchNumbers ks) ≡ false
     → nodeBytes (eachTakes (childTakes es) ks h s) j ≡ nodeBytes s j
 unfolding eachTakes
 each-other es [] h s o e j n = refl
 each-other es (k ∷ ks) h s o e j n =
-    each-other es ks h (childTakes es (k .number) (k .pivot) (kidHigh h ks) s) (once-first k ks o .1) (rooms-on es k ks h s o e) j (no-later j k ks n)
-    ∙ child-only es (k .number) (k .pivot) (kidHigh h ks) s (room-first es k ks h s e) .other j (λ q. is-kid j k ks q n)
+    each-other es ks h (childTakes es (k .number) (k .pivot) (branchHigh h ks) s) (once-first k ks o .1) (rooms-on es k ks h s o e) j (no-later j k ks n)
+    ∙ child-only es (k .number) (k .pivot) (branchHigh h ks) s (room-first es k ks h s e) .other j (λ q. is-branch j k ks q n)
 
 -- s₀ is the store at the start, with the same bytes as s at the children that are left
 interior-both : (es : List Entry) (i : ℕ) (lo hi s s₀ : List ℕ) → hasRoom es i lo hi s ≡ true → hasRoom es i lo hi s₀ ≡ true → nodeBytes s i ≡ nodeBytes s₀ i
@@ -155,10 +155,10 @@ interior-both es i lo hi s s₀ r r₀ e =
     let bod : bodyOf s i ≡ bodyOf s₀ i = sym (bytes-is s i a (omega arith)) ∙ ap entryBytes e ∙ bytes-is s₀ i b (omega arith) in
     interior-same es i lo hi s r ∙ ap₂ (λ v c. page 2 v (c ++ broughtAll es lo hi)) lev bod ∙ sym (interior-same es i lo hi s₀ r₀)
 
-same-kid : (es : List Entry) (i : ℕ) (lo hi s s₀ : List ℕ) → hasRoom es i lo hi s ≡ true → hasRoom es i lo hi s₀ ≡ true → nodeBytes s i ≡ nodeBytes s₀ i
+same-branch : (es : List Entry) (i : ℕ) (lo hi s s₀ : List ℕ) → hasRoom es i lo hi s ≡ true → hasRoom es i lo hi s₀ ≡ true → nodeBytes s i ≡ nodeBytes s₀ i
     → nodeBytes (childTakes es i lo hi s) i ≡ nodeBytes (childTakes es i lo hi s₀) i
 unfolding childTakes
-same-kid es i lo hi s s₀ r r₀ e =
+same-branch es i lo hi s s₀ r r₀ e =
     let k : u16 s (i * 1024 + 2) ≡ u16 s₀ (i * 1024 + 2) =
     sym (kind-at s i (room-inside es i lo hi s r)) ∙ ap (λ l. u16 l 2) e ∙ kind-at s₀ i (room-inside es i lo hi s₀ r₀) in
     ap (λ q. nodeBytes (cond (eqb q 1) (leafTakes es i lo hi s) (interiorTakes es i lo hi s)) i) k ∙ go (eqb (u16 s₀ (i * 1024 + 2)) 1)
@@ -167,8 +167,8 @@ same-kid es i lo hi s s₀ r r₀ e =
     go true = leaf-same es i lo hi s s₀ r r₀ e
     go false = interior-both es i lo hi s s₀ r r₀ e
 
-pub each-arrives : (es : List Entry) (ks : List Kid) (h s s₀ : List ℕ) → once (kidNumbers ks) ≡ true → allHaveRoom es ks h s ≡ true → allHaveRoom es ks h s₀ ≡ true
-    → ((j : ℕ) → isIn j (kidNumbers ks) ≡ true → nodeBytes s j ≡ nodeBytes s₀ j) → Arrived es s₀ (eachTakes (childTakes es) ks h s) h ks
+pub each-arrives : (es : List Entry) (ks : List Branch) (h s s₀ : List ℕ) → once (branchNumbers ks) ≡ true → allHaveRoom es ks h s ≡ true → allHaveRoom es ks h s₀ ≡ true
+    → ((j : ℕ) → isIn j (branchNumbers ks) ≡ true → nodeBytes s j ≡ nodeBytes s₀ j) → Arrived es s₀ (eachTakes (childTakes es) ks h s) h ks
 unfolding eachTakes
 each-arrives es [] h s s₀ o e e₀ same = no-more
 each-arrives es (k ∷ ks) h s s₀ o e e₀ same =
@@ -177,35 +177,35 @@ each-arrives es (k ∷ ks) h s s₀ o e e₀ same =
     (λ j c. only .other j (λ q. apart j q c) ∙ same j (later j c)))
   where
     mid : List ℕ
-    mid = childTakes es (k .number) (k .pivot) (kidHigh h ks) s
+    mid = childTakes es (k .number) (k .pivot) (branchHigh h ks) s
 
     only : Only s mid (k .number)
-    only = child-only es (k .number) (k .pivot) (kidHigh h ks) s (room-first es k ks h s e)
+    only = child-only es (k .number) (k .pivot) (branchHigh h ks) s (room-first es k ks h s e)
 
-    apart : (j : ℕ) → j ≡ k .number → isIn j (kidNumbers ks) ≡ true → ⊥
-    apart j q c = false≢true (sym (once-first k ks o .0) ∙ ap (λ i. isIn i (kidNumbers ks)) (sym q) ∙ c)
+    apart : (j : ℕ) → j ≡ k .number → isIn j (branchNumbers ks) ≡ true → ⊥
+    apart j q c = false≢true (sym (once-first k ks o .0) ∙ ap (λ i. isIn i (branchNumbers ks)) (sym q) ∙ c)
 
-    later : (j : ℕ) → isIn j (kidNumbers ks) ≡ true → isIn j (kidNumbers (k ∷ ks)) ≡ true
-    later j c = unfold kidNumbers isIn in or-right (eqb j (k .number)) (isIn j (kidNumbers ks)) c
+    later : (j : ℕ) → isIn j (branchNumbers ks) ≡ true → isIn j (branchNumbers (k ∷ ks)) ≡ true
+    later j c = unfold branchNumbers isIn in or-right (eqb j (k .number)) (isIn j (branchNumbers ks)) c
 
-    first : isIn (k .number) (kidNumbers (k ∷ ks)) ≡ true
-    first = unfold kidNumbers isIn in or-left (eqb (k .number) (k .number)) (isIn (k .number) (kidNumbers ks)) (eq-eqb (k .number) (k .number) refl)
+    first : isIn (k .number) (branchNumbers (k ∷ ks)) ≡ true
+    first = unfold branchNumbers isIn in or-left (eqb (k .number) (k .number)) (isIn (k .number) (branchNumbers ks)) (eq-eqb (k .number) (k .number) refl)
 
-    own : nodeBytes (eachTakes (childTakes es) ks h mid) (k .number) ≡ nodeBytes (childTakes es (k .number) (k .pivot) (kidHigh h ks) s₀) (k .number)
+    own : nodeBytes (eachTakes (childTakes es) ks h mid) (k .number) ≡ nodeBytes (childTakes es (k .number) (k .pivot) (branchHigh h ks) s₀) (k .number)
     own =
         each-other es ks h mid (once-first k ks o .1) (rooms-on es k ks h s o e) (k .number) (once-first k ks o .0)
-        ∙ same-kid es (k .number) (k .pivot) (kidHigh h ks) s s₀ (room-first es k ks h s e) (room-first es k ks h s₀ e₀) (same (k .number) first)
+        ∙ same-branch es (k .number) (k .pivot) (branchHigh h ks) s s₀ (room-first es k ks h s e) (room-first es k ks h s₀ e₀) (same (k .number) first)
 
-pub arrived-on : (es : List Entry) (s s′ s″ h : List ℕ) (ks : List Kid) → Arrived es s s′ h ks → ((j : ℕ) → isIn j (kidNumbers ks) ≡ true → nodeBytes s″ j ≡ nodeBytes s′ j)
+pub arrived-on : (es : List Entry) (s s′ s″ h : List ℕ) (ks : List Branch) → Arrived es s s′ h ks → ((j : ℕ) → isIn j (branchNumbers ks) ≡ true → nodeBytes s″ j ≡ nodeBytes s′ j)
     → Arrived es s s″ h ks
 arrived-on es s s′ s″ h [] no-more same = no-more
 arrived-on es s s′ s″ h (k ∷ ks) (one-more e r w) same = one-more (same (k .number) first ∙ e) r (arrived-on es s s′ s″ h ks w (λ j c. same j (later j c)))
   where
-    later : (j : ℕ) → isIn j (kidNumbers ks) ≡ true → isIn j (kidNumbers (k ∷ ks)) ≡ true
-    later j c = unfold kidNumbers isIn in or-right (eqb j (k .number)) (isIn j (kidNumbers ks)) c
+    later : (j : ℕ) → isIn j (branchNumbers ks) ≡ true → isIn j (branchNumbers (k ∷ ks)) ≡ true
+    later j c = unfold branchNumbers isIn in or-right (eqb j (k .number)) (isIn j (branchNumbers ks)) c
 
-    first : isIn (k .number) (kidNumbers (k ∷ ks)) ≡ true
-    first = unfold kidNumbers isIn in or-left (eqb (k .number) (k .number)) (isIn (k .number) (kidNumbers ks)) (eq-eqb (k .number) (k .number) refl)
+    first : isIn (k .number) (branchNumbers (k ∷ ks)) ≡ true
+    first = unfold branchNumbers isIn in or-left (eqb (k .number) (k .number)) (isIn (k .number) (branchNumbers ks)) (eq-eqb (k .number) (k .number) refl)
 
 -- THE CHILD, OF EITHER KIND: l is the level of the node less two
 pub child-takes : (l : ℕ) (es : List Entry) (i : ℕ) (lo hi s s′ : List ℕ) → hasRoom es i lo hi s ≡ true
@@ -255,17 +255,17 @@ deep-later : (p : List ℕ) (t : Tree) (f : Forest) (s s′ : List ℕ) → Keep
 unfolding deepIn
 deep-later p t f s s′ k = keeps-right s s′ (numbersUnder t) (deepIn f) k
 
-pub kids-take : (l : ℕ) (es : List Entry) (s s′ h : List ℕ) {ks : List Kid} → Arrived es s s′ h ks → tallIn (forestOf (λ j. treeAt (suc l) s j) ks) (suc l) ≡ true
+pub branches-take : (l : ℕ) (es : List Entry) (s s′ h : List ℕ) {ks : List Branch} → Arrived es s s′ h ks → tallIn (forestOf (λ j. treeAt (suc l) s j) ks) (suc l) ≡ true
     → sortedIn (forestOf (λ j. treeAt (suc l) s j) ks) ≡ true → Keeps s s′ (deepIn (forestOf (λ j. treeAt (suc l) s j) ks))
     → forestOf (λ j. treeAt (suc l) s′ j) ks ≡ takenEach (waiting es) (λ j. treeAt (suc l) s j) ks h
 unfolding forestOf takenEach
-kids-take l es s s′ h no-more t up k = refl
-kids-take l es s s′ h (one-more {k = x} {ks} e r w) t up k =
+branches-take l es s s′ h no-more t up k = refl
+branches-take l es s s′ h (one-more {k = x} {ks} e r w) t up k =
     ap₂ (λ a b. tree (x .pivot) a b)
-    (child-takes l es (x .number) (x .pivot) (kidHigh h ks) s s′ r e
+    (child-takes l es (x .number) (x .pivot) (branchHigh h ks) s s′ r e
     (tall-first (x .pivot) (treeAt (suc l) s (x .number)) (forestOf (λ j. treeAt (suc l) s j) ks) (suc l) t)
     (sorted-first (x .pivot) (treeAt (suc l) s (x .number)) (forestOf (λ j. treeAt (suc l) s j) ks) up)
     (deep-first (x .pivot) (treeAt (suc l) s (x .number)) (forestOf (λ j. treeAt (suc l) s j) ks) s s′ k))
-    (kids-take l es s s′ h w (tall-later (x .pivot) (treeAt (suc l) s (x .number)) (forestOf (λ j. treeAt (suc l) s j) ks) (suc l) t)
+    (branches-take l es s s′ h w (tall-later (x .pivot) (treeAt (suc l) s (x .number)) (forestOf (λ j. treeAt (suc l) s j) ks) (suc l) t)
     (sorted-later (x .pivot) (treeAt (suc l) s (x .number)) (forestOf (λ j. treeAt (suc l) s j) ks) up)
     (deep-later (x .pivot) (treeAt (suc l) s (x .number)) (forestOf (λ j. treeAt (suc l) s j) ks) s s′ k))

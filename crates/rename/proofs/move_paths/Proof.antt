@@ -1,6 +1,8 @@
 -- `rename::move_paths` meets its contract: a refusal by questions' laws, else by its fit part.
 use Rattle.questions.specs.Callers.{to-act}
 use Rattle.questions.specs.Asked.{asked-fit, refused-meets}
+use Rattle.questions.specs.Acted.{passed}
+use Rattle.tree_check.specs.Callers.{messages-settled}
 use borrow.Author.Needs.{needs}
 use Rattle.rename.proofs.move_paths.Statement.{statement}
 use Rattle.rename.proofs.move_paths.Tie as tie
@@ -15,7 +17,7 @@ enum-known-asked-2 : tie.Need-enum-known-asked-2
 enum-known-asked-2 c = search needs
 
 move-fit-requires : tie.Need-move-fit-requires
-move-fit-requires c κs = asked-fit _ _ _ _ (c .before .before .before .before .before .before .ask .ensures) _ (c .before .before .before .before .asked2 .given .1)
+move-fit-requires c κs = let f = asked-fit _ _ _ _ (c .before .before .before .before .before .before .before .ask .ensures) _ (c .before .before .before .before .before .asked2 .given .1) in (passed _ _ _ _ f, f .holds .reached, messages-settled _ _ _ (f .holds))
 
 same-length : tie.Need-same-length
 same-length c = search needs

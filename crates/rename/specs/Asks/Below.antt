@@ -11,9 +11,8 @@ use Rattle.image.specs.Path.{below, wellFormed}
 use Rattle.image.specs.Table.{Row, everyKey, rowsBelow, rowsAfter, firstKey, leastAfter, leads, rising}
 use Rattle.image.specs.Calls.{isEmpty}
 use Rattle.octets.specs.Order.{and-left}
-use Rattle.laws.specs.Filter.{keep, keep-passes, keep-rises}
+use Rattle.laws.specs.Filter.{keep, keep-passes, keep-below, below-rises}
 use Rattle.laws.specs.Follow.{formed-some, after-all}
-use Rattle.slice.specs.Moving.MovedRows.{keep-below}
 
 first-empty : (k : List ℕ) → firstKey [] ≡ some k → ⊥
 unfolding firstKey
@@ -22,9 +21,6 @@ first-empty k z = let o : _≡_ {A = ℕ} 0 1 = cc in omega arith
 first-none : (r : Row) (u : List Row) → firstKey (r ∷ u) ≡ none → ⊥
 unfolding firstKey
 first-none r u z = let o : _≡_ {A = ℕ} 0 1 = cc in omega arith
-
-below-rises : (p : List ℕ) (t : List Row) → rising t ≡ true → rising (rowsBelow p t) ≡ true
-below-rises p t e = rw (keep-below p t) (keep-rises (λ q. begins p q) t e)
 
 -- every row of a well-formed table follows the empty path
 all-follow : (p : List ℕ) (t : List Row) → everyKey wellFormed t ≡ true → rising t ≡ true → rowsAfter [] (rowsBelow p t) ≡ rowsBelow p t

@@ -13,9 +13,8 @@ use Rattle.image.specs.Path.{letter, pathLimit, wellFormed}
 use Rattle.image.specs.Table.{Row, everyKey}
 use Rattle.octets.specs.Order.{and-left, and-right, begins-split}
 use Rattle.laws.specs.Rising.{both}
-use Rattle.laws.specs.Filter.{keep-passes}
+use Rattle.laws.specs.Filter.{keep-passes, keep-below}
 use Rattle.path.specs.Shape.{Shape, dead, partway, fresh, fed, feed, closed, goesOn, shape-is}
-use Rattle.slice.specs.Moving.MovedRows.{keep-below}
 use Rattle.rename.specs.Asks.Judge.{restFits, restsFit}
 
 -- the second shape has no more components and no more bytes than the first

@@ -21,10 +21,9 @@ use Rattle.image.specs.declared.Outcome.{Outcome}
 use Rattle.octets.specs.Order.{and-left, and-right, not-so, same-refl, same-turn}
 use Rattle.laws.specs.ButLive.{soundButLive, parts-of, sound-but-live}
 use Rattle.laws.specs.Follow.{table-rises}
-use Rattle.tree_check.specs.declared.Tally.{Tally}
 use Rattle.append.specs.Laws.SetLive.{withLive, live-length, live-table, live-but}
 use Rattle.rebuild.specs.Rebuild.{cleared}
-use Rattle.questions.specs.Callers.{to-act, laterNo, act-meets, act-refused}
+use Rattle.questions.specs.Callers.{to-act, laterNo, later-number, act-meets, act-refused}
 use Rattle.finish.specs.Finished.{Finished, cleared-again}
 use Rattle.slice.specs.Moving.MoveImage.{Free, Roots, roots, moved-length}
 use Rattle.slice.specs.Moving.MoveDone.{movedStore}
@@ -32,15 +31,15 @@ use Rattle.packed.specs.Build.Handed.{listed, handedFrom, handed}
 use Rattle.slice.specs.Moving.MoveBound.{Swung, swung-by}
 use Rattle.swing.specs.Head.{swungWith, swung-right, swung-back}
 use Rattle.swing.specs.Plan.{SwingAsks}
-use Rattle.questions.specs.Asked.{Fit, fit-number}
+use Rattle.questions.specs.Acted.{Passed}
 use Rattle.rename.specs.Prepare.Prepared.{Prepared}
 use Rattle.rename.specs.Prepare.Steps.{listed-take}
 use Rattle.rename.specs.Prepare.Unmoved.{moved-nowhere}
 
 -- THE QUESTIONS, by what the code is told of each
-module _ (s w seen : List ℕ) (t : Tally) (f : Fit s w t seen) (from to : List ℕ) (a : Bool) (a-is : a ≡ wellFormed from) where
+module _ (s w : List ℕ) (f : Passed s w) (from to : List ℕ) (a : Bool) (a-is : a ≡ wellFormed from) where
   number-is : firstNoOn s (acts (move from to) w) ≡ firstNo (actQuestions (nodesOf (length s)) (move from to) (tableOf s))
-  number-is = fit-number s w seen t f (acts (move from to) w) to-act ∙ shown
+  number-is = later-number s to-act (f .whole) (f .long) (f .is-sound) ∙ shown
     where
       shown : laterNo s (acts (move from to) w) ≡ firstNo (actQuestions (nodesOf (length s)) (move from to) (tableOf s))
       shown = unfold laterNo nodeQuestions questions in refl

@@ -5,7 +5,7 @@ use mathlib.Core.Path.{_≡_}
 use mathlib.Core.List.{List}
 use mathlib.Core.Bool.{Bool, true, _&&_}
 use lib.ListN.{length, drop}
-use lib.Dec.{eqb, leb}
+use lib.Dec.{leb}
 use Rattle.image.specs.Image.{nodesOf, headerOf}
 use Rattle.image.specs.Sound.{sound, tableOf}
 use Rattle.image.specs.Upkeep.{settled}
@@ -15,8 +15,8 @@ use Rattle.packed.specs.Build.Handed.{listed}
 use Rattle.slice.specs.Moving.MoveImage.{Free}
 
 -- the test: no message, at most 7 levels, 10 × L + 1 free nodes
-unfoldable pub maySwing : ℕ → ℕ → ℕ → Bool
-maySwing messages levels free = eqb messages 0 && (leb levels 7 && leb (10 * levels + 1) free)
+unfoldable pub maySwing : Bool → ℕ → ℕ → Bool
+maySwing quiet levels free = quiet && (leb levels 7 && leb (10 * levels + 1) free)
 
 pub record Prepared (s s′ w w′ numbers : List ℕ) (r : ℕ) : Type 0 where
   pub size : length s′ ≡ length s

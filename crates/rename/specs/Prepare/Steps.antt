@@ -1,5 +1,5 @@
 -- The steps of make_ready.
--- Relies on spare (the marks show the free nodes), tree_check (the tally shows whether a message waits) and rebuild's Rebuilt.
+-- Relies on spare (the marks show the free nodes) and rebuild's Rebuilt.
 use Prim.Native.Nat.{ℕ, zero, suc, _+_, _*_, _-_, _/_, _<_, _≤_}
 use mathlib.Core.Path.{_≡_, refl, sym, ap, ap₂, subst, _∙_}
 use mathlib.Core.List.{List, _∷_, _++_}
@@ -8,10 +8,11 @@ use native.Mathlib.Omega.{arith}
 use lib.ListN.{length, take, drop}
 use lib.Seq.{getD-take, length-take-le, take-append-seam}
 use lib.Dec.{eqb, leb}
-use borrow.Author.Tests.{eq-eqb, ne-eqb, le-leb, lt-leb, leb-true, eqb-true}
+use borrow.Author.Tests.{le-leb, lt-leb, leb-true, eqb-true}
 use Rattle.image.specs.Bytes.{u16}
 use Rattle.image.specs.Image.{nodesOf, wholeNodes, headerOf, treeOf}
 use Rattle.image.specs.Sound.{isIn, numbers as nodes}
+use Rattle.image.specs.Upkeep.{settled}
 use Rattle.image.specs.Contract.{Bounded}
 use Rattle.octets.specs.Order.{and-left, and-right, not-so}
 use Rattle.laws.specs.Rising.{both}
@@ -19,29 +20,28 @@ use Rattle.node.specs.Whole.{Whole, whole-parts}
 use Rattle.packed.specs.Form.Packed.{numbersFrom}
 use Rattle.packed.specs.Form.Tower.{from-length, from-once, from-range}
 use Rattle.packed.specs.Build.Handed.{listed, handedFrom, handed}
-use Rattle.tree_check.specs.declared.Tally.{Tally}
-use Rattle.tree_check.specs.Callers.{messages-settled}
+use Rattle.tree_check.specs.Whole.{Marks}
 use Rattle.append.specs.Laws.Append.{header-levels}
 use Rattle.rebuild.specs.Rebuild.{Rebuilt}
 use Rattle.finish.specs.Finished.{cleared-size, cleared-later}
 use Rattle.slice.specs.Moving.MoveImage.{Free}
 use Rattle.slice.specs.Moving.FreeList.{freeFrom, freeList, list-supply, free-enough}
 use Rattle.swing.specs.Spare.Spare.{unmarked, free-listed, free-count}
-use Rattle.questions.specs.Asked.{Fit}
+use Rattle.questions.specs.Acted.{Passed}
 use Rattle.rename.specs.Prepare.Prepared.{maySwing, Prepared}
 
 -- THE TEST
-pub swing-waits : (messages levels free : ℕ) → (messages ≡ 0 → ⊥) → false ≡ maySwing messages levels free
+pub swing-waits : (quiet : Bool) (levels free : ℕ) → quiet ≡ false → false ≡ maySwing quiet levels free
 unfolding maySwing
-swing-waits messages levels free h = rw (ne-eqb messages 0 h)
+swing-waits quiet levels free e = rw e
 
-pub swing-high : (messages levels free : ℕ) → messages ≡ 0 → 7 < levels → false ≡ maySwing messages levels free
+pub swing-high : (quiet : Bool) (levels free : ℕ) → quiet ≡ true → 7 < levels → false ≡ maySwing quiet levels free
 unfolding maySwing
-swing-high messages levels free e h = rw (eq-eqb messages 0 e, lt-leb levels 7 h)
+swing-high quiet levels free e h = rw (e, lt-leb levels 7 h)
 
-pub swing-room : (messages levels free : ℕ) → messages ≡ 0 → levels ≤ 7 → leb (10 * levels + 1) free ≡ maySwing messages levels free
+pub swing-room : (quiet : Bool) (levels free : ℕ) → quiet ≡ true → levels ≤ 7 → leb (10 * levels + 1) free ≡ maySwing quiet levels free
 unfolding maySwing
-swing-room messages levels free e h = rw (eq-eqb messages 0 e, le-leb levels 7 h)
+swing-room quiet levels free e h = rw (e, le-leb levels 7 h)
 
 -- THE NUMBERS
 pub node-few : (s : List ℕ) → wholeNodes (length s) ≡ true → (1024 ≤ length s) × (1 ≤ length s / 1024) × (length s / 1024 ≤ 1024) × (nodesOf (length s) ≡ length s / 1024)
@@ -107,10 +107,10 @@ upper-supply s s′ w w′ whole b =
     }
 
 -- THE WAYS OUT
-module _ (s w seen numbers : List ℕ) (t : Tally) (f : Fit s w t seen) (n r levels : ℕ) (n-is : n ≡ length s / 1024) (l : listed r numbers 0 ≡ unmarked (n - 1) 1 seen)
-    (levels-is : levels ≡ u16 s 8) (x : Bool) (x-is : x ≡ maySwing (t .messages) levels r) where
+module _ (s w seen numbers : List ℕ) (quiet : Bool) (f : Passed s w) (marks : Marks s seen) (quiet-is : quiet ≡ settled s) (n r levels : ℕ) (n-is : n ≡ length s / 1024)
+    (l : listed r numbers 0 ≡ unmarked (n - 1) 1 seen) (levels-is : levels ≡ u16 s 8) (x : Bool) (x-is : x ≡ maySwing quiet levels r) where
   free-are : listed r numbers 0 ≡ freeList s
-  free-are = let k = node-few s (f .whole) in free-listed s seen numbers t n r (f .holds) (n-is ∙ sym (k .3)) (omega (arith, k .1)) l
+  free-are = let k = node-few s (f .whole) in free-listed s seen numbers n r marks (n-is ∙ sym (k .3)) (omega (arith, k .1)) l
 
   levels-are : headerOf s .levels ≡ levels
   levels-are = header-levels s ∙ sym levels-is
@@ -118,8 +118,8 @@ module _ (s w seen numbers : List ℕ) (t : Tally) (f : Fit s w t seen) (n r lev
   pub ready-now : x ≡ true → Prepared s s w w numbers r
   unfolding maySwing
   ready-now e =
-      let a : eqb (t .messages) 0 && (leb levels 7 && leb (10 * levels + 1) r) ≡ true = sym x-is ∙ e in
-      let b : leb levels 7 && leb (10 * levels + 1) r ≡ true = and-right (eqb (t .messages) 0) _ a in
+      let a : quiet && (leb levels 7 && leb (10 * levels + 1) r) ≡ true = sym x-is ∙ e in
+      let b : leb levels 7 && leb (10 * levels + 1) r ≡ true = and-right quiet _ a in
       let low : levels ≤ 7 = leb-true levels 7 (and-left _ _ b) in
       let many : 10 * levels + 1 ≤ r = leb-true (10 * levels + 1) r (and-right (leb levels 7) _ b) in
       let z = levels-are in
@@ -127,7 +127,7 @@ module _ (s w seen numbers : List ℕ) (t : Tally) (f : Fit s w t seen) (n r lev
       record {
         size = refl;
         is-sound = f .is-sound;
-        is-settled = sym (messages-settled s t seen (f .holds)) ∙ and-left (eqb (t .messages) 0) _ a;
+        is-settled = sym quiet-is ∙ and-left quiet _ a;
         table = refl;
         low = omega arith;
         few-listed =
@@ -149,7 +149,7 @@ module _ (s w seen numbers : List ℕ) (t : Tally) (f : Fit s w t seen) (n r lev
       let d = free-enough s in
       let m = h .low in
       let n = h .free in
-      x-is ∙ both (messages-settled s t seen (f .holds) ∙ h .is-settled) (both (le-leb levels 7 (omega arith)) (le-leb (10 * levels + 1) r (omega arith)))
+      x-is ∙ both (quiet-is ∙ h .is-settled) (both (le-leb levels 7 (omega arith)) (le-leb (10 * levels + 1) r (omega arith)))
 
   pub ready-rebuilt : (s′ w′ numbers′ : List ℕ) (r′ : ℕ) → x ≡ false → Rebuilt s s′ w w′ → r′ ≡ length s′ / 1024 - length s′ / 1024 / 4
       → listed r′ numbers′ 0 ≡ numbersFrom (length s′ / 1024 / 4) (length s′ / 1024 - length s′ / 1024 / 4) → Prepared s s′ w w′ numbers′ r′

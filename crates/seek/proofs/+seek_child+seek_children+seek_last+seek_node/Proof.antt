@@ -1,11 +1,11 @@
 -- `seek::seek_child`, `seek::seek_children`, `seek::seek_last`, `seek::seek_node` meet the contract: one cycle of four functions. The level falls from a node to its
 -- children; within a level, children come before last before child before node (specs/NodeSteps, specs/WalkLaws).
 use Rattle.seek.specs.NodeSteps.{skips-child, long-child, enters-ready, enters-child, last-child, last-ready, run-ends, inner-ready, later-ready, run-step, node-leaf, node-childless, node-ready, node-children}
-use Rattle.seek.specs.Walk.{walkIn, runPaths, KidsReady}
+use Rattle.seek.specs.Walk.{walkIn, runPaths, BranchesReady}
 use Rattle.seek.specs.Buffer.{bufferIs}
 use Rattle.path.specs.Fed.{shapeIs}
 use Rattle.lookup.specs.Look.{node-inside}
-use Rattle.node.specs.Search.Own.{kid, kidsE, kid-place, kids-none, kids-other}
+use Rattle.node.specs.Search.Own.{branch, branchesAmong, branch-place, branches-none, branches-other}
 use Rattle.node.specs.Entries.{listed, listed-end}
 use Rattle.node.specs.Places.{part, Within, step-bad-is, step-read-is, entry-wider}
 use Rattle.node.specs.declared.Entry.{Entry}
@@ -37,21 +37,21 @@ use Rattle.octets.proofs.u16_at.Reads as u16-at-reads
 use Rattle.seek.proofs.is_far.Reads as is-far-reads
 use Rattle.seek.proofs.join.Reads as join-reads
 use Rattle.seek.proofs.seek_entries.Reads as seek-entries-reads
-use Rattle.node.proofs.search.kid_of.Reads as kid-of-reads
+use Rattle.node.proofs.search.branch_of.Reads as branch-of-reads
 use Rattle.seek.proofs.+seek_child+seek_children+seek_last+seek_node.{statement}
 use Rattle.seek.proofs.+seek_child+seek_children+seek_last+seek_node.Tie.{close}
 
 abbrev μ-seek-child : Measures 6 seek-child-kinds.ps ℕ
-μ-seek-child κs a = a .1 .1 .0 * 4 + 1
+μ-seek-child κs a = a .1 .0 .level * 4 + 1
 
 abbrev μ-seek-children : Measures 5 seek-children-kinds.ps ℕ
-μ-seek-children κs a = a .1 .1 .1 .1 .0 * 4 + 3
+μ-seek-children κs a = a .1 .0 .level * 4 + 3
 
 abbrev μ-seek-last : Measures 5 seek-last-kinds.ps ℕ
-μ-seek-last κs a = a .1 .1 .1 .1 .0 * 4 + 2
+μ-seek-last κs a = a .1 .0 .level * 4 + 2
 
 abbrev μ-seek-node : Measures 5 seek-node-kinds.ps ℕ
-μ-seek-node κs a = a .1 .1 .0 * 4
+μ-seek-node κs a = a .1 .0 .level * 4
 
 abbrev seek-child-at : ℕ → In 6 seek-child-kinds.ps
 seek-child-at t =
@@ -109,7 +109,7 @@ seek-child-returns : (t : ℕ) → seek-child-lts.Need-returns (
   seek-node-below t,
   seek-node.Post,
 ) (seek-child-at t) seek-child.Post
-seek-child-returns t c = skips-child (c .before .before .before .before .before .before .before .before .args .store .now) (c .before .before .before .before .before .before .before .before .args .pre .now) (c .before .before .before .before .before .before .before .before .args .low .now) (c .before .before .before .before .before .before .before .before .args .high .now) (c .before .before .before .before .before .before .before .before .args .level) (c .before .before .before .before .before .before .before .before .args .num) (c .before .before .before .before .before .before .before .before .pre .1) (shapeIs (c .before .before .before .before .before .before .before .before .args .sh)) (c .before .before .before .before .before .before .before .before .args .below .now) (c .before .before .before .before .before .before .before .before .args .after .now) (bufferIs (c .before .before .before .before .before .before .before .before .args .best)) (c .before .is-far .result) (c .before .is-far .ensures) (c .if1 .taken)
+seek-child-returns t c = skips-child (c .before .before .before .before .before .before .before .before .before .args .store .now) (c .before .before .before .before .before .before .before .before .before .args .pre .now) (c .before .before .before .before .before .before .before .before .before .args .low .now) (c .before .before .before .before .before .before .before .before .before .args .high .now) (c .before .before .before .before .before .before .before .before .before .args .child .level) (c .before .before .before .before .before .before .before .before .before .args .child .num) (c .before .before .before .before .before .before .before .before .before .pre .1) (shapeIs (c .before .before .before .before .before .before .before .before .before .args .child .shape)) (c .before .before .before .before .before .before .before .before .before .args .below .now) (c .before .before .before .before .before .before .before .before .before .args .after .now) (bufferIs (c .before .before .before .before .before .before .before .before .before .args .child .best)) (c .before .before .is-far .result) (c .before .before .is-far .ensures) (c .before .if1 .taken)
 
 seek-child-common-length-requires : (t : ℕ) → seek-child-lts.Need-common-length-requires (
   is-far-reads.Asked,
@@ -181,7 +181,7 @@ seek-child-returns-2 : (t : ℕ) → seek-child-lts.Need-returns-2 (
   seek-node-below t,
   seek-node.Post,
 ) (seek-child-at t) seek-child.Post
-seek-child-returns-2 t c = long-child (c .before .before .before .before .before .before .before .before .before .before .before .before .args .store .now) (c .before .before .before .before .before .before .before .before .before .before .before .before .args .pre .now) (c .before .before .before .before .before .before .before .before .before .before .before .before .args .low .now) (c .before .before .before .before .before .before .before .before .before .before .before .before .args .high .now) (c .before .before .before .before .before .before .before .before .before .before .before .before .args .level) (c .before .before .before .before .before .before .before .before .before .before .before .before .args .num) (c .before .before .before .before .before .before .before .before .before .before .before .before .pre .1) (shapeIs (c .before .before .before .before .before .before .before .before .before .before .before .before .args .sh)) (c .before .before .before .before .before .before .before .before .before .before .before .before .args .below .now) (c .before .before .before .before .before .before .before .before .before .before .before .before .args .after .now) (bufferIs (c .before .before .before .before .before .before .before .before .before .before .before .before .args .best)) (c .before .before .before .common-length .result) (c .before .before .before .common-length .ensures .0) (c .before .join .result) (c .before .join .ensures) (omega arith)
+seek-child-returns-2 t c = long-child (c .before .before .before .before .before .before .before .before .before .before .before .before .before .args .store .now) (c .before .before .before .before .before .before .before .before .before .before .before .before .before .args .pre .now) (c .before .before .before .before .before .before .before .before .before .before .before .before .before .args .low .now) (c .before .before .before .before .before .before .before .before .before .before .before .before .before .args .high .now) (c .before .before .before .before .before .before .before .before .before .before .before .before .before .args .child .level) (c .before .before .before .before .before .before .before .before .before .before .before .before .before .args .child .num) (c .before .before .before .before .before .before .before .before .before .before .before .before .before .pre .1) (shapeIs (c .before .before .before .before .before .before .before .before .before .before .before .before .before .args .child .shape)) (c .before .before .before .before .before .before .before .before .before .before .before .before .before .args .below .now) (c .before .before .before .before .before .before .before .before .before .before .before .before .before .args .after .now) (bufferIs (c .before .before .before .before .before .before .before .before .before .before .before .before .before .args .child .best)) (c .before .before .before .before .common-length .result) (c .before .before .before .before .common-length .ensures .0) (c .before .before .join .result) (c .before .before .join .ensures) (omega arith)
 
 seek-child-sub-seek-node : (t : ℕ) → seek-child-lts.Need-sub-seek-node (
   is-far-reads.Asked,
@@ -265,7 +265,7 @@ seek-child-seek-node-requires : (t : ℕ) → seek-child-lts.Need-seek-node-requ
   seek-node-below t,
   seek-node.Post,
 ) (seek-child-at t) seek-child.Post
-seek-child-seek-node-requires t c κs = (omega arith, enters-ready (c .before .before .before .before .before .before .before .before .before .before .before .before .before .before .before .before .args .store .now) (c .before .before .before .before .before .before .before .before .before .before .before .before .before .before .before .before .args .pre .now) (c .before .before .before .before .before .before .before .before .before .before .before .before .before .before .before .before .args .low .now) (c .before .before .before .before .before .before .before .before .before .before .before .before .before .before .before .before .args .high .now) (c .before .before .before .before .before .before .before .before .before .before .before .before .before .before .before .before .args .level) (c .before .before .before .before .before .before .before .before .before .before .before .before .before .before .before .before .args .num) (c .before .before .before .before .before .before .before .before .before .before .before .before .before .before .before .before .pre .1) (shapeIs (c .before .before .before .before .before .before .before .before .before .before .before .before .before .before .before .before .args .sh)) (c .before .before .before .before .before .before .before .before .before .before .before .before .before .before .before .before .args .below .now) (c .before .before .before .before .before .before .before .before .before .before .before .before .before .before .before .before .args .after .now) (bufferIs (c .before .before .before .before .before .before .before .before .before .before .before .before .before .before .before .before .args .best)) (c .before .before .before .before .before .before .before .common-length .result) (c .before .before .before .before .before .before .before .common-length .ensures .0) (c .before .before .before .before .before .join .result) (c .before .before .before .before .before .join .ensures) (omega arith))
+seek-child-seek-node-requires t c κs = (omega arith, enters-ready (c .before .before .before .before .before .before .before .before .before .before .before .before .before .before .before .before .args .store .now) (c .before .before .before .before .before .before .before .before .before .before .before .before .before .before .before .before .args .pre .now) (c .before .before .before .before .before .before .before .before .before .before .before .before .before .before .before .before .args .low .now) (c .before .before .before .before .before .before .before .before .before .before .before .before .before .before .before .before .args .high .now) (c .before .before .before .before .before .before .before .before .before .before .before .before .before .before .before .before .args .child .level) (c .before .before .before .before .before .before .before .before .before .before .before .before .before .before .before .before .args .child .num) (c .before .before .before .before .before .before .before .before .before .before .before .before .before .before .before .before .pre .1) (shapeIs (c .before .before .before .before .before .before .before .before .before .before .before .before .before .before .before .before .args .child .shape)) (c .before .before .before .before .before .before .before .before .before .before .before .before .before .before .before .before .args .below .now) (c .before .before .before .before .before .before .before .before .before .before .before .before .before .before .before .before .args .after .now) (bufferIs (c .before .before .before .before .before .before .before .before .before .before .before .before .before .before .before .before .args .child .best)) (c .before .before .before .before .before .before .before .common-length .result) (c .before .before .before .before .before .before .before .common-length .ensures .0) (c .before .before .before .before .before .join .result) (c .before .before .before .before .before .join .ensures) (omega arith))
 
 seek-child-returns-3 : (t : ℕ) → seek-child-lts.Need-returns-3 (
   is-far-reads.Asked,
@@ -277,37 +277,38 @@ seek-child-returns-3 : (t : ℕ) → seek-child-lts.Need-returns-3 (
   seek-node-below t,
   seek-node.Post,
 ) (seek-child-at t) seek-child.Post
-seek-child-returns-3 t c = enters-child (c .before .before .before .before .before .before .before .before .before .before .before .before .before .before .before .before .before .args .store .now) (c .before .before .before .before .before .before .before .before .before .before .before .before .before .before .before .before .before .args .pre .now) (c .before .before .before .before .before .before .before .before .before .before .before .before .before .before .before .before .before .args .low .now) (c .before .before .before .before .before .before .before .before .before .before .before .before .before .before .before .before .before .args .high .now) (c .before .before .before .before .before .before .before .before .before .before .before .before .before .before .before .before .before .args .level) (c .before .before .before .before .before .before .before .before .before .before .before .before .before .before .before .before .before .args .num) (c .before .before .before .before .before .before .before .before .before .before .before .before .before .before .before .before .before .pre .1) (shapeIs (c .before .before .before .before .before .before .before .before .before .before .before .before .before .before .before .before .before .args .sh)) (c .before .before .before .before .before .before .before .before .before .before .before .before .before .before .before .before .before .args .below .now) (c .before .before .before .before .before .before .before .before .before .before .before .before .before .before .before .before .before .args .after .now) (bufferIs (c .before .before .before .before .before .before .before .before .before .before .before .before .before .before .before .before .before .args .best)) (c .before .before .before .before .before .before .before .before .common-length .result) (c .before .before .before .before .before .before .before .before .common-length .ensures .0) (c .before .before .before .before .before .before .join .result) (c .before .before .before .before .before .before .join .ensures) (omega arith) _ (c .seek-node .ensures)
+seek-child-returns-3 t c = enters-child (c .before .before .before .before .before .before .before .before .before .before .before .before .before .before .before .before .before .args .store .now) (c .before .before .before .before .before .before .before .before .before .before .before .before .before .before .before .before .before .args .pre .now) (c .before .before .before .before .before .before .before .before .before .before .before .before .before .before .before .before .before .args .low .now) (c .before .before .before .before .before .before .before .before .before .before .before .before .before .before .before .before .before .args .high .now) (c .before .before .before .before .before .before .before .before .before .before .before .before .before .before .before .before .before .args .child .level) (c .before .before .before .before .before .before .before .before .before .before .before .before .before .before .before .before .before .args .child .num) (c .before .before .before .before .before .before .before .before .before .before .before .before .before .before .before .before .before .pre .1) (shapeIs (c .before .before .before .before .before .before .before .before .before .before .before .before .before .before .before .before .before .args .child .shape)) (c .before .before .before .before .before .before .before .before .before .before .before .before .before .before .before .before .before .args .below .now) (c .before .before .before .before .before .before .before .before .before .before .before .before .before .before .before .before .before .args .after .now) (bufferIs (c .before .before .before .before .before .before .before .before .before .before .before .before .before .before .before .before .before .args .child .best)) (c .before .before .before .before .before .before .before .before .common-length .result) (c .before .before .before .before .before .before .before .before .common-length .ensures .0) (c .before .before .before .before .before .before .join .result) (c .before .before .before .before .before .before .join .ensures) (omega arith) _ (c .seek-node .ensures)
 
 abbrev seek-children-Inv-loop : seek-children-lts.InvT-loop
-seek-children-Inv-loop store first level hi pre below after sh end c₀ num₀ low₀ best₀ c num low best =
+seek-children-Inv-loop store hi pre below after c₀ low₀ v₀ end c low v =
     (end ≡ c₀ .end) × (c .end ≡ end) × Within 0 (length store) low
-    × KidsReady store level pre hi (kid num (part store low) ∷ kidsE (listed store (c .at) (c .end)))
-    × (walkIn store (shapeIs sh) below after (bufferIs best) (under pre (runPaths level store hi (kid num (part store low) ∷ kidsE (listed store (c .at) (c .end))) (listed store (c .at) (c .end))))
-    ≡ walkIn store (shapeIs sh) below after (bufferIs best₀) (under pre (runPaths level store hi (kid first (part store low₀) ∷ kidsE (listed store (c₀ .at) (c₀ .end))) (listed store (c₀ .at) (c₀ .end)))))
+    × BranchesReady store (v .level) pre hi (branch (v .num) (part store low) ∷ branchesAmong (listed store (c .at) (c .end)))
+    × (walkIn store (shapeIs (v .shape)) below after (bufferIs (v .best)) (under pre (runPaths (v .level) store hi (branch (v .num) (part store low) ∷ branchesAmong (listed store (c .at) (c .end))) (listed store (c .at) (c .end))))
+    ≡ walkIn store (shapeIs (v₀ .shape)) below after (bufferIs (v₀ .best)) (under pre (runPaths (v₀ .level) store hi (branch (v₀ .num) (part store low₀) ∷ branchesAmong (listed store (c₀ .at) (c₀ .end))) (listed store (c₀ .at) (c₀ .end)))))
+    × (v .level ≡ v₀ .level)
 
 abbrev seek-children-μ-loop : seek-children-lts.MeasureT-loop
-seek-children-μ-loop store first level hi pre below after sh end c₀ num₀ low₀ best₀ c num low best = end - c .at
+seek-children-μ-loop store hi pre below after c₀ low₀ v₀ end c low v = end - c .at
 
 seek-children-loop-holds : (t : ℕ) → seek-children-lts.Need-loop-holds (
   step-reads.Asked,
   step-reads.Learnt,
   seek-last-below t,
   seek-last.Post,
-  kid-of-reads.Asked,
-  kid-of-reads.Learnt,
+  branch-of-reads.Asked,
+  branch-of-reads.Learnt,
   seek-child-below t,
   seek-child.Post,
 ) (seek-children-at t) seek-children.Post seek-children-Inv-loop seek-children-μ-loop
-seek-children-loop-holds t c = (refl, refl, c .before .before .before .before .before .pre .1 .1, c .before .before .before .before .before .pre .1 .2, refl)
+seek-children-loop-holds t c = (refl, refl, c .before .before .before .before .before .before .before .pre .1 .1, c .before .before .before .before .before .before .before .pre .1 .2, refl, refl)
 
 seek-children-step-requires : (t : ℕ) → seek-children-lts.Need-step-requires (
   step-reads.Asked,
   step-reads.Learnt,
   seek-last-below t,
   seek-last.Post,
-  kid-of-reads.Asked,
-  kid-of-reads.Learnt,
+  branch-of-reads.Asked,
+  branch-of-reads.Learnt,
   seek-child-below t,
   seek-child.Post,
 ) (seek-children-at t) seek-children.Post seek-children-Inv-loop seek-children-μ-loop
@@ -318,8 +319,8 @@ seek-children-enum-known-e : (t : ℕ) → seek-children-lts.Need-enum-known-e (
   step-reads.Learnt,
   seek-last-below t,
   seek-last.Post,
-  kid-of-reads.Asked,
-  kid-of-reads.Learnt,
+  branch-of-reads.Asked,
+  branch-of-reads.Learnt,
   seek-child-below t,
   seek-child.Post,
 ) (seek-children-at t) seek-children.Post seek-children-Inv-loop seek-children-μ-loop
@@ -330,8 +331,8 @@ seek-children-enum-told : (t : ℕ) → seek-children-lts.Need-enum-told (
   step-reads.Learnt,
   seek-last-below t,
   seek-last.Post,
-  kid-of-reads.Asked,
-  kid-of-reads.Learnt,
+  branch-of-reads.Asked,
+  branch-of-reads.Learnt,
   seek-child-below t,
   seek-child.Post,
 ) (seek-children-at t) seek-children.Post seek-children-Inv-loop seek-children-μ-loop
@@ -342,44 +343,44 @@ seek-children-seek-last-requires : (t : ℕ) → seek-children-lts.Need-seek-las
   step-reads.Learnt,
   seek-last-below t,
   seek-last.Post,
-  kid-of-reads.Asked,
-  kid-of-reads.Learnt,
+  branch-of-reads.Asked,
+  branch-of-reads.Learnt,
   seek-child-below t,
   seek-child.Post,
 ) (seek-children-at t) seek-children.Post seek-children-Inv-loop seek-children-μ-loop
-seek-children-seek-last-requires t c κs = (omega arith, (omega arith, c .before .before .before .before .before .loop .inv .2, last-ready (c .before .before .before .before .before .before .before .before .before .before .before .args .store .now) (shapeIs (c .before .before .before .before .before .before .before .before .before .before .before .args .sh)) (c .before .before .before .before .before .before .before .before .before .before .before .args .below .now) (c .before .before .before .before .before .before .before .before .before .before .before .args .after .now) (c .before .before .before .before .before .before .before .before .before .before .before .args .pre .now) (c .before .before .before .before .before .before .before .before .before .before .before .args .hi .now) (c .before .before .before .before .before .before .before .before .before .before .before .args .level) (c .before .before .before .before .before .loop .num) (c .before .before .before .before .before .loop .low) (bufferIs (c .before .before .before .before .before .loop .best)) (listed (c .before .before .before .before .before .before .before .before .before .before .before .args .store .now) (c .before .before .before .before .before .loop .c .at) (c .before .before .before .before .before .loop .c .end)) (c .before .before .before .before .before .loop .inv .3) (kids-none _ (step-bad-is _ _ _ _ (c .before .before .step .ensures) (c .enum-told .given .1) .1))))
+seek-children-seek-last-requires t c κs = (omega arith, (omega arith, c .before .before .before .before .before .loop .inv .2, last-ready (c .before .before .before .before .before .before .before .before .before .before .before .before .before .args .store .now) (shapeIs (c .before .before .before .before .before .loop .v .shape)) (c .before .before .before .before .before .before .before .before .before .before .before .before .before .args .below .now) (c .before .before .before .before .before .before .before .before .before .before .before .before .before .args .after .now) (c .before .before .before .before .before .before .before .before .before .before .before .before .before .args .pre .now) (c .before .before .before .before .before .before .before .before .before .before .before .before .before .args .hi .now) (c .before .before .before .before .before .loop .v .level) (c .before .before .before .before .before .loop .v .num) (c .before .before .before .before .before .loop .low) (bufferIs (c .before .before .before .before .before .loop .v .best)) (listed (c .before .before .before .before .before .before .before .before .before .before .before .before .before .args .store .now) (c .before .before .before .before .before .loop .c .at) (c .before .before .before .before .before .loop .c .end)) (c .before .before .before .before .before .loop .inv .3) (branches-none _ (step-bad-is _ _ _ _ (c .before .before .step .ensures) (c .enum-told .given .1) .1))))
 
 seek-children-returns : (t : ℕ) → seek-children-lts.Need-returns (
   step-reads.Asked,
   step-reads.Learnt,
   seek-last-below t,
   seek-last.Post,
-  kid-of-reads.Asked,
-  kid-of-reads.Learnt,
+  branch-of-reads.Asked,
+  branch-of-reads.Learnt,
   seek-child-below t,
   seek-child.Post,
 ) (seek-children-at t) seek-children.Post seek-children-Inv-loop seek-children-μ-loop
-seek-children-returns t c = run-ends (c .before .before .before .before .before .before .before .before .before .before .before .before .args .store .now) (shapeIs (c .before .before .before .before .before .before .before .before .before .before .before .before .args .sh)) (c .before .before .before .before .before .before .before .before .before .before .before .before .args .below .now) (c .before .before .before .before .before .before .before .before .before .before .before .before .args .after .now) (c .before .before .before .before .before .before .before .before .before .before .before .before .args .pre .now) (c .before .before .before .before .before .before .before .before .before .before .before .before .args .hi .now) (c .before .before .before .before .before .before .before .before .before .before .before .before .args .level) (c .before .before .before .before .before .before .loop .num) (c .before .before .before .before .before .before .loop .low) (bufferIs (c .before .before .before .before .before .before .loop .best)) (listed (c .before .before .before .before .before .before .before .before .before .before .before .before .args .store .now) (c .before .before .before .before .before .before .loop .c .at) (c .before .before .before .before .before .before .loop .c .end)) (c .before .before .before .before .before .before .loop .inv .3) _ (c .before .before .before .before .before .before .loop .inv .4) (kids-none _ (step-bad-is _ _ _ _ (c .before .before .before .step .ensures) (c .before .enum-told .given .1) .1)) _ (c .seek-last .ensures)
+seek-children-returns t c = run-ends (c .before .before .before .before .before .before .before .before .before .before .before .before .before .before .args .store .now) (shapeIs (c .before .before .before .before .before .before .loop .v .shape)) (c .before .before .before .before .before .before .before .before .before .before .before .before .before .before .args .below .now) (c .before .before .before .before .before .before .before .before .before .before .before .before .before .before .args .after .now) (c .before .before .before .before .before .before .before .before .before .before .before .before .before .before .args .pre .now) (c .before .before .before .before .before .before .before .before .before .before .before .before .before .before .args .hi .now) (c .before .before .before .before .before .before .loop .v .level) (c .before .before .before .before .before .before .loop .v .num) (c .before .before .before .before .before .before .loop .low) (bufferIs (c .before .before .before .before .before .before .loop .v .best)) (listed (c .before .before .before .before .before .before .before .before .before .before .before .before .before .before .args .store .now) (c .before .before .before .before .before .before .loop .c .at) (c .before .before .before .before .before .before .loop .c .end)) (c .before .before .before .before .before .before .loop .inv .3) _ (c .before .before .before .before .before .before .loop .inv .4) (branches-none _ (step-bad-is _ _ _ _ (c .before .before .before .step .ensures) (c .before .enum-told .given .1) .1)) _ (c .seek-last .ensures)
 
-seek-children-kid-of-requires : (t : ℕ) → seek-children-lts.Need-kid-of-requires (
+seek-children-branch-of-requires : (t : ℕ) → seek-children-lts.Need-branch-of-requires (
   step-reads.Asked,
   step-reads.Learnt,
   seek-last-below t,
   seek-last.Post,
-  kid-of-reads.Asked,
-  kid-of-reads.Learnt,
+  branch-of-reads.Asked,
+  branch-of-reads.Learnt,
   seek-child-below t,
   seek-child.Post,
 ) (seek-children-at t) seek-children.Post seek-children-Inv-loop seek-children-μ-loop
-seek-children-kid-of-requires t c κs = search needs
+seek-children-branch-of-requires t c κs = search needs
 
 seek-children-enum-known-k : (t : ℕ) → seek-children-lts.Need-enum-known-k (
   step-reads.Asked,
   step-reads.Learnt,
   seek-last-below t,
   seek-last.Post,
-  kid-of-reads.Asked,
-  kid-of-reads.Learnt,
+  branch-of-reads.Asked,
+  branch-of-reads.Learnt,
   seek-child-below t,
   seek-child.Post,
 ) (seek-children-at t) seek-children.Post seek-children-Inv-loop seek-children-μ-loop
@@ -390,8 +391,8 @@ seek-children-enum-told-2 : (t : ℕ) → seek-children-lts.Need-enum-told-2 (
   step-reads.Learnt,
   seek-last-below t,
   seek-last.Post,
-  kid-of-reads.Asked,
-  kid-of-reads.Learnt,
+  branch-of-reads.Asked,
+  branch-of-reads.Learnt,
   seek-child-below t,
   seek-child.Post,
 ) (seek-children-at t) seek-children.Post seek-children-Inv-loop seek-children-μ-loop
@@ -402,36 +403,36 @@ seek-children-seek-last-requires-2 : (t : ℕ) → seek-children-lts.Need-seek-l
   step-reads.Learnt,
   seek-last-below t,
   seek-last.Post,
-  kid-of-reads.Asked,
-  kid-of-reads.Learnt,
+  branch-of-reads.Asked,
+  branch-of-reads.Learnt,
   seek-child-below t,
   seek-child.Post,
 ) (seek-children-at t) seek-children.Post seek-children-Inv-loop seek-children-μ-loop
 seek-children-seek-last-requires-2 t c κs =
-    let n = step-read-is (c .before .before .before .before .before .before .before .before .before .before .before .before .before .before .before .args .store .now) (c .before .before .before .before .before .before .before .before .before .loop .c .at) (c .before .before .before .before .before .before .before .before .before .loop .c .end) _ (c .before .before .before .before .e .given .0 .0) (c .before .before .before .before .e .given .0 .1 .0) (c .before .before .before .before .before .before .step .ensures) (c .before .before .before .before .e .given .1) in
-    (omega arith, (omega arith, c .before .before .before .before .before .before .before .before .before .loop .inv .2, last-ready (c .before .before .before .before .before .before .before .before .before .before .before .before .before .before .before .args .store .now) (shapeIs (c .before .before .before .before .before .before .before .before .before .before .before .before .before .before .before .args .sh)) (c .before .before .before .before .before .before .before .before .before .before .before .before .before .before .before .args .below .now) (c .before .before .before .before .before .before .before .before .before .before .before .before .before .before .before .args .after .now) (c .before .before .before .before .before .before .before .before .before .before .before .before .before .before .before .args .pre .now) (c .before .before .before .before .before .before .before .before .before .before .before .before .before .before .before .args .hi .now) (c .before .before .before .before .before .before .before .before .before .before .before .before .before .before .before .args .level) (c .before .before .before .before .before .before .before .before .before .loop .num) (c .before .before .before .before .before .before .before .before .before .loop .low) (bufferIs (c .before .before .before .before .before .before .before .before .before .loop .best)) (listed (c .before .before .before .before .before .before .before .before .before .before .before .before .before .before .before .args .store .now) (c .before .before .before .before .before .before .before .before .before .loop .c .at) (c .before .before .before .before .before .before .before .before .before .loop .c .end)) (c .before .before .before .before .before .before .before .before .before .loop .inv .3) (kids-other (c .before .before .before .before .e .given .0 .0) (c .before .before .before .before .before .before .before .before .before .before .before .before .before .before .before .args .store .now) _ _ (n .lists) (sym (c .before .before .kid-of .ensures) ∙ c .enum-told2 .given .1))))
+    let n = step-read-is (c .before .before .before .before .before .before .before .before .before .before .before .before .before .before .before .before .before .args .store .now) (c .before .before .before .before .before .before .before .before .before .loop .c .at) (c .before .before .before .before .before .before .before .before .before .loop .c .end) _ (c .before .before .before .before .e .given .0 .0) (c .before .before .before .before .e .given .0 .1 .0) (c .before .before .before .before .before .before .step .ensures) (c .before .before .before .before .e .given .1) in
+    (omega arith, (omega arith, c .before .before .before .before .before .before .before .before .before .loop .inv .2, last-ready (c .before .before .before .before .before .before .before .before .before .before .before .before .before .before .before .before .before .args .store .now) (shapeIs (c .before .before .before .before .before .before .before .before .before .loop .v .shape)) (c .before .before .before .before .before .before .before .before .before .before .before .before .before .before .before .before .before .args .below .now) (c .before .before .before .before .before .before .before .before .before .before .before .before .before .before .before .before .before .args .after .now) (c .before .before .before .before .before .before .before .before .before .before .before .before .before .before .before .before .before .args .pre .now) (c .before .before .before .before .before .before .before .before .before .before .before .before .before .before .before .before .before .args .hi .now) (c .before .before .before .before .before .before .before .before .before .loop .v .level) (c .before .before .before .before .before .before .before .before .before .loop .v .num) (c .before .before .before .before .before .before .before .before .before .loop .low) (bufferIs (c .before .before .before .before .before .before .before .before .before .loop .v .best)) (listed (c .before .before .before .before .before .before .before .before .before .before .before .before .before .before .before .before .before .args .store .now) (c .before .before .before .before .before .before .before .before .before .loop .c .at) (c .before .before .before .before .before .before .before .before .before .loop .c .end)) (c .before .before .before .before .before .before .before .before .before .loop .inv .3) (branches-other (c .before .before .before .before .e .given .0 .0) (c .before .before .before .before .before .before .before .before .before .before .before .before .before .before .before .before .before .args .store .now) _ _ (n .lists) (sym (c .before .before .branch-of .ensures) ∙ c .enum-told2 .given .1))))
 
 seek-children-returns-2 : (t : ℕ) → seek-children-lts.Need-returns-2 (
   step-reads.Asked,
   step-reads.Learnt,
   seek-last-below t,
   seek-last.Post,
-  kid-of-reads.Asked,
-  kid-of-reads.Learnt,
+  branch-of-reads.Asked,
+  branch-of-reads.Learnt,
   seek-child-below t,
   seek-child.Post,
 ) (seek-children-at t) seek-children.Post seek-children-Inv-loop seek-children-μ-loop
 seek-children-returns-2 t c =
-    let n = step-read-is (c .before .before .before .before .before .before .before .before .before .before .before .before .before .before .before .before .args .store .now) (c .before .before .before .before .before .before .before .before .before .before .loop .c .at) (c .before .before .before .before .before .before .before .before .before .before .loop .c .end) _ (c .before .before .before .before .before .e .given .0 .0) (c .before .before .before .before .before .e .given .0 .1 .0) (c .before .before .before .before .before .before .before .step .ensures) (c .before .before .before .before .before .e .given .1) in
-    run-ends (c .before .before .before .before .before .before .before .before .before .before .before .before .before .before .before .before .args .store .now) (shapeIs (c .before .before .before .before .before .before .before .before .before .before .before .before .before .before .before .before .args .sh)) (c .before .before .before .before .before .before .before .before .before .before .before .before .before .before .before .before .args .below .now) (c .before .before .before .before .before .before .before .before .before .before .before .before .before .before .before .before .args .after .now) (c .before .before .before .before .before .before .before .before .before .before .before .before .before .before .before .before .args .pre .now) (c .before .before .before .before .before .before .before .before .before .before .before .before .before .before .before .before .args .hi .now) (c .before .before .before .before .before .before .before .before .before .before .before .before .before .before .before .before .args .level) (c .before .before .before .before .before .before .before .before .before .before .loop .num) (c .before .before .before .before .before .before .before .before .before .before .loop .low) (bufferIs (c .before .before .before .before .before .before .before .before .before .before .loop .best)) (listed (c .before .before .before .before .before .before .before .before .before .before .before .before .before .before .before .before .args .store .now) (c .before .before .before .before .before .before .before .before .before .before .loop .c .at) (c .before .before .before .before .before .before .before .before .before .before .loop .c .end)) (c .before .before .before .before .before .before .before .before .before .before .loop .inv .3) _ (c .before .before .before .before .before .before .before .before .before .before .loop .inv .4) (kids-other (c .before .before .before .before .before .e .given .0 .0) (c .before .before .before .before .before .before .before .before .before .before .before .before .before .before .before .before .args .store .now) _ _ (n .lists) (sym (c .before .before .before .kid-of .ensures) ∙ c .before .enum-told2 .given .1)) _ (c .seek-last2 .ensures)
+    let n = step-read-is (c .before .before .before .before .before .before .before .before .before .before .before .before .before .before .before .before .before .before .args .store .now) (c .before .before .before .before .before .before .before .before .before .before .loop .c .at) (c .before .before .before .before .before .before .before .before .before .before .loop .c .end) _ (c .before .before .before .before .before .e .given .0 .0) (c .before .before .before .before .before .e .given .0 .1 .0) (c .before .before .before .before .before .before .before .step .ensures) (c .before .before .before .before .before .e .given .1) in
+    run-ends (c .before .before .before .before .before .before .before .before .before .before .before .before .before .before .before .before .before .before .args .store .now) (shapeIs (c .before .before .before .before .before .before .before .before .before .before .loop .v .shape)) (c .before .before .before .before .before .before .before .before .before .before .before .before .before .before .before .before .before .before .args .below .now) (c .before .before .before .before .before .before .before .before .before .before .before .before .before .before .before .before .before .before .args .after .now) (c .before .before .before .before .before .before .before .before .before .before .before .before .before .before .before .before .before .before .args .pre .now) (c .before .before .before .before .before .before .before .before .before .before .before .before .before .before .before .before .before .before .args .hi .now) (c .before .before .before .before .before .before .before .before .before .before .loop .v .level) (c .before .before .before .before .before .before .before .before .before .before .loop .v .num) (c .before .before .before .before .before .before .before .before .before .before .loop .low) (bufferIs (c .before .before .before .before .before .before .before .before .before .before .loop .v .best)) (listed (c .before .before .before .before .before .before .before .before .before .before .before .before .before .before .before .before .before .before .args .store .now) (c .before .before .before .before .before .before .before .before .before .before .loop .c .at) (c .before .before .before .before .before .before .before .before .before .before .loop .c .end)) (c .before .before .before .before .before .before .before .before .before .before .loop .inv .3) _ (c .before .before .before .before .before .before .before .before .before .before .loop .inv .4) (branches-other (c .before .before .before .before .before .e .given .0 .0) (c .before .before .before .before .before .before .before .before .before .before .before .before .before .before .before .before .before .before .args .store .now) _ _ (n .lists) (sym (c .before .before .before .branch-of .ensures) ∙ c .before .enum-told2 .given .1)) _ (c .seek-last2 .ensures)
 
 seek-children-sub-seek-child : (t : ℕ) → seek-children-lts.Need-sub-seek-child (
   step-reads.Asked,
   step-reads.Learnt,
   seek-last-below t,
   seek-last.Post,
-  kid-of-reads.Asked,
-  kid-of-reads.Learnt,
+  branch-of-reads.Asked,
+  branch-of-reads.Learnt,
   seek-child-below t,
   seek-child.Post,
 ) (seek-children-at t) seek-children.Post seek-children-Inv-loop seek-children-μ-loop
@@ -442,8 +443,8 @@ seek-children-part-seek-child-start : (t : ℕ) → seek-children-lts.Need-part-
   step-reads.Learnt,
   seek-last-below t,
   seek-last.Post,
-  kid-of-reads.Asked,
-  kid-of-reads.Learnt,
+  branch-of-reads.Asked,
+  branch-of-reads.Learnt,
   seek-child-below t,
   seek-child.Post,
 ) (seek-children-at t) seek-children.Post seek-children-Inv-loop seek-children-μ-loop
@@ -454,8 +455,8 @@ seek-children-part-seek-child-end : (t : ℕ) → seek-children-lts.Need-part-se
   step-reads.Learnt,
   seek-last-below t,
   seek-last.Post,
-  kid-of-reads.Asked,
-  kid-of-reads.Learnt,
+  branch-of-reads.Asked,
+  branch-of-reads.Learnt,
   seek-child-below t,
   seek-child.Post,
 ) (seek-children-at t) seek-children.Post seek-children-Inv-loop seek-children-μ-loop
@@ -466,14 +467,14 @@ seek-children-sub-seek-child-2 : (t : ℕ) → seek-children-lts.Need-sub-seek-c
   step-reads.Learnt,
   seek-last-below t,
   seek-last.Post,
-  kid-of-reads.Asked,
-  kid-of-reads.Learnt,
+  branch-of-reads.Asked,
+  branch-of-reads.Learnt,
   seek-child-below t,
   seek-child.Post,
 ) (seek-children-at t) seek-children.Post seek-children-Inv-loop seek-children-μ-loop
 seek-children-sub-seek-child-2 t c =
-    let n = step-read-is (c .before .before .before .before .before .before .before .before .before .before .before .before .before .before .before .before .before .args .store .now) (c .before .before .before .before .before .before .before .before .before .before .before .loop .c .at) (c .before .before .before .before .before .before .before .before .before .before .before .loop .c .end) _ (c .before .before .before .before .before .before .e .given .0 .0) (c .before .before .before .before .before .before .e .given .0 .1 .0) (c .before .before .before .before .before .before .before .before .step .ensures) (c .before .before .before .before .before .before .e .given .1) in
-    let w = kid-place (c .before .before .before .before .before .before .before .before .before .before .before .loop .c .at) (c .before .before .before .before .before .before .before .before .before .before .before .loop .c .end) (c .before .before .before .before .before .before .e .given .0 .0) (c .before .before .k .given .0 .0) (c .before .before .k .given .0 .1 .0) (sym (c .before .before .before .before .kid-of .ensures) ∙ c .before .before .k .given .1) (n .reachable) in
+    let n = step-read-is (c .before .before .before .before .before .before .before .before .before .before .before .before .before .before .before .before .before .before .before .args .store .now) (c .before .before .before .before .before .before .before .before .before .before .before .loop .c .at) (c .before .before .before .before .before .before .before .before .before .before .before .loop .c .end) _ (c .before .before .before .before .before .before .e .given .0 .0) (c .before .before .before .before .before .before .e .given .0 .1 .0) (c .before .before .before .before .before .before .before .before .step .ensures) (c .before .before .before .before .before .before .e .given .1) in
+    let w = branch-place (c .before .before .before .before .before .before .before .before .before .before .before .loop .c .at) (c .before .before .before .before .before .before .before .before .before .before .before .loop .c .end) (c .before .before .before .before .before .before .e .given .0 .0) (c .before .before .k .given .0 .0) (c .before .before .k .given .0 .1 .0) (sym (c .before .before .before .before .branch-of .ensures) ∙ c .before .before .k .given .1) (n .reachable) in
     omega arith
 
 seek-children-part-seek-child-start-2 : (t : ℕ) → seek-children-lts.Need-part-seek-child-start-2 (
@@ -481,14 +482,14 @@ seek-children-part-seek-child-start-2 : (t : ℕ) → seek-children-lts.Need-par
   step-reads.Learnt,
   seek-last-below t,
   seek-last.Post,
-  kid-of-reads.Asked,
-  kid-of-reads.Learnt,
+  branch-of-reads.Asked,
+  branch-of-reads.Learnt,
   seek-child-below t,
   seek-child.Post,
 ) (seek-children-at t) seek-children.Post seek-children-Inv-loop seek-children-μ-loop
 seek-children-part-seek-child-start-2 t c =
-    let n = step-read-is (c .before .before .before .before .before .before .before .before .before .before .before .before .before .before .before .before .before .args .store .now) (c .before .before .before .before .before .before .before .before .before .before .before .loop .c .at) (c .before .before .before .before .before .before .before .before .before .before .before .loop .c .end) _ (c .before .before .before .before .before .before .e .given .0 .0) (c .before .before .before .before .before .before .e .given .0 .1 .0) (c .before .before .before .before .before .before .before .before .step .ensures) (c .before .before .before .before .before .before .e .given .1) in
-    let w = kid-place (c .before .before .before .before .before .before .before .before .before .before .before .loop .c .at) (c .before .before .before .before .before .before .before .before .before .before .before .loop .c .end) (c .before .before .before .before .before .before .e .given .0 .0) (c .before .before .k .given .0 .0) (c .before .before .k .given .0 .1 .0) (sym (c .before .before .before .before .kid-of .ensures) ∙ c .before .before .k .given .1) (n .reachable) in
+    let n = step-read-is (c .before .before .before .before .before .before .before .before .before .before .before .before .before .before .before .before .before .before .before .args .store .now) (c .before .before .before .before .before .before .before .before .before .before .before .loop .c .at) (c .before .before .before .before .before .before .before .before .before .before .before .loop .c .end) _ (c .before .before .before .before .before .before .e .given .0 .0) (c .before .before .before .before .before .before .e .given .0 .1 .0) (c .before .before .before .before .before .before .before .before .step .ensures) (c .before .before .before .before .before .before .e .given .1) in
+    let w = branch-place (c .before .before .before .before .before .before .before .before .before .before .before .loop .c .at) (c .before .before .before .before .before .before .before .before .before .before .before .loop .c .end) (c .before .before .before .before .before .before .e .given .0 .0) (c .before .before .k .given .0 .0) (c .before .before .k .given .0 .1 .0) (sym (c .before .before .before .before .branch-of .ensures) ∙ c .before .before .k .given .1) (n .reachable) in
     omega arith
 
 seek-children-part-seek-child-end-2 : (t : ℕ) → seek-children-lts.Need-part-seek-child-end-2 (
@@ -496,14 +497,14 @@ seek-children-part-seek-child-end-2 : (t : ℕ) → seek-children-lts.Need-part-
   step-reads.Learnt,
   seek-last-below t,
   seek-last.Post,
-  kid-of-reads.Asked,
-  kid-of-reads.Learnt,
+  branch-of-reads.Asked,
+  branch-of-reads.Learnt,
   seek-child-below t,
   seek-child.Post,
 ) (seek-children-at t) seek-children.Post seek-children-Inv-loop seek-children-μ-loop
 seek-children-part-seek-child-end-2 t c =
-    let n = step-read-is (c .before .before .before .before .before .before .before .before .before .before .before .before .before .before .before .before .before .args .store .now) (c .before .before .before .before .before .before .before .before .before .before .before .loop .c .at) (c .before .before .before .before .before .before .before .before .before .before .before .loop .c .end) _ (c .before .before .before .before .before .before .e .given .0 .0) (c .before .before .before .before .before .before .e .given .0 .1 .0) (c .before .before .before .before .before .before .before .before .step .ensures) (c .before .before .before .before .before .before .e .given .1) in
-    let w = kid-place (c .before .before .before .before .before .before .before .before .before .before .before .loop .c .at) (c .before .before .before .before .before .before .before .before .before .before .before .loop .c .end) (c .before .before .before .before .before .before .e .given .0 .0) (c .before .before .k .given .0 .0) (c .before .before .k .given .0 .1 .0) (sym (c .before .before .before .before .kid-of .ensures) ∙ c .before .before .k .given .1) (n .reachable) in
+    let n = step-read-is (c .before .before .before .before .before .before .before .before .before .before .before .before .before .before .before .before .before .before .before .args .store .now) (c .before .before .before .before .before .before .before .before .before .before .before .loop .c .at) (c .before .before .before .before .before .before .before .before .before .before .before .loop .c .end) _ (c .before .before .before .before .before .before .e .given .0 .0) (c .before .before .before .before .before .before .e .given .0 .1 .0) (c .before .before .before .before .before .before .before .before .step .ensures) (c .before .before .before .before .before .before .e .given .1) in
+    let w = branch-place (c .before .before .before .before .before .before .before .before .before .before .before .loop .c .at) (c .before .before .before .before .before .before .before .before .before .before .before .loop .c .end) (c .before .before .before .before .before .before .e .given .0 .0) (c .before .before .k .given .0 .0) (c .before .before .k .given .0 .1 .0) (sym (c .before .before .before .before .branch-of .ensures) ∙ c .before .before .k .given .1) (n .reachable) in
     omega arith
 
 seek-children-seek-child-requires : (t : ℕ) → seek-children-lts.Need-seek-child-requires (
@@ -511,27 +512,27 @@ seek-children-seek-child-requires : (t : ℕ) → seek-children-lts.Need-seek-ch
   step-reads.Learnt,
   seek-last-below t,
   seek-last.Post,
-  kid-of-reads.Asked,
-  kid-of-reads.Learnt,
+  branch-of-reads.Asked,
+  branch-of-reads.Learnt,
   seek-child-below t,
   seek-child.Post,
 ) (seek-children-at t) seek-children.Post seek-children-Inv-loop seek-children-μ-loop
 seek-children-seek-child-requires t c κs =
-    let n = step-read-is (c .before .before .before .before .before .before .before .before .before .before .before .before .before .before .before .before .before .before .args .store .now) (c .before .before .before .before .before .before .before .before .before .before .before .before .loop .c .at) (c .before .before .before .before .before .before .before .before .before .before .before .before .loop .c .end) _ (c .before .before .before .before .before .before .before .e .given .0 .0) (c .before .before .before .before .before .before .before .e .given .0 .1 .0) (c .before .before .before .before .before .before .before .before .before .step .ensures) (c .before .before .before .before .before .before .before .e .given .1) in
-    (omega arith, inner-ready (c .before .before .before .before .before .before .before .before .before .before .before .before .before .before .before .before .before .before .args .store .now) (shapeIs (c .before .before .before .before .before .before .before .before .before .before .before .before .before .before .before .before .before .before .args .sh)) (c .before .before .before .before .before .before .before .before .before .before .before .before .before .before .before .before .before .before .args .below .now) (c .before .before .before .before .before .before .before .before .before .before .before .before .before .before .before .before .before .before .args .after .now) (c .before .before .before .before .before .before .before .before .before .before .before .before .before .before .before .before .before .before .args .pre .now) (c .before .before .before .before .before .before .before .before .before .before .before .before .before .before .before .before .before .before .args .hi .now) (c .before .before .before .before .before .before .before .before .before .before .before .before .before .before .before .before .before .before .args .level) (c .before .before .before .before .before .before .before .before .before .before .before .before .loop .num) (c .before .before .before .before .before .before .before .before .before .before .before .before .loop .low) (bufferIs (c .before .before .before .before .before .before .before .before .before .before .before .before .loop .best)) (listed (c .before .before .before .before .before .before .before .before .before .before .before .before .before .before .before .before .before .before .args .store .now) (c .before .before .before .before .before .before .before .before .before .before .before .before .loop .c .at) (c .before .before .before .before .before .before .before .before .before .before .before .before .loop .c .end)) (c .before .before .before .before .before .before .before .before .before .before .before .before .loop .inv .3) (c .before .before .before .before .before .before .before .e .given .0 .0) (c .before .before .before .k .given .0 .0) (c .before .before .before .k .given .0 .1 .0) (listed (c .before .before .before .before .before .before .before .before .before .before .before .before .before .before .before .before .before .before .args .store .now) (c .before .before .before .before .before .before .before .e .given .0 .1 .0 .at) (c .before .before .before .before .before .before .before .e .given .0 .1 .0 .end)) (n .lists) (sym (c .before .before .before .before .before .kid-of .ensures) ∙ c .before .before .before .k .given .1))
+    let n = step-read-is (c .before .before .before .before .before .before .before .before .before .before .before .before .before .before .before .before .before .before .before .before .args .store .now) (c .before .before .before .before .before .before .before .before .before .before .before .before .loop .c .at) (c .before .before .before .before .before .before .before .before .before .before .before .before .loop .c .end) _ (c .before .before .before .before .before .before .before .e .given .0 .0) (c .before .before .before .before .before .before .before .e .given .0 .1 .0) (c .before .before .before .before .before .before .before .before .before .step .ensures) (c .before .before .before .before .before .before .before .e .given .1) in
+    (omega arith, inner-ready (c .before .before .before .before .before .before .before .before .before .before .before .before .before .before .before .before .before .before .before .before .args .store .now) (shapeIs (c .before .before .before .before .before .before .before .before .before .before .before .before .loop .v .shape)) (c .before .before .before .before .before .before .before .before .before .before .before .before .before .before .before .before .before .before .before .before .args .below .now) (c .before .before .before .before .before .before .before .before .before .before .before .before .before .before .before .before .before .before .before .before .args .after .now) (c .before .before .before .before .before .before .before .before .before .before .before .before .before .before .before .before .before .before .before .before .args .pre .now) (c .before .before .before .before .before .before .before .before .before .before .before .before .before .before .before .before .before .before .before .before .args .hi .now) (c .before .before .before .before .before .before .before .before .before .before .before .before .loop .v .level) (c .before .before .before .before .before .before .before .before .before .before .before .before .loop .v .num) (c .before .before .before .before .before .before .before .before .before .before .before .before .loop .low) (bufferIs (c .before .before .before .before .before .before .before .before .before .before .before .before .loop .v .best)) (listed (c .before .before .before .before .before .before .before .before .before .before .before .before .before .before .before .before .before .before .before .before .args .store .now) (c .before .before .before .before .before .before .before .before .before .before .before .before .loop .c .at) (c .before .before .before .before .before .before .before .before .before .before .before .before .loop .c .end)) (c .before .before .before .before .before .before .before .before .before .before .before .before .loop .inv .3) (c .before .before .before .before .before .before .before .e .given .0 .0) (c .before .before .before .k .given .0 .0) (c .before .before .before .k .given .0 .1 .0) (listed (c .before .before .before .before .before .before .before .before .before .before .before .before .before .before .before .before .before .before .before .before .args .store .now) (c .before .before .before .before .before .before .before .e .given .0 .1 .0 .at) (c .before .before .before .before .before .before .before .e .given .0 .1 .0 .end)) (n .lists) (sym (c .before .before .before .before .before .branch-of .ensures) ∙ c .before .before .before .k .given .1))
 
 seek-children-loop-less : (t : ℕ) → seek-children-lts.Need-loop-less (
   step-reads.Asked,
   step-reads.Learnt,
   seek-last-below t,
   seek-last.Post,
-  kid-of-reads.Asked,
-  kid-of-reads.Learnt,
+  branch-of-reads.Asked,
+  branch-of-reads.Learnt,
   seek-child-below t,
   seek-child.Post,
 ) (seek-children-at t) seek-children.Post seek-children-Inv-loop seek-children-μ-loop
 seek-children-loop-less t c =
-    let n = step-read-is (c .before .before .before .before .before .before .before .before .before .before .before .before .before .before .before .before .before .before .before .args .store .now) (c .before .before .before .before .before .before .before .before .before .before .before .before .before .loop .c .at) (c .before .before .before .before .before .before .before .before .before .before .before .before .before .loop .c .end) _ (c .before .before .before .before .before .before .before .before .e .given .0 .0) (c .before .before .before .before .before .before .before .before .e .given .0 .1 .0) (c .before .before .before .before .before .before .before .before .before .before .step .ensures) (c .before .before .before .before .before .before .before .before .e .given .1) in
+    let n = step-read-is (c .before .before .before .before .before .before .before .before .before .before .before .before .before .before .before .before .before .before .before .before .before .args .store .now) (c .before .before .before .before .before .before .before .before .before .before .before .before .before .loop .c .at) (c .before .before .before .before .before .before .before .before .before .before .before .before .before .loop .c .end) _ (c .before .before .before .before .before .before .before .before .e .given .0 .0) (c .before .before .before .before .before .before .before .before .e .given .0 .1 .0) (c .before .before .before .before .before .before .before .before .before .before .step .ensures) (c .before .before .before .before .before .before .before .before .e .given .1) in
     omega arith
 
 seek-children-loop-again : (t : ℕ) → seek-children-lts.Need-loop-again (
@@ -539,20 +540,21 @@ seek-children-loop-again : (t : ℕ) → seek-children-lts.Need-loop-again (
   step-reads.Learnt,
   seek-last-below t,
   seek-last.Post,
-  kid-of-reads.Asked,
-  kid-of-reads.Learnt,
+  branch-of-reads.Asked,
+  branch-of-reads.Learnt,
   seek-child-below t,
   seek-child.Post,
 ) (seek-children-at t) seek-children.Post seek-children-Inv-loop seek-children-μ-loop
 seek-children-loop-again t c =
-    let n = step-read-is (c .before .before .before .before .before .before .before .before .before .before .before .before .before .before .before .before .before .before .before .args .store .now) (c .before .before .before .before .before .before .before .before .before .before .before .before .before .loop .c .at) (c .before .before .before .before .before .before .before .before .before .before .before .before .before .loop .c .end) _ (c .before .before .before .before .before .before .before .before .e .given .0 .0) (c .before .before .before .before .before .before .before .before .e .given .0 .1 .0) (c .before .before .before .before .before .before .before .before .before .before .step .ensures) (c .before .before .before .before .before .before .before .before .e .given .1) in
-    let w = kid-place (c .before .before .before .before .before .before .before .before .before .before .before .before .before .loop .c .at) (c .before .before .before .before .before .before .before .before .before .before .before .before .before .loop .c .end) (c .before .before .before .before .before .before .before .before .e .given .0 .0) (c .before .before .before .before .k .given .0 .0) (c .before .before .before .before .k .given .0 .1 .0) (sym (c .before .before .before .before .before .before .kid-of .ensures) ∙ c .before .before .before .before .k .given .1) (n .reachable) in
-    let b : c .before .before .before .before .before .before .before .before .before .before .before .before .before .loop .c .end ≤ length (c .before .before .before .before .before .before .before .before .before .before .before .before .before .before .before .before .before .before .before .args .store .now) = omega (arith, c .before .before .before .before .before .before .before .before .before .before .before .before .before .before .before .before .before .before .before .pre .1 .0, c .before .before .before .before .before .before .before .before .before .before .before .before .before .loop .inv .0, c .before .before .before .before .before .before .before .before .before .before .before .before .before .loop .inv .1) in (
+    let n = step-read-is (c .before .before .before .before .before .before .before .before .before .before .before .before .before .before .before .before .before .before .before .before .before .args .store .now) (c .before .before .before .before .before .before .before .before .before .before .before .before .before .loop .c .at) (c .before .before .before .before .before .before .before .before .before .before .before .before .before .loop .c .end) _ (c .before .before .before .before .before .before .before .before .e .given .0 .0) (c .before .before .before .before .before .before .before .before .e .given .0 .1 .0) (c .before .before .before .before .before .before .before .before .before .before .step .ensures) (c .before .before .before .before .before .before .before .before .e .given .1) in
+    let w = branch-place (c .before .before .before .before .before .before .before .before .before .before .before .before .before .loop .c .at) (c .before .before .before .before .before .before .before .before .before .before .before .before .before .loop .c .end) (c .before .before .before .before .before .before .before .before .e .given .0 .0) (c .before .before .before .before .k .given .0 .0) (c .before .before .before .before .k .given .0 .1 .0) (sym (c .before .before .before .before .before .before .branch-of .ensures) ∙ c .before .before .before .before .k .given .1) (n .reachable) in
+    let b : c .before .before .before .before .before .before .before .before .before .before .before .before .before .loop .c .end ≤ length (c .before .before .before .before .before .before .before .before .before .before .before .before .before .before .before .before .before .before .before .before .before .args .store .now) = omega (arith, c .before .before .before .before .before .before .before .before .before .before .before .before .before .before .before .before .before .before .before .before .before .pre .1 .0, c .before .before .before .before .before .before .before .before .before .before .before .before .before .loop .inv .0, c .before .before .before .before .before .before .before .before .before .before .before .before .before .loop .inv .1) in (
       c .before .before .before .before .before .before .before .before .before .before .before .before .before .loop .inv .0,
       n .ends ∙ c .before .before .before .before .before .before .before .before .before .before .before .before .before .loop .inv .1,
-      entry-wider (c .before .before .before .before .before .before .before .before .before .before .before .before .before .loop .c .at) (c .before .before .before .before .before .before .before .before .before .before .before .before .before .loop .c .end) 0 (length (c .before .before .before .before .before .before .before .before .before .before .before .before .before .before .before .before .before .before .before .args .store .now)) (Entry.Child (c .before .before .before .before .k .given .0 .0) (c .before .before .before .before .k .given .0 .1 .0)) (omega arith) b w,
-      later-ready (c .before .before .before .before .before .before .before .before .before .before .before .before .before .before .before .before .before .before .before .args .store .now) (shapeIs (c .before .before .before .before .before .before .before .before .before .before .before .before .before .before .before .before .before .before .before .args .sh)) (c .before .before .before .before .before .before .before .before .before .before .before .before .before .before .before .before .before .before .before .args .below .now) (c .before .before .before .before .before .before .before .before .before .before .before .before .before .before .before .before .before .before .before .args .after .now) (c .before .before .before .before .before .before .before .before .before .before .before .before .before .before .before .before .before .before .before .args .pre .now) (c .before .before .before .before .before .before .before .before .before .before .before .before .before .before .before .before .before .before .before .args .hi .now) (c .before .before .before .before .before .before .before .before .before .before .before .before .before .before .before .before .before .before .before .args .level) (c .before .before .before .before .before .before .before .before .before .before .before .before .before .loop .num) (c .before .before .before .before .before .before .before .before .before .before .before .before .before .loop .low) (bufferIs (c .before .before .before .before .before .before .before .before .before .before .before .before .before .loop .best)) (listed (c .before .before .before .before .before .before .before .before .before .before .before .before .before .before .before .before .before .before .before .args .store .now) (c .before .before .before .before .before .before .before .before .before .before .before .before .before .loop .c .at) (c .before .before .before .before .before .before .before .before .before .before .before .before .before .loop .c .end)) (c .before .before .before .before .before .before .before .before .before .before .before .before .before .loop .inv .3) (c .before .before .before .before .before .before .before .before .e .given .0 .0) (c .before .before .before .before .k .given .0 .0) (c .before .before .before .before .k .given .0 .1 .0) (listed (c .before .before .before .before .before .before .before .before .before .before .before .before .before .before .before .before .before .before .before .args .store .now) (c .before .before .before .before .before .before .before .before .e .given .0 .1 .0 .at) (c .before .before .before .before .before .before .before .before .e .given .0 .1 .0 .end)) (n .lists) (sym (c .before .before .before .before .before .before .kid-of .ensures) ∙ c .before .before .before .before .k .given .1),
-      run-step (c .before .before .before .before .before .before .before .before .before .before .before .before .before .before .before .before .before .before .before .args .store .now) (shapeIs (c .before .before .before .before .before .before .before .before .before .before .before .before .before .before .before .before .before .before .before .args .sh)) (c .before .before .before .before .before .before .before .before .before .before .before .before .before .before .before .before .before .before .before .args .below .now) (c .before .before .before .before .before .before .before .before .before .before .before .before .before .before .before .before .before .before .before .args .after .now) (c .before .before .before .before .before .before .before .before .before .before .before .before .before .before .before .before .before .before .before .args .pre .now) (c .before .before .before .before .before .before .before .before .before .before .before .before .before .before .before .before .before .before .before .args .hi .now) (c .before .before .before .before .before .before .before .before .before .before .before .before .before .before .before .before .before .before .before .args .level) (c .before .before .before .before .before .before .before .before .before .before .before .before .before .loop .num) (c .before .before .before .before .before .before .before .before .before .before .before .before .before .loop .low) (bufferIs (c .before .before .before .before .before .before .before .before .before .before .before .before .before .loop .best)) (listed (c .before .before .before .before .before .before .before .before .before .before .before .before .before .before .before .before .before .before .before .args .store .now) (c .before .before .before .before .before .before .before .before .before .before .before .before .before .loop .c .at) (c .before .before .before .before .before .before .before .before .before .before .before .before .before .loop .c .end)) (c .before .before .before .before .before .before .before .before .before .before .before .before .before .loop .inv .3) (c .before .before .before .before .before .before .before .before .e .given .0 .0) (c .before .before .before .before .k .given .0 .0) (c .before .before .before .before .k .given .0 .1 .0) (listed (c .before .before .before .before .before .before .before .before .before .before .before .before .before .before .before .before .before .before .before .args .store .now) (c .before .before .before .before .before .before .before .before .e .given .0 .1 .0 .at) (c .before .before .before .before .before .before .before .before .e .given .0 .1 .0 .end)) (n .lists) (sym (c .before .before .before .before .before .before .kid-of .ensures) ∙ c .before .before .before .before .k .given .1) _ (c .before .before .before .before .before .before .before .before .before .before .before .before .before .loop .inv .4) _ (c .seek-child .ensures),
+      entry-wider (c .before .before .before .before .before .before .before .before .before .before .before .before .before .loop .c .at) (c .before .before .before .before .before .before .before .before .before .before .before .before .before .loop .c .end) 0 (length (c .before .before .before .before .before .before .before .before .before .before .before .before .before .before .before .before .before .before .before .before .before .args .store .now)) (Entry.Child (c .before .before .before .before .k .given .0 .0) (c .before .before .before .before .k .given .0 .1 .0)) (omega arith) b w,
+      later-ready (c .before .before .before .before .before .before .before .before .before .before .before .before .before .before .before .before .before .before .before .before .before .args .store .now) (shapeIs (c .before .before .before .before .before .before .before .before .before .before .before .before .before .loop .v .shape)) (c .before .before .before .before .before .before .before .before .before .before .before .before .before .before .before .before .before .before .before .before .before .args .below .now) (c .before .before .before .before .before .before .before .before .before .before .before .before .before .before .before .before .before .before .before .before .before .args .after .now) (c .before .before .before .before .before .before .before .before .before .before .before .before .before .before .before .before .before .before .before .before .before .args .pre .now) (c .before .before .before .before .before .before .before .before .before .before .before .before .before .before .before .before .before .before .before .before .before .args .hi .now) (c .before .before .before .before .before .before .before .before .before .before .before .before .before .loop .v .level) (c .before .before .before .before .before .before .before .before .before .before .before .before .before .loop .v .num) (c .before .before .before .before .before .before .before .before .before .before .before .before .before .loop .low) (bufferIs (c .before .before .before .before .before .before .before .before .before .before .before .before .before .loop .v .best)) (listed (c .before .before .before .before .before .before .before .before .before .before .before .before .before .before .before .before .before .before .before .before .before .args .store .now) (c .before .before .before .before .before .before .before .before .before .before .before .before .before .loop .c .at) (c .before .before .before .before .before .before .before .before .before .before .before .before .before .loop .c .end)) (c .before .before .before .before .before .before .before .before .before .before .before .before .before .loop .inv .3) (c .before .before .before .before .before .before .before .before .e .given .0 .0) (c .before .before .before .before .k .given .0 .0) (c .before .before .before .before .k .given .0 .1 .0) (listed (c .before .before .before .before .before .before .before .before .before .before .before .before .before .before .before .before .before .before .before .before .before .args .store .now) (c .before .before .before .before .before .before .before .before .e .given .0 .1 .0 .at) (c .before .before .before .before .before .before .before .before .e .given .0 .1 .0 .end)) (n .lists) (sym (c .before .before .before .before .before .before .branch-of .ensures) ∙ c .before .before .before .before .k .given .1),
+      run-step (c .before .before .before .before .before .before .before .before .before .before .before .before .before .before .before .before .before .before .before .before .before .args .store .now) (shapeIs (c .before .before .before .before .before .before .before .before .before .before .before .before .before .loop .v .shape)) (c .before .before .before .before .before .before .before .before .before .before .before .before .before .before .before .before .before .before .before .before .before .args .below .now) (c .before .before .before .before .before .before .before .before .before .before .before .before .before .before .before .before .before .before .before .before .before .args .after .now) (c .before .before .before .before .before .before .before .before .before .before .before .before .before .before .before .before .before .before .before .before .before .args .pre .now) (c .before .before .before .before .before .before .before .before .before .before .before .before .before .before .before .before .before .before .before .before .before .args .hi .now) (c .before .before .before .before .before .before .before .before .before .before .before .before .before .loop .v .level) (c .before .before .before .before .before .before .before .before .before .before .before .before .before .loop .v .num) (c .before .before .before .before .before .before .before .before .before .before .before .before .before .loop .low) (bufferIs (c .before .before .before .before .before .before .before .before .before .before .before .before .before .loop .v .best)) (listed (c .before .before .before .before .before .before .before .before .before .before .before .before .before .before .before .before .before .before .before .before .before .args .store .now) (c .before .before .before .before .before .before .before .before .before .before .before .before .before .loop .c .at) (c .before .before .before .before .before .before .before .before .before .before .before .before .before .loop .c .end)) (c .before .before .before .before .before .before .before .before .before .before .before .before .before .loop .inv .3) (c .before .before .before .before .before .before .before .before .e .given .0 .0) (c .before .before .before .before .k .given .0 .0) (c .before .before .before .before .k .given .0 .1 .0) (listed (c .before .before .before .before .before .before .before .before .before .before .before .before .before .before .before .before .before .before .before .before .before .args .store .now) (c .before .before .before .before .before .before .before .before .e .given .0 .1 .0 .at) (c .before .before .before .before .before .before .before .before .e .given .0 .1 .0 .end)) (n .lists) (sym (c .before .before .before .before .before .before .branch-of .ensures) ∙ c .before .before .before .before .k .given .1) _ (c .before .before .before .before .before .before .before .before .before .before .before .before .before .loop .inv .4) _ (c .seek-child .ensures),
+      c .before .before .before .before .before .before .before .before .before .before .before .before .before .loop .inv .5,
     )
 
 seek-children-seek-last-requires-3 : (t : ℕ) → seek-children-lts.Need-seek-last-requires-3 (
@@ -560,24 +562,24 @@ seek-children-seek-last-requires-3 : (t : ℕ) → seek-children-lts.Need-seek-l
   step-reads.Learnt,
   seek-last-below t,
   seek-last.Post,
-  kid-of-reads.Asked,
-  kid-of-reads.Learnt,
+  branch-of-reads.Asked,
+  branch-of-reads.Learnt,
   seek-child-below t,
   seek-child.Post,
 ) (seek-children-at t) seek-children.Post seek-children-Inv-loop seek-children-μ-loop
-seek-children-seek-last-requires-3 t c κs = (omega arith, (omega arith, c .before .before .loop .inv .2, last-ready (c .before .before .before .before .before .before .before .before .args .store .now) (shapeIs (c .before .before .before .before .before .before .before .before .args .sh)) (c .before .before .before .before .before .before .before .before .args .below .now) (c .before .before .before .before .before .before .before .before .args .after .now) (c .before .before .before .before .before .before .before .before .args .pre .now) (c .before .before .before .before .before .before .before .before .args .hi .now) (c .before .before .before .before .before .before .before .before .args .level) (c .before .before .loop .num) (c .before .before .loop .low) (bufferIs (c .before .before .loop .best)) (listed (c .before .before .before .before .before .before .before .before .args .store .now) (c .before .before .loop .c .at) (c .before .before .loop .c .end)) (c .before .before .loop .inv .3) (kids-none _ (listed-end _ _ _ (omega arith)))))
+seek-children-seek-last-requires-3 t c κs = (omega arith, (omega arith, c .before .before .loop .inv .2, last-ready (c .before .before .before .before .before .before .before .before .before .before .args .store .now) (shapeIs (c .before .before .loop .v .shape)) (c .before .before .before .before .before .before .before .before .before .before .args .below .now) (c .before .before .before .before .before .before .before .before .before .before .args .after .now) (c .before .before .before .before .before .before .before .before .before .before .args .pre .now) (c .before .before .before .before .before .before .before .before .before .before .args .hi .now) (c .before .before .loop .v .level) (c .before .before .loop .v .num) (c .before .before .loop .low) (bufferIs (c .before .before .loop .v .best)) (listed (c .before .before .before .before .before .before .before .before .before .before .args .store .now) (c .before .before .loop .c .at) (c .before .before .loop .c .end)) (c .before .before .loop .inv .3) (branches-none _ (listed-end _ _ _ (omega arith)))))
 
 seek-children-returns-3 : (t : ℕ) → seek-children-lts.Need-returns-3 (
   step-reads.Asked,
   step-reads.Learnt,
   seek-last-below t,
   seek-last.Post,
-  kid-of-reads.Asked,
-  kid-of-reads.Learnt,
+  branch-of-reads.Asked,
+  branch-of-reads.Learnt,
   seek-child-below t,
   seek-child.Post,
 ) (seek-children-at t) seek-children.Post seek-children-Inv-loop seek-children-μ-loop
-seek-children-returns-3 t c = run-ends (c .before .before .before .before .before .before .before .before .before .args .store .now) (shapeIs (c .before .before .before .before .before .before .before .before .before .args .sh)) (c .before .before .before .before .before .before .before .before .before .args .below .now) (c .before .before .before .before .before .before .before .before .before .args .after .now) (c .before .before .before .before .before .before .before .before .before .args .pre .now) (c .before .before .before .before .before .before .before .before .before .args .hi .now) (c .before .before .before .before .before .before .before .before .before .args .level) (c .before .before .before .loop .num) (c .before .before .before .loop .low) (bufferIs (c .before .before .before .loop .best)) (listed (c .before .before .before .before .before .before .before .before .before .args .store .now) (c .before .before .before .loop .c .at) (c .before .before .before .loop .c .end)) (c .before .before .before .loop .inv .3) _ (c .before .before .before .loop .inv .4) (kids-none _ (listed-end _ _ _ (omega arith))) _ (c .seek-last3 .ensures)
+seek-children-returns-3 t c = run-ends (c .before .before .before .before .before .before .before .before .before .before .before .args .store .now) (shapeIs (c .before .before .before .loop .v .shape)) (c .before .before .before .before .before .before .before .before .before .before .before .args .below .now) (c .before .before .before .before .before .before .before .before .before .before .before .args .after .now) (c .before .before .before .before .before .before .before .before .before .before .before .args .pre .now) (c .before .before .before .before .before .before .before .before .before .before .before .args .hi .now) (c .before .before .before .loop .v .level) (c .before .before .before .loop .v .num) (c .before .before .before .loop .low) (bufferIs (c .before .before .before .loop .v .best)) (listed (c .before .before .before .before .before .before .before .before .before .before .before .args .store .now) (c .before .before .before .loop .c .at) (c .before .before .before .loop .c .end)) (c .before .before .before .loop .inv .3) _ (c .before .before .before .loop .inv .4) (branches-none _ (listed-end _ _ _ (omega arith))) _ (c .seek-last3 .ensures)
 
 seek-last-sub-seek-child : (t : ℕ) → seek-last-lts.Need-sub-seek-child (
   seek-child-below t,
@@ -585,7 +587,7 @@ seek-last-sub-seek-child : (t : ℕ) → seek-last-lts.Need-sub-seek-child (
   seek-entries-reads.Asked,
   seek-entries-reads.Learnt,
 ) (seek-last-at t) seek-last.Post
-seek-last-sub-seek-child t c = let w = c .before .before .before .before .before .pre .1 .1 in omega arith
+seek-last-sub-seek-child t c = let w = c .before .before .before .before .before .before .before .pre .1 .1 in omega arith
 
 seek-last-part-seek-child-start : (t : ℕ) → seek-last-lts.Need-part-seek-child-start (
   seek-child-below t,
@@ -593,7 +595,7 @@ seek-last-part-seek-child-start : (t : ℕ) → seek-last-lts.Need-part-seek-chi
   seek-entries-reads.Asked,
   seek-entries-reads.Learnt,
 ) (seek-last-at t) seek-last.Post
-seek-last-part-seek-child-start t c = let w = c .before .before .before .before .before .pre .1 .1 in omega arith
+seek-last-part-seek-child-start t c = let w = c .before .before .before .before .before .before .before .pre .1 .1 in omega arith
 
 seek-last-part-seek-child-end : (t : ℕ) → seek-last-lts.Need-part-seek-child-end (
   seek-child-below t,
@@ -601,7 +603,7 @@ seek-last-part-seek-child-end : (t : ℕ) → seek-last-lts.Need-part-seek-child
   seek-entries-reads.Asked,
   seek-entries-reads.Learnt,
 ) (seek-last-at t) seek-last.Post
-seek-last-part-seek-child-end t c = let w = c .before .before .before .before .before .pre .1 .1 in omega arith
+seek-last-part-seek-child-end t c = let w = c .before .before .before .before .before .before .before .pre .1 .1 in omega arith
 
 seek-last-seek-child-requires : (t : ℕ) → seek-last-lts.Need-seek-child-requires (
   seek-child-below t,
@@ -609,7 +611,7 @@ seek-last-seek-child-requires : (t : ℕ) → seek-last-lts.Need-seek-child-requ
   seek-entries-reads.Asked,
   seek-entries-reads.Learnt,
 ) (seek-last-at t) seek-last.Post
-seek-last-seek-child-requires t c κs = (omega arith, c .before .before .before .before .before .before .pre .1 .2)
+seek-last-seek-child-requires t c κs = (omega arith, c .before .before .before .before .before .before .before .before .pre .1 .2)
 
 seek-last-seek-entries-requires : (t : ℕ) → seek-last-lts.Need-seek-entries-requires (
   seek-child-below t,
@@ -617,7 +619,7 @@ seek-last-seek-entries-requires : (t : ℕ) → seek-last-lts.Need-seek-entries-
   seek-entries-reads.Asked,
   seek-entries-reads.Learnt,
 ) (seek-last-at t) seek-last.Post
-seek-last-seek-entries-requires t c κs = (c .before .before .before .before .before .before .before .pre .1 .2 .whole, c .before .before .before .before .before .before .before .pre .1 .0)
+seek-last-seek-entries-requires t c κs = (c .before .before .before .before .before .before .before .before .before .pre .1 .2 .whole, c .before .before .before .before .before .before .before .before .before .pre .1 .0)
 
 seek-last-returns : (t : ℕ) → seek-last-lts.Need-returns (
   seek-child-below t,
@@ -625,7 +627,7 @@ seek-last-returns : (t : ℕ) → seek-last-lts.Need-returns (
   seek-entries-reads.Asked,
   seek-entries-reads.Learnt,
 ) (seek-last-at t) seek-last.Post
-seek-last-returns t c = last-child _ _ _ _ _ _ _ _ _ (c .before .before .before .before .before .before .before .before .args .low) _ _ _ (c .before .seek-child .ensures) (c .seek-entries .ensures)
+seek-last-returns t c = last-child _ _ _ _ _ _ _ _ _ (c .before .before .before .before .before .before .before .before .before .before .args .run .low) _ _ _ (c .before .seek-child .ensures) (c .seek-entries .ensures)
 
 seek-node-mul-at : (t : ℕ) → seek-node-lts.Need-mul-at (
   u16-at-reads.Asked,
@@ -634,12 +636,12 @@ seek-node-mul-at : (t : ℕ) → seek-node-lts.Need-mul-at (
   seek-entries-reads.Learnt,
   step-reads.Asked,
   step-reads.Learnt,
-  kid-of-reads.Asked,
-  kid-of-reads.Learnt,
+  branch-of-reads.Asked,
+  branch-of-reads.Learnt,
   seek-children-below t,
   seek-children.Post,
 ) (seek-node-at t) seek-node.Post
-seek-node-mul-at t c = let w = node-inside (c .before .before .before .before .before .args .store .now) (c .before .before .before .before .before .args .num) (c .before .before .before .before .before .args .level) (c .before .before .before .before .before .pre .1 .usable) in omega arith
+seek-node-mul-at t c = let w = node-inside (c .before .before .before .before .before .before .before .args .store .now) (c .before .before .before .before .before .before .before .args .node .num) (c .before .before .before .before .before .before .before .args .node .level) (c .before .before .before .before .before .before .before .pre .1 .usable) in omega arith
 
 seek-node-u16-at-requires : (t : ℕ) → seek-node-lts.Need-u16-at-requires (
   u16-at-reads.Asked,
@@ -648,12 +650,12 @@ seek-node-u16-at-requires : (t : ℕ) → seek-node-lts.Need-u16-at-requires (
   seek-entries-reads.Learnt,
   step-reads.Asked,
   step-reads.Learnt,
-  kid-of-reads.Asked,
-  kid-of-reads.Learnt,
+  branch-of-reads.Asked,
+  branch-of-reads.Learnt,
   seek-children-below t,
   seek-children.Post,
 ) (seek-node-at t) seek-node.Post
-seek-node-u16-at-requires t c κs = let w = node-inside (c .before .before .before .before .before .args .store .now) (c .before .before .before .before .before .args .num) (c .before .before .before .before .before .args .level) (c .before .before .before .before .before .pre .1 .usable) in omega arith
+seek-node-u16-at-requires t c κs = let w = node-inside (c .before .before .before .before .before .before .before .args .store .now) (c .before .before .before .before .before .before .before .args .node .num) (c .before .before .before .before .before .before .before .args .node .level) (c .before .before .before .before .before .before .before .pre .1 .usable) in omega arith
 
 seek-node-add-from : (t : ℕ) → seek-node-lts.Need-add-from (
   u16-at-reads.Asked,
@@ -662,12 +664,12 @@ seek-node-add-from : (t : ℕ) → seek-node-lts.Need-add-from (
   seek-entries-reads.Learnt,
   step-reads.Asked,
   step-reads.Learnt,
-  kid-of-reads.Asked,
-  kid-of-reads.Learnt,
+  branch-of-reads.Asked,
+  branch-of-reads.Learnt,
   seek-children-below t,
   seek-children.Post,
 ) (seek-node-at t) seek-node.Post
-seek-node-add-from t c = let w = node-inside (c .before .before .before .before .before .before .args .store .now) (c .before .before .before .before .before .before .args .num) (c .before .before .before .before .before .before .args .level) (c .before .before .before .before .before .before .pre .1 .usable) in omega arith
+seek-node-add-from t c = let w = node-inside (c .before .before .before .before .before .before .before .before .args .store .now) (c .before .before .before .before .before .before .before .before .args .node .num) (c .before .before .before .before .before .before .before .before .args .node .level) (c .before .before .before .before .before .before .before .before .pre .1 .usable) in omega arith
 
 seek-node-add-end : (t : ℕ) → seek-node-lts.Need-add-end (
   u16-at-reads.Asked,
@@ -676,12 +678,12 @@ seek-node-add-end : (t : ℕ) → seek-node-lts.Need-add-end (
   seek-entries-reads.Learnt,
   step-reads.Asked,
   step-reads.Learnt,
-  kid-of-reads.Asked,
-  kid-of-reads.Learnt,
+  branch-of-reads.Asked,
+  branch-of-reads.Learnt,
   seek-children-below t,
   seek-children.Post,
 ) (seek-node-at t) seek-node.Post
-seek-node-add-end t c = let w = node-inside (c .before .before .before .before .before .before .args .store .now) (c .before .before .before .before .before .before .args .num) (c .before .before .before .before .before .before .args .level) (c .before .before .before .before .before .before .pre .1 .usable) in omega arith
+seek-node-add-end t c = let w = node-inside (c .before .before .before .before .before .before .before .before .args .store .now) (c .before .before .before .before .before .before .before .before .args .node .num) (c .before .before .before .before .before .before .before .before .args .node .level) (c .before .before .before .before .before .before .before .before .pre .1 .usable) in omega arith
 
 seek-node-seek-entries-requires : (t : ℕ) → seek-node-lts.Need-seek-entries-requires (
   u16-at-reads.Asked,
@@ -690,12 +692,12 @@ seek-node-seek-entries-requires : (t : ℕ) → seek-node-lts.Need-seek-entries-
   seek-entries-reads.Learnt,
   step-reads.Asked,
   step-reads.Learnt,
-  kid-of-reads.Asked,
-  kid-of-reads.Learnt,
+  branch-of-reads.Asked,
+  branch-of-reads.Learnt,
   seek-children-below t,
   seek-children.Post,
 ) (seek-node-at t) seek-node.Post
-seek-node-seek-entries-requires t c κs = let w = node-inside (c .before .before .before .before .before .before .before .args .store .now) (c .before .before .before .before .before .before .before .args .num) (c .before .before .before .before .before .before .before .args .level) (c .before .before .before .before .before .before .before .pre .1 .usable) in (c .before .before .before .before .before .before .before .pre .1 .whole, omega arith)
+seek-node-seek-entries-requires t c κs = let w = node-inside (c .before .before .before .before .before .before .before .before .before .args .store .now) (c .before .before .before .before .before .before .before .before .before .args .node .num) (c .before .before .before .before .before .before .before .before .before .args .node .level) (c .before .before .before .before .before .before .before .before .before .pre .1 .usable) in (c .before .before .before .before .before .before .before .before .before .pre .1 .whole, omega arith)
 
 seek-node-returns : (t : ℕ) → seek-node-lts.Need-returns (
   u16-at-reads.Asked,
@@ -704,12 +706,12 @@ seek-node-returns : (t : ℕ) → seek-node-lts.Need-returns (
   seek-entries-reads.Learnt,
   step-reads.Asked,
   step-reads.Learnt,
-  kid-of-reads.Asked,
-  kid-of-reads.Learnt,
+  branch-of-reads.Asked,
+  branch-of-reads.Learnt,
   seek-children-below t,
   seek-children.Post,
 ) (seek-node-at t) seek-node.Post
-seek-node-returns t c = node-leaf (c .before .before .before .before .before .before .before .before .args .store .now) (c .before .before .before .before .before .before .before .before .args .pre .now) (c .before .before .before .before .before .before .before .before .args .hi .now) (c .before .before .before .before .before .before .before .before .args .level) (c .before .before .before .before .before .before .before .before .args .num) (c .before .before .before .before .before .before .before .before .pre .1) (shapeIs (c .before .before .before .before .before .before .before .before .args .sh)) (c .before .before .before .before .before .before .before .before .args .below .now) (c .before .before .before .before .before .before .before .before .args .after .now) (bufferIs (c .before .before .before .before .before .before .before .before .args .best)) (c .before .before .u16-at .result) (c .before .before .u16-at .ensures .0) (omega arith) _ (c .seek-entries .ensures)
+seek-node-returns t c = node-leaf (c .before .before .before .before .before .before .before .before .before .before .args .store .now) (c .before .before .before .before .before .before .before .before .before .before .args .pre .now) (c .before .before .before .before .before .before .before .before .before .before .args .hi .now) (c .before .before .before .before .before .before .before .before .before .before .args .node .level) (c .before .before .before .before .before .before .before .before .before .before .args .node .num) (c .before .before .before .before .before .before .before .before .before .before .pre .1) (shapeIs (c .before .before .before .before .before .before .before .before .before .before .args .node .shape)) (c .before .before .before .before .before .before .before .before .before .before .args .below .now) (c .before .before .before .before .before .before .before .before .before .before .args .after .now) (bufferIs (c .before .before .before .before .before .before .before .before .before .before .args .node .best)) (c .before .before .u16-at .result) (c .before .before .u16-at .ensures .0) (omega arith) _ (c .seek-entries .ensures)
 
 seek-node-step-requires : (t : ℕ) → seek-node-lts.Need-step-requires (
   u16-at-reads.Asked,
@@ -718,12 +720,12 @@ seek-node-step-requires : (t : ℕ) → seek-node-lts.Need-step-requires (
   seek-entries-reads.Learnt,
   step-reads.Asked,
   step-reads.Learnt,
-  kid-of-reads.Asked,
-  kid-of-reads.Learnt,
+  branch-of-reads.Asked,
+  branch-of-reads.Learnt,
   seek-children-below t,
   seek-children.Post,
 ) (seek-node-at t) seek-node.Post
-seek-node-step-requires t c κs = let w = node-inside (c .before .before .before .before .before .before .before .args .store .now) (c .before .before .before .before .before .before .before .args .num) (c .before .before .before .before .before .before .before .args .level) (c .before .before .before .before .before .before .before .pre .1 .usable) in omega arith
+seek-node-step-requires t c κs = let w = node-inside (c .before .before .before .before .before .before .before .before .before .args .store .now) (c .before .before .before .before .before .before .before .before .before .args .node .num) (c .before .before .before .before .before .before .before .before .before .args .node .level) (c .before .before .before .before .before .before .before .before .before .pre .1 .usable) in omega arith
 
 seek-node-enum-known-e : (t : ℕ) → seek-node-lts.Need-enum-known-e (
   u16-at-reads.Asked,
@@ -732,8 +734,8 @@ seek-node-enum-known-e : (t : ℕ) → seek-node-lts.Need-enum-known-e (
   seek-entries-reads.Learnt,
   step-reads.Asked,
   step-reads.Learnt,
-  kid-of-reads.Asked,
-  kid-of-reads.Learnt,
+  branch-of-reads.Asked,
+  branch-of-reads.Learnt,
   seek-children-below t,
   seek-children.Post,
 ) (seek-node-at t) seek-node.Post
@@ -746,8 +748,8 @@ seek-node-enum-told : (t : ℕ) → seek-node-lts.Need-enum-told (
   seek-entries-reads.Learnt,
   step-reads.Asked,
   step-reads.Learnt,
-  kid-of-reads.Asked,
-  kid-of-reads.Learnt,
+  branch-of-reads.Asked,
+  branch-of-reads.Learnt,
   seek-children-below t,
   seek-children.Post,
 ) (seek-node-at t) seek-node.Post
@@ -760,12 +762,12 @@ seek-node-seek-entries-requires-2 : (t : ℕ) → seek-node-lts.Need-seek-entrie
   seek-entries-reads.Learnt,
   step-reads.Asked,
   step-reads.Learnt,
-  kid-of-reads.Asked,
-  kid-of-reads.Learnt,
+  branch-of-reads.Asked,
+  branch-of-reads.Learnt,
   seek-children-below t,
   seek-children.Post,
 ) (seek-node-at t) seek-node.Post
-seek-node-seek-entries-requires-2 t c κs = let w = node-inside (c .before .before .before .before .before .before .before .before .before .before .args .store .now) (c .before .before .before .before .before .before .before .before .before .before .args .num) (c .before .before .before .before .before .before .before .before .before .before .args .level) (c .before .before .before .before .before .before .before .before .before .before .pre .1 .usable) in (c .before .before .before .before .before .before .before .before .before .before .pre .1 .whole, omega arith)
+seek-node-seek-entries-requires-2 t c κs = let w = node-inside (c .before .before .before .before .before .before .before .before .before .before .before .before .args .store .now) (c .before .before .before .before .before .before .before .before .before .before .before .before .args .node .num) (c .before .before .before .before .before .before .before .before .before .before .before .before .args .node .level) (c .before .before .before .before .before .before .before .before .before .before .before .before .pre .1 .usable) in (c .before .before .before .before .before .before .before .before .before .before .before .before .pre .1 .whole, omega arith)
 
 seek-node-returns-2 : (t : ℕ) → seek-node-lts.Need-returns-2 (
   u16-at-reads.Asked,
@@ -774,26 +776,26 @@ seek-node-returns-2 : (t : ℕ) → seek-node-lts.Need-returns-2 (
   seek-entries-reads.Learnt,
   step-reads.Asked,
   step-reads.Learnt,
-  kid-of-reads.Asked,
-  kid-of-reads.Learnt,
+  branch-of-reads.Asked,
+  branch-of-reads.Learnt,
   seek-children-below t,
   seek-children.Post,
 ) (seek-node-at t) seek-node.Post
-seek-node-returns-2 t c = node-childless (c .before .before .before .before .before .before .before .before .before .before .before .args .store .now) (c .before .before .before .before .before .before .before .before .before .before .before .args .pre .now) (c .before .before .before .before .before .before .before .before .before .before .before .args .hi .now) (c .before .before .before .before .before .before .before .before .before .before .before .args .level) (c .before .before .before .before .before .before .before .before .before .before .before .args .num) (c .before .before .before .before .before .before .before .before .before .before .before .pre .1) (shapeIs (c .before .before .before .before .before .before .before .before .before .before .before .args .sh)) (c .before .before .before .before .before .before .before .before .before .before .before .args .below .now) (c .before .before .before .before .before .before .before .before .before .before .before .args .after .now) (bufferIs (c .before .before .before .before .before .before .before .before .before .before .before .args .best)) (c .before .before .before .before .before .u16-at .result) (c .before .before .before .before .before .u16-at .ensures .0) (omega arith) (kids-none _ (step-bad-is _ _ _ _ (c .before .before .before .step .ensures) (c .before .enum-told .given .1) .1)) _ (c .seek-entries2 .ensures)
+seek-node-returns-2 t c = node-childless (c .before .before .before .before .before .before .before .before .before .before .before .before .before .args .store .now) (c .before .before .before .before .before .before .before .before .before .before .before .before .before .args .pre .now) (c .before .before .before .before .before .before .before .before .before .before .before .before .before .args .hi .now) (c .before .before .before .before .before .before .before .before .before .before .before .before .before .args .node .level) (c .before .before .before .before .before .before .before .before .before .before .before .before .before .args .node .num) (c .before .before .before .before .before .before .before .before .before .before .before .before .before .pre .1) (shapeIs (c .before .before .before .before .before .before .before .before .before .before .before .before .before .args .node .shape)) (c .before .before .before .before .before .before .before .before .before .before .before .before .before .args .below .now) (c .before .before .before .before .before .before .before .before .before .before .before .before .before .args .after .now) (bufferIs (c .before .before .before .before .before .before .before .before .before .before .before .before .before .args .node .best)) (c .before .before .before .before .before .u16-at .result) (c .before .before .before .before .before .u16-at .ensures .0) (omega arith) (branches-none _ (step-bad-is _ _ _ _ (c .before .before .before .step .ensures) (c .before .enum-told .given .1) .1)) _ (c .seek-entries2 .ensures)
 
-seek-node-kid-of-requires : (t : ℕ) → seek-node-lts.Need-kid-of-requires (
+seek-node-branch-of-requires : (t : ℕ) → seek-node-lts.Need-branch-of-requires (
   u16-at-reads.Asked,
   u16-at-reads.Learnt,
   seek-entries-reads.Asked,
   seek-entries-reads.Learnt,
   step-reads.Asked,
   step-reads.Learnt,
-  kid-of-reads.Asked,
-  kid-of-reads.Learnt,
+  branch-of-reads.Asked,
+  branch-of-reads.Learnt,
   seek-children-below t,
   seek-children.Post,
 ) (seek-node-at t) seek-node.Post
-seek-node-kid-of-requires t c κs = search needs
+seek-node-branch-of-requires t c κs = search needs
 
 seek-node-enum-known-k : (t : ℕ) → seek-node-lts.Need-enum-known-k (
   u16-at-reads.Asked,
@@ -802,8 +804,8 @@ seek-node-enum-known-k : (t : ℕ) → seek-node-lts.Need-enum-known-k (
   seek-entries-reads.Learnt,
   step-reads.Asked,
   step-reads.Learnt,
-  kid-of-reads.Asked,
-  kid-of-reads.Learnt,
+  branch-of-reads.Asked,
+  branch-of-reads.Learnt,
   seek-children-below t,
   seek-children.Post,
 ) (seek-node-at t) seek-node.Post
@@ -816,8 +818,8 @@ seek-node-enum-told-2 : (t : ℕ) → seek-node-lts.Need-enum-told-2 (
   seek-entries-reads.Learnt,
   step-reads.Asked,
   step-reads.Learnt,
-  kid-of-reads.Asked,
-  kid-of-reads.Learnt,
+  branch-of-reads.Asked,
+  branch-of-reads.Learnt,
   seek-children-below t,
   seek-children.Post,
 ) (seek-node-at t) seek-node.Post
@@ -830,12 +832,12 @@ seek-node-seek-entries-requires-3 : (t : ℕ) → seek-node-lts.Need-seek-entrie
   seek-entries-reads.Learnt,
   step-reads.Asked,
   step-reads.Learnt,
-  kid-of-reads.Asked,
-  kid-of-reads.Learnt,
+  branch-of-reads.Asked,
+  branch-of-reads.Learnt,
   seek-children-below t,
   seek-children.Post,
 ) (seek-node-at t) seek-node.Post
-seek-node-seek-entries-requires-3 t c κs = let w = node-inside (c .before .before .before .before .before .before .before .before .before .before .before .before .before .before .args .store .now) (c .before .before .before .before .before .before .before .before .before .before .before .before .before .before .args .num) (c .before .before .before .before .before .before .before .before .before .before .before .before .before .before .args .level) (c .before .before .before .before .before .before .before .before .before .before .before .before .before .before .pre .1 .usable) in (c .before .before .before .before .before .before .before .before .before .before .before .before .before .before .pre .1 .whole, omega arith)
+seek-node-seek-entries-requires-3 t c κs = let w = node-inside (c .before .before .before .before .before .before .before .before .before .before .before .before .before .before .before .before .args .store .now) (c .before .before .before .before .before .before .before .before .before .before .before .before .before .before .before .before .args .node .num) (c .before .before .before .before .before .before .before .before .before .before .before .before .before .before .before .before .args .node .level) (c .before .before .before .before .before .before .before .before .before .before .before .before .before .before .before .before .pre .1 .usable) in (c .before .before .before .before .before .before .before .before .before .before .before .before .before .before .before .before .pre .1 .whole, omega arith)
 
 seek-node-returns-3 : (t : ℕ) → seek-node-lts.Need-returns-3 (
   u16-at-reads.Asked,
@@ -844,28 +846,28 @@ seek-node-returns-3 : (t : ℕ) → seek-node-lts.Need-returns-3 (
   seek-entries-reads.Learnt,
   step-reads.Asked,
   step-reads.Learnt,
-  kid-of-reads.Asked,
-  kid-of-reads.Learnt,
+  branch-of-reads.Asked,
+  branch-of-reads.Learnt,
   seek-children-below t,
   seek-children.Post,
 ) (seek-node-at t) seek-node.Post
 seek-node-returns-3 t c =
     let n = step-read-is _ _ _ _ (c .before .before .before .before .before .e .given .0 .0) (c .before .before .before .before .before .e .given .0 .1 .0) (c .before .before .before .before .before .before .before .step .ensures) (c .before .before .before .before .before .e .given .1) in
-    node-childless (c .before .before .before .before .before .before .before .before .before .before .before .before .before .before .before .args .store .now) (c .before .before .before .before .before .before .before .before .before .before .before .before .before .before .before .args .pre .now) (c .before .before .before .before .before .before .before .before .before .before .before .before .before .before .before .args .hi .now) (c .before .before .before .before .before .before .before .before .before .before .before .before .before .before .before .args .level) (c .before .before .before .before .before .before .before .before .before .before .before .before .before .before .before .args .num) (c .before .before .before .before .before .before .before .before .before .before .before .before .before .before .before .pre .1) (shapeIs (c .before .before .before .before .before .before .before .before .before .before .before .before .before .before .before .args .sh)) (c .before .before .before .before .before .before .before .before .before .before .before .before .before .before .before .args .below .now) (c .before .before .before .before .before .before .before .before .before .before .before .before .before .before .before .args .after .now) (bufferIs (c .before .before .before .before .before .before .before .before .before .before .before .before .before .before .before .args .best)) (c .before .before .before .before .before .before .before .before .before .u16-at .result) (c .before .before .before .before .before .before .before .before .before .u16-at .ensures .0) (omega arith) (kids-other (c .before .before .before .before .before .e .given .0 .0) (c .before .before .before .before .before .before .before .before .before .before .before .before .before .before .before .args .store .now) _ _ (n .lists) (sym (c .before .before .before .kid-of .ensures) ∙ c .before .enum-told2 .given .1)) _ (c .seek-entries3 .ensures)
+    node-childless (c .before .before .before .before .before .before .before .before .before .before .before .before .before .before .before .before .before .args .store .now) (c .before .before .before .before .before .before .before .before .before .before .before .before .before .before .before .before .before .args .pre .now) (c .before .before .before .before .before .before .before .before .before .before .before .before .before .before .before .before .before .args .hi .now) (c .before .before .before .before .before .before .before .before .before .before .before .before .before .before .before .before .before .args .node .level) (c .before .before .before .before .before .before .before .before .before .before .before .before .before .before .before .before .before .args .node .num) (c .before .before .before .before .before .before .before .before .before .before .before .before .before .before .before .before .before .pre .1) (shapeIs (c .before .before .before .before .before .before .before .before .before .before .before .before .before .before .before .before .before .args .node .shape)) (c .before .before .before .before .before .before .before .before .before .before .before .before .before .before .before .before .before .args .below .now) (c .before .before .before .before .before .before .before .before .before .before .before .before .before .before .before .before .before .args .after .now) (bufferIs (c .before .before .before .before .before .before .before .before .before .before .before .before .before .before .before .before .before .args .node .best)) (c .before .before .before .before .before .before .before .before .before .u16-at .result) (c .before .before .before .before .before .before .before .before .before .u16-at .ensures .0) (omega arith) (branches-other (c .before .before .before .before .before .e .given .0 .0) (c .before .before .before .before .before .before .before .before .before .before .before .before .before .before .before .before .before .args .store .now) _ _ (n .lists) (sym (c .before .before .before .branch-of .ensures) ∙ c .before .enum-told2 .given .1)) _ (c .seek-entries3 .ensures)
 
-seek-node-sub-seek-children : (t : ℕ) → seek-node-lts.Need-sub-seek-children (
+seek-node-sub-down : (t : ℕ) → seek-node-lts.Need-sub-down (
   u16-at-reads.Asked,
   u16-at-reads.Learnt,
   seek-entries-reads.Asked,
   seek-entries-reads.Learnt,
   step-reads.Asked,
   step-reads.Learnt,
-  kid-of-reads.Asked,
-  kid-of-reads.Learnt,
+  branch-of-reads.Asked,
+  branch-of-reads.Learnt,
   seek-children-below t,
   seek-children.Post,
 ) (seek-node-at t) seek-node.Post
-seek-node-sub-seek-children t c = omega arith
+seek-node-sub-down t c = omega arith
 
 seek-node-seek-children-requires : (t : ℕ) → seek-node-lts.Need-seek-children-requires (
   u16-at-reads.Asked,
@@ -874,16 +876,16 @@ seek-node-seek-children-requires : (t : ℕ) → seek-node-lts.Need-seek-childre
   seek-entries-reads.Learnt,
   step-reads.Asked,
   step-reads.Learnt,
-  kid-of-reads.Asked,
-  kid-of-reads.Learnt,
+  branch-of-reads.Asked,
+  branch-of-reads.Learnt,
   seek-children-below t,
   seek-children.Post,
 ) (seek-node-at t) seek-node.Post
 seek-node-seek-children-requires t c κs =
-    let w = node-inside (c .before .before .before .before .before .before .before .before .before .before .before .before .before .before .before .args .store .now) (c .before .before .before .before .before .before .before .before .before .before .before .before .before .before .before .args .num) (c .before .before .before .before .before .before .before .before .before .before .before .before .before .before .before .args .level) (c .before .before .before .before .before .before .before .before .before .before .before .before .before .before .before .pre .1 .usable) in
+    let w = node-inside (c .before .before .before .before .before .before .before .before .before .before .before .before .before .before .before .before .before .args .store .now) (c .before .before .before .before .before .before .before .before .before .before .before .before .before .before .before .before .before .args .node .num) (c .before .before .before .before .before .before .before .before .before .before .before .before .before .before .before .before .before .args .node .level) (c .before .before .before .before .before .before .before .before .before .before .before .before .before .before .before .before .before .pre .1 .usable) in
     let n = step-read-is _ _ _ _ (c .before .before .before .before .before .e .given .0 .0) (c .before .before .before .before .before .e .given .0 .1 .0) (c .before .before .before .before .before .before .before .step .ensures) (c .before .before .before .before .before .e .given .1) in
-    let p = kid-place _ _ (c .before .before .before .before .before .e .given .0 .0) (c .before .k .given .0 .0) (c .before .k .given .0 .1 .0) (sym (c .before .before .before .kid-of .ensures) ∙ c .before .k .given .1) (n .reachable) in
-    (omega arith, (omega arith, record { low = omega arith; rises = omega arith; high = omega arith }, node-ready (c .before .before .before .before .before .before .before .before .before .before .before .before .before .before .before .args .store .now) (c .before .before .before .before .before .before .before .before .before .before .before .before .before .before .before .args .pre .now) (c .before .before .before .before .before .before .before .before .before .before .before .before .before .before .before .args .hi .now) (c .before .before .before .before .before .before .before .before .before .before .before .before .before .before .before .args .level) (c .before .before .before .before .before .before .before .before .before .before .before .before .before .before .before .args .num) (c .before .before .before .before .before .before .before .before .before .before .before .before .before .before .before .pre .1) (shapeIs (c .before .before .before .before .before .before .before .before .before .before .before .before .before .before .before .args .sh)) (c .before .before .before .before .before .before .before .before .before .before .before .before .before .before .before .args .below .now) (c .before .before .before .before .before .before .before .before .before .before .before .before .before .before .before .args .after .now) (bufferIs (c .before .before .before .before .before .before .before .before .before .before .before .before .before .before .before .args .best)) (c .before .before .before .before .before .before .before .before .before .u16-at .result) (c .before .before .before .before .before .before .before .before .before .u16-at .ensures .0) (omega arith) (c .before .before .before .before .before .e .given .0 .0) (c .before .k .given .0 .0) (c .before .k .given .0 .1 .0) (listed (c .before .before .before .before .before .before .before .before .before .before .before .before .before .before .before .args .store .now) (c .before .before .before .before .before .e .given .0 .1 .0 .at) (c .before .before .before .before .before .e .given .0 .1 .0 .end)) (n .lists) (sym (c .before .before .before .kid-of .ensures) ∙ c .before .k .given .1)))
+    let p = branch-place _ _ (c .before .before .before .before .before .e .given .0 .0) (c .before .k .given .0 .0) (c .before .k .given .0 .1 .0) (sym (c .before .before .before .branch-of .ensures) ∙ c .before .k .given .1) (n .reachable) in
+    (omega arith, (omega arith, record { low = omega arith; rises = omega arith; high = omega arith }, node-ready (c .before .before .before .before .before .before .before .before .before .before .before .before .before .before .before .before .before .args .store .now) (c .before .before .before .before .before .before .before .before .before .before .before .before .before .before .before .before .before .args .pre .now) (c .before .before .before .before .before .before .before .before .before .before .before .before .before .before .before .before .before .args .hi .now) (c .before .before .before .before .before .before .before .before .before .before .before .before .before .before .before .before .before .args .node .level) (c .before .before .before .before .before .before .before .before .before .before .before .before .before .before .before .before .before .args .node .num) (c .before .before .before .before .before .before .before .before .before .before .before .before .before .before .before .before .before .pre .1) (shapeIs (c .before .before .before .before .before .before .before .before .before .before .before .before .before .before .before .before .before .args .node .shape)) (c .before .before .before .before .before .before .before .before .before .before .before .before .before .before .before .before .before .args .below .now) (c .before .before .before .before .before .before .before .before .before .before .before .before .before .before .before .before .before .args .after .now) (bufferIs (c .before .before .before .before .before .before .before .before .before .before .before .before .before .before .before .before .before .args .node .best)) (c .before .before .before .before .before .before .before .before .before .u16-at .result) (c .before .before .before .before .before .before .before .before .before .u16-at .ensures .0) (omega arith) (c .before .before .before .before .before .e .given .0 .0) (c .before .k .given .0 .0) (c .before .k .given .0 .1 .0) (listed (c .before .before .before .before .before .before .before .before .before .before .before .before .before .before .before .before .before .args .store .now) (c .before .before .before .before .before .e .given .0 .1 .0 .at) (c .before .before .before .before .before .e .given .0 .1 .0 .end)) (n .lists) (sym (c .before .before .before .branch-of .ensures) ∙ c .before .k .given .1)))
 
 seek-node-returns-4 : (t : ℕ) → seek-node-lts.Need-returns-4 (
   u16-at-reads.Asked,
@@ -892,14 +894,14 @@ seek-node-returns-4 : (t : ℕ) → seek-node-lts.Need-returns-4 (
   seek-entries-reads.Learnt,
   step-reads.Asked,
   step-reads.Learnt,
-  kid-of-reads.Asked,
-  kid-of-reads.Learnt,
+  branch-of-reads.Asked,
+  branch-of-reads.Learnt,
   seek-children-below t,
   seek-children.Post,
 ) (seek-node-at t) seek-node.Post
 seek-node-returns-4 t c =
     let n = step-read-is _ _ _ _ (c .before .before .before .before .before .before .e .given .0 .0) (c .before .before .before .before .before .before .e .given .0 .1 .0) (c .before .before .before .before .before .before .before .before .step .ensures) (c .before .before .before .before .before .before .e .given .1) in
-    node-children (c .before .before .before .before .before .before .before .before .before .before .before .before .before .before .before .before .args .store .now) (c .before .before .before .before .before .before .before .before .before .before .before .before .before .before .before .before .args .pre .now) (c .before .before .before .before .before .before .before .before .before .before .before .before .before .before .before .before .args .hi .now) (c .before .before .before .before .before .before .before .before .before .before .before .before .before .before .before .before .args .level) (c .before .before .before .before .before .before .before .before .before .before .before .before .before .before .before .before .args .num) (c .before .before .before .before .before .before .before .before .before .before .before .before .before .before .before .before .pre .1) (shapeIs (c .before .before .before .before .before .before .before .before .before .before .before .before .before .before .before .before .args .sh)) (c .before .before .before .before .before .before .before .before .before .before .before .before .before .before .before .before .args .below .now) (c .before .before .before .before .before .before .before .before .before .before .before .before .before .before .before .before .args .after .now) (bufferIs (c .before .before .before .before .before .before .before .before .before .before .before .before .before .before .before .before .args .best)) (c .before .before .before .before .before .before .before .before .before .before .u16-at .result) (c .before .before .before .before .before .before .before .before .before .before .u16-at .ensures .0) (omega arith) (c .before .before .before .before .before .before .e .given .0 .0) (c .before .before .k .given .0 .0) (c .before .before .k .given .0 .1 .0) (listed (c .before .before .before .before .before .before .before .before .before .before .before .before .before .before .before .before .args .store .now) (c .before .before .before .before .before .before .e .given .0 .1 .0 .at) (c .before .before .before .before .before .before .e .given .0 .1 .0 .end)) (n .lists) (sym (c .before .before .before .before .kid-of .ensures) ∙ c .before .before .k .given .1) _ (c .seek-children .ensures)
+    node-children (c .before .before .before .before .before .before .before .before .before .before .before .before .before .before .before .before .before .before .args .store .now) (c .before .before .before .before .before .before .before .before .before .before .before .before .before .before .before .before .before .before .args .pre .now) (c .before .before .before .before .before .before .before .before .before .before .before .before .before .before .before .before .before .before .args .hi .now) (c .before .before .before .before .before .before .before .before .before .before .before .before .before .before .before .before .before .before .args .node .level) (c .before .before .before .before .before .before .before .before .before .before .before .before .before .before .before .before .before .before .args .node .num) (c .before .before .before .before .before .before .before .before .before .before .before .before .before .before .before .before .before .before .pre .1) (shapeIs (c .before .before .before .before .before .before .before .before .before .before .before .before .before .before .before .before .before .before .args .node .shape)) (c .before .before .before .before .before .before .before .before .before .before .before .before .before .before .before .before .before .before .args .below .now) (c .before .before .before .before .before .before .before .before .before .before .before .before .before .before .before .before .before .before .args .after .now) (bufferIs (c .before .before .before .before .before .before .before .before .before .before .before .before .before .before .before .before .before .before .args .node .best)) (c .before .before .before .before .before .before .before .before .before .before .u16-at .result) (c .before .before .before .before .before .before .before .before .before .before .u16-at .ensures .0) (omega arith) (c .before .before .before .before .before .before .e .given .0 .0) (c .before .before .k .given .0 .0) (c .before .before .k .given .0 .1 .0) (listed (c .before .before .before .before .before .before .before .before .before .before .before .before .before .before .before .before .before .before .args .store .now) (c .before .before .before .before .before .before .e .given .0 .1 .0 .at) (c .before .before .before .before .before .before .e .given .0 .1 .0 .end)) (n .lists) (sym (c .before .before .before .before .branch-of .ensures) ∙ c .before .before .k .given .1) _ (c .seek-children .ensures)
 
 pub +seek-child+seek-children+seek-last+seek-node-spec : {M : Type 1} → statement M
 +seek-child+seek-children+seek-last+seek-node-spec =
@@ -936,8 +938,8 @@ pub +seek-child+seek-children+seek-last+seek-node-spec : {M : Type 1} → statem
       step-reads.Learnt,
       seek-last-below t,
       seek-last.Post,
-      kid-of-reads.Asked,
-      kid-of-reads.Learnt,
+      branch-of-reads.Asked,
+      branch-of-reads.Learnt,
       seek-child-below t,
       seek-child.Post,
     )
@@ -951,7 +953,7 @@ pub +seek-child+seek-children+seek-last+seek-node-spec : {M : Type 1} → statem
     (seek-children-enum-told t)
     (seek-children-seek-last-requires t)
     (seek-children-returns t)
-    (seek-children-kid-of-requires t)
+    (seek-children-branch-of-requires t)
     (seek-children-enum-known-k t)
     (seek-children-enum-told-2 t)
     (seek-children-seek-last-requires-2 t)
@@ -988,8 +990,8 @@ pub +seek-child+seek-children+seek-last+seek-node-spec : {M : Type 1} → statem
       seek-entries-reads.Learnt,
       step-reads.Asked,
       step-reads.Learnt,
-      kid-of-reads.Asked,
-      kid-of-reads.Learnt,
+      branch-of-reads.Asked,
+      branch-of-reads.Learnt,
       seek-children-below t,
       seek-children.Post,
     )
@@ -1006,11 +1008,11 @@ pub +seek-child+seek-children+seek-last+seek-node-spec : {M : Type 1} → statem
     (seek-node-enum-told t)
     (seek-node-seek-entries-requires-2 t)
     (seek-node-returns-2 t)
-    (seek-node-kid-of-requires t)
+    (seek-node-branch-of-requires t)
     (seek-node-enum-known-k t)
     (seek-node-enum-told-2 t)
     (seek-node-seek-entries-requires-3 t)
     (seek-node-returns-3 t)
-    (seek-node-sub-seek-children t)
+    (seek-node-sub-down t)
     (seek-node-seek-children-requires t)
     (seek-node-returns-4 t)

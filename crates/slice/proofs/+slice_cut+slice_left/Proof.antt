@@ -1,6 +1,6 @@
 -- `slice_left` and `slice_cut` meet their contracts. The level falls from a node to its child. The page of a node is composed from the copy of the
 -- node, so that what the child writes does not matter to it. Relies on specs/LeftSteps.
-use Rattle.slice.specs.LeftSteps.{left-inside, left-level, left-new, left-short, leaf-fits, leaf-written, kids-small, inner-fits, child-asks, inner-written, strip-short, strip-high, strip-asks, strip-bare, strip-written, inner-asks, last-asks, inner-places, last-places, inner-at, last-at, between-at, nowhere-at}
+use Rattle.slice.specs.LeftSteps.{left-inside, left-level, left-new, left-short, leaf-fits, leaf-written, branches-small, inner-fits, child-asks, inner-written, strip-short, strip-high, strip-asks, strip-bare, strip-written, inner-asks, last-asks, inner-places, last-places, inner-at, last-at, between-at, nowhere-at}
 use Rattle.slice.specs.PairSteps.{page-written}
 use Rattle.lookup.specs.Look.{part-rest}
 use Rattle.node.specs.Places.{part}
@@ -22,7 +22,7 @@ use Rattle.slice.proofs.+slice_cut+slice_left.Lts-slice_left as slice-l
 use Rattle.octets.proofs.common_length.Reads as common-length-reads
 use Rattle.octets.proofs.u16_at.Reads as u16-at-reads
 use Rattle.node.proofs.writer.write_page.Reads as write-page-reads
-use Rattle.slice.proofs.kids.emit_left.Reads as emit-left-reads
+use Rattle.slice.proofs.branches.emit_left.Reads as emit-left-reads
 use Rattle.slice.proofs.pairs.write_pairs.Reads as write-pairs-reads
 use Rattle.slice.proofs.point.find_point.Reads as find-point-reads
 use Rattle.slice.proofs.read_node.Reads as read-node-reads
@@ -30,10 +30,10 @@ use Rattle.slice.proofs.+slice_cut+slice_left.{statement}
 use Rattle.slice.proofs.+slice_cut+slice_left.Tie.{close}
 
 abbrev μ-slice-cut : Measures 5 slice-cut-kinds.ps ℕ
-μ-slice-cut κs a = a .1 .1 .1 .0 * 2 + 1
+μ-slice-cut κs a = a .1 .1 .1 .0 .level * 2 + 1
 
 abbrev μ-slice-left : Measures 5 slice-left-kinds.ps ℕ
-μ-slice-left κs a = a .1 .1 .0 * 2
+μ-slice-left κs a = a .1 .1 .0 .level * 2
 
 abbrev slice-cut-at : ℕ → In 5 slice-cut-kinds.ps
 slice-cut-at t = and 5 slice-cut-kinds.ps (is 5 slice-cut-kinds.ps μ-slice-cut t) slice-cut.Pre
@@ -64,7 +64,7 @@ slice-cut-sub-common-length : (t : ℕ) → slice-cut-lts.Need-sub-common-length
   slice-left-below t,
   slice-left.Post,
 ) (slice-cut-at t) slice-cut.Post
-slice-cut-sub-common-length t c = let w = inner-places (c .before .before .before .before .before .before .before .before .args .store .now) (c .before .before .before .before .before .before .before .before .args .node .now) (c .before .before .before .before .before .before .before .before .args .hi .now) (c .before .before .before .before .before .before .before .before .args .k .now) (c .before .before .before .before .before .before .before .before .args .level) (c .before .before .before .before .before .before .before .before .args .at) (c .before .before .before .before .before .before .before .before .args .free .now) (c .before .before .before .before .before .before .before .before .args .cut) _ _ _ _ (c .before .cut .given .1) (c .before .before .before .before .before .before .before .before .pre .1 .0) in let la = cut-length (c .before .before .before .before .before .before .before .before .args .node .now) ((c .before .cut .given .0 .1 .1 .0) .start) ((c .before .cut .given .0 .1 .1 .0) .stop) (w .0 .rises) (w .0 .high) in let lb = cut-length (c .before .before .before .before .before .before .before .before .args .node .now) ((c .before .cut .given .0 .1 .1 .1 .0) .start) ((c .before .cut .given .0 .1 .1 .1 .0) .stop) (w .1 .rises) (w .1 .high) in omega arith
+slice-cut-sub-common-length t c = let w = inner-places (c .before .before .before .before .before .before .before .before .args .store .now) (c .before .before .before .before .before .before .before .before .args .node .now) (c .before .before .before .before .before .before .before .before .args .hi .now) (c .before .before .before .before .before .before .before .before .args .k .now) (c .before .before .before .before .before .before .before .before .args .slot .level) (c .before .before .before .before .before .before .before .before .args .slot .at) (c .before .before .before .before .before .before .before .before .args .free .now) (c .before .before .before .before .before .before .before .before .args .cut) _ _ _ _ (c .before .cut .given .1) (c .before .before .before .before .before .before .before .before .pre .1 .0) in let la = cut-length (c .before .before .before .before .before .before .before .before .args .node .now) ((c .before .cut .given .0 .1 .1 .0) .start) ((c .before .cut .given .0 .1 .1 .0) .stop) (w .0 .rises) (w .0 .high) in let lb = cut-length (c .before .before .before .before .before .before .before .before .args .node .now) ((c .before .cut .given .0 .1 .1 .1 .0) .start) ((c .before .cut .given .0 .1 .1 .1 .0) .stop) (w .1 .rises) (w .1 .high) in omega arith
 
 slice-cut-part-common-length-start : (t : ℕ) → slice-cut-lts.Need-part-common-length-start (
   common-length-reads.Asked,
@@ -72,7 +72,7 @@ slice-cut-part-common-length-start : (t : ℕ) → slice-cut-lts.Need-part-commo
   slice-left-below t,
   slice-left.Post,
 ) (slice-cut-at t) slice-cut.Post
-slice-cut-part-common-length-start t c = let w = inner-places (c .before .before .before .before .before .before .before .before .args .store .now) (c .before .before .before .before .before .before .before .before .args .node .now) (c .before .before .before .before .before .before .before .before .args .hi .now) (c .before .before .before .before .before .before .before .before .args .k .now) (c .before .before .before .before .before .before .before .before .args .level) (c .before .before .before .before .before .before .before .before .args .at) (c .before .before .before .before .before .before .before .before .args .free .now) (c .before .before .before .before .before .before .before .before .args .cut) _ _ _ _ (c .before .cut .given .1) (c .before .before .before .before .before .before .before .before .pre .1 .0) in let la = cut-length (c .before .before .before .before .before .before .before .before .args .node .now) ((c .before .cut .given .0 .1 .1 .0) .start) ((c .before .cut .given .0 .1 .1 .0) .stop) (w .0 .rises) (w .0 .high) in let lb = cut-length (c .before .before .before .before .before .before .before .before .args .node .now) ((c .before .cut .given .0 .1 .1 .1 .0) .start) ((c .before .cut .given .0 .1 .1 .1 .0) .stop) (w .1 .rises) (w .1 .high) in omega arith
+slice-cut-part-common-length-start t c = let w = inner-places (c .before .before .before .before .before .before .before .before .args .store .now) (c .before .before .before .before .before .before .before .before .args .node .now) (c .before .before .before .before .before .before .before .before .args .hi .now) (c .before .before .before .before .before .before .before .before .args .k .now) (c .before .before .before .before .before .before .before .before .args .slot .level) (c .before .before .before .before .before .before .before .before .args .slot .at) (c .before .before .before .before .before .before .before .before .args .free .now) (c .before .before .before .before .before .before .before .before .args .cut) _ _ _ _ (c .before .cut .given .1) (c .before .before .before .before .before .before .before .before .pre .1 .0) in let la = cut-length (c .before .before .before .before .before .before .before .before .args .node .now) ((c .before .cut .given .0 .1 .1 .0) .start) ((c .before .cut .given .0 .1 .1 .0) .stop) (w .0 .rises) (w .0 .high) in let lb = cut-length (c .before .before .before .before .before .before .before .before .args .node .now) ((c .before .cut .given .0 .1 .1 .1 .0) .start) ((c .before .cut .given .0 .1 .1 .1 .0) .stop) (w .1 .rises) (w .1 .high) in omega arith
 
 slice-cut-part-common-length-end : (t : ℕ) → slice-cut-lts.Need-part-common-length-end (
   common-length-reads.Asked,
@@ -80,7 +80,7 @@ slice-cut-part-common-length-end : (t : ℕ) → slice-cut-lts.Need-part-common-
   slice-left-below t,
   slice-left.Post,
 ) (slice-cut-at t) slice-cut.Post
-slice-cut-part-common-length-end t c = let w = inner-places (c .before .before .before .before .before .before .before .before .args .store .now) (c .before .before .before .before .before .before .before .before .args .node .now) (c .before .before .before .before .before .before .before .before .args .hi .now) (c .before .before .before .before .before .before .before .before .args .k .now) (c .before .before .before .before .before .before .before .before .args .level) (c .before .before .before .before .before .before .before .before .args .at) (c .before .before .before .before .before .before .before .before .args .free .now) (c .before .before .before .before .before .before .before .before .args .cut) _ _ _ _ (c .before .cut .given .1) (c .before .before .before .before .before .before .before .before .pre .1 .0) in let la = cut-length (c .before .before .before .before .before .before .before .before .args .node .now) ((c .before .cut .given .0 .1 .1 .0) .start) ((c .before .cut .given .0 .1 .1 .0) .stop) (w .0 .rises) (w .0 .high) in let lb = cut-length (c .before .before .before .before .before .before .before .before .args .node .now) ((c .before .cut .given .0 .1 .1 .1 .0) .start) ((c .before .cut .given .0 .1 .1 .1 .0) .stop) (w .1 .rises) (w .1 .high) in omega arith
+slice-cut-part-common-length-end t c = let w = inner-places (c .before .before .before .before .before .before .before .before .args .store .now) (c .before .before .before .before .before .before .before .before .args .node .now) (c .before .before .before .before .before .before .before .before .args .hi .now) (c .before .before .before .before .before .before .before .before .args .k .now) (c .before .before .before .before .before .before .before .before .args .slot .level) (c .before .before .before .before .before .before .before .before .args .slot .at) (c .before .before .before .before .before .before .before .before .args .free .now) (c .before .before .before .before .before .before .before .before .args .cut) _ _ _ _ (c .before .cut .given .1) (c .before .before .before .before .before .before .before .before .pre .1 .0) in let la = cut-length (c .before .before .before .before .before .before .before .before .args .node .now) ((c .before .cut .given .0 .1 .1 .0) .start) ((c .before .cut .given .0 .1 .1 .0) .stop) (w .0 .rises) (w .0 .high) in let lb = cut-length (c .before .before .before .before .before .before .before .before .args .node .now) ((c .before .cut .given .0 .1 .1 .1 .0) .start) ((c .before .cut .given .0 .1 .1 .1 .0) .stop) (w .1 .rises) (w .1 .high) in omega arith
 
 slice-cut-sub-common-length-2 : (t : ℕ) → slice-cut-lts.Need-sub-common-length-2 (
   common-length-reads.Asked,
@@ -88,7 +88,7 @@ slice-cut-sub-common-length-2 : (t : ℕ) → slice-cut-lts.Need-sub-common-leng
   slice-left-below t,
   slice-left.Post,
 ) (slice-cut-at t) slice-cut.Post
-slice-cut-sub-common-length-2 t c = let w = inner-places (c .before .before .before .before .before .before .before .before .before .args .store .now) (c .before .before .before .before .before .before .before .before .before .args .node .now) (c .before .before .before .before .before .before .before .before .before .args .hi .now) (c .before .before .before .before .before .before .before .before .before .args .k .now) (c .before .before .before .before .before .before .before .before .before .args .level) (c .before .before .before .before .before .before .before .before .before .args .at) (c .before .before .before .before .before .before .before .before .before .args .free .now) (c .before .before .before .before .before .before .before .before .before .args .cut) _ _ _ _ (c .before .before .cut .given .1) (c .before .before .before .before .before .before .before .before .before .pre .1 .0) in let la = cut-length (c .before .before .before .before .before .before .before .before .before .args .node .now) ((c .before .before .cut .given .0 .1 .1 .0) .start) ((c .before .before .cut .given .0 .1 .1 .0) .stop) (w .0 .rises) (w .0 .high) in let lb = cut-length (c .before .before .before .before .before .before .before .before .before .args .node .now) ((c .before .before .cut .given .0 .1 .1 .1 .0) .start) ((c .before .before .cut .given .0 .1 .1 .1 .0) .stop) (w .1 .rises) (w .1 .high) in omega arith
+slice-cut-sub-common-length-2 t c = let w = inner-places (c .before .before .before .before .before .before .before .before .before .args .store .now) (c .before .before .before .before .before .before .before .before .before .args .node .now) (c .before .before .before .before .before .before .before .before .before .args .hi .now) (c .before .before .before .before .before .before .before .before .before .args .k .now) (c .before .before .before .before .before .before .before .before .before .args .slot .level) (c .before .before .before .before .before .before .before .before .before .args .slot .at) (c .before .before .before .before .before .before .before .before .before .args .free .now) (c .before .before .before .before .before .before .before .before .before .args .cut) _ _ _ _ (c .before .before .cut .given .1) (c .before .before .before .before .before .before .before .before .before .pre .1 .0) in let la = cut-length (c .before .before .before .before .before .before .before .before .before .args .node .now) ((c .before .before .cut .given .0 .1 .1 .0) .start) ((c .before .before .cut .given .0 .1 .1 .0) .stop) (w .0 .rises) (w .0 .high) in let lb = cut-length (c .before .before .before .before .before .before .before .before .before .args .node .now) ((c .before .before .cut .given .0 .1 .1 .1 .0) .start) ((c .before .before .cut .given .0 .1 .1 .1 .0) .stop) (w .1 .rises) (w .1 .high) in omega arith
 
 slice-cut-part-common-length-start-2 : (t : ℕ) → slice-cut-lts.Need-part-common-length-start-2 (
   common-length-reads.Asked,
@@ -96,7 +96,7 @@ slice-cut-part-common-length-start-2 : (t : ℕ) → slice-cut-lts.Need-part-com
   slice-left-below t,
   slice-left.Post,
 ) (slice-cut-at t) slice-cut.Post
-slice-cut-part-common-length-start-2 t c = let w = inner-places (c .before .before .before .before .before .before .before .before .before .args .store .now) (c .before .before .before .before .before .before .before .before .before .args .node .now) (c .before .before .before .before .before .before .before .before .before .args .hi .now) (c .before .before .before .before .before .before .before .before .before .args .k .now) (c .before .before .before .before .before .before .before .before .before .args .level) (c .before .before .before .before .before .before .before .before .before .args .at) (c .before .before .before .before .before .before .before .before .before .args .free .now) (c .before .before .before .before .before .before .before .before .before .args .cut) _ _ _ _ (c .before .before .cut .given .1) (c .before .before .before .before .before .before .before .before .before .pre .1 .0) in let la = cut-length (c .before .before .before .before .before .before .before .before .before .args .node .now) ((c .before .before .cut .given .0 .1 .1 .0) .start) ((c .before .before .cut .given .0 .1 .1 .0) .stop) (w .0 .rises) (w .0 .high) in let lb = cut-length (c .before .before .before .before .before .before .before .before .before .args .node .now) ((c .before .before .cut .given .0 .1 .1 .1 .0) .start) ((c .before .before .cut .given .0 .1 .1 .1 .0) .stop) (w .1 .rises) (w .1 .high) in omega arith
+slice-cut-part-common-length-start-2 t c = let w = inner-places (c .before .before .before .before .before .before .before .before .before .args .store .now) (c .before .before .before .before .before .before .before .before .before .args .node .now) (c .before .before .before .before .before .before .before .before .before .args .hi .now) (c .before .before .before .before .before .before .before .before .before .args .k .now) (c .before .before .before .before .before .before .before .before .before .args .slot .level) (c .before .before .before .before .before .before .before .before .before .args .slot .at) (c .before .before .before .before .before .before .before .before .before .args .free .now) (c .before .before .before .before .before .before .before .before .before .args .cut) _ _ _ _ (c .before .before .cut .given .1) (c .before .before .before .before .before .before .before .before .before .pre .1 .0) in let la = cut-length (c .before .before .before .before .before .before .before .before .before .args .node .now) ((c .before .before .cut .given .0 .1 .1 .0) .start) ((c .before .before .cut .given .0 .1 .1 .0) .stop) (w .0 .rises) (w .0 .high) in let lb = cut-length (c .before .before .before .before .before .before .before .before .before .args .node .now) ((c .before .before .cut .given .0 .1 .1 .1 .0) .start) ((c .before .before .cut .given .0 .1 .1 .1 .0) .stop) (w .1 .rises) (w .1 .high) in omega arith
 
 slice-cut-part-common-length-end-2 : (t : ℕ) → slice-cut-lts.Need-part-common-length-end-2 (
   common-length-reads.Asked,
@@ -104,7 +104,7 @@ slice-cut-part-common-length-end-2 : (t : ℕ) → slice-cut-lts.Need-part-commo
   slice-left-below t,
   slice-left.Post,
 ) (slice-cut-at t) slice-cut.Post
-slice-cut-part-common-length-end-2 t c = let w = inner-places (c .before .before .before .before .before .before .before .before .before .args .store .now) (c .before .before .before .before .before .before .before .before .before .args .node .now) (c .before .before .before .before .before .before .before .before .before .args .hi .now) (c .before .before .before .before .before .before .before .before .before .args .k .now) (c .before .before .before .before .before .before .before .before .before .args .level) (c .before .before .before .before .before .before .before .before .before .args .at) (c .before .before .before .before .before .before .before .before .before .args .free .now) (c .before .before .before .before .before .before .before .before .before .args .cut) _ _ _ _ (c .before .before .cut .given .1) (c .before .before .before .before .before .before .before .before .before .pre .1 .0) in let la = cut-length (c .before .before .before .before .before .before .before .before .before .args .node .now) ((c .before .before .cut .given .0 .1 .1 .0) .start) ((c .before .before .cut .given .0 .1 .1 .0) .stop) (w .0 .rises) (w .0 .high) in let lb = cut-length (c .before .before .before .before .before .before .before .before .before .args .node .now) ((c .before .before .cut .given .0 .1 .1 .1 .0) .start) ((c .before .before .cut .given .0 .1 .1 .1 .0) .stop) (w .1 .rises) (w .1 .high) in omega arith
+slice-cut-part-common-length-end-2 t c = let w = inner-places (c .before .before .before .before .before .before .before .before .before .args .store .now) (c .before .before .before .before .before .before .before .before .before .args .node .now) (c .before .before .before .before .before .before .before .before .before .args .hi .now) (c .before .before .before .before .before .before .before .before .before .args .k .now) (c .before .before .before .before .before .before .before .before .before .args .slot .level) (c .before .before .before .before .before .before .before .before .before .args .slot .at) (c .before .before .before .before .before .before .before .before .before .args .free .now) (c .before .before .before .before .before .before .before .before .before .args .cut) _ _ _ _ (c .before .before .cut .given .1) (c .before .before .before .before .before .before .before .before .before .pre .1 .0) in let la = cut-length (c .before .before .before .before .before .before .before .before .before .args .node .now) ((c .before .before .cut .given .0 .1 .1 .0) .start) ((c .before .before .cut .given .0 .1 .1 .0) .stop) (w .0 .rises) (w .0 .high) in let lb = cut-length (c .before .before .before .before .before .before .before .before .before .args .node .now) ((c .before .before .cut .given .0 .1 .1 .1 .0) .start) ((c .before .before .cut .given .0 .1 .1 .1 .0) .stop) (w .1 .rises) (w .1 .high) in omega arith
 
 slice-cut-common-length-requires : (t : ℕ) → slice-cut-lts.Need-common-length-requires (
   common-length-reads.Asked,
@@ -120,7 +120,7 @@ slice-cut-add-f : (t : ℕ) → slice-cut-lts.Need-add-f (
   slice-left-below t,
   slice-left.Post,
 ) (slice-cut-at t) slice-cut.Post
-slice-cut-add-f t c = let w = inner-places (c .before .before .before .before .before .before .before .before .before .before .before .args .store .now) (c .before .before .before .before .before .before .before .before .before .before .before .args .node .now) (c .before .before .before .before .before .before .before .before .before .before .before .args .hi .now) (c .before .before .before .before .before .before .before .before .before .before .before .args .k .now) (c .before .before .before .before .before .before .before .before .before .before .before .args .level) (c .before .before .before .before .before .before .before .before .before .before .before .args .at) (c .before .before .before .before .before .before .before .before .before .before .before .args .free .now) (c .before .before .before .before .before .before .before .before .before .before .before .args .cut) _ _ _ _ (c .before .before .before .before .cut .given .1) (c .before .before .before .before .before .before .before .before .before .before .before .pre .1 .0) in let la = cut-length (c .before .before .before .before .before .before .before .before .before .before .before .args .node .now) ((c .before .before .before .before .cut .given .0 .1 .1 .0) .start) ((c .before .before .before .before .cut .given .0 .1 .1 .0) .stop) (w .0 .rises) (w .0 .high) in let lb = cut-length (c .before .before .before .before .before .before .before .before .before .before .before .args .node .now) ((c .before .before .before .before .cut .given .0 .1 .1 .1 .0) .start) ((c .before .before .before .before .cut .given .0 .1 .1 .1 .0) .stop) (w .1 .rises) (w .1 .high) in omega arith
+slice-cut-add-f t c = let w = inner-places (c .before .before .before .before .before .before .before .before .before .before .before .args .store .now) (c .before .before .before .before .before .before .before .before .before .before .before .args .node .now) (c .before .before .before .before .before .before .before .before .before .before .before .args .hi .now) (c .before .before .before .before .before .before .before .before .before .before .before .args .k .now) (c .before .before .before .before .before .before .before .before .before .before .before .args .slot .level) (c .before .before .before .before .before .before .before .before .before .before .before .args .slot .at) (c .before .before .before .before .before .before .before .before .before .before .before .args .free .now) (c .before .before .before .before .before .before .before .before .before .before .before .args .cut) _ _ _ _ (c .before .before .before .before .cut .given .1) (c .before .before .before .before .before .before .before .before .before .before .before .pre .1 .0) in let la = cut-length (c .before .before .before .before .before .before .before .before .before .before .before .args .node .now) ((c .before .before .before .before .cut .given .0 .1 .1 .0) .start) ((c .before .before .before .before .cut .given .0 .1 .1 .0) .stop) (w .0 .rises) (w .0 .high) in let lb = cut-length (c .before .before .before .before .before .before .before .before .before .before .before .args .node .now) ((c .before .before .before .before .cut .given .0 .1 .1 .1 .0) .start) ((c .before .before .before .before .cut .given .0 .1 .1 .1 .0) .stop) (w .1 .rises) (w .1 .high) in omega arith
 
 slice-cut-add-g : (t : ℕ) → slice-cut-lts.Need-add-g (
   common-length-reads.Asked,
@@ -128,7 +128,7 @@ slice-cut-add-g : (t : ℕ) → slice-cut-lts.Need-add-g (
   slice-left-below t,
   slice-left.Post,
 ) (slice-cut-at t) slice-cut.Post
-slice-cut-add-g t c = let w = inner-places (c .before .before .before .before .before .before .before .before .before .before .before .args .store .now) (c .before .before .before .before .before .before .before .before .before .before .before .args .node .now) (c .before .before .before .before .before .before .before .before .before .before .before .args .hi .now) (c .before .before .before .before .before .before .before .before .before .before .before .args .k .now) (c .before .before .before .before .before .before .before .before .before .before .before .args .level) (c .before .before .before .before .before .before .before .before .before .before .before .args .at) (c .before .before .before .before .before .before .before .before .before .before .before .args .free .now) (c .before .before .before .before .before .before .before .before .before .before .before .args .cut) _ _ _ _ (c .before .before .before .before .cut .given .1) (c .before .before .before .before .before .before .before .before .before .before .before .pre .1 .0) in let la = cut-length (c .before .before .before .before .before .before .before .before .before .before .before .args .node .now) ((c .before .before .before .before .cut .given .0 .1 .1 .0) .start) ((c .before .before .before .before .cut .given .0 .1 .1 .0) .stop) (w .0 .rises) (w .0 .high) in let lb = cut-length (c .before .before .before .before .before .before .before .before .before .before .before .args .node .now) ((c .before .before .before .before .cut .given .0 .1 .1 .1 .0) .start) ((c .before .before .before .before .cut .given .0 .1 .1 .1 .0) .stop) (w .1 .rises) (w .1 .high) in omega arith
+slice-cut-add-g t c = let w = inner-places (c .before .before .before .before .before .before .before .before .before .before .before .args .store .now) (c .before .before .before .before .before .before .before .before .before .before .before .args .node .now) (c .before .before .before .before .before .before .before .before .before .before .before .args .hi .now) (c .before .before .before .before .before .before .before .before .before .before .before .args .k .now) (c .before .before .before .before .before .before .before .before .before .before .before .args .slot .level) (c .before .before .before .before .before .before .before .before .before .before .before .args .slot .at) (c .before .before .before .before .before .before .before .before .before .before .before .args .free .now) (c .before .before .before .before .before .before .before .before .before .before .before .args .cut) _ _ _ _ (c .before .before .before .before .cut .given .1) (c .before .before .before .before .before .before .before .before .before .before .before .pre .1 .0) in let la = cut-length (c .before .before .before .before .before .before .before .before .before .before .before .args .node .now) ((c .before .before .before .before .cut .given .0 .1 .1 .0) .start) ((c .before .before .before .before .cut .given .0 .1 .1 .0) .stop) (w .0 .rises) (w .0 .high) in let lb = cut-length (c .before .before .before .before .before .before .before .before .before .before .before .args .node .now) ((c .before .before .before .before .cut .given .0 .1 .1 .1 .0) .start) ((c .before .before .before .before .cut .given .0 .1 .1 .1 .0) .stop) (w .1 .rises) (w .1 .high) in omega arith
 
 slice-cut-sub-slice-left : (t : ℕ) → slice-cut-lts.Need-sub-slice-left (
   common-length-reads.Asked,
@@ -136,7 +136,7 @@ slice-cut-sub-slice-left : (t : ℕ) → slice-cut-lts.Need-sub-slice-left (
   slice-left-below t,
   slice-left.Post,
 ) (slice-cut-at t) slice-cut.Post
-slice-cut-sub-slice-left t c = let w = inner-places (c .before .before .before .before .before .before .before .before .before .before .before .before .args .store .now) (c .before .before .before .before .before .before .before .before .before .before .before .before .args .node .now) (c .before .before .before .before .before .before .before .before .before .before .before .before .args .hi .now) (c .before .before .before .before .before .before .before .before .before .before .before .before .args .k .now) (c .before .before .before .before .before .before .before .before .before .before .before .before .args .level) (c .before .before .before .before .before .before .before .before .before .before .before .before .args .at) (c .before .before .before .before .before .before .before .before .before .before .before .before .args .free .now) (c .before .before .before .before .before .before .before .before .before .before .before .before .args .cut) _ _ _ _ (c .before .before .before .before .before .cut .given .1) (c .before .before .before .before .before .before .before .before .before .before .before .before .pre .1 .0) in let la = cut-length (c .before .before .before .before .before .before .before .before .before .before .before .before .args .node .now) ((c .before .before .before .before .before .cut .given .0 .1 .1 .0) .start) ((c .before .before .before .before .before .cut .given .0 .1 .1 .0) .stop) (w .0 .rises) (w .0 .high) in let lb = cut-length (c .before .before .before .before .before .before .before .before .before .before .before .before .args .node .now) ((c .before .before .before .before .before .cut .given .0 .1 .1 .1 .0) .start) ((c .before .before .before .before .before .cut .given .0 .1 .1 .1 .0) .stop) (w .1 .rises) (w .1 .high) in omega arith
+slice-cut-sub-slice-left t c = let w = inner-places (c .before .before .before .before .before .before .before .before .before .before .before .before .args .store .now) (c .before .before .before .before .before .before .before .before .before .before .before .before .args .node .now) (c .before .before .before .before .before .before .before .before .before .before .before .before .args .hi .now) (c .before .before .before .before .before .before .before .before .before .before .before .before .args .k .now) (c .before .before .before .before .before .before .before .before .before .before .before .before .args .slot .level) (c .before .before .before .before .before .before .before .before .before .before .before .before .args .slot .at) (c .before .before .before .before .before .before .before .before .before .before .before .before .args .free .now) (c .before .before .before .before .before .before .before .before .before .before .before .before .args .cut) _ _ _ _ (c .before .before .before .before .before .cut .given .1) (c .before .before .before .before .before .before .before .before .before .before .before .before .pre .1 .0) in let la = cut-length (c .before .before .before .before .before .before .before .before .before .before .before .before .args .node .now) ((c .before .before .before .before .before .cut .given .0 .1 .1 .0) .start) ((c .before .before .before .before .before .cut .given .0 .1 .1 .0) .stop) (w .0 .rises) (w .0 .high) in let lb = cut-length (c .before .before .before .before .before .before .before .before .before .before .before .before .args .node .now) ((c .before .before .before .before .before .cut .given .0 .1 .1 .1 .0) .start) ((c .before .before .before .before .before .cut .given .0 .1 .1 .1 .0) .stop) (w .1 .rises) (w .1 .high) in omega arith
 
 slice-cut-part-slice-left-start : (t : ℕ) → slice-cut-lts.Need-part-slice-left-start (
   common-length-reads.Asked,
@@ -144,7 +144,7 @@ slice-cut-part-slice-left-start : (t : ℕ) → slice-cut-lts.Need-part-slice-le
   slice-left-below t,
   slice-left.Post,
 ) (slice-cut-at t) slice-cut.Post
-slice-cut-part-slice-left-start t c = let w = inner-places (c .before .before .before .before .before .before .before .before .before .before .before .before .args .store .now) (c .before .before .before .before .before .before .before .before .before .before .before .before .args .node .now) (c .before .before .before .before .before .before .before .before .before .before .before .before .args .hi .now) (c .before .before .before .before .before .before .before .before .before .before .before .before .args .k .now) (c .before .before .before .before .before .before .before .before .before .before .before .before .args .level) (c .before .before .before .before .before .before .before .before .before .before .before .before .args .at) (c .before .before .before .before .before .before .before .before .before .before .before .before .args .free .now) (c .before .before .before .before .before .before .before .before .before .before .before .before .args .cut) _ _ _ _ (c .before .before .before .before .before .cut .given .1) (c .before .before .before .before .before .before .before .before .before .before .before .before .pre .1 .0) in let la = cut-length (c .before .before .before .before .before .before .before .before .before .before .before .before .args .node .now) ((c .before .before .before .before .before .cut .given .0 .1 .1 .0) .start) ((c .before .before .before .before .before .cut .given .0 .1 .1 .0) .stop) (w .0 .rises) (w .0 .high) in let lb = cut-length (c .before .before .before .before .before .before .before .before .before .before .before .before .args .node .now) ((c .before .before .before .before .before .cut .given .0 .1 .1 .1 .0) .start) ((c .before .before .before .before .before .cut .given .0 .1 .1 .1 .0) .stop) (w .1 .rises) (w .1 .high) in omega arith
+slice-cut-part-slice-left-start t c = let w = inner-places (c .before .before .before .before .before .before .before .before .before .before .before .before .args .store .now) (c .before .before .before .before .before .before .before .before .before .before .before .before .args .node .now) (c .before .before .before .before .before .before .before .before .before .before .before .before .args .hi .now) (c .before .before .before .before .before .before .before .before .before .before .before .before .args .k .now) (c .before .before .before .before .before .before .before .before .before .before .before .before .args .slot .level) (c .before .before .before .before .before .before .before .before .before .before .before .before .args .slot .at) (c .before .before .before .before .before .before .before .before .before .before .before .before .args .free .now) (c .before .before .before .before .before .before .before .before .before .before .before .before .args .cut) _ _ _ _ (c .before .before .before .before .before .cut .given .1) (c .before .before .before .before .before .before .before .before .before .before .before .before .pre .1 .0) in let la = cut-length (c .before .before .before .before .before .before .before .before .before .before .before .before .args .node .now) ((c .before .before .before .before .before .cut .given .0 .1 .1 .0) .start) ((c .before .before .before .before .before .cut .given .0 .1 .1 .0) .stop) (w .0 .rises) (w .0 .high) in let lb = cut-length (c .before .before .before .before .before .before .before .before .before .before .before .before .args .node .now) ((c .before .before .before .before .before .cut .given .0 .1 .1 .1 .0) .start) ((c .before .before .before .before .before .cut .given .0 .1 .1 .1 .0) .stop) (w .1 .rises) (w .1 .high) in omega arith
 
 slice-cut-part-slice-left-end : (t : ℕ) → slice-cut-lts.Need-part-slice-left-end (
   common-length-reads.Asked,
@@ -152,7 +152,7 @@ slice-cut-part-slice-left-end : (t : ℕ) → slice-cut-lts.Need-part-slice-left
   slice-left-below t,
   slice-left.Post,
 ) (slice-cut-at t) slice-cut.Post
-slice-cut-part-slice-left-end t c = let w = inner-places (c .before .before .before .before .before .before .before .before .before .before .before .before .args .store .now) (c .before .before .before .before .before .before .before .before .before .before .before .before .args .node .now) (c .before .before .before .before .before .before .before .before .before .before .before .before .args .hi .now) (c .before .before .before .before .before .before .before .before .before .before .before .before .args .k .now) (c .before .before .before .before .before .before .before .before .before .before .before .before .args .level) (c .before .before .before .before .before .before .before .before .before .before .before .before .args .at) (c .before .before .before .before .before .before .before .before .before .before .before .before .args .free .now) (c .before .before .before .before .before .before .before .before .before .before .before .before .args .cut) _ _ _ _ (c .before .before .before .before .before .cut .given .1) (c .before .before .before .before .before .before .before .before .before .before .before .before .pre .1 .0) in let la = cut-length (c .before .before .before .before .before .before .before .before .before .before .before .before .args .node .now) ((c .before .before .before .before .before .cut .given .0 .1 .1 .0) .start) ((c .before .before .before .before .before .cut .given .0 .1 .1 .0) .stop) (w .0 .rises) (w .0 .high) in let lb = cut-length (c .before .before .before .before .before .before .before .before .before .before .before .before .args .node .now) ((c .before .before .before .before .before .cut .given .0 .1 .1 .1 .0) .start) ((c .before .before .before .before .before .cut .given .0 .1 .1 .1 .0) .stop) (w .1 .rises) (w .1 .high) in omega arith
+slice-cut-part-slice-left-end t c = let w = inner-places (c .before .before .before .before .before .before .before .before .before .before .before .before .args .store .now) (c .before .before .before .before .before .before .before .before .before .before .before .before .args .node .now) (c .before .before .before .before .before .before .before .before .before .before .before .before .args .hi .now) (c .before .before .before .before .before .before .before .before .before .before .before .before .args .k .now) (c .before .before .before .before .before .before .before .before .before .before .before .before .args .slot .level) (c .before .before .before .before .before .before .before .before .before .before .before .before .args .slot .at) (c .before .before .before .before .before .before .before .before .before .before .before .before .args .free .now) (c .before .before .before .before .before .before .before .before .before .before .before .before .args .cut) _ _ _ _ (c .before .before .before .before .before .cut .given .1) (c .before .before .before .before .before .before .before .before .before .before .before .before .pre .1 .0) in let la = cut-length (c .before .before .before .before .before .before .before .before .before .before .before .before .args .node .now) ((c .before .before .before .before .before .cut .given .0 .1 .1 .0) .start) ((c .before .before .before .before .before .cut .given .0 .1 .1 .0) .stop) (w .0 .rises) (w .0 .high) in let lb = cut-length (c .before .before .before .before .before .before .before .before .before .before .before .before .args .node .now) ((c .before .before .before .before .before .cut .given .0 .1 .1 .1 .0) .start) ((c .before .before .before .before .before .cut .given .0 .1 .1 .1 .0) .stop) (w .1 .rises) (w .1 .high) in omega arith
 
 slice-cut-sub-slice-left-2 : (t : ℕ) → slice-cut-lts.Need-sub-slice-left-2 (
   common-length-reads.Asked,
@@ -160,7 +160,7 @@ slice-cut-sub-slice-left-2 : (t : ℕ) → slice-cut-lts.Need-sub-slice-left-2 (
   slice-left-below t,
   slice-left.Post,
 ) (slice-cut-at t) slice-cut.Post
-slice-cut-sub-slice-left-2 t c = let w = inner-places (c .before .before .before .before .before .before .before .before .before .before .before .before .before .args .store .now) (c .before .before .before .before .before .before .before .before .before .before .before .before .before .args .node .now) (c .before .before .before .before .before .before .before .before .before .before .before .before .before .args .hi .now) (c .before .before .before .before .before .before .before .before .before .before .before .before .before .args .k .now) (c .before .before .before .before .before .before .before .before .before .before .before .before .before .args .level) (c .before .before .before .before .before .before .before .before .before .before .before .before .before .args .at) (c .before .before .before .before .before .before .before .before .before .before .before .before .before .args .free .now) (c .before .before .before .before .before .before .before .before .before .before .before .before .before .args .cut) _ _ _ _ (c .before .before .before .before .before .before .cut .given .1) (c .before .before .before .before .before .before .before .before .before .before .before .before .before .pre .1 .0) in let la = cut-length (c .before .before .before .before .before .before .before .before .before .before .before .before .before .args .node .now) ((c .before .before .before .before .before .before .cut .given .0 .1 .1 .0) .start) ((c .before .before .before .before .before .before .cut .given .0 .1 .1 .0) .stop) (w .0 .rises) (w .0 .high) in let lb = cut-length (c .before .before .before .before .before .before .before .before .before .before .before .before .before .args .node .now) ((c .before .before .before .before .before .before .cut .given .0 .1 .1 .1 .0) .start) ((c .before .before .before .before .before .before .cut .given .0 .1 .1 .1 .0) .stop) (w .1 .rises) (w .1 .high) in omega arith
+slice-cut-sub-slice-left-2 t c = let w = inner-places (c .before .before .before .before .before .before .before .before .before .before .before .before .before .args .store .now) (c .before .before .before .before .before .before .before .before .before .before .before .before .before .args .node .now) (c .before .before .before .before .before .before .before .before .before .before .before .before .before .args .hi .now) (c .before .before .before .before .before .before .before .before .before .before .before .before .before .args .k .now) (c .before .before .before .before .before .before .before .before .before .before .before .before .before .args .slot .level) (c .before .before .before .before .before .before .before .before .before .before .before .before .before .args .slot .at) (c .before .before .before .before .before .before .before .before .before .before .before .before .before .args .free .now) (c .before .before .before .before .before .before .before .before .before .before .before .before .before .args .cut) _ _ _ _ (c .before .before .before .before .before .before .cut .given .1) (c .before .before .before .before .before .before .before .before .before .before .before .before .before .pre .1 .0) in let la = cut-length (c .before .before .before .before .before .before .before .before .before .before .before .before .before .args .node .now) ((c .before .before .before .before .before .before .cut .given .0 .1 .1 .0) .start) ((c .before .before .before .before .before .before .cut .given .0 .1 .1 .0) .stop) (w .0 .rises) (w .0 .high) in let lb = cut-length (c .before .before .before .before .before .before .before .before .before .before .before .before .before .args .node .now) ((c .before .before .before .before .before .before .cut .given .0 .1 .1 .1 .0) .start) ((c .before .before .before .before .before .before .cut .given .0 .1 .1 .1 .0) .stop) (w .1 .rises) (w .1 .high) in omega arith
 
 slice-cut-part-slice-left-start-2 : (t : ℕ) → slice-cut-lts.Need-part-slice-left-start-2 (
   common-length-reads.Asked,
@@ -168,7 +168,7 @@ slice-cut-part-slice-left-start-2 : (t : ℕ) → slice-cut-lts.Need-part-slice-
   slice-left-below t,
   slice-left.Post,
 ) (slice-cut-at t) slice-cut.Post
-slice-cut-part-slice-left-start-2 t c = let w = inner-places (c .before .before .before .before .before .before .before .before .before .before .before .before .before .args .store .now) (c .before .before .before .before .before .before .before .before .before .before .before .before .before .args .node .now) (c .before .before .before .before .before .before .before .before .before .before .before .before .before .args .hi .now) (c .before .before .before .before .before .before .before .before .before .before .before .before .before .args .k .now) (c .before .before .before .before .before .before .before .before .before .before .before .before .before .args .level) (c .before .before .before .before .before .before .before .before .before .before .before .before .before .args .at) (c .before .before .before .before .before .before .before .before .before .before .before .before .before .args .free .now) (c .before .before .before .before .before .before .before .before .before .before .before .before .before .args .cut) _ _ _ _ (c .before .before .before .before .before .before .cut .given .1) (c .before .before .before .before .before .before .before .before .before .before .before .before .before .pre .1 .0) in let la = cut-length (c .before .before .before .before .before .before .before .before .before .before .before .before .before .args .node .now) ((c .before .before .before .before .before .before .cut .given .0 .1 .1 .0) .start) ((c .before .before .before .before .before .before .cut .given .0 .1 .1 .0) .stop) (w .0 .rises) (w .0 .high) in let lb = cut-length (c .before .before .before .before .before .before .before .before .before .before .before .before .before .args .node .now) ((c .before .before .before .before .before .before .cut .given .0 .1 .1 .1 .0) .start) ((c .before .before .before .before .before .before .cut .given .0 .1 .1 .1 .0) .stop) (w .1 .rises) (w .1 .high) in omega arith
+slice-cut-part-slice-left-start-2 t c = let w = inner-places (c .before .before .before .before .before .before .before .before .before .before .before .before .before .args .store .now) (c .before .before .before .before .before .before .before .before .before .before .before .before .before .args .node .now) (c .before .before .before .before .before .before .before .before .before .before .before .before .before .args .hi .now) (c .before .before .before .before .before .before .before .before .before .before .before .before .before .args .k .now) (c .before .before .before .before .before .before .before .before .before .before .before .before .before .args .slot .level) (c .before .before .before .before .before .before .before .before .before .before .before .before .before .args .slot .at) (c .before .before .before .before .before .before .before .before .before .before .before .before .before .args .free .now) (c .before .before .before .before .before .before .before .before .before .before .before .before .before .args .cut) _ _ _ _ (c .before .before .before .before .before .before .cut .given .1) (c .before .before .before .before .before .before .before .before .before .before .before .before .before .pre .1 .0) in let la = cut-length (c .before .before .before .before .before .before .before .before .before .before .before .before .before .args .node .now) ((c .before .before .before .before .before .before .cut .given .0 .1 .1 .0) .start) ((c .before .before .before .before .before .before .cut .given .0 .1 .1 .0) .stop) (w .0 .rises) (w .0 .high) in let lb = cut-length (c .before .before .before .before .before .before .before .before .before .before .before .before .before .args .node .now) ((c .before .before .before .before .before .before .cut .given .0 .1 .1 .1 .0) .start) ((c .before .before .before .before .before .before .cut .given .0 .1 .1 .1 .0) .stop) (w .1 .rises) (w .1 .high) in omega arith
 
 slice-cut-part-slice-left-end-2 : (t : ℕ) → slice-cut-lts.Need-part-slice-left-end-2 (
   common-length-reads.Asked,
@@ -176,7 +176,7 @@ slice-cut-part-slice-left-end-2 : (t : ℕ) → slice-cut-lts.Need-part-slice-le
   slice-left-below t,
   slice-left.Post,
 ) (slice-cut-at t) slice-cut.Post
-slice-cut-part-slice-left-end-2 t c = let w = inner-places (c .before .before .before .before .before .before .before .before .before .before .before .before .before .args .store .now) (c .before .before .before .before .before .before .before .before .before .before .before .before .before .args .node .now) (c .before .before .before .before .before .before .before .before .before .before .before .before .before .args .hi .now) (c .before .before .before .before .before .before .before .before .before .before .before .before .before .args .k .now) (c .before .before .before .before .before .before .before .before .before .before .before .before .before .args .level) (c .before .before .before .before .before .before .before .before .before .before .before .before .before .args .at) (c .before .before .before .before .before .before .before .before .before .before .before .before .before .args .free .now) (c .before .before .before .before .before .before .before .before .before .before .before .before .before .args .cut) _ _ _ _ (c .before .before .before .before .before .before .cut .given .1) (c .before .before .before .before .before .before .before .before .before .before .before .before .before .pre .1 .0) in let la = cut-length (c .before .before .before .before .before .before .before .before .before .before .before .before .before .args .node .now) ((c .before .before .before .before .before .before .cut .given .0 .1 .1 .0) .start) ((c .before .before .before .before .before .before .cut .given .0 .1 .1 .0) .stop) (w .0 .rises) (w .0 .high) in let lb = cut-length (c .before .before .before .before .before .before .before .before .before .before .before .before .before .args .node .now) ((c .before .before .before .before .before .before .cut .given .0 .1 .1 .1 .0) .start) ((c .before .before .before .before .before .before .cut .given .0 .1 .1 .1 .0) .stop) (w .1 .rises) (w .1 .high) in omega arith
+slice-cut-part-slice-left-end-2 t c = let w = inner-places (c .before .before .before .before .before .before .before .before .before .before .before .before .before .args .store .now) (c .before .before .before .before .before .before .before .before .before .before .before .before .before .args .node .now) (c .before .before .before .before .before .before .before .before .before .before .before .before .before .args .hi .now) (c .before .before .before .before .before .before .before .before .before .before .before .before .before .args .k .now) (c .before .before .before .before .before .before .before .before .before .before .before .before .before .args .slot .level) (c .before .before .before .before .before .before .before .before .before .before .before .before .before .args .slot .at) (c .before .before .before .before .before .before .before .before .before .before .before .before .before .args .free .now) (c .before .before .before .before .before .before .before .before .before .before .before .before .before .args .cut) _ _ _ _ (c .before .before .before .before .before .before .cut .given .1) (c .before .before .before .before .before .before .before .before .before .before .before .before .before .pre .1 .0) in let la = cut-length (c .before .before .before .before .before .before .before .before .before .before .before .before .before .args .node .now) ((c .before .before .before .before .before .before .cut .given .0 .1 .1 .0) .start) ((c .before .before .before .before .before .before .cut .given .0 .1 .1 .0) .stop) (w .0 .rises) (w .0 .high) in let lb = cut-length (c .before .before .before .before .before .before .before .before .before .before .before .before .before .args .node .now) ((c .before .before .before .before .before .before .cut .given .0 .1 .1 .1 .0) .start) ((c .before .before .before .before .before .before .cut .given .0 .1 .1 .1 .0) .stop) (w .1 .rises) (w .1 .high) in omega arith
 
 slice-cut-sub-slice-left-3 : (t : ℕ) → slice-cut-lts.Need-sub-slice-left-3 (
   common-length-reads.Asked,
@@ -184,7 +184,7 @@ slice-cut-sub-slice-left-3 : (t : ℕ) → slice-cut-lts.Need-sub-slice-left-3 (
   slice-left-below t,
   slice-left.Post,
 ) (slice-cut-at t) slice-cut.Post
-slice-cut-sub-slice-left-3 t c = let q = strip-short (c .before .before .before .before .before .before .before .before .before .before .before .before .before .before .args .store .now) (c .before .before .before .before .before .before .before .cut .given .0 .1 .0) (c .before .before .before .before .before .before .before .before .before .before .before .before .before .before .args .level) (part (c .before .before .before .before .before .before .before .before .before .before .before .before .before .before .args .node .now) (c .before .before .before .before .before .before .before .cut .given .0 .1 .1 .0)) (part (c .before .before .before .before .before .before .before .before .before .before .before .before .before .before .args .node .now) (c .before .before .before .before .before .before .before .cut .given .0 .1 .1 .1 .0)) (c .before .before .before .before .before .before .before .before .before .before .before .before .before .before .args .k .now) (c .before .before .before .before .before .before .before .before .before .before .before .before .before .before .args .at) (c .before .before .before .before .before .before .before .before .before .before .before .before .before .before .args .free .now) (inner-asks (c .before .before .before .before .before .before .before .before .before .before .before .before .before .before .args .store .now) (c .before .before .before .before .before .before .before .before .before .before .before .before .before .before .args .node .now) (c .before .before .before .before .before .before .before .before .before .before .before .before .before .before .args .hi .now) (c .before .before .before .before .before .before .before .before .before .before .before .before .before .before .args .k .now) (c .before .before .before .before .before .before .before .before .before .before .before .before .before .before .args .level) (c .before .before .before .before .before .before .before .before .before .before .before .before .before .before .args .at) (c .before .before .before .before .before .before .before .before .before .before .before .before .before .before .args .free .now) (c .before .before .before .before .before .before .before .before .before .before .before .before .before .before .args .cut) _ _ _ _ (c .before .before .before .before .before .before .before .cut .given .1) (c .before .before .before .before .before .before .before .before .before .before .before .before .before .before .pre .1 .1)) (c .before .before .before .common-length .result) (c .before .before .before .common-length .ensures .0) in omega arith
+slice-cut-sub-slice-left-3 t c = let q = strip-short (c .before .before .before .before .before .before .before .before .before .before .before .before .before .before .args .store .now) (c .before .before .before .before .before .before .before .cut .given .0 .1 .0) (c .before .before .before .before .before .before .before .before .before .before .before .before .before .before .args .slot .level) (part (c .before .before .before .before .before .before .before .before .before .before .before .before .before .before .args .node .now) (c .before .before .before .before .before .before .before .cut .given .0 .1 .1 .0)) (part (c .before .before .before .before .before .before .before .before .before .before .before .before .before .before .args .node .now) (c .before .before .before .before .before .before .before .cut .given .0 .1 .1 .1 .0)) (c .before .before .before .before .before .before .before .before .before .before .before .before .before .before .args .k .now) (c .before .before .before .before .before .before .before .before .before .before .before .before .before .before .args .slot .at) (c .before .before .before .before .before .before .before .before .before .before .before .before .before .before .args .free .now) (inner-asks (c .before .before .before .before .before .before .before .before .before .before .before .before .before .before .args .store .now) (c .before .before .before .before .before .before .before .before .before .before .before .before .before .before .args .node .now) (c .before .before .before .before .before .before .before .before .before .before .before .before .before .before .args .hi .now) (c .before .before .before .before .before .before .before .before .before .before .before .before .before .before .args .k .now) (c .before .before .before .before .before .before .before .before .before .before .before .before .before .before .args .slot .level) (c .before .before .before .before .before .before .before .before .before .before .before .before .before .before .args .slot .at) (c .before .before .before .before .before .before .before .before .before .before .before .before .before .before .args .free .now) (c .before .before .before .before .before .before .before .before .before .before .before .before .before .before .args .cut) _ _ _ _ (c .before .before .before .before .before .before .before .cut .given .1) (c .before .before .before .before .before .before .before .before .before .before .before .before .before .before .pre .1 .1)) (c .before .before .before .common-length .result) (c .before .before .before .common-length .ensures .0) in omega arith
 
 slice-cut-part-slice-left-start-3 : (t : ℕ) → slice-cut-lts.Need-part-slice-left-start-3 (
   common-length-reads.Asked,
@@ -192,7 +192,7 @@ slice-cut-part-slice-left-start-3 : (t : ℕ) → slice-cut-lts.Need-part-slice-
   slice-left-below t,
   slice-left.Post,
 ) (slice-cut-at t) slice-cut.Post
-slice-cut-part-slice-left-start-3 t c = let q = strip-short (c .before .before .before .before .before .before .before .before .before .before .before .before .before .before .args .store .now) (c .before .before .before .before .before .before .before .cut .given .0 .1 .0) (c .before .before .before .before .before .before .before .before .before .before .before .before .before .before .args .level) (part (c .before .before .before .before .before .before .before .before .before .before .before .before .before .before .args .node .now) (c .before .before .before .before .before .before .before .cut .given .0 .1 .1 .0)) (part (c .before .before .before .before .before .before .before .before .before .before .before .before .before .before .args .node .now) (c .before .before .before .before .before .before .before .cut .given .0 .1 .1 .1 .0)) (c .before .before .before .before .before .before .before .before .before .before .before .before .before .before .args .k .now) (c .before .before .before .before .before .before .before .before .before .before .before .before .before .before .args .at) (c .before .before .before .before .before .before .before .before .before .before .before .before .before .before .args .free .now) (inner-asks (c .before .before .before .before .before .before .before .before .before .before .before .before .before .before .args .store .now) (c .before .before .before .before .before .before .before .before .before .before .before .before .before .before .args .node .now) (c .before .before .before .before .before .before .before .before .before .before .before .before .before .before .args .hi .now) (c .before .before .before .before .before .before .before .before .before .before .before .before .before .before .args .k .now) (c .before .before .before .before .before .before .before .before .before .before .before .before .before .before .args .level) (c .before .before .before .before .before .before .before .before .before .before .before .before .before .before .args .at) (c .before .before .before .before .before .before .before .before .before .before .before .before .before .before .args .free .now) (c .before .before .before .before .before .before .before .before .before .before .before .before .before .before .args .cut) _ _ _ _ (c .before .before .before .before .before .before .before .cut .given .1) (c .before .before .before .before .before .before .before .before .before .before .before .before .before .before .pre .1 .1)) (c .before .before .before .common-length .result) (c .before .before .before .common-length .ensures .0) in omega arith
+slice-cut-part-slice-left-start-3 t c = let q = strip-short (c .before .before .before .before .before .before .before .before .before .before .before .before .before .before .args .store .now) (c .before .before .before .before .before .before .before .cut .given .0 .1 .0) (c .before .before .before .before .before .before .before .before .before .before .before .before .before .before .args .slot .level) (part (c .before .before .before .before .before .before .before .before .before .before .before .before .before .before .args .node .now) (c .before .before .before .before .before .before .before .cut .given .0 .1 .1 .0)) (part (c .before .before .before .before .before .before .before .before .before .before .before .before .before .before .args .node .now) (c .before .before .before .before .before .before .before .cut .given .0 .1 .1 .1 .0)) (c .before .before .before .before .before .before .before .before .before .before .before .before .before .before .args .k .now) (c .before .before .before .before .before .before .before .before .before .before .before .before .before .before .args .slot .at) (c .before .before .before .before .before .before .before .before .before .before .before .before .before .before .args .free .now) (inner-asks (c .before .before .before .before .before .before .before .before .before .before .before .before .before .before .args .store .now) (c .before .before .before .before .before .before .before .before .before .before .before .before .before .before .args .node .now) (c .before .before .before .before .before .before .before .before .before .before .before .before .before .before .args .hi .now) (c .before .before .before .before .before .before .before .before .before .before .before .before .before .before .args .k .now) (c .before .before .before .before .before .before .before .before .before .before .before .before .before .before .args .slot .level) (c .before .before .before .before .before .before .before .before .before .before .before .before .before .before .args .slot .at) (c .before .before .before .before .before .before .before .before .before .before .before .before .before .before .args .free .now) (c .before .before .before .before .before .before .before .before .before .before .before .before .before .before .args .cut) _ _ _ _ (c .before .before .before .before .before .before .before .cut .given .1) (c .before .before .before .before .before .before .before .before .before .before .before .before .before .before .pre .1 .1)) (c .before .before .before .common-length .result) (c .before .before .before .common-length .ensures .0) in omega arith
 
 slice-cut-part-slice-left-end-3 : (t : ℕ) → slice-cut-lts.Need-part-slice-left-end-3 (
   common-length-reads.Asked,
@@ -200,7 +200,7 @@ slice-cut-part-slice-left-end-3 : (t : ℕ) → slice-cut-lts.Need-part-slice-le
   slice-left-below t,
   slice-left.Post,
 ) (slice-cut-at t) slice-cut.Post
-slice-cut-part-slice-left-end-3 t c = let q = strip-short (c .before .before .before .before .before .before .before .before .before .before .before .before .before .before .args .store .now) (c .before .before .before .before .before .before .before .cut .given .0 .1 .0) (c .before .before .before .before .before .before .before .before .before .before .before .before .before .before .args .level) (part (c .before .before .before .before .before .before .before .before .before .before .before .before .before .before .args .node .now) (c .before .before .before .before .before .before .before .cut .given .0 .1 .1 .0)) (part (c .before .before .before .before .before .before .before .before .before .before .before .before .before .before .args .node .now) (c .before .before .before .before .before .before .before .cut .given .0 .1 .1 .1 .0)) (c .before .before .before .before .before .before .before .before .before .before .before .before .before .before .args .k .now) (c .before .before .before .before .before .before .before .before .before .before .before .before .before .before .args .at) (c .before .before .before .before .before .before .before .before .before .before .before .before .before .before .args .free .now) (inner-asks (c .before .before .before .before .before .before .before .before .before .before .before .before .before .before .args .store .now) (c .before .before .before .before .before .before .before .before .before .before .before .before .before .before .args .node .now) (c .before .before .before .before .before .before .before .before .before .before .before .before .before .before .args .hi .now) (c .before .before .before .before .before .before .before .before .before .before .before .before .before .before .args .k .now) (c .before .before .before .before .before .before .before .before .before .before .before .before .before .before .args .level) (c .before .before .before .before .before .before .before .before .before .before .before .before .before .before .args .at) (c .before .before .before .before .before .before .before .before .before .before .before .before .before .before .args .free .now) (c .before .before .before .before .before .before .before .before .before .before .before .before .before .before .args .cut) _ _ _ _ (c .before .before .before .before .before .before .before .cut .given .1) (c .before .before .before .before .before .before .before .before .before .before .before .before .before .before .pre .1 .1)) (c .before .before .before .common-length .result) (c .before .before .before .common-length .ensures .0) in omega arith
+slice-cut-part-slice-left-end-3 t c = let q = strip-short (c .before .before .before .before .before .before .before .before .before .before .before .before .before .before .args .store .now) (c .before .before .before .before .before .before .before .cut .given .0 .1 .0) (c .before .before .before .before .before .before .before .before .before .before .before .before .before .before .args .slot .level) (part (c .before .before .before .before .before .before .before .before .before .before .before .before .before .before .args .node .now) (c .before .before .before .before .before .before .before .cut .given .0 .1 .1 .0)) (part (c .before .before .before .before .before .before .before .before .before .before .before .before .before .before .args .node .now) (c .before .before .before .before .before .before .before .cut .given .0 .1 .1 .1 .0)) (c .before .before .before .before .before .before .before .before .before .before .before .before .before .before .args .k .now) (c .before .before .before .before .before .before .before .before .before .before .before .before .before .before .args .slot .at) (c .before .before .before .before .before .before .before .before .before .before .before .before .before .before .args .free .now) (inner-asks (c .before .before .before .before .before .before .before .before .before .before .before .before .before .before .args .store .now) (c .before .before .before .before .before .before .before .before .before .before .before .before .before .before .args .node .now) (c .before .before .before .before .before .before .before .before .before .before .before .before .before .before .args .hi .now) (c .before .before .before .before .before .before .before .before .before .before .before .before .before .before .args .k .now) (c .before .before .before .before .before .before .before .before .before .before .before .before .before .before .args .slot .level) (c .before .before .before .before .before .before .before .before .before .before .before .before .before .before .args .slot .at) (c .before .before .before .before .before .before .before .before .before .before .before .before .before .before .args .free .now) (c .before .before .before .before .before .before .before .before .before .before .before .before .before .before .args .cut) _ _ _ _ (c .before .before .before .before .before .before .before .cut .given .1) (c .before .before .before .before .before .before .before .before .before .before .before .before .before .before .pre .1 .1)) (c .before .before .before .common-length .result) (c .before .before .before .common-length .ensures .0) in omega arith
 
 slice-cut-slice-left-requires : (t : ℕ) → slice-cut-lts.Need-slice-left-requires (
   common-length-reads.Asked,
@@ -208,7 +208,7 @@ slice-cut-slice-left-requires : (t : ℕ) → slice-cut-lts.Need-slice-left-requ
   slice-left-below t,
   slice-left.Post,
 ) (slice-cut-at t) slice-cut.Post
-slice-cut-slice-left-requires t c κs = let w = inner-places (c .before .before .before .before .before .before .before .before .before .before .before .before .before .before .before .args .store .now) (c .before .before .before .before .before .before .before .before .before .before .before .before .before .before .before .args .node .now) (c .before .before .before .before .before .before .before .before .before .before .before .before .before .before .before .args .hi .now) (c .before .before .before .before .before .before .before .before .before .before .before .before .before .before .before .args .k .now) (c .before .before .before .before .before .before .before .before .before .before .before .before .before .before .before .args .level) (c .before .before .before .before .before .before .before .before .before .before .before .before .before .before .before .args .at) (c .before .before .before .before .before .before .before .before .before .before .before .before .before .before .before .args .free .now) (c .before .before .before .before .before .before .before .before .before .before .before .before .before .before .before .args .cut) _ _ _ _ (c .before .before .before .before .before .before .before .before .cut .given .1) (c .before .before .before .before .before .before .before .before .before .before .before .before .before .before .before .pre .1 .0) in let la = cut-length (c .before .before .before .before .before .before .before .before .before .before .before .before .before .before .before .args .node .now) ((c .before .before .before .before .before .before .before .before .cut .given .0 .1 .1 .0) .start) ((c .before .before .before .before .before .before .before .before .cut .given .0 .1 .1 .0) .stop) (w .0 .rises) (w .0 .high) in let lb = cut-length (c .before .before .before .before .before .before .before .before .before .before .before .before .before .before .before .args .node .now) ((c .before .before .before .before .before .before .before .before .cut .given .0 .1 .1 .1 .0) .start) ((c .before .before .before .before .before .before .before .before .cut .given .0 .1 .1 .1 .0) .stop) (w .1 .rises) (w .1 .high) in (omega arith, (strip-asks (c .before .before .before .before .before .before .before .before .before .before .before .before .before .before .before .args .store .now) (c .before .before .before .before .before .before .before .before .cut .given .0 .1 .0) (c .before .before .before .before .before .before .before .before .before .before .before .before .before .before .before .args .level) (part (c .before .before .before .before .before .before .before .before .before .before .before .before .before .before .before .args .node .now) (c .before .before .before .before .before .before .before .before .cut .given .0 .1 .1 .0)) (part (c .before .before .before .before .before .before .before .before .before .before .before .before .before .before .before .args .node .now) (c .before .before .before .before .before .before .before .before .cut .given .0 .1 .1 .1 .0)) (c .before .before .before .before .before .before .before .before .before .before .before .before .before .before .before .args .k .now) (c .before .before .before .before .before .before .before .before .before .before .before .before .before .before .before .args .at) (c .before .before .before .before .before .before .before .before .before .before .before .before .before .before .before .args .free .now) (inner-asks (c .before .before .before .before .before .before .before .before .before .before .before .before .before .before .before .args .store .now) (c .before .before .before .before .before .before .before .before .before .before .before .before .before .before .before .args .node .now) (c .before .before .before .before .before .before .before .before .before .before .before .before .before .before .before .args .hi .now) (c .before .before .before .before .before .before .before .before .before .before .before .before .before .before .before .args .k .now) (c .before .before .before .before .before .before .before .before .before .before .before .before .before .before .before .args .level) (c .before .before .before .before .before .before .before .before .before .before .before .before .before .before .before .args .at) (c .before .before .before .before .before .before .before .before .before .before .before .before .before .before .before .args .free .now) (c .before .before .before .before .before .before .before .before .before .before .before .before .before .before .before .args .cut) _ _ _ _ (c .before .before .before .before .before .before .before .before .cut .given .1) (c .before .before .before .before .before .before .before .before .before .before .before .before .before .before .before .pre .1 .1)) (c .before .before .before .before .common-length .result) (c .before .before .before .before .common-length .ensures .0) _ _ _ (sym (cut-drop (c .before .before .before .before .before .before .before .before .before .before .before .before .before .before .before .args .node .now) ((c .before .before .before .before .before .before .before .before .cut .given .0 .1 .1 .0) .start) ((c .before .before .before .before .before .before .before .before .cut .given .0 .1 .1 .0) .stop) (c .before .before .before .before .common-length .result) (omega arith))) (sym (cut-drop (c .before .before .before .before .before .before .before .before .before .before .before .before .before .before .before .args .node .now) ((c .before .before .before .before .before .before .before .before .cut .given .0 .1 .1 .1 .0) .start) ((c .before .before .before .before .before .before .before .before .cut .given .0 .1 .1 .1 .0) .stop) (c .before .before .before .before .common-length .result) (omega arith))) (part-rest (c .before .before .before .before .common-length .result) (c .before .before .before .before .before .before .before .before .before .before .before .before .before .before .before .args .k .now)), strip-bare (c .before .before .before .before .before .before .before .before .before .before .before .before .before .before .before .args .store .now) (c .before .before .before .before .before .before .before .before .cut .given .0 .1 .0) (c .before .before .before .before .before .before .before .before .before .before .before .before .before .before .before .args .level) (part (c .before .before .before .before .before .before .before .before .before .before .before .before .before .before .before .args .node .now) (c .before .before .before .before .before .before .before .before .cut .given .0 .1 .1 .0)) (part (c .before .before .before .before .before .before .before .before .before .before .before .before .before .before .before .args .node .now) (c .before .before .before .before .before .before .before .before .cut .given .0 .1 .1 .1 .0)) (c .before .before .before .before .before .before .before .before .before .before .before .before .before .before .before .args .k .now) (c .before .before .before .before .before .before .before .before .before .before .before .before .before .before .before .args .at) (c .before .before .before .before .before .before .before .before .before .before .before .before .before .before .before .args .free .now) (inner-asks (c .before .before .before .before .before .before .before .before .before .before .before .before .before .before .before .args .store .now) (c .before .before .before .before .before .before .before .before .before .before .before .before .before .before .before .args .node .now) (c .before .before .before .before .before .before .before .before .before .before .before .before .before .before .before .args .hi .now) (c .before .before .before .before .before .before .before .before .before .before .before .before .before .before .before .args .k .now) (c .before .before .before .before .before .before .before .before .before .before .before .before .before .before .before .args .level) (c .before .before .before .before .before .before .before .before .before .before .before .before .before .before .before .args .at) (c .before .before .before .before .before .before .before .before .before .before .before .before .before .before .before .args .free .now) (c .before .before .before .before .before .before .before .before .before .before .before .before .before .before .before .args .cut) _ _ _ _ (c .before .before .before .before .before .before .before .before .cut .given .1) (c .before .before .before .before .before .before .before .before .before .before .before .before .before .before .before .pre .1 .1)) (c .before .before .before .before .common-length .result) (c .before .before .before .before .common-length .ensures .0) _ _ _ (sym (cut-drop (c .before .before .before .before .before .before .before .before .before .before .before .before .before .before .before .args .node .now) ((c .before .before .before .before .before .before .before .before .cut .given .0 .1 .1 .0) .start) ((c .before .before .before .before .before .before .before .before .cut .given .0 .1 .1 .0) .stop) (c .before .before .before .before .common-length .result) (omega arith))) (sym (cut-drop (c .before .before .before .before .before .before .before .before .before .before .before .before .before .before .before .args .node .now) ((c .before .before .before .before .before .before .before .before .cut .given .0 .1 .1 .1 .0) .start) ((c .before .before .before .before .before .before .before .before .cut .given .0 .1 .1 .1 .0) .stop) (c .before .before .before .before .common-length .result) (omega arith))) (part-rest (c .before .before .before .before .common-length .result) (c .before .before .before .before .before .before .before .before .before .before .before .before .before .before .before .args .k .now))))
+slice-cut-slice-left-requires t c κs = let w = inner-places (c .before .before .before .before .before .before .before .before .before .before .before .before .before .before .before .args .store .now) (c .before .before .before .before .before .before .before .before .before .before .before .before .before .before .before .args .node .now) (c .before .before .before .before .before .before .before .before .before .before .before .before .before .before .before .args .hi .now) (c .before .before .before .before .before .before .before .before .before .before .before .before .before .before .before .args .k .now) (c .before .before .before .before .before .before .before .before .before .before .before .before .before .before .before .args .slot .level) (c .before .before .before .before .before .before .before .before .before .before .before .before .before .before .before .args .slot .at) (c .before .before .before .before .before .before .before .before .before .before .before .before .before .before .before .args .free .now) (c .before .before .before .before .before .before .before .before .before .before .before .before .before .before .before .args .cut) _ _ _ _ (c .before .before .before .before .before .before .before .before .cut .given .1) (c .before .before .before .before .before .before .before .before .before .before .before .before .before .before .before .pre .1 .0) in let la = cut-length (c .before .before .before .before .before .before .before .before .before .before .before .before .before .before .before .args .node .now) ((c .before .before .before .before .before .before .before .before .cut .given .0 .1 .1 .0) .start) ((c .before .before .before .before .before .before .before .before .cut .given .0 .1 .1 .0) .stop) (w .0 .rises) (w .0 .high) in let lb = cut-length (c .before .before .before .before .before .before .before .before .before .before .before .before .before .before .before .args .node .now) ((c .before .before .before .before .before .before .before .before .cut .given .0 .1 .1 .1 .0) .start) ((c .before .before .before .before .before .before .before .before .cut .given .0 .1 .1 .1 .0) .stop) (w .1 .rises) (w .1 .high) in (omega arith, (strip-asks (c .before .before .before .before .before .before .before .before .before .before .before .before .before .before .before .args .store .now) (c .before .before .before .before .before .before .before .before .cut .given .0 .1 .0) (c .before .before .before .before .before .before .before .before .before .before .before .before .before .before .before .args .slot .level) (part (c .before .before .before .before .before .before .before .before .before .before .before .before .before .before .before .args .node .now) (c .before .before .before .before .before .before .before .before .cut .given .0 .1 .1 .0)) (part (c .before .before .before .before .before .before .before .before .before .before .before .before .before .before .before .args .node .now) (c .before .before .before .before .before .before .before .before .cut .given .0 .1 .1 .1 .0)) (c .before .before .before .before .before .before .before .before .before .before .before .before .before .before .before .args .k .now) (c .before .before .before .before .before .before .before .before .before .before .before .before .before .before .before .args .slot .at) (c .before .before .before .before .before .before .before .before .before .before .before .before .before .before .before .args .free .now) (inner-asks (c .before .before .before .before .before .before .before .before .before .before .before .before .before .before .before .args .store .now) (c .before .before .before .before .before .before .before .before .before .before .before .before .before .before .before .args .node .now) (c .before .before .before .before .before .before .before .before .before .before .before .before .before .before .before .args .hi .now) (c .before .before .before .before .before .before .before .before .before .before .before .before .before .before .before .args .k .now) (c .before .before .before .before .before .before .before .before .before .before .before .before .before .before .before .args .slot .level) (c .before .before .before .before .before .before .before .before .before .before .before .before .before .before .before .args .slot .at) (c .before .before .before .before .before .before .before .before .before .before .before .before .before .before .before .args .free .now) (c .before .before .before .before .before .before .before .before .before .before .before .before .before .before .before .args .cut) _ _ _ _ (c .before .before .before .before .before .before .before .before .cut .given .1) (c .before .before .before .before .before .before .before .before .before .before .before .before .before .before .before .pre .1 .1)) (c .before .before .before .before .common-length .result) (c .before .before .before .before .common-length .ensures .0) _ _ _ (sym (cut-drop (c .before .before .before .before .before .before .before .before .before .before .before .before .before .before .before .args .node .now) ((c .before .before .before .before .before .before .before .before .cut .given .0 .1 .1 .0) .start) ((c .before .before .before .before .before .before .before .before .cut .given .0 .1 .1 .0) .stop) (c .before .before .before .before .common-length .result) (omega arith))) (sym (cut-drop (c .before .before .before .before .before .before .before .before .before .before .before .before .before .before .before .args .node .now) ((c .before .before .before .before .before .before .before .before .cut .given .0 .1 .1 .1 .0) .start) ((c .before .before .before .before .before .before .before .before .cut .given .0 .1 .1 .1 .0) .stop) (c .before .before .before .before .common-length .result) (omega arith))) (part-rest (c .before .before .before .before .common-length .result) (c .before .before .before .before .before .before .before .before .before .before .before .before .before .before .before .args .k .now)), strip-bare (c .before .before .before .before .before .before .before .before .before .before .before .before .before .before .before .args .store .now) (c .before .before .before .before .before .before .before .before .cut .given .0 .1 .0) (c .before .before .before .before .before .before .before .before .before .before .before .before .before .before .before .args .slot .level) (part (c .before .before .before .before .before .before .before .before .before .before .before .before .before .before .before .args .node .now) (c .before .before .before .before .before .before .before .before .cut .given .0 .1 .1 .0)) (part (c .before .before .before .before .before .before .before .before .before .before .before .before .before .before .before .args .node .now) (c .before .before .before .before .before .before .before .before .cut .given .0 .1 .1 .1 .0)) (c .before .before .before .before .before .before .before .before .before .before .before .before .before .before .before .args .k .now) (c .before .before .before .before .before .before .before .before .before .before .before .before .before .before .before .args .slot .at) (c .before .before .before .before .before .before .before .before .before .before .before .before .before .before .before .args .free .now) (inner-asks (c .before .before .before .before .before .before .before .before .before .before .before .before .before .before .before .args .store .now) (c .before .before .before .before .before .before .before .before .before .before .before .before .before .before .before .args .node .now) (c .before .before .before .before .before .before .before .before .before .before .before .before .before .before .before .args .hi .now) (c .before .before .before .before .before .before .before .before .before .before .before .before .before .before .before .args .k .now) (c .before .before .before .before .before .before .before .before .before .before .before .before .before .before .before .args .slot .level) (c .before .before .before .before .before .before .before .before .before .before .before .before .before .before .before .args .slot .at) (c .before .before .before .before .before .before .before .before .before .before .before .before .before .before .before .args .free .now) (c .before .before .before .before .before .before .before .before .before .before .before .before .before .before .before .args .cut) _ _ _ _ (c .before .before .before .before .before .before .before .before .cut .given .1) (c .before .before .before .before .before .before .before .before .before .before .before .before .before .before .before .pre .1 .1)) (c .before .before .before .before .common-length .result) (c .before .before .before .before .common-length .ensures .0) _ _ _ (sym (cut-drop (c .before .before .before .before .before .before .before .before .before .before .before .before .before .before .before .args .node .now) ((c .before .before .before .before .before .before .before .before .cut .given .0 .1 .1 .0) .start) ((c .before .before .before .before .before .before .before .before .cut .given .0 .1 .1 .0) .stop) (c .before .before .before .before .common-length .result) (omega arith))) (sym (cut-drop (c .before .before .before .before .before .before .before .before .before .before .before .before .before .before .before .args .node .now) ((c .before .before .before .before .before .before .before .before .cut .given .0 .1 .1 .1 .0) .start) ((c .before .before .before .before .before .before .before .before .cut .given .0 .1 .1 .1 .0) .stop) (c .before .before .before .before .common-length .result) (omega arith))) (part-rest (c .before .before .before .before .common-length .result) (c .before .before .before .before .before .before .before .before .before .before .before .before .before .before .before .args .k .now))))
 
 slice-cut-enum-known-cut-2 : (t : ℕ) → slice-cut-lts.Need-enum-known-cut-2 (
   common-length-reads.Asked,
@@ -224,7 +224,7 @@ slice-cut-sub-common-length-3 : (t : ℕ) → slice-cut-lts.Need-sub-common-leng
   slice-left-below t,
   slice-left.Post,
 ) (slice-cut-at t) slice-cut.Post
-slice-cut-sub-common-length-3 t c = let w = last-places (c .before .before .before .before .before .before .before .before .args .store .now) (c .before .before .before .before .before .before .before .before .args .node .now) (c .before .before .before .before .before .before .before .before .args .hi .now) (c .before .before .before .before .before .before .before .before .args .k .now) (c .before .before .before .before .before .before .before .before .args .level) (c .before .before .before .before .before .before .before .before .args .at) (c .before .before .before .before .before .before .before .before .args .free .now) (c .before .before .before .before .before .before .before .before .args .cut) _ _ _ (c .before .cut2 .given .1) (c .before .before .before .before .before .before .before .before .pre .1 .0) in let la = cut-length (c .before .before .before .before .before .before .before .before .args .node .now) ((c .before .cut2 .given .0 .1 .1 .0) .start) ((c .before .cut2 .given .0 .1 .1 .0) .stop) (w .rises) (w .high) in omega arith
+slice-cut-sub-common-length-3 t c = let w = last-places (c .before .before .before .before .before .before .before .before .args .store .now) (c .before .before .before .before .before .before .before .before .args .node .now) (c .before .before .before .before .before .before .before .before .args .hi .now) (c .before .before .before .before .before .before .before .before .args .k .now) (c .before .before .before .before .before .before .before .before .args .slot .level) (c .before .before .before .before .before .before .before .before .args .slot .at) (c .before .before .before .before .before .before .before .before .args .free .now) (c .before .before .before .before .before .before .before .before .args .cut) _ _ _ (c .before .cut2 .given .1) (c .before .before .before .before .before .before .before .before .pre .1 .0) in let la = cut-length (c .before .before .before .before .before .before .before .before .args .node .now) ((c .before .cut2 .given .0 .1 .1 .0) .start) ((c .before .cut2 .given .0 .1 .1 .0) .stop) (w .rises) (w .high) in omega arith
 
 slice-cut-part-common-length-start-3 : (t : ℕ) → slice-cut-lts.Need-part-common-length-start-3 (
   common-length-reads.Asked,
@@ -232,7 +232,7 @@ slice-cut-part-common-length-start-3 : (t : ℕ) → slice-cut-lts.Need-part-com
   slice-left-below t,
   slice-left.Post,
 ) (slice-cut-at t) slice-cut.Post
-slice-cut-part-common-length-start-3 t c = let w = last-places (c .before .before .before .before .before .before .before .before .args .store .now) (c .before .before .before .before .before .before .before .before .args .node .now) (c .before .before .before .before .before .before .before .before .args .hi .now) (c .before .before .before .before .before .before .before .before .args .k .now) (c .before .before .before .before .before .before .before .before .args .level) (c .before .before .before .before .before .before .before .before .args .at) (c .before .before .before .before .before .before .before .before .args .free .now) (c .before .before .before .before .before .before .before .before .args .cut) _ _ _ (c .before .cut2 .given .1) (c .before .before .before .before .before .before .before .before .pre .1 .0) in let la = cut-length (c .before .before .before .before .before .before .before .before .args .node .now) ((c .before .cut2 .given .0 .1 .1 .0) .start) ((c .before .cut2 .given .0 .1 .1 .0) .stop) (w .rises) (w .high) in omega arith
+slice-cut-part-common-length-start-3 t c = let w = last-places (c .before .before .before .before .before .before .before .before .args .store .now) (c .before .before .before .before .before .before .before .before .args .node .now) (c .before .before .before .before .before .before .before .before .args .hi .now) (c .before .before .before .before .before .before .before .before .args .k .now) (c .before .before .before .before .before .before .before .before .args .slot .level) (c .before .before .before .before .before .before .before .before .args .slot .at) (c .before .before .before .before .before .before .before .before .args .free .now) (c .before .before .before .before .before .before .before .before .args .cut) _ _ _ (c .before .cut2 .given .1) (c .before .before .before .before .before .before .before .before .pre .1 .0) in let la = cut-length (c .before .before .before .before .before .before .before .before .args .node .now) ((c .before .cut2 .given .0 .1 .1 .0) .start) ((c .before .cut2 .given .0 .1 .1 .0) .stop) (w .rises) (w .high) in omega arith
 
 slice-cut-part-common-length-end-3 : (t : ℕ) → slice-cut-lts.Need-part-common-length-end-3 (
   common-length-reads.Asked,
@@ -240,7 +240,7 @@ slice-cut-part-common-length-end-3 : (t : ℕ) → slice-cut-lts.Need-part-commo
   slice-left-below t,
   slice-left.Post,
 ) (slice-cut-at t) slice-cut.Post
-slice-cut-part-common-length-end-3 t c = let w = last-places (c .before .before .before .before .before .before .before .before .args .store .now) (c .before .before .before .before .before .before .before .before .args .node .now) (c .before .before .before .before .before .before .before .before .args .hi .now) (c .before .before .before .before .before .before .before .before .args .k .now) (c .before .before .before .before .before .before .before .before .args .level) (c .before .before .before .before .before .before .before .before .args .at) (c .before .before .before .before .before .before .before .before .args .free .now) (c .before .before .before .before .before .before .before .before .args .cut) _ _ _ (c .before .cut2 .given .1) (c .before .before .before .before .before .before .before .before .pre .1 .0) in let la = cut-length (c .before .before .before .before .before .before .before .before .args .node .now) ((c .before .cut2 .given .0 .1 .1 .0) .start) ((c .before .cut2 .given .0 .1 .1 .0) .stop) (w .rises) (w .high) in omega arith
+slice-cut-part-common-length-end-3 t c = let w = last-places (c .before .before .before .before .before .before .before .before .args .store .now) (c .before .before .before .before .before .before .before .before .args .node .now) (c .before .before .before .before .before .before .before .before .args .hi .now) (c .before .before .before .before .before .before .before .before .args .k .now) (c .before .before .before .before .before .before .before .before .args .slot .level) (c .before .before .before .before .before .before .before .before .args .slot .at) (c .before .before .before .before .before .before .before .before .args .free .now) (c .before .before .before .before .before .before .before .before .args .cut) _ _ _ (c .before .cut2 .given .1) (c .before .before .before .before .before .before .before .before .pre .1 .0) in let la = cut-length (c .before .before .before .before .before .before .before .before .args .node .now) ((c .before .cut2 .given .0 .1 .1 .0) .start) ((c .before .cut2 .given .0 .1 .1 .0) .stop) (w .rises) (w .high) in omega arith
 
 slice-cut-common-length-requires-2 : (t : ℕ) → slice-cut-lts.Need-common-length-requires-2 (
   common-length-reads.Asked,
@@ -256,7 +256,7 @@ slice-cut-add-f-2 : (t : ℕ) → slice-cut-lts.Need-add-f-2 (
   slice-left-below t,
   slice-left.Post,
 ) (slice-cut-at t) slice-cut.Post
-slice-cut-add-f-2 t c = let w = last-places (c .before .before .before .before .before .before .before .before .before .before .args .store .now) (c .before .before .before .before .before .before .before .before .before .before .args .node .now) (c .before .before .before .before .before .before .before .before .before .before .args .hi .now) (c .before .before .before .before .before .before .before .before .before .before .args .k .now) (c .before .before .before .before .before .before .before .before .before .before .args .level) (c .before .before .before .before .before .before .before .before .before .before .args .at) (c .before .before .before .before .before .before .before .before .before .before .args .free .now) (c .before .before .before .before .before .before .before .before .before .before .args .cut) _ _ _ (c .before .before .before .cut2 .given .1) (c .before .before .before .before .before .before .before .before .before .before .pre .1 .0) in let la = cut-length (c .before .before .before .before .before .before .before .before .before .before .args .node .now) ((c .before .before .before .cut2 .given .0 .1 .1 .0) .start) ((c .before .before .before .cut2 .given .0 .1 .1 .0) .stop) (w .rises) (w .high) in omega arith
+slice-cut-add-f-2 t c = let w = last-places (c .before .before .before .before .before .before .before .before .before .before .args .store .now) (c .before .before .before .before .before .before .before .before .before .before .args .node .now) (c .before .before .before .before .before .before .before .before .before .before .args .hi .now) (c .before .before .before .before .before .before .before .before .before .before .args .k .now) (c .before .before .before .before .before .before .before .before .before .before .args .slot .level) (c .before .before .before .before .before .before .before .before .before .before .args .slot .at) (c .before .before .before .before .before .before .before .before .before .before .args .free .now) (c .before .before .before .before .before .before .before .before .before .before .args .cut) _ _ _ (c .before .before .before .cut2 .given .1) (c .before .before .before .before .before .before .before .before .before .before .pre .1 .0) in let la = cut-length (c .before .before .before .before .before .before .before .before .before .before .args .node .now) ((c .before .before .before .cut2 .given .0 .1 .1 .0) .start) ((c .before .before .before .cut2 .given .0 .1 .1 .0) .stop) (w .rises) (w .high) in omega arith
 
 slice-cut-sub-slice-left-4 : (t : ℕ) → slice-cut-lts.Need-sub-slice-left-4 (
   common-length-reads.Asked,
@@ -264,7 +264,7 @@ slice-cut-sub-slice-left-4 : (t : ℕ) → slice-cut-lts.Need-sub-slice-left-4 (
   slice-left-below t,
   slice-left.Post,
 ) (slice-cut-at t) slice-cut.Post
-slice-cut-sub-slice-left-4 t c = let w = last-places (c .before .before .before .before .before .before .before .before .before .before .before .args .store .now) (c .before .before .before .before .before .before .before .before .before .before .before .args .node .now) (c .before .before .before .before .before .before .before .before .before .before .before .args .hi .now) (c .before .before .before .before .before .before .before .before .before .before .before .args .k .now) (c .before .before .before .before .before .before .before .before .before .before .before .args .level) (c .before .before .before .before .before .before .before .before .before .before .before .args .at) (c .before .before .before .before .before .before .before .before .before .before .before .args .free .now) (c .before .before .before .before .before .before .before .before .before .before .before .args .cut) _ _ _ (c .before .before .before .before .cut2 .given .1) (c .before .before .before .before .before .before .before .before .before .before .before .pre .1 .0) in let la = cut-length (c .before .before .before .before .before .before .before .before .before .before .before .args .node .now) ((c .before .before .before .before .cut2 .given .0 .1 .1 .0) .start) ((c .before .before .before .before .cut2 .given .0 .1 .1 .0) .stop) (w .rises) (w .high) in omega arith
+slice-cut-sub-slice-left-4 t c = let w = last-places (c .before .before .before .before .before .before .before .before .before .before .before .args .store .now) (c .before .before .before .before .before .before .before .before .before .before .before .args .node .now) (c .before .before .before .before .before .before .before .before .before .before .before .args .hi .now) (c .before .before .before .before .before .before .before .before .before .before .before .args .k .now) (c .before .before .before .before .before .before .before .before .before .before .before .args .slot .level) (c .before .before .before .before .before .before .before .before .before .before .before .args .slot .at) (c .before .before .before .before .before .before .before .before .before .before .before .args .free .now) (c .before .before .before .before .before .before .before .before .before .before .before .args .cut) _ _ _ (c .before .before .before .before .cut2 .given .1) (c .before .before .before .before .before .before .before .before .before .before .before .pre .1 .0) in let la = cut-length (c .before .before .before .before .before .before .before .before .before .before .before .args .node .now) ((c .before .before .before .before .cut2 .given .0 .1 .1 .0) .start) ((c .before .before .before .before .cut2 .given .0 .1 .1 .0) .stop) (w .rises) (w .high) in omega arith
 
 slice-cut-part-slice-left-start-4 : (t : ℕ) → slice-cut-lts.Need-part-slice-left-start-4 (
   common-length-reads.Asked,
@@ -272,7 +272,7 @@ slice-cut-part-slice-left-start-4 : (t : ℕ) → slice-cut-lts.Need-part-slice-
   slice-left-below t,
   slice-left.Post,
 ) (slice-cut-at t) slice-cut.Post
-slice-cut-part-slice-left-start-4 t c = let w = last-places (c .before .before .before .before .before .before .before .before .before .before .before .args .store .now) (c .before .before .before .before .before .before .before .before .before .before .before .args .node .now) (c .before .before .before .before .before .before .before .before .before .before .before .args .hi .now) (c .before .before .before .before .before .before .before .before .before .before .before .args .k .now) (c .before .before .before .before .before .before .before .before .before .before .before .args .level) (c .before .before .before .before .before .before .before .before .before .before .before .args .at) (c .before .before .before .before .before .before .before .before .before .before .before .args .free .now) (c .before .before .before .before .before .before .before .before .before .before .before .args .cut) _ _ _ (c .before .before .before .before .cut2 .given .1) (c .before .before .before .before .before .before .before .before .before .before .before .pre .1 .0) in let la = cut-length (c .before .before .before .before .before .before .before .before .before .before .before .args .node .now) ((c .before .before .before .before .cut2 .given .0 .1 .1 .0) .start) ((c .before .before .before .before .cut2 .given .0 .1 .1 .0) .stop) (w .rises) (w .high) in omega arith
+slice-cut-part-slice-left-start-4 t c = let w = last-places (c .before .before .before .before .before .before .before .before .before .before .before .args .store .now) (c .before .before .before .before .before .before .before .before .before .before .before .args .node .now) (c .before .before .before .before .before .before .before .before .before .before .before .args .hi .now) (c .before .before .before .before .before .before .before .before .before .before .before .args .k .now) (c .before .before .before .before .before .before .before .before .before .before .before .args .slot .level) (c .before .before .before .before .before .before .before .before .before .before .before .args .slot .at) (c .before .before .before .before .before .before .before .before .before .before .before .args .free .now) (c .before .before .before .before .before .before .before .before .before .before .before .args .cut) _ _ _ (c .before .before .before .before .cut2 .given .1) (c .before .before .before .before .before .before .before .before .before .before .before .pre .1 .0) in let la = cut-length (c .before .before .before .before .before .before .before .before .before .before .before .args .node .now) ((c .before .before .before .before .cut2 .given .0 .1 .1 .0) .start) ((c .before .before .before .before .cut2 .given .0 .1 .1 .0) .stop) (w .rises) (w .high) in omega arith
 
 slice-cut-part-slice-left-end-4 : (t : ℕ) → slice-cut-lts.Need-part-slice-left-end-4 (
   common-length-reads.Asked,
@@ -280,7 +280,7 @@ slice-cut-part-slice-left-end-4 : (t : ℕ) → slice-cut-lts.Need-part-slice-le
   slice-left-below t,
   slice-left.Post,
 ) (slice-cut-at t) slice-cut.Post
-slice-cut-part-slice-left-end-4 t c = let w = last-places (c .before .before .before .before .before .before .before .before .before .before .before .args .store .now) (c .before .before .before .before .before .before .before .before .before .before .before .args .node .now) (c .before .before .before .before .before .before .before .before .before .before .before .args .hi .now) (c .before .before .before .before .before .before .before .before .before .before .before .args .k .now) (c .before .before .before .before .before .before .before .before .before .before .before .args .level) (c .before .before .before .before .before .before .before .before .before .before .before .args .at) (c .before .before .before .before .before .before .before .before .before .before .before .args .free .now) (c .before .before .before .before .before .before .before .before .before .before .before .args .cut) _ _ _ (c .before .before .before .before .cut2 .given .1) (c .before .before .before .before .before .before .before .before .before .before .before .pre .1 .0) in let la = cut-length (c .before .before .before .before .before .before .before .before .before .before .before .args .node .now) ((c .before .before .before .before .cut2 .given .0 .1 .1 .0) .start) ((c .before .before .before .before .cut2 .given .0 .1 .1 .0) .stop) (w .rises) (w .high) in omega arith
+slice-cut-part-slice-left-end-4 t c = let w = last-places (c .before .before .before .before .before .before .before .before .before .before .before .args .store .now) (c .before .before .before .before .before .before .before .before .before .before .before .args .node .now) (c .before .before .before .before .before .before .before .before .before .before .before .args .hi .now) (c .before .before .before .before .before .before .before .before .before .before .before .args .k .now) (c .before .before .before .before .before .before .before .before .before .before .before .args .slot .level) (c .before .before .before .before .before .before .before .before .before .before .before .args .slot .at) (c .before .before .before .before .before .before .before .before .before .before .before .args .free .now) (c .before .before .before .before .before .before .before .before .before .before .before .args .cut) _ _ _ (c .before .before .before .before .cut2 .given .1) (c .before .before .before .before .before .before .before .before .before .before .before .pre .1 .0) in let la = cut-length (c .before .before .before .before .before .before .before .before .before .before .before .args .node .now) ((c .before .before .before .before .cut2 .given .0 .1 .1 .0) .start) ((c .before .before .before .before .cut2 .given .0 .1 .1 .0) .stop) (w .rises) (w .high) in omega arith
 
 slice-cut-sub-slice-left-5 : (t : ℕ) → slice-cut-lts.Need-sub-slice-left-5 (
   common-length-reads.Asked,
@@ -288,7 +288,7 @@ slice-cut-sub-slice-left-5 : (t : ℕ) → slice-cut-lts.Need-sub-slice-left-5 (
   slice-left-below t,
   slice-left.Post,
 ) (slice-cut-at t) slice-cut.Post
-slice-cut-sub-slice-left-5 t c = let q = strip-short (c .before .before .before .before .before .before .before .before .before .before .before .before .args .store .now) (c .before .before .before .before .before .cut2 .given .0 .1 .0) (c .before .before .before .before .before .before .before .before .before .before .before .before .args .level) (part (c .before .before .before .before .before .before .before .before .before .before .before .before .args .node .now) (c .before .before .before .before .before .cut2 .given .0 .1 .1 .0)) (c .before .before .before .before .before .before .before .before .before .before .before .before .args .hi .now) (c .before .before .before .before .before .before .before .before .before .before .before .before .args .k .now) (c .before .before .before .before .before .before .before .before .before .before .before .before .args .at) (c .before .before .before .before .before .before .before .before .before .before .before .before .args .free .now) (last-asks (c .before .before .before .before .before .before .before .before .before .before .before .before .args .store .now) (c .before .before .before .before .before .before .before .before .before .before .before .before .args .node .now) (c .before .before .before .before .before .before .before .before .before .before .before .before .args .hi .now) (c .before .before .before .before .before .before .before .before .before .before .before .before .args .k .now) (c .before .before .before .before .before .before .before .before .before .before .before .before .args .level) (c .before .before .before .before .before .before .before .before .before .before .before .before .args .at) (c .before .before .before .before .before .before .before .before .before .before .before .before .args .free .now) (c .before .before .before .before .before .before .before .before .before .before .before .before .args .cut) _ _ _ (c .before .before .before .before .before .cut2 .given .1) (c .before .before .before .before .before .before .before .before .before .before .before .before .pre .1 .1)) (c .before .before .common-length2 .result) (c .before .before .common-length2 .ensures .0) in let r = strip-high (c .before .before .before .before .before .before .before .before .before .before .before .before .args .store .now) (c .before .before .before .before .before .cut2 .given .0 .1 .0) (c .before .before .before .before .before .before .before .before .before .before .before .before .args .level) (part (c .before .before .before .before .before .before .before .before .before .before .before .before .args .node .now) (c .before .before .before .before .before .cut2 .given .0 .1 .1 .0)) (c .before .before .before .before .before .before .before .before .before .before .before .before .args .hi .now) (c .before .before .before .before .before .before .before .before .before .before .before .before .args .k .now) (c .before .before .before .before .before .before .before .before .before .before .before .before .args .at) (c .before .before .before .before .before .before .before .before .before .before .before .before .args .free .now) (last-asks (c .before .before .before .before .before .before .before .before .before .before .before .before .args .store .now) (c .before .before .before .before .before .before .before .before .before .before .before .before .args .node .now) (c .before .before .before .before .before .before .before .before .before .before .before .before .args .hi .now) (c .before .before .before .before .before .before .before .before .before .before .before .before .args .k .now) (c .before .before .before .before .before .before .before .before .before .before .before .before .args .level) (c .before .before .before .before .before .before .before .before .before .before .before .before .args .at) (c .before .before .before .before .before .before .before .before .before .before .before .before .args .free .now) (c .before .before .before .before .before .before .before .before .before .before .before .before .args .cut) _ _ _ (c .before .before .before .before .before .cut2 .given .1) (c .before .before .before .before .before .before .before .before .before .before .before .before .pre .1 .1)) (c .before .before .common-length2 .result) (c .before .before .common-length2 .ensures .0) in omega arith
+slice-cut-sub-slice-left-5 t c = let q = strip-short (c .before .before .before .before .before .before .before .before .before .before .before .before .args .store .now) (c .before .before .before .before .before .cut2 .given .0 .1 .0) (c .before .before .before .before .before .before .before .before .before .before .before .before .args .slot .level) (part (c .before .before .before .before .before .before .before .before .before .before .before .before .args .node .now) (c .before .before .before .before .before .cut2 .given .0 .1 .1 .0)) (c .before .before .before .before .before .before .before .before .before .before .before .before .args .hi .now) (c .before .before .before .before .before .before .before .before .before .before .before .before .args .k .now) (c .before .before .before .before .before .before .before .before .before .before .before .before .args .slot .at) (c .before .before .before .before .before .before .before .before .before .before .before .before .args .free .now) (last-asks (c .before .before .before .before .before .before .before .before .before .before .before .before .args .store .now) (c .before .before .before .before .before .before .before .before .before .before .before .before .args .node .now) (c .before .before .before .before .before .before .before .before .before .before .before .before .args .hi .now) (c .before .before .before .before .before .before .before .before .before .before .before .before .args .k .now) (c .before .before .before .before .before .before .before .before .before .before .before .before .args .slot .level) (c .before .before .before .before .before .before .before .before .before .before .before .before .args .slot .at) (c .before .before .before .before .before .before .before .before .before .before .before .before .args .free .now) (c .before .before .before .before .before .before .before .before .before .before .before .before .args .cut) _ _ _ (c .before .before .before .before .before .cut2 .given .1) (c .before .before .before .before .before .before .before .before .before .before .before .before .pre .1 .1)) (c .before .before .common-length2 .result) (c .before .before .common-length2 .ensures .0) in let r = strip-high (c .before .before .before .before .before .before .before .before .before .before .before .before .args .store .now) (c .before .before .before .before .before .cut2 .given .0 .1 .0) (c .before .before .before .before .before .before .before .before .before .before .before .before .args .slot .level) (part (c .before .before .before .before .before .before .before .before .before .before .before .before .args .node .now) (c .before .before .before .before .before .cut2 .given .0 .1 .1 .0)) (c .before .before .before .before .before .before .before .before .before .before .before .before .args .hi .now) (c .before .before .before .before .before .before .before .before .before .before .before .before .args .k .now) (c .before .before .before .before .before .before .before .before .before .before .before .before .args .slot .at) (c .before .before .before .before .before .before .before .before .before .before .before .before .args .free .now) (last-asks (c .before .before .before .before .before .before .before .before .before .before .before .before .args .store .now) (c .before .before .before .before .before .before .before .before .before .before .before .before .args .node .now) (c .before .before .before .before .before .before .before .before .before .before .before .before .args .hi .now) (c .before .before .before .before .before .before .before .before .before .before .before .before .args .k .now) (c .before .before .before .before .before .before .before .before .before .before .before .before .args .slot .level) (c .before .before .before .before .before .before .before .before .before .before .before .before .args .slot .at) (c .before .before .before .before .before .before .before .before .before .before .before .before .args .free .now) (c .before .before .before .before .before .before .before .before .before .before .before .before .args .cut) _ _ _ (c .before .before .before .before .before .cut2 .given .1) (c .before .before .before .before .before .before .before .before .before .before .before .before .pre .1 .1)) (c .before .before .common-length2 .result) (c .before .before .common-length2 .ensures .0) in omega arith
 
 slice-cut-part-slice-left-start-5 : (t : ℕ) → slice-cut-lts.Need-part-slice-left-start-5 (
   common-length-reads.Asked,
@@ -296,7 +296,7 @@ slice-cut-part-slice-left-start-5 : (t : ℕ) → slice-cut-lts.Need-part-slice-
   slice-left-below t,
   slice-left.Post,
 ) (slice-cut-at t) slice-cut.Post
-slice-cut-part-slice-left-start-5 t c = let q = strip-short (c .before .before .before .before .before .before .before .before .before .before .before .before .args .store .now) (c .before .before .before .before .before .cut2 .given .0 .1 .0) (c .before .before .before .before .before .before .before .before .before .before .before .before .args .level) (part (c .before .before .before .before .before .before .before .before .before .before .before .before .args .node .now) (c .before .before .before .before .before .cut2 .given .0 .1 .1 .0)) (c .before .before .before .before .before .before .before .before .before .before .before .before .args .hi .now) (c .before .before .before .before .before .before .before .before .before .before .before .before .args .k .now) (c .before .before .before .before .before .before .before .before .before .before .before .before .args .at) (c .before .before .before .before .before .before .before .before .before .before .before .before .args .free .now) (last-asks (c .before .before .before .before .before .before .before .before .before .before .before .before .args .store .now) (c .before .before .before .before .before .before .before .before .before .before .before .before .args .node .now) (c .before .before .before .before .before .before .before .before .before .before .before .before .args .hi .now) (c .before .before .before .before .before .before .before .before .before .before .before .before .args .k .now) (c .before .before .before .before .before .before .before .before .before .before .before .before .args .level) (c .before .before .before .before .before .before .before .before .before .before .before .before .args .at) (c .before .before .before .before .before .before .before .before .before .before .before .before .args .free .now) (c .before .before .before .before .before .before .before .before .before .before .before .before .args .cut) _ _ _ (c .before .before .before .before .before .cut2 .given .1) (c .before .before .before .before .before .before .before .before .before .before .before .before .pre .1 .1)) (c .before .before .common-length2 .result) (c .before .before .common-length2 .ensures .0) in let r = strip-high (c .before .before .before .before .before .before .before .before .before .before .before .before .args .store .now) (c .before .before .before .before .before .cut2 .given .0 .1 .0) (c .before .before .before .before .before .before .before .before .before .before .before .before .args .level) (part (c .before .before .before .before .before .before .before .before .before .before .before .before .args .node .now) (c .before .before .before .before .before .cut2 .given .0 .1 .1 .0)) (c .before .before .before .before .before .before .before .before .before .before .before .before .args .hi .now) (c .before .before .before .before .before .before .before .before .before .before .before .before .args .k .now) (c .before .before .before .before .before .before .before .before .before .before .before .before .args .at) (c .before .before .before .before .before .before .before .before .before .before .before .before .args .free .now) (last-asks (c .before .before .before .before .before .before .before .before .before .before .before .before .args .store .now) (c .before .before .before .before .before .before .before .before .before .before .before .before .args .node .now) (c .before .before .before .before .before .before .before .before .before .before .before .before .args .hi .now) (c .before .before .before .before .before .before .before .before .before .before .before .before .args .k .now) (c .before .before .before .before .before .before .before .before .before .before .before .before .args .level) (c .before .before .before .before .before .before .before .before .before .before .before .before .args .at) (c .before .before .before .before .before .before .before .before .before .before .before .before .args .free .now) (c .before .before .before .before .before .before .before .before .before .before .before .before .args .cut) _ _ _ (c .before .before .before .before .before .cut2 .given .1) (c .before .before .before .before .before .before .before .before .before .before .before .before .pre .1 .1)) (c .before .before .common-length2 .result) (c .before .before .common-length2 .ensures .0) in omega arith
+slice-cut-part-slice-left-start-5 t c = let q = strip-short (c .before .before .before .before .before .before .before .before .before .before .before .before .args .store .now) (c .before .before .before .before .before .cut2 .given .0 .1 .0) (c .before .before .before .before .before .before .before .before .before .before .before .before .args .slot .level) (part (c .before .before .before .before .before .before .before .before .before .before .before .before .args .node .now) (c .before .before .before .before .before .cut2 .given .0 .1 .1 .0)) (c .before .before .before .before .before .before .before .before .before .before .before .before .args .hi .now) (c .before .before .before .before .before .before .before .before .before .before .before .before .args .k .now) (c .before .before .before .before .before .before .before .before .before .before .before .before .args .slot .at) (c .before .before .before .before .before .before .before .before .before .before .before .before .args .free .now) (last-asks (c .before .before .before .before .before .before .before .before .before .before .before .before .args .store .now) (c .before .before .before .before .before .before .before .before .before .before .before .before .args .node .now) (c .before .before .before .before .before .before .before .before .before .before .before .before .args .hi .now) (c .before .before .before .before .before .before .before .before .before .before .before .before .args .k .now) (c .before .before .before .before .before .before .before .before .before .before .before .before .args .slot .level) (c .before .before .before .before .before .before .before .before .before .before .before .before .args .slot .at) (c .before .before .before .before .before .before .before .before .before .before .before .before .args .free .now) (c .before .before .before .before .before .before .before .before .before .before .before .before .args .cut) _ _ _ (c .before .before .before .before .before .cut2 .given .1) (c .before .before .before .before .before .before .before .before .before .before .before .before .pre .1 .1)) (c .before .before .common-length2 .result) (c .before .before .common-length2 .ensures .0) in let r = strip-high (c .before .before .before .before .before .before .before .before .before .before .before .before .args .store .now) (c .before .before .before .before .before .cut2 .given .0 .1 .0) (c .before .before .before .before .before .before .before .before .before .before .before .before .args .slot .level) (part (c .before .before .before .before .before .before .before .before .before .before .before .before .args .node .now) (c .before .before .before .before .before .cut2 .given .0 .1 .1 .0)) (c .before .before .before .before .before .before .before .before .before .before .before .before .args .hi .now) (c .before .before .before .before .before .before .before .before .before .before .before .before .args .k .now) (c .before .before .before .before .before .before .before .before .before .before .before .before .args .slot .at) (c .before .before .before .before .before .before .before .before .before .before .before .before .args .free .now) (last-asks (c .before .before .before .before .before .before .before .before .before .before .before .before .args .store .now) (c .before .before .before .before .before .before .before .before .before .before .before .before .args .node .now) (c .before .before .before .before .before .before .before .before .before .before .before .before .args .hi .now) (c .before .before .before .before .before .before .before .before .before .before .before .before .args .k .now) (c .before .before .before .before .before .before .before .before .before .before .before .before .args .slot .level) (c .before .before .before .before .before .before .before .before .before .before .before .before .args .slot .at) (c .before .before .before .before .before .before .before .before .before .before .before .before .args .free .now) (c .before .before .before .before .before .before .before .before .before .before .before .before .args .cut) _ _ _ (c .before .before .before .before .before .cut2 .given .1) (c .before .before .before .before .before .before .before .before .before .before .before .before .pre .1 .1)) (c .before .before .common-length2 .result) (c .before .before .common-length2 .ensures .0) in omega arith
 
 slice-cut-part-slice-left-end-5 : (t : ℕ) → slice-cut-lts.Need-part-slice-left-end-5 (
   common-length-reads.Asked,
@@ -304,7 +304,7 @@ slice-cut-part-slice-left-end-5 : (t : ℕ) → slice-cut-lts.Need-part-slice-le
   slice-left-below t,
   slice-left.Post,
 ) (slice-cut-at t) slice-cut.Post
-slice-cut-part-slice-left-end-5 t c = let q = strip-short (c .before .before .before .before .before .before .before .before .before .before .before .before .args .store .now) (c .before .before .before .before .before .cut2 .given .0 .1 .0) (c .before .before .before .before .before .before .before .before .before .before .before .before .args .level) (part (c .before .before .before .before .before .before .before .before .before .before .before .before .args .node .now) (c .before .before .before .before .before .cut2 .given .0 .1 .1 .0)) (c .before .before .before .before .before .before .before .before .before .before .before .before .args .hi .now) (c .before .before .before .before .before .before .before .before .before .before .before .before .args .k .now) (c .before .before .before .before .before .before .before .before .before .before .before .before .args .at) (c .before .before .before .before .before .before .before .before .before .before .before .before .args .free .now) (last-asks (c .before .before .before .before .before .before .before .before .before .before .before .before .args .store .now) (c .before .before .before .before .before .before .before .before .before .before .before .before .args .node .now) (c .before .before .before .before .before .before .before .before .before .before .before .before .args .hi .now) (c .before .before .before .before .before .before .before .before .before .before .before .before .args .k .now) (c .before .before .before .before .before .before .before .before .before .before .before .before .args .level) (c .before .before .before .before .before .before .before .before .before .before .before .before .args .at) (c .before .before .before .before .before .before .before .before .before .before .before .before .args .free .now) (c .before .before .before .before .before .before .before .before .before .before .before .before .args .cut) _ _ _ (c .before .before .before .before .before .cut2 .given .1) (c .before .before .before .before .before .before .before .before .before .before .before .before .pre .1 .1)) (c .before .before .common-length2 .result) (c .before .before .common-length2 .ensures .0) in let r = strip-high (c .before .before .before .before .before .before .before .before .before .before .before .before .args .store .now) (c .before .before .before .before .before .cut2 .given .0 .1 .0) (c .before .before .before .before .before .before .before .before .before .before .before .before .args .level) (part (c .before .before .before .before .before .before .before .before .before .before .before .before .args .node .now) (c .before .before .before .before .before .cut2 .given .0 .1 .1 .0)) (c .before .before .before .before .before .before .before .before .before .before .before .before .args .hi .now) (c .before .before .before .before .before .before .before .before .before .before .before .before .args .k .now) (c .before .before .before .before .before .before .before .before .before .before .before .before .args .at) (c .before .before .before .before .before .before .before .before .before .before .before .before .args .free .now) (last-asks (c .before .before .before .before .before .before .before .before .before .before .before .before .args .store .now) (c .before .before .before .before .before .before .before .before .before .before .before .before .args .node .now) (c .before .before .before .before .before .before .before .before .before .before .before .before .args .hi .now) (c .before .before .before .before .before .before .before .before .before .before .before .before .args .k .now) (c .before .before .before .before .before .before .before .before .before .before .before .before .args .level) (c .before .before .before .before .before .before .before .before .before .before .before .before .args .at) (c .before .before .before .before .before .before .before .before .before .before .before .before .args .free .now) (c .before .before .before .before .before .before .before .before .before .before .before .before .args .cut) _ _ _ (c .before .before .before .before .before .cut2 .given .1) (c .before .before .before .before .before .before .before .before .before .before .before .before .pre .1 .1)) (c .before .before .common-length2 .result) (c .before .before .common-length2 .ensures .0) in omega arith
+slice-cut-part-slice-left-end-5 t c = let q = strip-short (c .before .before .before .before .before .before .before .before .before .before .before .before .args .store .now) (c .before .before .before .before .before .cut2 .given .0 .1 .0) (c .before .before .before .before .before .before .before .before .before .before .before .before .args .slot .level) (part (c .before .before .before .before .before .before .before .before .before .before .before .before .args .node .now) (c .before .before .before .before .before .cut2 .given .0 .1 .1 .0)) (c .before .before .before .before .before .before .before .before .before .before .before .before .args .hi .now) (c .before .before .before .before .before .before .before .before .before .before .before .before .args .k .now) (c .before .before .before .before .before .before .before .before .before .before .before .before .args .slot .at) (c .before .before .before .before .before .before .before .before .before .before .before .before .args .free .now) (last-asks (c .before .before .before .before .before .before .before .before .before .before .before .before .args .store .now) (c .before .before .before .before .before .before .before .before .before .before .before .before .args .node .now) (c .before .before .before .before .before .before .before .before .before .before .before .before .args .hi .now) (c .before .before .before .before .before .before .before .before .before .before .before .before .args .k .now) (c .before .before .before .before .before .before .before .before .before .before .before .before .args .slot .level) (c .before .before .before .before .before .before .before .before .before .before .before .before .args .slot .at) (c .before .before .before .before .before .before .before .before .before .before .before .before .args .free .now) (c .before .before .before .before .before .before .before .before .before .before .before .before .args .cut) _ _ _ (c .before .before .before .before .before .cut2 .given .1) (c .before .before .before .before .before .before .before .before .before .before .before .before .pre .1 .1)) (c .before .before .common-length2 .result) (c .before .before .common-length2 .ensures .0) in let r = strip-high (c .before .before .before .before .before .before .before .before .before .before .before .before .args .store .now) (c .before .before .before .before .before .cut2 .given .0 .1 .0) (c .before .before .before .before .before .before .before .before .before .before .before .before .args .slot .level) (part (c .before .before .before .before .before .before .before .before .before .before .before .before .args .node .now) (c .before .before .before .before .before .cut2 .given .0 .1 .1 .0)) (c .before .before .before .before .before .before .before .before .before .before .before .before .args .hi .now) (c .before .before .before .before .before .before .before .before .before .before .before .before .args .k .now) (c .before .before .before .before .before .before .before .before .before .before .before .before .args .slot .at) (c .before .before .before .before .before .before .before .before .before .before .before .before .args .free .now) (last-asks (c .before .before .before .before .before .before .before .before .before .before .before .before .args .store .now) (c .before .before .before .before .before .before .before .before .before .before .before .before .args .node .now) (c .before .before .before .before .before .before .before .before .before .before .before .before .args .hi .now) (c .before .before .before .before .before .before .before .before .before .before .before .before .args .k .now) (c .before .before .before .before .before .before .before .before .before .before .before .before .args .slot .level) (c .before .before .before .before .before .before .before .before .before .before .before .before .args .slot .at) (c .before .before .before .before .before .before .before .before .before .before .before .before .args .free .now) (c .before .before .before .before .before .before .before .before .before .before .before .before .args .cut) _ _ _ (c .before .before .before .before .before .cut2 .given .1) (c .before .before .before .before .before .before .before .before .before .before .before .before .pre .1 .1)) (c .before .before .common-length2 .result) (c .before .before .common-length2 .ensures .0) in omega arith
 
 slice-cut-sub-slice-left-6 : (t : ℕ) → slice-cut-lts.Need-sub-slice-left-6 (
   common-length-reads.Asked,
@@ -312,7 +312,7 @@ slice-cut-sub-slice-left-6 : (t : ℕ) → slice-cut-lts.Need-sub-slice-left-6 (
   slice-left-below t,
   slice-left.Post,
 ) (slice-cut-at t) slice-cut.Post
-slice-cut-sub-slice-left-6 t c = let q = strip-short (c .before .before .before .before .before .before .before .before .before .before .before .before .before .args .store .now) (c .before .before .before .before .before .before .cut2 .given .0 .1 .0) (c .before .before .before .before .before .before .before .before .before .before .before .before .before .args .level) (part (c .before .before .before .before .before .before .before .before .before .before .before .before .before .args .node .now) (c .before .before .before .before .before .before .cut2 .given .0 .1 .1 .0)) (c .before .before .before .before .before .before .before .before .before .before .before .before .before .args .hi .now) (c .before .before .before .before .before .before .before .before .before .before .before .before .before .args .k .now) (c .before .before .before .before .before .before .before .before .before .before .before .before .before .args .at) (c .before .before .before .before .before .before .before .before .before .before .before .before .before .args .free .now) (last-asks (c .before .before .before .before .before .before .before .before .before .before .before .before .before .args .store .now) (c .before .before .before .before .before .before .before .before .before .before .before .before .before .args .node .now) (c .before .before .before .before .before .before .before .before .before .before .before .before .before .args .hi .now) (c .before .before .before .before .before .before .before .before .before .before .before .before .before .args .k .now) (c .before .before .before .before .before .before .before .before .before .before .before .before .before .args .level) (c .before .before .before .before .before .before .before .before .before .before .before .before .before .args .at) (c .before .before .before .before .before .before .before .before .before .before .before .before .before .args .free .now) (c .before .before .before .before .before .before .before .before .before .before .before .before .before .args .cut) _ _ _ (c .before .before .before .before .before .before .cut2 .given .1) (c .before .before .before .before .before .before .before .before .before .before .before .before .before .pre .1 .1)) (c .before .before .before .common-length2 .result) (c .before .before .before .common-length2 .ensures .0) in let r = strip-high (c .before .before .before .before .before .before .before .before .before .before .before .before .before .args .store .now) (c .before .before .before .before .before .before .cut2 .given .0 .1 .0) (c .before .before .before .before .before .before .before .before .before .before .before .before .before .args .level) (part (c .before .before .before .before .before .before .before .before .before .before .before .before .before .args .node .now) (c .before .before .before .before .before .before .cut2 .given .0 .1 .1 .0)) (c .before .before .before .before .before .before .before .before .before .before .before .before .before .args .hi .now) (c .before .before .before .before .before .before .before .before .before .before .before .before .before .args .k .now) (c .before .before .before .before .before .before .before .before .before .before .before .before .before .args .at) (c .before .before .before .before .before .before .before .before .before .before .before .before .before .args .free .now) (last-asks (c .before .before .before .before .before .before .before .before .before .before .before .before .before .args .store .now) (c .before .before .before .before .before .before .before .before .before .before .before .before .before .args .node .now) (c .before .before .before .before .before .before .before .before .before .before .before .before .before .args .hi .now) (c .before .before .before .before .before .before .before .before .before .before .before .before .before .args .k .now) (c .before .before .before .before .before .before .before .before .before .before .before .before .before .args .level) (c .before .before .before .before .before .before .before .before .before .before .before .before .before .args .at) (c .before .before .before .before .before .before .before .before .before .before .before .before .before .args .free .now) (c .before .before .before .before .before .before .before .before .before .before .before .before .before .args .cut) _ _ _ (c .before .before .before .before .before .before .cut2 .given .1) (c .before .before .before .before .before .before .before .before .before .before .before .before .before .pre .1 .1)) (c .before .before .before .common-length2 .result) (c .before .before .before .common-length2 .ensures .0) in omega arith
+slice-cut-sub-slice-left-6 t c = let q = strip-short (c .before .before .before .before .before .before .before .before .before .before .before .before .before .args .store .now) (c .before .before .before .before .before .before .cut2 .given .0 .1 .0) (c .before .before .before .before .before .before .before .before .before .before .before .before .before .args .slot .level) (part (c .before .before .before .before .before .before .before .before .before .before .before .before .before .args .node .now) (c .before .before .before .before .before .before .cut2 .given .0 .1 .1 .0)) (c .before .before .before .before .before .before .before .before .before .before .before .before .before .args .hi .now) (c .before .before .before .before .before .before .before .before .before .before .before .before .before .args .k .now) (c .before .before .before .before .before .before .before .before .before .before .before .before .before .args .slot .at) (c .before .before .before .before .before .before .before .before .before .before .before .before .before .args .free .now) (last-asks (c .before .before .before .before .before .before .before .before .before .before .before .before .before .args .store .now) (c .before .before .before .before .before .before .before .before .before .before .before .before .before .args .node .now) (c .before .before .before .before .before .before .before .before .before .before .before .before .before .args .hi .now) (c .before .before .before .before .before .before .before .before .before .before .before .before .before .args .k .now) (c .before .before .before .before .before .before .before .before .before .before .before .before .before .args .slot .level) (c .before .before .before .before .before .before .before .before .before .before .before .before .before .args .slot .at) (c .before .before .before .before .before .before .before .before .before .before .before .before .before .args .free .now) (c .before .before .before .before .before .before .before .before .before .before .before .before .before .args .cut) _ _ _ (c .before .before .before .before .before .before .cut2 .given .1) (c .before .before .before .before .before .before .before .before .before .before .before .before .before .pre .1 .1)) (c .before .before .before .common-length2 .result) (c .before .before .before .common-length2 .ensures .0) in let r = strip-high (c .before .before .before .before .before .before .before .before .before .before .before .before .before .args .store .now) (c .before .before .before .before .before .before .cut2 .given .0 .1 .0) (c .before .before .before .before .before .before .before .before .before .before .before .before .before .args .slot .level) (part (c .before .before .before .before .before .before .before .before .before .before .before .before .before .args .node .now) (c .before .before .before .before .before .before .cut2 .given .0 .1 .1 .0)) (c .before .before .before .before .before .before .before .before .before .before .before .before .before .args .hi .now) (c .before .before .before .before .before .before .before .before .before .before .before .before .before .args .k .now) (c .before .before .before .before .before .before .before .before .before .before .before .before .before .args .slot .at) (c .before .before .before .before .before .before .before .before .before .before .before .before .before .args .free .now) (last-asks (c .before .before .before .before .before .before .before .before .before .before .before .before .before .args .store .now) (c .before .before .before .before .before .before .before .before .before .before .before .before .before .args .node .now) (c .before .before .before .before .before .before .before .before .before .before .before .before .before .args .hi .now) (c .before .before .before .before .before .before .before .before .before .before .before .before .before .args .k .now) (c .before .before .before .before .before .before .before .before .before .before .before .before .before .args .slot .level) (c .before .before .before .before .before .before .before .before .before .before .before .before .before .args .slot .at) (c .before .before .before .before .before .before .before .before .before .before .before .before .before .args .free .now) (c .before .before .before .before .before .before .before .before .before .before .before .before .before .args .cut) _ _ _ (c .before .before .before .before .before .before .cut2 .given .1) (c .before .before .before .before .before .before .before .before .before .before .before .before .before .pre .1 .1)) (c .before .before .before .common-length2 .result) (c .before .before .before .common-length2 .ensures .0) in omega arith
 
 slice-cut-part-slice-left-start-6 : (t : ℕ) → slice-cut-lts.Need-part-slice-left-start-6 (
   common-length-reads.Asked,
@@ -320,7 +320,7 @@ slice-cut-part-slice-left-start-6 : (t : ℕ) → slice-cut-lts.Need-part-slice-
   slice-left-below t,
   slice-left.Post,
 ) (slice-cut-at t) slice-cut.Post
-slice-cut-part-slice-left-start-6 t c = let q = strip-short (c .before .before .before .before .before .before .before .before .before .before .before .before .before .args .store .now) (c .before .before .before .before .before .before .cut2 .given .0 .1 .0) (c .before .before .before .before .before .before .before .before .before .before .before .before .before .args .level) (part (c .before .before .before .before .before .before .before .before .before .before .before .before .before .args .node .now) (c .before .before .before .before .before .before .cut2 .given .0 .1 .1 .0)) (c .before .before .before .before .before .before .before .before .before .before .before .before .before .args .hi .now) (c .before .before .before .before .before .before .before .before .before .before .before .before .before .args .k .now) (c .before .before .before .before .before .before .before .before .before .before .before .before .before .args .at) (c .before .before .before .before .before .before .before .before .before .before .before .before .before .args .free .now) (last-asks (c .before .before .before .before .before .before .before .before .before .before .before .before .before .args .store .now) (c .before .before .before .before .before .before .before .before .before .before .before .before .before .args .node .now) (c .before .before .before .before .before .before .before .before .before .before .before .before .before .args .hi .now) (c .before .before .before .before .before .before .before .before .before .before .before .before .before .args .k .now) (c .before .before .before .before .before .before .before .before .before .before .before .before .before .args .level) (c .before .before .before .before .before .before .before .before .before .before .before .before .before .args .at) (c .before .before .before .before .before .before .before .before .before .before .before .before .before .args .free .now) (c .before .before .before .before .before .before .before .before .before .before .before .before .before .args .cut) _ _ _ (c .before .before .before .before .before .before .cut2 .given .1) (c .before .before .before .before .before .before .before .before .before .before .before .before .before .pre .1 .1)) (c .before .before .before .common-length2 .result) (c .before .before .before .common-length2 .ensures .0) in let r = strip-high (c .before .before .before .before .before .before .before .before .before .before .before .before .before .args .store .now) (c .before .before .before .before .before .before .cut2 .given .0 .1 .0) (c .before .before .before .before .before .before .before .before .before .before .before .before .before .args .level) (part (c .before .before .before .before .before .before .before .before .before .before .before .before .before .args .node .now) (c .before .before .before .before .before .before .cut2 .given .0 .1 .1 .0)) (c .before .before .before .before .before .before .before .before .before .before .before .before .before .args .hi .now) (c .before .before .before .before .before .before .before .before .before .before .before .before .before .args .k .now) (c .before .before .before .before .before .before .before .before .before .before .before .before .before .args .at) (c .before .before .before .before .before .before .before .before .before .before .before .before .before .args .free .now) (last-asks (c .before .before .before .before .before .before .before .before .before .before .before .before .before .args .store .now) (c .before .before .before .before .before .before .before .before .before .before .before .before .before .args .node .now) (c .before .before .before .before .before .before .before .before .before .before .before .before .before .args .hi .now) (c .before .before .before .before .before .before .before .before .before .before .before .before .before .args .k .now) (c .before .before .before .before .before .before .before .before .before .before .before .before .before .args .level) (c .before .before .before .before .before .before .before .before .before .before .before .before .before .args .at) (c .before .before .before .before .before .before .before .before .before .before .before .before .before .args .free .now) (c .before .before .before .before .before .before .before .before .before .before .before .before .before .args .cut) _ _ _ (c .before .before .before .before .before .before .cut2 .given .1) (c .before .before .before .before .before .before .before .before .before .before .before .before .before .pre .1 .1)) (c .before .before .before .common-length2 .result) (c .before .before .before .common-length2 .ensures .0) in omega arith
+slice-cut-part-slice-left-start-6 t c = let q = strip-short (c .before .before .before .before .before .before .before .before .before .before .before .before .before .args .store .now) (c .before .before .before .before .before .before .cut2 .given .0 .1 .0) (c .before .before .before .before .before .before .before .before .before .before .before .before .before .args .slot .level) (part (c .before .before .before .before .before .before .before .before .before .before .before .before .before .args .node .now) (c .before .before .before .before .before .before .cut2 .given .0 .1 .1 .0)) (c .before .before .before .before .before .before .before .before .before .before .before .before .before .args .hi .now) (c .before .before .before .before .before .before .before .before .before .before .before .before .before .args .k .now) (c .before .before .before .before .before .before .before .before .before .before .before .before .before .args .slot .at) (c .before .before .before .before .before .before .before .before .before .before .before .before .before .args .free .now) (last-asks (c .before .before .before .before .before .before .before .before .before .before .before .before .before .args .store .now) (c .before .before .before .before .before .before .before .before .before .before .before .before .before .args .node .now) (c .before .before .before .before .before .before .before .before .before .before .before .before .before .args .hi .now) (c .before .before .before .before .before .before .before .before .before .before .before .before .before .args .k .now) (c .before .before .before .before .before .before .before .before .before .before .before .before .before .args .slot .level) (c .before .before .before .before .before .before .before .before .before .before .before .before .before .args .slot .at) (c .before .before .before .before .before .before .before .before .before .before .before .before .before .args .free .now) (c .before .before .before .before .before .before .before .before .before .before .before .before .before .args .cut) _ _ _ (c .before .before .before .before .before .before .cut2 .given .1) (c .before .before .before .before .before .before .before .before .before .before .before .before .before .pre .1 .1)) (c .before .before .before .common-length2 .result) (c .before .before .before .common-length2 .ensures .0) in let r = strip-high (c .before .before .before .before .before .before .before .before .before .before .before .before .before .args .store .now) (c .before .before .before .before .before .before .cut2 .given .0 .1 .0) (c .before .before .before .before .before .before .before .before .before .before .before .before .before .args .slot .level) (part (c .before .before .before .before .before .before .before .before .before .before .before .before .before .args .node .now) (c .before .before .before .before .before .before .cut2 .given .0 .1 .1 .0)) (c .before .before .before .before .before .before .before .before .before .before .before .before .before .args .hi .now) (c .before .before .before .before .before .before .before .before .before .before .before .before .before .args .k .now) (c .before .before .before .before .before .before .before .before .before .before .before .before .before .args .slot .at) (c .before .before .before .before .before .before .before .before .before .before .before .before .before .args .free .now) (last-asks (c .before .before .before .before .before .before .before .before .before .before .before .before .before .args .store .now) (c .before .before .before .before .before .before .before .before .before .before .before .before .before .args .node .now) (c .before .before .before .before .before .before .before .before .before .before .before .before .before .args .hi .now) (c .before .before .before .before .before .before .before .before .before .before .before .before .before .args .k .now) (c .before .before .before .before .before .before .before .before .before .before .before .before .before .args .slot .level) (c .before .before .before .before .before .before .before .before .before .before .before .before .before .args .slot .at) (c .before .before .before .before .before .before .before .before .before .before .before .before .before .args .free .now) (c .before .before .before .before .before .before .before .before .before .before .before .before .before .args .cut) _ _ _ (c .before .before .before .before .before .before .cut2 .given .1) (c .before .before .before .before .before .before .before .before .before .before .before .before .before .pre .1 .1)) (c .before .before .before .common-length2 .result) (c .before .before .before .common-length2 .ensures .0) in omega arith
 
 slice-cut-part-slice-left-end-6 : (t : ℕ) → slice-cut-lts.Need-part-slice-left-end-6 (
   common-length-reads.Asked,
@@ -328,7 +328,7 @@ slice-cut-part-slice-left-end-6 : (t : ℕ) → slice-cut-lts.Need-part-slice-le
   slice-left-below t,
   slice-left.Post,
 ) (slice-cut-at t) slice-cut.Post
-slice-cut-part-slice-left-end-6 t c = let q = strip-short (c .before .before .before .before .before .before .before .before .before .before .before .before .before .args .store .now) (c .before .before .before .before .before .before .cut2 .given .0 .1 .0) (c .before .before .before .before .before .before .before .before .before .before .before .before .before .args .level) (part (c .before .before .before .before .before .before .before .before .before .before .before .before .before .args .node .now) (c .before .before .before .before .before .before .cut2 .given .0 .1 .1 .0)) (c .before .before .before .before .before .before .before .before .before .before .before .before .before .args .hi .now) (c .before .before .before .before .before .before .before .before .before .before .before .before .before .args .k .now) (c .before .before .before .before .before .before .before .before .before .before .before .before .before .args .at) (c .before .before .before .before .before .before .before .before .before .before .before .before .before .args .free .now) (last-asks (c .before .before .before .before .before .before .before .before .before .before .before .before .before .args .store .now) (c .before .before .before .before .before .before .before .before .before .before .before .before .before .args .node .now) (c .before .before .before .before .before .before .before .before .before .before .before .before .before .args .hi .now) (c .before .before .before .before .before .before .before .before .before .before .before .before .before .args .k .now) (c .before .before .before .before .before .before .before .before .before .before .before .before .before .args .level) (c .before .before .before .before .before .before .before .before .before .before .before .before .before .args .at) (c .before .before .before .before .before .before .before .before .before .before .before .before .before .args .free .now) (c .before .before .before .before .before .before .before .before .before .before .before .before .before .args .cut) _ _ _ (c .before .before .before .before .before .before .cut2 .given .1) (c .before .before .before .before .before .before .before .before .before .before .before .before .before .pre .1 .1)) (c .before .before .before .common-length2 .result) (c .before .before .before .common-length2 .ensures .0) in let r = strip-high (c .before .before .before .before .before .before .before .before .before .before .before .before .before .args .store .now) (c .before .before .before .before .before .before .cut2 .given .0 .1 .0) (c .before .before .before .before .before .before .before .before .before .before .before .before .before .args .level) (part (c .before .before .before .before .before .before .before .before .before .before .before .before .before .args .node .now) (c .before .before .before .before .before .before .cut2 .given .0 .1 .1 .0)) (c .before .before .before .before .before .before .before .before .before .before .before .before .before .args .hi .now) (c .before .before .before .before .before .before .before .before .before .before .before .before .before .args .k .now) (c .before .before .before .before .before .before .before .before .before .before .before .before .before .args .at) (c .before .before .before .before .before .before .before .before .before .before .before .before .before .args .free .now) (last-asks (c .before .before .before .before .before .before .before .before .before .before .before .before .before .args .store .now) (c .before .before .before .before .before .before .before .before .before .before .before .before .before .args .node .now) (c .before .before .before .before .before .before .before .before .before .before .before .before .before .args .hi .now) (c .before .before .before .before .before .before .before .before .before .before .before .before .before .args .k .now) (c .before .before .before .before .before .before .before .before .before .before .before .before .before .args .level) (c .before .before .before .before .before .before .before .before .before .before .before .before .before .args .at) (c .before .before .before .before .before .before .before .before .before .before .before .before .before .args .free .now) (c .before .before .before .before .before .before .before .before .before .before .before .before .before .args .cut) _ _ _ (c .before .before .before .before .before .before .cut2 .given .1) (c .before .before .before .before .before .before .before .before .before .before .before .before .before .pre .1 .1)) (c .before .before .before .common-length2 .result) (c .before .before .before .common-length2 .ensures .0) in omega arith
+slice-cut-part-slice-left-end-6 t c = let q = strip-short (c .before .before .before .before .before .before .before .before .before .before .before .before .before .args .store .now) (c .before .before .before .before .before .before .cut2 .given .0 .1 .0) (c .before .before .before .before .before .before .before .before .before .before .before .before .before .args .slot .level) (part (c .before .before .before .before .before .before .before .before .before .before .before .before .before .args .node .now) (c .before .before .before .before .before .before .cut2 .given .0 .1 .1 .0)) (c .before .before .before .before .before .before .before .before .before .before .before .before .before .args .hi .now) (c .before .before .before .before .before .before .before .before .before .before .before .before .before .args .k .now) (c .before .before .before .before .before .before .before .before .before .before .before .before .before .args .slot .at) (c .before .before .before .before .before .before .before .before .before .before .before .before .before .args .free .now) (last-asks (c .before .before .before .before .before .before .before .before .before .before .before .before .before .args .store .now) (c .before .before .before .before .before .before .before .before .before .before .before .before .before .args .node .now) (c .before .before .before .before .before .before .before .before .before .before .before .before .before .args .hi .now) (c .before .before .before .before .before .before .before .before .before .before .before .before .before .args .k .now) (c .before .before .before .before .before .before .before .before .before .before .before .before .before .args .slot .level) (c .before .before .before .before .before .before .before .before .before .before .before .before .before .args .slot .at) (c .before .before .before .before .before .before .before .before .before .before .before .before .before .args .free .now) (c .before .before .before .before .before .before .before .before .before .before .before .before .before .args .cut) _ _ _ (c .before .before .before .before .before .before .cut2 .given .1) (c .before .before .before .before .before .before .before .before .before .before .before .before .before .pre .1 .1)) (c .before .before .before .common-length2 .result) (c .before .before .before .common-length2 .ensures .0) in let r = strip-high (c .before .before .before .before .before .before .before .before .before .before .before .before .before .args .store .now) (c .before .before .before .before .before .before .cut2 .given .0 .1 .0) (c .before .before .before .before .before .before .before .before .before .before .before .before .before .args .slot .level) (part (c .before .before .before .before .before .before .before .before .before .before .before .before .before .args .node .now) (c .before .before .before .before .before .before .cut2 .given .0 .1 .1 .0)) (c .before .before .before .before .before .before .before .before .before .before .before .before .before .args .hi .now) (c .before .before .before .before .before .before .before .before .before .before .before .before .before .args .k .now) (c .before .before .before .before .before .before .before .before .before .before .before .before .before .args .slot .at) (c .before .before .before .before .before .before .before .before .before .before .before .before .before .args .free .now) (last-asks (c .before .before .before .before .before .before .before .before .before .before .before .before .before .args .store .now) (c .before .before .before .before .before .before .before .before .before .before .before .before .before .args .node .now) (c .before .before .before .before .before .before .before .before .before .before .before .before .before .args .hi .now) (c .before .before .before .before .before .before .before .before .before .before .before .before .before .args .k .now) (c .before .before .before .before .before .before .before .before .before .before .before .before .before .args .slot .level) (c .before .before .before .before .before .before .before .before .before .before .before .before .before .args .slot .at) (c .before .before .before .before .before .before .before .before .before .before .before .before .before .args .free .now) (c .before .before .before .before .before .before .before .before .before .before .before .before .before .args .cut) _ _ _ (c .before .before .before .before .before .before .cut2 .given .1) (c .before .before .before .before .before .before .before .before .before .before .before .before .before .pre .1 .1)) (c .before .before .before .common-length2 .result) (c .before .before .before .common-length2 .ensures .0) in omega arith
 
 slice-cut-slice-left-requires-2 : (t : ℕ) → slice-cut-lts.Need-slice-left-requires-2 (
   common-length-reads.Asked,
@@ -336,7 +336,7 @@ slice-cut-slice-left-requires-2 : (t : ℕ) → slice-cut-lts.Need-slice-left-re
   slice-left-below t,
   slice-left.Post,
 ) (slice-cut-at t) slice-cut.Post
-slice-cut-slice-left-requires-2 t c κs = let w = last-places (c .before .before .before .before .before .before .before .before .before .before .before .before .before .before .args .store .now) (c .before .before .before .before .before .before .before .before .before .before .before .before .before .before .args .node .now) (c .before .before .before .before .before .before .before .before .before .before .before .before .before .before .args .hi .now) (c .before .before .before .before .before .before .before .before .before .before .before .before .before .before .args .k .now) (c .before .before .before .before .before .before .before .before .before .before .before .before .before .before .args .level) (c .before .before .before .before .before .before .before .before .before .before .before .before .before .before .args .at) (c .before .before .before .before .before .before .before .before .before .before .before .before .before .before .args .free .now) (c .before .before .before .before .before .before .before .before .before .before .before .before .before .before .args .cut) _ _ _ (c .before .before .before .before .before .before .before .cut2 .given .1) (c .before .before .before .before .before .before .before .before .before .before .before .before .before .before .pre .1 .0) in let la = cut-length (c .before .before .before .before .before .before .before .before .before .before .before .before .before .before .args .node .now) ((c .before .before .before .before .before .before .before .cut2 .given .0 .1 .1 .0) .start) ((c .before .before .before .before .before .before .before .cut2 .given .0 .1 .1 .0) .stop) (w .rises) (w .high) in (omega arith, (strip-asks (c .before .before .before .before .before .before .before .before .before .before .before .before .before .before .args .store .now) (c .before .before .before .before .before .before .before .cut2 .given .0 .1 .0) (c .before .before .before .before .before .before .before .before .before .before .before .before .before .before .args .level) (part (c .before .before .before .before .before .before .before .before .before .before .before .before .before .before .args .node .now) (c .before .before .before .before .before .before .before .cut2 .given .0 .1 .1 .0)) (c .before .before .before .before .before .before .before .before .before .before .before .before .before .before .args .hi .now) (c .before .before .before .before .before .before .before .before .before .before .before .before .before .before .args .k .now) (c .before .before .before .before .before .before .before .before .before .before .before .before .before .before .args .at) (c .before .before .before .before .before .before .before .before .before .before .before .before .before .before .args .free .now) (last-asks (c .before .before .before .before .before .before .before .before .before .before .before .before .before .before .args .store .now) (c .before .before .before .before .before .before .before .before .before .before .before .before .before .before .args .node .now) (c .before .before .before .before .before .before .before .before .before .before .before .before .before .before .args .hi .now) (c .before .before .before .before .before .before .before .before .before .before .before .before .before .before .args .k .now) (c .before .before .before .before .before .before .before .before .before .before .before .before .before .before .args .level) (c .before .before .before .before .before .before .before .before .before .before .before .before .before .before .args .at) (c .before .before .before .before .before .before .before .before .before .before .before .before .before .before .args .free .now) (c .before .before .before .before .before .before .before .before .before .before .before .before .before .before .args .cut) _ _ _ (c .before .before .before .before .before .before .before .cut2 .given .1) (c .before .before .before .before .before .before .before .before .before .before .before .before .before .before .pre .1 .1)) (c .before .before .before .before .common-length2 .result) (c .before .before .before .before .common-length2 .ensures .0) _ _ _ (sym (cut-drop (c .before .before .before .before .before .before .before .before .before .before .before .before .before .before .args .node .now) ((c .before .before .before .before .before .before .before .cut2 .given .0 .1 .1 .0) .start) ((c .before .before .before .before .before .before .before .cut2 .given .0 .1 .1 .0) .stop) (c .before .before .before .before .common-length2 .result) (omega arith))) (part-rest (c .before .before .before .before .common-length2 .result) (c .before .before .before .before .before .before .before .before .before .before .before .before .before .before .args .hi .now)) (part-rest (c .before .before .before .before .common-length2 .result) (c .before .before .before .before .before .before .before .before .before .before .before .before .before .before .args .k .now)), strip-bare (c .before .before .before .before .before .before .before .before .before .before .before .before .before .before .args .store .now) (c .before .before .before .before .before .before .before .cut2 .given .0 .1 .0) (c .before .before .before .before .before .before .before .before .before .before .before .before .before .before .args .level) (part (c .before .before .before .before .before .before .before .before .before .before .before .before .before .before .args .node .now) (c .before .before .before .before .before .before .before .cut2 .given .0 .1 .1 .0)) (c .before .before .before .before .before .before .before .before .before .before .before .before .before .before .args .hi .now) (c .before .before .before .before .before .before .before .before .before .before .before .before .before .before .args .k .now) (c .before .before .before .before .before .before .before .before .before .before .before .before .before .before .args .at) (c .before .before .before .before .before .before .before .before .before .before .before .before .before .before .args .free .now) (last-asks (c .before .before .before .before .before .before .before .before .before .before .before .before .before .before .args .store .now) (c .before .before .before .before .before .before .before .before .before .before .before .before .before .before .args .node .now) (c .before .before .before .before .before .before .before .before .before .before .before .before .before .before .args .hi .now) (c .before .before .before .before .before .before .before .before .before .before .before .before .before .before .args .k .now) (c .before .before .before .before .before .before .before .before .before .before .before .before .before .before .args .level) (c .before .before .before .before .before .before .before .before .before .before .before .before .before .before .args .at) (c .before .before .before .before .before .before .before .before .before .before .before .before .before .before .args .free .now) (c .before .before .before .before .before .before .before .before .before .before .before .before .before .before .args .cut) _ _ _ (c .before .before .before .before .before .before .before .cut2 .given .1) (c .before .before .before .before .before .before .before .before .before .before .before .before .before .before .pre .1 .1)) (c .before .before .before .before .common-length2 .result) (c .before .before .before .before .common-length2 .ensures .0) _ _ _ (sym (cut-drop (c .before .before .before .before .before .before .before .before .before .before .before .before .before .before .args .node .now) ((c .before .before .before .before .before .before .before .cut2 .given .0 .1 .1 .0) .start) ((c .before .before .before .before .before .before .before .cut2 .given .0 .1 .1 .0) .stop) (c .before .before .before .before .common-length2 .result) (omega arith))) (part-rest (c .before .before .before .before .common-length2 .result) (c .before .before .before .before .before .before .before .before .before .before .before .before .before .before .args .hi .now)) (part-rest (c .before .before .before .before .common-length2 .result) (c .before .before .before .before .before .before .before .before .before .before .before .before .before .before .args .k .now))))
+slice-cut-slice-left-requires-2 t c κs = let w = last-places (c .before .before .before .before .before .before .before .before .before .before .before .before .before .before .args .store .now) (c .before .before .before .before .before .before .before .before .before .before .before .before .before .before .args .node .now) (c .before .before .before .before .before .before .before .before .before .before .before .before .before .before .args .hi .now) (c .before .before .before .before .before .before .before .before .before .before .before .before .before .before .args .k .now) (c .before .before .before .before .before .before .before .before .before .before .before .before .before .before .args .slot .level) (c .before .before .before .before .before .before .before .before .before .before .before .before .before .before .args .slot .at) (c .before .before .before .before .before .before .before .before .before .before .before .before .before .before .args .free .now) (c .before .before .before .before .before .before .before .before .before .before .before .before .before .before .args .cut) _ _ _ (c .before .before .before .before .before .before .before .cut2 .given .1) (c .before .before .before .before .before .before .before .before .before .before .before .before .before .before .pre .1 .0) in let la = cut-length (c .before .before .before .before .before .before .before .before .before .before .before .before .before .before .args .node .now) ((c .before .before .before .before .before .before .before .cut2 .given .0 .1 .1 .0) .start) ((c .before .before .before .before .before .before .before .cut2 .given .0 .1 .1 .0) .stop) (w .rises) (w .high) in (omega arith, (strip-asks (c .before .before .before .before .before .before .before .before .before .before .before .before .before .before .args .store .now) (c .before .before .before .before .before .before .before .cut2 .given .0 .1 .0) (c .before .before .before .before .before .before .before .before .before .before .before .before .before .before .args .slot .level) (part (c .before .before .before .before .before .before .before .before .before .before .before .before .before .before .args .node .now) (c .before .before .before .before .before .before .before .cut2 .given .0 .1 .1 .0)) (c .before .before .before .before .before .before .before .before .before .before .before .before .before .before .args .hi .now) (c .before .before .before .before .before .before .before .before .before .before .before .before .before .before .args .k .now) (c .before .before .before .before .before .before .before .before .before .before .before .before .before .before .args .slot .at) (c .before .before .before .before .before .before .before .before .before .before .before .before .before .before .args .free .now) (last-asks (c .before .before .before .before .before .before .before .before .before .before .before .before .before .before .args .store .now) (c .before .before .before .before .before .before .before .before .before .before .before .before .before .before .args .node .now) (c .before .before .before .before .before .before .before .before .before .before .before .before .before .before .args .hi .now) (c .before .before .before .before .before .before .before .before .before .before .before .before .before .before .args .k .now) (c .before .before .before .before .before .before .before .before .before .before .before .before .before .before .args .slot .level) (c .before .before .before .before .before .before .before .before .before .before .before .before .before .before .args .slot .at) (c .before .before .before .before .before .before .before .before .before .before .before .before .before .before .args .free .now) (c .before .before .before .before .before .before .before .before .before .before .before .before .before .before .args .cut) _ _ _ (c .before .before .before .before .before .before .before .cut2 .given .1) (c .before .before .before .before .before .before .before .before .before .before .before .before .before .before .pre .1 .1)) (c .before .before .before .before .common-length2 .result) (c .before .before .before .before .common-length2 .ensures .0) _ _ _ (sym (cut-drop (c .before .before .before .before .before .before .before .before .before .before .before .before .before .before .args .node .now) ((c .before .before .before .before .before .before .before .cut2 .given .0 .1 .1 .0) .start) ((c .before .before .before .before .before .before .before .cut2 .given .0 .1 .1 .0) .stop) (c .before .before .before .before .common-length2 .result) (omega arith))) (part-rest (c .before .before .before .before .common-length2 .result) (c .before .before .before .before .before .before .before .before .before .before .before .before .before .before .args .hi .now)) (part-rest (c .before .before .before .before .common-length2 .result) (c .before .before .before .before .before .before .before .before .before .before .before .before .before .before .args .k .now)), strip-bare (c .before .before .before .before .before .before .before .before .before .before .before .before .before .before .args .store .now) (c .before .before .before .before .before .before .before .cut2 .given .0 .1 .0) (c .before .before .before .before .before .before .before .before .before .before .before .before .before .before .args .slot .level) (part (c .before .before .before .before .before .before .before .before .before .before .before .before .before .before .args .node .now) (c .before .before .before .before .before .before .before .cut2 .given .0 .1 .1 .0)) (c .before .before .before .before .before .before .before .before .before .before .before .before .before .before .args .hi .now) (c .before .before .before .before .before .before .before .before .before .before .before .before .before .before .args .k .now) (c .before .before .before .before .before .before .before .before .before .before .before .before .before .before .args .slot .at) (c .before .before .before .before .before .before .before .before .before .before .before .before .before .before .args .free .now) (last-asks (c .before .before .before .before .before .before .before .before .before .before .before .before .before .before .args .store .now) (c .before .before .before .before .before .before .before .before .before .before .before .before .before .before .args .node .now) (c .before .before .before .before .before .before .before .before .before .before .before .before .before .before .args .hi .now) (c .before .before .before .before .before .before .before .before .before .before .before .before .before .before .args .k .now) (c .before .before .before .before .before .before .before .before .before .before .before .before .before .before .args .slot .level) (c .before .before .before .before .before .before .before .before .before .before .before .before .before .before .args .slot .at) (c .before .before .before .before .before .before .before .before .before .before .before .before .before .before .args .free .now) (c .before .before .before .before .before .before .before .before .before .before .before .before .before .before .args .cut) _ _ _ (c .before .before .before .before .before .before .before .cut2 .given .1) (c .before .before .before .before .before .before .before .before .before .before .before .before .before .before .pre .1 .1)) (c .before .before .before .before .common-length2 .result) (c .before .before .before .before .common-length2 .ensures .0) _ _ _ (sym (cut-drop (c .before .before .before .before .before .before .before .before .before .before .before .before .before .before .args .node .now) ((c .before .before .before .before .before .before .before .cut2 .given .0 .1 .1 .0) .start) ((c .before .before .before .before .before .before .before .cut2 .given .0 .1 .1 .0) .stop) (c .before .before .before .before .common-length2 .result) (omega arith))) (part-rest (c .before .before .before .before .common-length2 .result) (c .before .before .before .before .before .before .before .before .before .before .before .before .before .before .args .hi .now)) (part-rest (c .before .before .before .before .common-length2 .result) (c .before .before .before .before .before .before .before .before .before .before .before .before .before .before .args .k .now))))
 
 slice-cut-enum-told : (t : ℕ) → slice-cut-lts.Need-enum-told (
   common-length-reads.Asked,
@@ -368,7 +368,7 @@ slice-cut-returns : (t : ℕ) → slice-cut-lts.Need-returns (
   slice-left-below t,
   slice-left.Post,
 ) (slice-cut-at t) slice-cut.Post
-slice-cut-returns t c = let w = inner-places (c .before .before .before .before .before .before .before .before .before .before .before .before .before .before .before .before .before .before .args .store .now) (c .before .before .before .before .before .before .before .before .before .before .before .before .before .before .before .before .before .before .args .node .now) (c .before .before .before .before .before .before .before .before .before .before .before .before .before .before .before .before .before .before .args .hi .now) (c .before .before .before .before .before .before .before .before .before .before .before .before .before .before .before .before .before .before .args .k .now) (c .before .before .before .before .before .before .before .before .before .before .before .before .before .before .before .before .before .before .args .level) (c .before .before .before .before .before .before .before .before .before .before .before .before .before .before .before .before .before .before .args .at) (c .before .before .before .before .before .before .before .before .before .before .before .before .before .before .before .before .before .before .args .free .now) (c .before .before .before .before .before .before .before .before .before .before .before .before .before .before .before .before .before .before .args .cut) _ _ _ _ (c .before .before .before .before .before .before .before .before .before .before .before .cut .given .1) (c .before .before .before .before .before .before .before .before .before .before .before .before .before .before .before .before .before .before .pre .1 .0) in let la = cut-length (c .before .before .before .before .before .before .before .before .before .before .before .before .before .before .before .before .before .before .args .node .now) ((c .before .before .before .before .before .before .before .before .before .before .before .cut .given .0 .1 .1 .0) .start) ((c .before .before .before .before .before .before .before .before .before .before .before .cut .given .0 .1 .1 .0) .stop) (w .0 .rises) (w .0 .high) in let lb = cut-length (c .before .before .before .before .before .before .before .before .before .before .before .before .before .before .before .before .before .before .args .node .now) ((c .before .before .before .before .before .before .before .before .before .before .before .cut .given .0 .1 .1 .1 .0) .start) ((c .before .before .before .before .before .before .before .before .before .before .before .cut .given .0 .1 .1 .1 .0) .stop) (w .1 .rises) (w .1 .high) in inner-at (c .before .before .before .before .before .before .before .before .before .before .before .before .before .before .before .before .before .before .args .store .now) (c .before .before .before .before .before .before .before .before .before .before .before .before .before .before .before .before .before .before .args .node .now) (c .before .before .before .before .before .before .before .before .before .before .before .before .before .before .before .before .before .before .args .hi .now) (c .before .before .before .before .before .before .before .before .before .before .before .before .before .before .before .before .before .before .args .k .now) (c .before .before .before .before .before .before .before .before .before .before .before .before .before .before .before .before .before .before .args .level) (c .before .before .before .before .before .before .before .before .before .before .before .before .before .before .before .before .before .before .args .at) (c .before .before .before .before .before .before .before .before .before .before .before .before .before .before .before .before .before .before .args .free .now) (c .before .before .before .before .before .before .before .before .before .before .before .before .before .before .before .before .before .before .args .cut) _ _ _ _ _ (c .before .before .before .before .before .before .before .before .before .before .before .cut .given .1) (strip-written (c .before .before .before .before .before .before .before .before .before .before .before .before .before .before .before .before .before .before .args .store .now) (c .before .before .before .before .before .before .before .before .before .before .before .cut .given .0 .1 .0) (c .before .before .before .before .before .before .before .before .before .before .before .before .before .before .before .before .before .before .args .level) (part (c .before .before .before .before .before .before .before .before .before .before .before .before .before .before .before .before .before .before .args .node .now) (c .before .before .before .before .before .before .before .before .before .before .before .cut .given .0 .1 .1 .0)) (part (c .before .before .before .before .before .before .before .before .before .before .before .before .before .before .before .before .before .before .args .node .now) (c .before .before .before .before .before .before .before .before .before .before .before .cut .given .0 .1 .1 .1 .0)) (c .before .before .before .before .before .before .before .before .before .before .before .before .before .before .before .before .before .before .args .k .now) (c .before .before .before .before .before .before .before .before .before .before .before .before .before .before .before .before .before .before .args .at) (c .before .before .before .before .before .before .before .before .before .before .before .before .before .before .before .before .before .before .args .free .now) (inner-asks (c .before .before .before .before .before .before .before .before .before .before .before .before .before .before .before .before .before .before .args .store .now) (c .before .before .before .before .before .before .before .before .before .before .before .before .before .before .before .before .before .before .args .node .now) (c .before .before .before .before .before .before .before .before .before .before .before .before .before .before .before .before .before .before .args .hi .now) (c .before .before .before .before .before .before .before .before .before .before .before .before .before .before .before .before .before .before .args .k .now) (c .before .before .before .before .before .before .before .before .before .before .before .before .before .before .before .before .before .before .args .level) (c .before .before .before .before .before .before .before .before .before .before .before .before .before .before .before .before .before .before .args .at) (c .before .before .before .before .before .before .before .before .before .before .before .before .before .before .before .before .before .before .args .free .now) (c .before .before .before .before .before .before .before .before .before .before .before .before .before .before .before .before .before .before .args .cut) _ _ _ _ (c .before .before .before .before .before .before .before .before .before .before .before .cut .given .1) (c .before .before .before .before .before .before .before .before .before .before .before .before .before .before .before .before .before .before .pre .1 .1)) (c .before .before .before .before .before .before .before .common-length .result) (c .before .before .before .before .before .before .before .common-length .ensures .0) _ _ _ (sym (cut-drop (c .before .before .before .before .before .before .before .before .before .before .before .before .before .before .before .before .before .before .args .node .now) ((c .before .before .before .before .before .before .before .before .before .before .before .cut .given .0 .1 .1 .0) .start) ((c .before .before .before .before .before .before .before .before .before .before .before .cut .given .0 .1 .1 .0) .stop) (c .before .before .before .before .before .before .before .common-length .result) (omega arith))) (sym (cut-drop (c .before .before .before .before .before .before .before .before .before .before .before .before .before .before .before .before .before .before .args .node .now) ((c .before .before .before .before .before .before .before .before .before .before .before .cut .given .0 .1 .1 .1 .0) .start) ((c .before .before .before .before .before .before .before .before .before .before .before .cut .given .0 .1 .1 .1 .0) .stop) (c .before .before .before .before .before .before .before .common-length .result) (omega arith))) (part-rest (c .before .before .before .before .before .before .before .common-length .result) (c .before .before .before .before .before .before .before .before .before .before .before .before .before .before .before .before .before .before .args .k .now)) _ (c .before .before .slice-left .ensures))
+slice-cut-returns t c = let w = inner-places (c .before .before .before .before .before .before .before .before .before .before .before .before .before .before .before .before .before .before .args .store .now) (c .before .before .before .before .before .before .before .before .before .before .before .before .before .before .before .before .before .before .args .node .now) (c .before .before .before .before .before .before .before .before .before .before .before .before .before .before .before .before .before .before .args .hi .now) (c .before .before .before .before .before .before .before .before .before .before .before .before .before .before .before .before .before .before .args .k .now) (c .before .before .before .before .before .before .before .before .before .before .before .before .before .before .before .before .before .before .args .slot .level) (c .before .before .before .before .before .before .before .before .before .before .before .before .before .before .before .before .before .before .args .slot .at) (c .before .before .before .before .before .before .before .before .before .before .before .before .before .before .before .before .before .before .args .free .now) (c .before .before .before .before .before .before .before .before .before .before .before .before .before .before .before .before .before .before .args .cut) _ _ _ _ (c .before .before .before .before .before .before .before .before .before .before .before .cut .given .1) (c .before .before .before .before .before .before .before .before .before .before .before .before .before .before .before .before .before .before .pre .1 .0) in let la = cut-length (c .before .before .before .before .before .before .before .before .before .before .before .before .before .before .before .before .before .before .args .node .now) ((c .before .before .before .before .before .before .before .before .before .before .before .cut .given .0 .1 .1 .0) .start) ((c .before .before .before .before .before .before .before .before .before .before .before .cut .given .0 .1 .1 .0) .stop) (w .0 .rises) (w .0 .high) in let lb = cut-length (c .before .before .before .before .before .before .before .before .before .before .before .before .before .before .before .before .before .before .args .node .now) ((c .before .before .before .before .before .before .before .before .before .before .before .cut .given .0 .1 .1 .1 .0) .start) ((c .before .before .before .before .before .before .before .before .before .before .before .cut .given .0 .1 .1 .1 .0) .stop) (w .1 .rises) (w .1 .high) in inner-at (c .before .before .before .before .before .before .before .before .before .before .before .before .before .before .before .before .before .before .args .store .now) (c .before .before .before .before .before .before .before .before .before .before .before .before .before .before .before .before .before .before .args .node .now) (c .before .before .before .before .before .before .before .before .before .before .before .before .before .before .before .before .before .before .args .hi .now) (c .before .before .before .before .before .before .before .before .before .before .before .before .before .before .before .before .before .before .args .k .now) (c .before .before .before .before .before .before .before .before .before .before .before .before .before .before .before .before .before .before .args .slot .level) (c .before .before .before .before .before .before .before .before .before .before .before .before .before .before .before .before .before .before .args .slot .at) (c .before .before .before .before .before .before .before .before .before .before .before .before .before .before .before .before .before .before .args .free .now) (c .before .before .before .before .before .before .before .before .before .before .before .before .before .before .before .before .before .before .args .cut) _ _ _ _ _ (c .before .before .before .before .before .before .before .before .before .before .before .cut .given .1) (strip-written (c .before .before .before .before .before .before .before .before .before .before .before .before .before .before .before .before .before .before .args .store .now) (c .before .before .before .before .before .before .before .before .before .before .before .cut .given .0 .1 .0) (c .before .before .before .before .before .before .before .before .before .before .before .before .before .before .before .before .before .before .args .slot .level) (part (c .before .before .before .before .before .before .before .before .before .before .before .before .before .before .before .before .before .before .args .node .now) (c .before .before .before .before .before .before .before .before .before .before .before .cut .given .0 .1 .1 .0)) (part (c .before .before .before .before .before .before .before .before .before .before .before .before .before .before .before .before .before .before .args .node .now) (c .before .before .before .before .before .before .before .before .before .before .before .cut .given .0 .1 .1 .1 .0)) (c .before .before .before .before .before .before .before .before .before .before .before .before .before .before .before .before .before .before .args .k .now) (c .before .before .before .before .before .before .before .before .before .before .before .before .before .before .before .before .before .before .args .slot .at) (c .before .before .before .before .before .before .before .before .before .before .before .before .before .before .before .before .before .before .args .free .now) (inner-asks (c .before .before .before .before .before .before .before .before .before .before .before .before .before .before .before .before .before .before .args .store .now) (c .before .before .before .before .before .before .before .before .before .before .before .before .before .before .before .before .before .before .args .node .now) (c .before .before .before .before .before .before .before .before .before .before .before .before .before .before .before .before .before .before .args .hi .now) (c .before .before .before .before .before .before .before .before .before .before .before .before .before .before .before .before .before .before .args .k .now) (c .before .before .before .before .before .before .before .before .before .before .before .before .before .before .before .before .before .before .args .slot .level) (c .before .before .before .before .before .before .before .before .before .before .before .before .before .before .before .before .before .before .args .slot .at) (c .before .before .before .before .before .before .before .before .before .before .before .before .before .before .before .before .before .before .args .free .now) (c .before .before .before .before .before .before .before .before .before .before .before .before .before .before .before .before .before .before .args .cut) _ _ _ _ (c .before .before .before .before .before .before .before .before .before .before .before .cut .given .1) (c .before .before .before .before .before .before .before .before .before .before .before .before .before .before .before .before .before .before .pre .1 .1)) (c .before .before .before .before .before .before .before .common-length .result) (c .before .before .before .before .before .before .before .common-length .ensures .0) _ _ _ (sym (cut-drop (c .before .before .before .before .before .before .before .before .before .before .before .before .before .before .before .before .before .before .args .node .now) ((c .before .before .before .before .before .before .before .before .before .before .before .cut .given .0 .1 .1 .0) .start) ((c .before .before .before .before .before .before .before .before .before .before .before .cut .given .0 .1 .1 .0) .stop) (c .before .before .before .before .before .before .before .common-length .result) (omega arith))) (sym (cut-drop (c .before .before .before .before .before .before .before .before .before .before .before .before .before .before .before .before .before .before .args .node .now) ((c .before .before .before .before .before .before .before .before .before .before .before .cut .given .0 .1 .1 .1 .0) .start) ((c .before .before .before .before .before .before .before .before .before .before .before .cut .given .0 .1 .1 .1 .0) .stop) (c .before .before .before .before .before .before .before .common-length .result) (omega arith))) (part-rest (c .before .before .before .before .before .before .before .common-length .result) (c .before .before .before .before .before .before .before .before .before .before .before .before .before .before .before .before .before .before .args .k .now)) _ (c .before .before .slice-left .ensures))
 
 slice-cut-same-length-2 : (t : ℕ) → slice-cut-lts.Need-same-length-2 (
   common-length-reads.Asked,
@@ -384,7 +384,7 @@ slice-cut-returns-2 : (t : ℕ) → slice-cut-lts.Need-returns-2 (
   slice-left-below t,
   slice-left.Post,
 ) (slice-cut-at t) slice-cut.Post
-slice-cut-returns-2 t c = let w = last-places (c .before .before .before .before .before .before .before .before .before .before .before .before .before .before .before .before .before .args .store .now) (c .before .before .before .before .before .before .before .before .before .before .before .before .before .before .before .before .before .args .node .now) (c .before .before .before .before .before .before .before .before .before .before .before .before .before .before .before .before .before .args .hi .now) (c .before .before .before .before .before .before .before .before .before .before .before .before .before .before .before .before .before .args .k .now) (c .before .before .before .before .before .before .before .before .before .before .before .before .before .before .before .before .before .args .level) (c .before .before .before .before .before .before .before .before .before .before .before .before .before .before .before .before .before .args .at) (c .before .before .before .before .before .before .before .before .before .before .before .before .before .before .before .before .before .args .free .now) (c .before .before .before .before .before .before .before .before .before .before .before .before .before .before .before .before .before .args .cut) _ _ _ (c .before .before .before .before .before .before .before .before .before .before .cut2 .given .1) (c .before .before .before .before .before .before .before .before .before .before .before .before .before .before .before .before .before .pre .1 .0) in let la = cut-length (c .before .before .before .before .before .before .before .before .before .before .before .before .before .before .before .before .before .args .node .now) ((c .before .before .before .before .before .before .before .before .before .before .cut2 .given .0 .1 .1 .0) .start) ((c .before .before .before .before .before .before .before .before .before .before .cut2 .given .0 .1 .1 .0) .stop) (w .rises) (w .high) in last-at (c .before .before .before .before .before .before .before .before .before .before .before .before .before .before .before .before .before .args .store .now) (c .before .before .before .before .before .before .before .before .before .before .before .before .before .before .before .before .before .args .node .now) (c .before .before .before .before .before .before .before .before .before .before .before .before .before .before .before .before .before .args .hi .now) (c .before .before .before .before .before .before .before .before .before .before .before .before .before .before .before .before .before .args .k .now) (c .before .before .before .before .before .before .before .before .before .before .before .before .before .before .before .before .before .args .level) (c .before .before .before .before .before .before .before .before .before .before .before .before .before .before .before .before .before .args .at) (c .before .before .before .before .before .before .before .before .before .before .before .before .before .before .before .before .before .args .free .now) (c .before .before .before .before .before .before .before .before .before .before .before .before .before .before .before .before .before .args .cut) _ _ _ _ (c .before .before .before .before .before .before .before .before .before .before .cut2 .given .1) (strip-written (c .before .before .before .before .before .before .before .before .before .before .before .before .before .before .before .before .before .args .store .now) (c .before .before .before .before .before .before .before .before .before .before .cut2 .given .0 .1 .0) (c .before .before .before .before .before .before .before .before .before .before .before .before .before .before .before .before .before .args .level) (part (c .before .before .before .before .before .before .before .before .before .before .before .before .before .before .before .before .before .args .node .now) (c .before .before .before .before .before .before .before .before .before .before .cut2 .given .0 .1 .1 .0)) (c .before .before .before .before .before .before .before .before .before .before .before .before .before .before .before .before .before .args .hi .now) (c .before .before .before .before .before .before .before .before .before .before .before .before .before .before .before .before .before .args .k .now) (c .before .before .before .before .before .before .before .before .before .before .before .before .before .before .before .before .before .args .at) (c .before .before .before .before .before .before .before .before .before .before .before .before .before .before .before .before .before .args .free .now) (last-asks (c .before .before .before .before .before .before .before .before .before .before .before .before .before .before .before .before .before .args .store .now) (c .before .before .before .before .before .before .before .before .before .before .before .before .before .before .before .before .before .args .node .now) (c .before .before .before .before .before .before .before .before .before .before .before .before .before .before .before .before .before .args .hi .now) (c .before .before .before .before .before .before .before .before .before .before .before .before .before .before .before .before .before .args .k .now) (c .before .before .before .before .before .before .before .before .before .before .before .before .before .before .before .before .before .args .level) (c .before .before .before .before .before .before .before .before .before .before .before .before .before .before .before .before .before .args .at) (c .before .before .before .before .before .before .before .before .before .before .before .before .before .before .before .before .before .args .free .now) (c .before .before .before .before .before .before .before .before .before .before .before .before .before .before .before .before .before .args .cut) _ _ _ (c .before .before .before .before .before .before .before .before .before .before .cut2 .given .1) (c .before .before .before .before .before .before .before .before .before .before .before .before .before .before .before .before .before .pre .1 .1)) (c .before .before .before .before .before .before .before .common-length2 .result) (c .before .before .before .before .before .before .before .common-length2 .ensures .0) _ _ _ (sym (cut-drop (c .before .before .before .before .before .before .before .before .before .before .before .before .before .before .before .before .before .args .node .now) ((c .before .before .before .before .before .before .before .before .before .before .cut2 .given .0 .1 .1 .0) .start) ((c .before .before .before .before .before .before .before .before .before .before .cut2 .given .0 .1 .1 .0) .stop) (c .before .before .before .before .before .before .before .common-length2 .result) (omega arith))) (part-rest (c .before .before .before .before .before .before .before .common-length2 .result) (c .before .before .before .before .before .before .before .before .before .before .before .before .before .before .before .before .before .args .hi .now)) (part-rest (c .before .before .before .before .before .before .before .common-length2 .result) (c .before .before .before .before .before .before .before .before .before .before .before .before .before .before .before .before .before .args .k .now)) _ (c .before .before .slice-left2 .ensures))
+slice-cut-returns-2 t c = let w = last-places (c .before .before .before .before .before .before .before .before .before .before .before .before .before .before .before .before .before .args .store .now) (c .before .before .before .before .before .before .before .before .before .before .before .before .before .before .before .before .before .args .node .now) (c .before .before .before .before .before .before .before .before .before .before .before .before .before .before .before .before .before .args .hi .now) (c .before .before .before .before .before .before .before .before .before .before .before .before .before .before .before .before .before .args .k .now) (c .before .before .before .before .before .before .before .before .before .before .before .before .before .before .before .before .before .args .slot .level) (c .before .before .before .before .before .before .before .before .before .before .before .before .before .before .before .before .before .args .slot .at) (c .before .before .before .before .before .before .before .before .before .before .before .before .before .before .before .before .before .args .free .now) (c .before .before .before .before .before .before .before .before .before .before .before .before .before .before .before .before .before .args .cut) _ _ _ (c .before .before .before .before .before .before .before .before .before .before .cut2 .given .1) (c .before .before .before .before .before .before .before .before .before .before .before .before .before .before .before .before .before .pre .1 .0) in let la = cut-length (c .before .before .before .before .before .before .before .before .before .before .before .before .before .before .before .before .before .args .node .now) ((c .before .before .before .before .before .before .before .before .before .before .cut2 .given .0 .1 .1 .0) .start) ((c .before .before .before .before .before .before .before .before .before .before .cut2 .given .0 .1 .1 .0) .stop) (w .rises) (w .high) in last-at (c .before .before .before .before .before .before .before .before .before .before .before .before .before .before .before .before .before .args .store .now) (c .before .before .before .before .before .before .before .before .before .before .before .before .before .before .before .before .before .args .node .now) (c .before .before .before .before .before .before .before .before .before .before .before .before .before .before .before .before .before .args .hi .now) (c .before .before .before .before .before .before .before .before .before .before .before .before .before .before .before .before .before .args .k .now) (c .before .before .before .before .before .before .before .before .before .before .before .before .before .before .before .before .before .args .slot .level) (c .before .before .before .before .before .before .before .before .before .before .before .before .before .before .before .before .before .args .slot .at) (c .before .before .before .before .before .before .before .before .before .before .before .before .before .before .before .before .before .args .free .now) (c .before .before .before .before .before .before .before .before .before .before .before .before .before .before .before .before .before .args .cut) _ _ _ _ (c .before .before .before .before .before .before .before .before .before .before .cut2 .given .1) (strip-written (c .before .before .before .before .before .before .before .before .before .before .before .before .before .before .before .before .before .args .store .now) (c .before .before .before .before .before .before .before .before .before .before .cut2 .given .0 .1 .0) (c .before .before .before .before .before .before .before .before .before .before .before .before .before .before .before .before .before .args .slot .level) (part (c .before .before .before .before .before .before .before .before .before .before .before .before .before .before .before .before .before .args .node .now) (c .before .before .before .before .before .before .before .before .before .before .cut2 .given .0 .1 .1 .0)) (c .before .before .before .before .before .before .before .before .before .before .before .before .before .before .before .before .before .args .hi .now) (c .before .before .before .before .before .before .before .before .before .before .before .before .before .before .before .before .before .args .k .now) (c .before .before .before .before .before .before .before .before .before .before .before .before .before .before .before .before .before .args .slot .at) (c .before .before .before .before .before .before .before .before .before .before .before .before .before .before .before .before .before .args .free .now) (last-asks (c .before .before .before .before .before .before .before .before .before .before .before .before .before .before .before .before .before .args .store .now) (c .before .before .before .before .before .before .before .before .before .before .before .before .before .before .before .before .before .args .node .now) (c .before .before .before .before .before .before .before .before .before .before .before .before .before .before .before .before .before .args .hi .now) (c .before .before .before .before .before .before .before .before .before .before .before .before .before .before .before .before .before .args .k .now) (c .before .before .before .before .before .before .before .before .before .before .before .before .before .before .before .before .before .args .slot .level) (c .before .before .before .before .before .before .before .before .before .before .before .before .before .before .before .before .before .args .slot .at) (c .before .before .before .before .before .before .before .before .before .before .before .before .before .before .before .before .before .args .free .now) (c .before .before .before .before .before .before .before .before .before .before .before .before .before .before .before .before .before .args .cut) _ _ _ (c .before .before .before .before .before .before .before .before .before .before .cut2 .given .1) (c .before .before .before .before .before .before .before .before .before .before .before .before .before .before .before .before .before .pre .1 .1)) (c .before .before .before .before .before .before .before .common-length2 .result) (c .before .before .before .before .before .before .before .common-length2 .ensures .0) _ _ _ (sym (cut-drop (c .before .before .before .before .before .before .before .before .before .before .before .before .before .before .before .before .before .args .node .now) ((c .before .before .before .before .before .before .before .before .before .before .cut2 .given .0 .1 .1 .0) .start) ((c .before .before .before .before .before .before .before .before .before .before .cut2 .given .0 .1 .1 .0) .stop) (c .before .before .before .before .before .before .before .common-length2 .result) (omega arith))) (part-rest (c .before .before .before .before .before .before .before .common-length2 .result) (c .before .before .before .before .before .before .before .before .before .before .before .before .before .before .before .before .before .args .hi .now)) (part-rest (c .before .before .before .before .before .before .before .common-length2 .result) (c .before .before .before .before .before .before .before .before .before .before .before .before .before .before .before .before .before .args .k .now)) _ (c .before .before .slice-left2 .ensures))
 
 slice-cut-returns-3 : (t : ℕ) → slice-cut-lts.Need-returns-3 (
   common-length-reads.Asked,
@@ -392,7 +392,7 @@ slice-cut-returns-3 : (t : ℕ) → slice-cut-lts.Need-returns-3 (
   slice-left-below t,
   slice-left.Post,
 ) (slice-cut-at t) slice-cut.Post
-slice-cut-returns-3 t c = between-at (c .before .before .before .before .before .before .before .args .store .now) (c .before .before .before .before .before .before .before .args .node .now) (c .before .before .before .before .before .before .before .args .hi .now) (c .before .before .before .before .before .before .before .args .k .now) (c .before .before .before .before .before .before .before .args .level) (c .before .before .before .before .before .before .before .args .at) (c .before .before .before .before .before .before .before .args .free .now) (c .before .before .before .before .before .before .before .args .cut) _ _ (c .enum-told .given .1)
+slice-cut-returns-3 t c = between-at (c .before .before .before .before .before .before .before .args .store .now) (c .before .before .before .before .before .before .before .args .node .now) (c .before .before .before .before .before .before .before .args .hi .now) (c .before .before .before .before .before .before .before .args .k .now) (c .before .before .before .before .before .before .before .args .slot .level) (c .before .before .before .before .before .before .before .args .slot .at) (c .before .before .before .before .before .before .before .args .free .now) (c .before .before .before .before .before .before .before .args .cut) _ _ (c .enum-told .given .1)
 
 slice-cut-returns-4 : (t : ℕ) → slice-cut-lts.Need-returns-4 (
   common-length-reads.Asked,
@@ -400,7 +400,7 @@ slice-cut-returns-4 : (t : ℕ) → slice-cut-lts.Need-returns-4 (
   slice-left-below t,
   slice-left.Post,
 ) (slice-cut-at t) slice-cut.Post
-slice-cut-returns-4 t c = nowhere-at (c .before .before .before .before .before .before .before .args .store .now) (c .before .before .before .before .before .before .before .args .node .now) (c .before .before .before .before .before .before .before .args .hi .now) (c .before .before .before .before .before .before .before .args .k .now) (c .before .before .before .before .before .before .before .args .level) (c .before .before .before .before .before .before .before .args .at) (c .before .before .before .before .before .before .before .args .free .now) (c .before .before .before .before .before .before .before .args .cut) _ (c .enum-told2 .given .1)
+slice-cut-returns-4 t c = nowhere-at (c .before .before .before .before .before .before .before .args .store .now) (c .before .before .before .before .before .before .before .args .node .now) (c .before .before .before .before .before .before .before .args .hi .now) (c .before .before .before .before .before .before .before .args .k .now) (c .before .before .before .before .before .before .before .args .slot .level) (c .before .before .before .before .before .before .before .args .slot .at) (c .before .before .before .before .before .before .before .args .free .now) (c .before .before .before .before .before .before .before .args .cut) _ (c .enum-told2 .given .1)
 
 slice-left-slice-aggregate-read-node : (t : ℕ) → slice-left-lts.Need-slice-aggregate-read-node (
   read-node-reads.Asked,
@@ -440,7 +440,7 @@ slice-left-read-node-requires : (t : ℕ) → slice-left-lts.Need-read-node-requ
   write-page-reads.Asked,
   write-page-reads.Learnt,
 ) (slice-left-at t) slice-left.Post
-slice-left-read-node-requires t c κs = (left-inside (c .before .before .before .before .before .before .before .args .store .now) (c .before .before .before .before .before .before .before .args .num) (c .before .before .before .before .before .before .before .args .level) (c .before .before .before .before .before .before .before .args .lo .now) (c .before .before .before .before .before .before .before .args .hi .now) (c .before .before .before .before .before .before .before .args .k .now) (c .before .before .before .before .before .before .before .args .at) (c .before .before .before .before .before .before .before .args .free .now) (c .before .before .before .before .before .before .before .pre .1 .0), search needs)
+slice-left-read-node-requires t c κs = (left-inside (c .before .before .before .before .before .before .before .args .store .now) (c .before .before .before .before .before .before .before .args .num) (c .before .before .before .before .before .before .before .args .slot .level) (c .before .before .before .before .before .before .before .args .lo .now) (c .before .before .before .before .before .before .before .args .hi .now) (c .before .before .before .before .before .before .before .args .k .now) (c .before .before .before .before .before .before .before .args .slot .at) (c .before .before .before .before .before .before .before .args .free .now) (c .before .before .before .before .before .before .before .pre .1 .0), search needs)
 
 slice-left-slice-aggregate-u16-at : (t : ℕ) → slice-left-lts.Need-slice-aggregate-u16-at (
   read-node-reads.Asked,
@@ -500,7 +500,7 @@ slice-left-mul-u16-at : (t : ℕ) → slice-left-lts.Need-mul-u16-at (
   write-page-reads.Asked,
   write-page-reads.Learnt,
 ) (slice-left-at t) slice-left.Post
-slice-left-mul-u16-at t c = let e = c .before .before .before .before .before .before .before .before .before .before .before .pre .1 .0 .enough in let l = left-level (c .before .before .before .before .before .before .before .before .before .before .before .args .store .now) (c .before .before .before .before .before .before .before .before .before .before .before .args .num) (c .before .before .before .before .before .before .before .before .before .before .before .args .level) (c .before .before .before .before .before .before .before .before .before .before .before .args .lo .now) (c .before .before .before .before .before .before .before .before .before .before .before .args .hi .now) (c .before .before .before .before .before .before .before .before .before .before .before .args .k .now) (c .before .before .before .before .before .before .before .before .before .before .before .args .at) (c .before .before .before .before .before .before .before .before .before .before .before .args .free .now) (c .before .before .before .before .before .before .before .before .before .before .before .pre .1 .0) in omega arith
+slice-left-mul-u16-at t c = let e = c .before .before .before .before .before .before .before .before .before .before .before .pre .1 .0 .enough in let l = left-level (c .before .before .before .before .before .before .before .before .before .before .before .args .store .now) (c .before .before .before .before .before .before .before .before .before .before .before .args .num) (c .before .before .before .before .before .before .before .before .before .before .before .args .slot .level) (c .before .before .before .before .before .before .before .before .before .before .before .args .lo .now) (c .before .before .before .before .before .before .before .before .before .before .before .args .hi .now) (c .before .before .before .before .before .before .before .before .before .before .before .args .k .now) (c .before .before .before .before .before .before .before .before .before .before .before .args .slot .at) (c .before .before .before .before .before .before .before .before .before .before .before .args .free .now) (c .before .before .before .before .before .before .before .before .before .before .before .pre .1 .0) in omega arith
 
 slice-left-u16-at-requires-2 : (t : ℕ) → slice-left-lts.Need-u16-at-requires-2 (
   read-node-reads.Asked,
@@ -520,7 +520,7 @@ slice-left-u16-at-requires-2 : (t : ℕ) → slice-left-lts.Need-u16-at-requires
   write-page-reads.Asked,
   write-page-reads.Learnt,
 ) (slice-left-at t) slice-left.Post
-slice-left-u16-at-requires-2 t c κs = let e = c .before .before .before .before .before .before .before .before .before .before .before .pre .1 .0 .enough in let l = left-level (c .before .before .before .before .before .before .before .before .before .before .before .args .store .now) (c .before .before .before .before .before .before .before .before .before .before .before .args .num) (c .before .before .before .before .before .before .before .before .before .before .before .args .level) (c .before .before .before .before .before .before .before .before .before .before .before .args .lo .now) (c .before .before .before .before .before .before .before .before .before .before .before .args .hi .now) (c .before .before .before .before .before .before .before .before .before .before .before .args .k .now) (c .before .before .before .before .before .before .before .before .before .before .before .args .at) (c .before .before .before .before .before .before .before .before .before .before .before .args .free .now) (c .before .before .before .before .before .before .before .before .before .before .before .pre .1 .0) in omega arith
+slice-left-u16-at-requires-2 t c κs = let e = c .before .before .before .before .before .before .before .before .before .before .before .pre .1 .0 .enough in let l = left-level (c .before .before .before .before .before .before .before .before .before .before .before .args .store .now) (c .before .before .before .before .before .before .before .before .before .before .before .args .num) (c .before .before .before .before .before .before .before .before .before .before .before .args .slot .level) (c .before .before .before .before .before .before .before .before .before .before .before .args .lo .now) (c .before .before .before .before .before .before .before .before .before .before .before .args .hi .now) (c .before .before .before .before .before .before .before .before .before .before .before .args .k .now) (c .before .before .before .before .before .before .before .before .before .before .before .args .slot .at) (c .before .before .before .before .before .before .before .before .before .before .before .args .free .now) (c .before .before .before .before .before .before .before .before .before .before .before .pre .1 .0) in omega arith
 
 slice-left-common-length-requires : (t : ℕ) → slice-left-lts.Need-common-length-requires (
   read-node-reads.Asked,
@@ -600,7 +600,7 @@ slice-left-write-pairs-requires : (t : ℕ) → slice-left-lts.Need-write-pairs-
   write-page-reads.Asked,
   write-page-reads.Learnt,
 ) (slice-left-at t) slice-left.Post
-slice-left-write-pairs-requires t c κs = let sh = left-short (c .before .before .before .before .before .before .before .before .before .before .before .before .before .before .before .before .args .store .now) (c .before .before .before .before .before .before .before .before .before .before .before .before .before .before .before .before .args .num) (c .before .before .before .before .before .before .before .before .before .before .before .before .before .before .before .before .args .level) (c .before .before .before .before .before .before .before .before .before .before .before .before .before .before .before .before .args .lo .now) (c .before .before .before .before .before .before .before .before .before .before .before .before .before .before .before .before .args .hi .now) (c .before .before .before .before .before .before .before .before .before .before .before .before .before .before .before .before .args .k .now) (c .before .before .before .before .before .before .before .before .before .before .before .before .before .before .before .before .args .at) (c .before .before .before .before .before .before .before .before .before .before .before .before .before .before .before .before .args .free .now) (c .before .before .before .before .before .before .before .before .before .before .before .before .before .before .before .before .pre .1 .0) (c .before .before .before .before .before .before .before .before .before .before .before .before .before .before .before .before .pre .1 .1) _ (c .before .before .before .before .before .before .before .before .read-node .ensures) (c .before .before .before .before .before .u16-at .result) (c .before .before .before .before .before .u16-at .ensures .0) (c .before .before .before .common-length .result) (c .before .before .before .common-length .ensures .0) in (omega arith, leaf-fits (c .before .before .before .before .before .before .before .before .before .before .before .before .before .before .before .before .args .store .now) (c .before .before .before .before .before .before .before .before .before .before .before .before .before .before .before .before .args .num) (c .before .before .before .before .before .before .before .before .before .before .before .before .before .before .before .before .args .level) (c .before .before .before .before .before .before .before .before .before .before .before .before .before .before .before .before .args .lo .now) (c .before .before .before .before .before .before .before .before .before .before .before .before .before .before .before .before .args .hi .now) (c .before .before .before .before .before .before .before .before .before .before .before .before .before .before .before .before .args .k .now) (c .before .before .before .before .before .before .before .before .before .before .before .before .before .before .before .before .args .at) (c .before .before .before .before .before .before .before .before .before .before .before .before .before .before .before .before .args .free .now) (c .before .before .before .before .before .before .before .before .before .before .before .before .before .before .before .before .pre .1 .0) (c .before .before .before .before .before .before .before .before .before .before .before .before .before .before .before .before .pre .1 .1) _ (c .before .before .before .before .before .before .before .before .read-node .ensures) (c .before .before .before .before .before .u16-at .result) (c .before .before .before .before .before .u16-at .ensures .0) (c .before .before .before .common-length .result) (c .before .before .before .common-length .ensures .0) (omega arith), left-new (c .before .before .before .before .before .before .before .before .before .before .before .before .before .before .before .before .args .store .now) (c .before .before .before .before .before .before .before .before .before .before .before .before .before .before .before .before .args .num) (c .before .before .before .before .before .before .before .before .before .before .before .before .before .before .before .before .args .level) (c .before .before .before .before .before .before .before .before .before .before .before .before .before .before .before .before .args .lo .now) (c .before .before .before .before .before .before .before .before .before .before .before .before .before .before .before .before .args .hi .now) (c .before .before .before .before .before .before .before .before .before .before .before .before .before .before .before .before .args .k .now) (c .before .before .before .before .before .before .before .before .before .before .before .before .before .before .before .before .args .at) (c .before .before .before .before .before .before .before .before .before .before .before .before .before .before .before .before .args .free .now) (c .before .before .before .before .before .before .before .before .before .before .before .before .before .before .before .before .pre .1 .0) (c .before .before .before .before .u16-at2 .result) (c .before .before .before .before .u16-at2 .ensures .0))
+slice-left-write-pairs-requires t c κs = let sh = left-short (c .before .before .before .before .before .before .before .before .before .before .before .before .before .before .before .before .args .store .now) (c .before .before .before .before .before .before .before .before .before .before .before .before .before .before .before .before .args .num) (c .before .before .before .before .before .before .before .before .before .before .before .before .before .before .before .before .args .slot .level) (c .before .before .before .before .before .before .before .before .before .before .before .before .before .before .before .before .args .lo .now) (c .before .before .before .before .before .before .before .before .before .before .before .before .before .before .before .before .args .hi .now) (c .before .before .before .before .before .before .before .before .before .before .before .before .before .before .before .before .args .k .now) (c .before .before .before .before .before .before .before .before .before .before .before .before .before .before .before .before .args .slot .at) (c .before .before .before .before .before .before .before .before .before .before .before .before .before .before .before .before .args .free .now) (c .before .before .before .before .before .before .before .before .before .before .before .before .before .before .before .before .pre .1 .0) (c .before .before .before .before .before .before .before .before .before .before .before .before .before .before .before .before .pre .1 .1) _ (c .before .before .before .before .before .before .before .before .read-node .ensures) (c .before .before .before .before .before .u16-at .result) (c .before .before .before .before .before .u16-at .ensures .0) (c .before .before .before .common-length .result) (c .before .before .before .common-length .ensures .0) in (omega arith, leaf-fits (c .before .before .before .before .before .before .before .before .before .before .before .before .before .before .before .before .args .store .now) (c .before .before .before .before .before .before .before .before .before .before .before .before .before .before .before .before .args .num) (c .before .before .before .before .before .before .before .before .before .before .before .before .before .before .before .before .args .slot .level) (c .before .before .before .before .before .before .before .before .before .before .before .before .before .before .before .before .args .lo .now) (c .before .before .before .before .before .before .before .before .before .before .before .before .before .before .before .before .args .hi .now) (c .before .before .before .before .before .before .before .before .before .before .before .before .before .before .before .before .args .k .now) (c .before .before .before .before .before .before .before .before .before .before .before .before .before .before .before .before .args .slot .at) (c .before .before .before .before .before .before .before .before .before .before .before .before .before .before .before .before .args .free .now) (c .before .before .before .before .before .before .before .before .before .before .before .before .before .before .before .before .pre .1 .0) (c .before .before .before .before .before .before .before .before .before .before .before .before .before .before .before .before .pre .1 .1) _ (c .before .before .before .before .before .before .before .before .read-node .ensures) (c .before .before .before .before .before .u16-at .result) (c .before .before .before .before .before .u16-at .ensures .0) (c .before .before .before .common-length .result) (c .before .before .before .common-length .ensures .0) (omega arith), left-new (c .before .before .before .before .before .before .before .before .before .before .before .before .before .before .before .before .args .store .now) (c .before .before .before .before .before .before .before .before .before .before .before .before .before .before .before .before .args .num) (c .before .before .before .before .before .before .before .before .before .before .before .before .before .before .before .before .args .slot .level) (c .before .before .before .before .before .before .before .before .before .before .before .before .before .before .before .before .args .lo .now) (c .before .before .before .before .before .before .before .before .before .before .before .before .before .before .before .before .args .hi .now) (c .before .before .before .before .before .before .before .before .before .before .before .before .before .before .before .before .args .k .now) (c .before .before .before .before .before .before .before .before .before .before .before .before .before .before .before .before .args .slot .at) (c .before .before .before .before .before .before .before .before .before .before .before .before .before .before .before .before .args .free .now) (c .before .before .before .before .before .before .before .before .before .before .before .before .before .before .before .before .pre .1 .0) (c .before .before .before .before .u16-at2 .result) (c .before .before .before .before .u16-at2 .ensures .0))
 
 slice-left-same-length : (t : ℕ) → slice-left-lts.Need-same-length (
   read-node-reads.Asked,
@@ -640,7 +640,7 @@ slice-left-returns : (t : ℕ) → slice-left-lts.Need-returns (
   write-page-reads.Asked,
   write-page-reads.Learnt,
 ) (slice-left-at t) slice-left.Post
-slice-left-returns t c = leaf-written (c .before .before .before .before .before .before .before .before .before .before .before .before .before .before .before .before .before .before .before .args .store .now) (c .before .before .before .before .before .before .before .before .before .before .before .before .before .before .before .before .before .before .before .args .num) (c .before .before .before .before .before .before .before .before .before .before .before .before .before .before .before .before .before .before .before .args .level) (c .before .before .before .before .before .before .before .before .before .before .before .before .before .before .before .before .before .before .before .args .lo .now) (c .before .before .before .before .before .before .before .before .before .before .before .before .before .before .before .before .before .before .before .args .hi .now) (c .before .before .before .before .before .before .before .before .before .before .before .before .before .before .before .before .before .before .before .args .k .now) (c .before .before .before .before .before .before .before .before .before .before .before .before .before .before .before .before .before .before .before .args .at) (c .before .before .before .before .before .before .before .before .before .before .before .before .before .before .before .before .before .before .before .args .free .now) (c .before .before .before .before .before .before .before .before .before .before .before .before .before .before .before .before .before .before .before .pre .1 .0) (c .before .before .before .before .before .before .before .before .before .before .before .before .before .before .before .before .before .before .before .pre .1 .1) _ (c .before .before .before .before .before .before .before .before .before .before .before .read-node .ensures) (c .before .before .before .before .before .before .before .before .u16-at .result) (c .before .before .before .before .before .before .before .before .u16-at .ensures .0) (c .before .before .before .before .before .before .common-length .result) (c .before .before .before .before .before .before .common-length .ensures .0) (omega arith) _ _ (c .before .before .before .before .before .before .before .u16-at2 .ensures .0) (c .before .before .write-pairs .ensures)
+slice-left-returns t c = leaf-written (c .before .before .before .before .before .before .before .before .before .before .before .before .before .before .before .before .before .before .before .args .store .now) (c .before .before .before .before .before .before .before .before .before .before .before .before .before .before .before .before .before .before .before .args .num) (c .before .before .before .before .before .before .before .before .before .before .before .before .before .before .before .before .before .before .before .args .slot .level) (c .before .before .before .before .before .before .before .before .before .before .before .before .before .before .before .before .before .before .before .args .lo .now) (c .before .before .before .before .before .before .before .before .before .before .before .before .before .before .before .before .before .before .before .args .hi .now) (c .before .before .before .before .before .before .before .before .before .before .before .before .before .before .before .before .before .before .before .args .k .now) (c .before .before .before .before .before .before .before .before .before .before .before .before .before .before .before .before .before .before .before .args .slot .at) (c .before .before .before .before .before .before .before .before .before .before .before .before .before .before .before .before .before .before .before .args .free .now) (c .before .before .before .before .before .before .before .before .before .before .before .before .before .before .before .before .before .before .before .pre .1 .0) (c .before .before .before .before .before .before .before .before .before .before .before .before .before .before .before .before .before .before .before .pre .1 .1) _ (c .before .before .before .before .before .before .before .before .before .before .before .read-node .ensures) (c .before .before .before .before .before .before .before .before .u16-at .result) (c .before .before .before .before .before .before .before .before .u16-at .ensures .0) (c .before .before .before .before .before .before .common-length .result) (c .before .before .before .before .before .before .common-length .ensures .0) (omega arith) _ _ (c .before .before .before .before .before .before .before .u16-at2 .ensures .0) (c .before .before .write-pairs .ensures)
 
 slice-left-slice-aggregate-find-point : (t : ℕ) → slice-left-lts.Need-slice-aggregate-find-point (
   read-node-reads.Asked,
@@ -700,9 +700,9 @@ slice-left-find-point-requires : (t : ℕ) → slice-left-lts.Need-find-point-re
   write-page-reads.Asked,
   write-page-reads.Learnt,
 ) (slice-left-at t) slice-left.Post
-slice-left-find-point-requires t c κs = let sh = left-short (c .before .before .before .before .before .before .before .before .before .before .before .before .before .before .before .args .store .now) (c .before .before .before .before .before .before .before .before .before .before .before .before .before .before .before .args .num) (c .before .before .before .before .before .before .before .before .before .before .before .before .before .before .before .args .level) (c .before .before .before .before .before .before .before .before .before .before .before .before .before .before .before .args .lo .now) (c .before .before .before .before .before .before .before .before .before .before .before .before .before .before .before .args .hi .now) (c .before .before .before .before .before .before .before .before .before .before .before .before .before .before .before .args .k .now) (c .before .before .before .before .before .before .before .before .before .before .before .before .before .before .before .args .at) (c .before .before .before .before .before .before .before .before .before .before .before .before .before .before .before .args .free .now) (c .before .before .before .before .before .before .before .before .before .before .before .before .before .before .before .pre .1 .0) (c .before .before .before .before .before .before .before .before .before .before .before .before .before .before .before .pre .1 .1) _ (c .before .before .before .before .before .before .before .read-node .ensures) (c .before .before .before .before .u16-at .result) (c .before .before .before .before .u16-at .ensures .0) (c .before .before .common-length .result) (c .before .before .common-length .ensures .0) in (omega arith, omega arith)
+slice-left-find-point-requires t c κs = let sh = left-short (c .before .before .before .before .before .before .before .before .before .before .before .before .before .before .before .args .store .now) (c .before .before .before .before .before .before .before .before .before .before .before .before .before .before .before .args .num) (c .before .before .before .before .before .before .before .before .before .before .before .before .before .before .before .args .slot .level) (c .before .before .before .before .before .before .before .before .before .before .before .before .before .before .before .args .lo .now) (c .before .before .before .before .before .before .before .before .before .before .before .before .before .before .before .args .hi .now) (c .before .before .before .before .before .before .before .before .before .before .before .before .before .before .before .args .k .now) (c .before .before .before .before .before .before .before .before .before .before .before .before .before .before .before .args .slot .at) (c .before .before .before .before .before .before .before .before .before .before .before .before .before .before .before .args .free .now) (c .before .before .before .before .before .before .before .before .before .before .before .before .before .before .before .pre .1 .0) (c .before .before .before .before .before .before .before .before .before .before .before .before .before .before .before .pre .1 .1) _ (c .before .before .before .before .before .before .before .read-node .ensures) (c .before .before .before .before .u16-at .result) (c .before .before .before .before .u16-at .ensures .0) (c .before .before .common-length .result) (c .before .before .common-length .ensures .0) in (omega arith, omega arith)
 
-slice-left-add-u16-at : (t : ℕ) → slice-left-lts.Need-add-u16-at (
+slice-left-add-next : (t : ℕ) → slice-left-lts.Need-add-next (
   read-node-reads.Asked,
   read-node-reads.Learnt,
   u16-at-reads.Asked,
@@ -720,7 +720,7 @@ slice-left-add-u16-at : (t : ℕ) → slice-left-lts.Need-add-u16-at (
   write-page-reads.Asked,
   write-page-reads.Learnt,
 ) (slice-left-at t) slice-left.Post
-slice-left-add-u16-at t c = let e = c .before .before .before .before .before .before .before .before .before .before .before .before .before .before .before .before .pre .1 .0 .enough in let l = left-level (c .before .before .before .before .before .before .before .before .before .before .before .before .before .before .before .before .args .store .now) (c .before .before .before .before .before .before .before .before .before .before .before .before .before .before .before .before .args .num) (c .before .before .before .before .before .before .before .before .before .before .before .before .before .before .before .before .args .level) (c .before .before .before .before .before .before .before .before .before .before .before .before .before .before .before .before .args .lo .now) (c .before .before .before .before .before .before .before .before .before .before .before .before .before .before .before .before .args .hi .now) (c .before .before .before .before .before .before .before .before .before .before .before .before .before .before .before .before .args .k .now) (c .before .before .before .before .before .before .before .before .before .before .before .before .before .before .before .before .args .at) (c .before .before .before .before .before .before .before .before .before .before .before .before .before .before .before .before .args .free .now) (c .before .before .before .before .before .before .before .before .before .before .before .before .before .before .before .before .pre .1 .0) in omega arith
+slice-left-add-next t c = let e = c .before .before .before .before .before .before .before .before .before .before .before .before .before .before .before .before .pre .1 .0 .enough in let l = left-level (c .before .before .before .before .before .before .before .before .before .before .before .before .before .before .before .before .args .store .now) (c .before .before .before .before .before .before .before .before .before .before .before .before .before .before .before .before .args .num) (c .before .before .before .before .before .before .before .before .before .before .before .before .before .before .before .before .args .slot .level) (c .before .before .before .before .before .before .before .before .before .before .before .before .before .before .before .before .args .lo .now) (c .before .before .before .before .before .before .before .before .before .before .before .before .before .before .before .before .args .hi .now) (c .before .before .before .before .before .before .before .before .before .before .before .before .before .before .before .before .args .k .now) (c .before .before .before .before .before .before .before .before .before .before .before .before .before .before .before .before .args .slot .at) (c .before .before .before .before .before .before .before .before .before .before .before .before .before .before .before .before .args .free .now) (c .before .before .before .before .before .before .before .before .before .before .before .before .before .before .before .before .pre .1 .0) in omega arith
 
 slice-left-mul-u16-at-2 : (t : ℕ) → slice-left-lts.Need-mul-u16-at-2 (
   read-node-reads.Asked,
@@ -740,7 +740,7 @@ slice-left-mul-u16-at-2 : (t : ℕ) → slice-left-lts.Need-mul-u16-at-2 (
   write-page-reads.Asked,
   write-page-reads.Learnt,
 ) (slice-left-at t) slice-left.Post
-slice-left-mul-u16-at-2 t c = let e = c .before .before .before .before .before .before .before .before .before .before .before .before .before .before .before .before .pre .1 .0 .enough in let l = left-level (c .before .before .before .before .before .before .before .before .before .before .before .before .before .before .before .before .args .store .now) (c .before .before .before .before .before .before .before .before .before .before .before .before .before .before .before .before .args .num) (c .before .before .before .before .before .before .before .before .before .before .before .before .before .before .before .before .args .level) (c .before .before .before .before .before .before .before .before .before .before .before .before .before .before .before .before .args .lo .now) (c .before .before .before .before .before .before .before .before .before .before .before .before .before .before .before .before .args .hi .now) (c .before .before .before .before .before .before .before .before .before .before .before .before .before .before .before .before .args .k .now) (c .before .before .before .before .before .before .before .before .before .before .before .before .before .before .before .before .args .at) (c .before .before .before .before .before .before .before .before .before .before .before .before .before .before .before .before .args .free .now) (c .before .before .before .before .before .before .before .before .before .before .before .before .before .before .before .before .pre .1 .0) in omega arith
+slice-left-mul-u16-at-2 t c = let e = c .before .before .before .before .before .before .before .before .before .before .before .before .before .before .before .before .pre .1 .0 .enough in let l = left-level (c .before .before .before .before .before .before .before .before .before .before .before .before .before .before .before .before .args .store .now) (c .before .before .before .before .before .before .before .before .before .before .before .before .before .before .before .before .args .num) (c .before .before .before .before .before .before .before .before .before .before .before .before .before .before .before .before .args .slot .level) (c .before .before .before .before .before .before .before .before .before .before .before .before .before .before .before .before .args .lo .now) (c .before .before .before .before .before .before .before .before .before .before .before .before .before .before .before .before .args .hi .now) (c .before .before .before .before .before .before .before .before .before .before .before .before .before .before .before .before .args .k .now) (c .before .before .before .before .before .before .before .before .before .before .before .before .before .before .before .before .args .slot .at) (c .before .before .before .before .before .before .before .before .before .before .before .before .before .before .before .before .args .free .now) (c .before .before .before .before .before .before .before .before .before .before .before .before .before .before .before .before .pre .1 .0) in omega arith
 
 slice-left-u16-at-requires-3 : (t : ℕ) → slice-left-lts.Need-u16-at-requires-3 (
   read-node-reads.Asked,
@@ -760,7 +760,7 @@ slice-left-u16-at-requires-3 : (t : ℕ) → slice-left-lts.Need-u16-at-requires
   write-page-reads.Asked,
   write-page-reads.Learnt,
 ) (slice-left-at t) slice-left.Post
-slice-left-u16-at-requires-3 t c κs = let e = c .before .before .before .before .before .before .before .before .before .before .before .before .before .before .before .before .pre .1 .0 .enough in let l = left-level (c .before .before .before .before .before .before .before .before .before .before .before .before .before .before .before .before .args .store .now) (c .before .before .before .before .before .before .before .before .before .before .before .before .before .before .before .before .args .num) (c .before .before .before .before .before .before .before .before .before .before .before .before .before .before .before .before .args .level) (c .before .before .before .before .before .before .before .before .before .before .before .before .before .before .before .before .args .lo .now) (c .before .before .before .before .before .before .before .before .before .before .before .before .before .before .before .before .args .hi .now) (c .before .before .before .before .before .before .before .before .before .before .before .before .before .before .before .before .args .k .now) (c .before .before .before .before .before .before .before .before .before .before .before .before .before .before .before .before .args .at) (c .before .before .before .before .before .before .before .before .before .before .before .before .before .before .before .before .args .free .now) (c .before .before .before .before .before .before .before .before .before .before .before .before .before .before .before .before .pre .1 .0) in omega arith
+slice-left-u16-at-requires-3 t c κs = let e = c .before .before .before .before .before .before .before .before .before .before .before .before .before .before .before .before .pre .1 .0 .enough in let l = left-level (c .before .before .before .before .before .before .before .before .before .before .before .before .before .before .before .before .args .store .now) (c .before .before .before .before .before .before .before .before .before .before .before .before .before .before .before .before .args .num) (c .before .before .before .before .before .before .before .before .before .before .before .before .before .before .before .before .args .slot .level) (c .before .before .before .before .before .before .before .before .before .before .before .before .before .before .before .before .args .lo .now) (c .before .before .before .before .before .before .before .before .before .before .before .before .before .before .before .before .args .hi .now) (c .before .before .before .before .before .before .before .before .before .before .before .before .before .before .before .before .args .k .now) (c .before .before .before .before .before .before .before .before .before .before .before .before .before .before .before .before .args .slot .at) (c .before .before .before .before .before .before .before .before .before .before .before .before .before .before .before .before .args .free .now) (c .before .before .before .before .before .before .before .before .before .before .before .before .before .before .before .before .pre .1 .0) in omega arith
 
 slice-left-slice-aggregate-emit-left : (t : ℕ) → slice-left-lts.Need-slice-aggregate-emit-left (
   read-node-reads.Asked,
@@ -840,7 +840,7 @@ slice-left-emit-left-requires : (t : ℕ) → slice-left-lts.Need-emit-left-requ
   write-page-reads.Asked,
   write-page-reads.Learnt,
 ) (slice-left-at t) slice-left.Post
-slice-left-emit-left-requires t c κs = let sh = left-short (c .before .before .before .before .before .before .before .before .before .before .before .before .before .before .before .before .before .before .before .args .store .now) (c .before .before .before .before .before .before .before .before .before .before .before .before .before .before .before .before .before .before .before .args .num) (c .before .before .before .before .before .before .before .before .before .before .before .before .before .before .before .before .before .before .before .args .level) (c .before .before .before .before .before .before .before .before .before .before .before .before .before .before .before .before .before .before .before .args .lo .now) (c .before .before .before .before .before .before .before .before .before .before .before .before .before .before .before .before .before .before .before .args .hi .now) (c .before .before .before .before .before .before .before .before .before .before .before .before .before .before .before .before .before .before .before .args .k .now) (c .before .before .before .before .before .before .before .before .before .before .before .before .before .before .before .before .before .before .before .args .at) (c .before .before .before .before .before .before .before .before .before .before .before .before .before .before .before .before .before .before .before .args .free .now) (c .before .before .before .before .before .before .before .before .before .before .before .before .before .before .before .before .before .before .before .pre .1 .0) (c .before .before .before .before .before .before .before .before .before .before .before .before .before .before .before .before .before .before .before .pre .1 .1) _ (c .before .before .before .before .before .before .before .before .before .before .before .read-node .ensures) (c .before .before .before .before .before .before .before .before .u16-at .result) (c .before .before .before .before .before .before .before .before .u16-at .ensures .0) (c .before .before .before .before .before .before .common-length .result) (c .before .before .before .before .before .before .common-length .ensures .0) in let f = inner-fits (c .before .before .before .before .before .before .before .before .before .before .before .before .before .before .before .before .before .before .before .args .store .now) (c .before .before .before .before .before .before .before .before .before .before .before .before .before .before .before .before .before .before .before .args .num) (c .before .before .before .before .before .before .before .before .before .before .before .before .before .before .before .before .before .before .before .args .level) (c .before .before .before .before .before .before .before .before .before .before .before .before .before .before .before .before .before .before .before .args .lo .now) (c .before .before .before .before .before .before .before .before .before .before .before .before .before .before .before .before .before .before .before .args .hi .now) (c .before .before .before .before .before .before .before .before .before .before .before .before .before .before .before .before .before .before .before .args .k .now) (c .before .before .before .before .before .before .before .before .before .before .before .before .before .before .before .before .before .before .before .args .at) (c .before .before .before .before .before .before .before .before .before .before .before .before .before .before .before .before .before .before .before .args .free .now) (c .before .before .before .before .before .before .before .before .before .before .before .before .before .before .before .before .before .before .before .pre .1 .0) (c .before .before .before .before .before .before .before .before .before .before .before .before .before .before .before .before .before .before .before .pre .1 .1) _ (c .before .before .before .before .before .before .before .before .before .before .before .read-node .ensures) (c .before .before .before .before .before .before .before .before .u16-at .result) (c .before .before .before .before .before .before .before .before .u16-at .ensures .0) (c .before .before .before .before .before .before .common-length .result) (c .before .before .before .before .before .before .common-length .ensures .0) (omega arith) (c .before .before .before .find-point .result) (c .before .before .before .find-point .ensures) (c .before .before .u16-at3 .result) (c .before .before .u16-at3 .ensures .0) in (omega arith, c .before .before .before .find-point .ensures .fits, omega arith, omega arith, kids-small (c .before .before .before .before .before .before .before .before .before .before .before .before .before .before .before .before .before .before .before .args .store .now) (c .before .before .before .before .before .before .before .before .before .before .before .before .before .before .before .before .before .before .before .args .num) (c .before .before .before .before .before .before .before .before .before .before .before .before .before .before .before .before .before .before .before .args .level) (c .before .before .before .before .before .before .before .before .before .before .before .before .before .before .before .before .before .before .before .args .lo .now) (c .before .before .before .before .before .before .before .before .before .before .before .before .before .before .before .before .before .before .before .args .hi .now) (c .before .before .before .before .before .before .before .before .before .before .before .before .before .before .before .before .before .before .before .args .k .now) (c .before .before .before .before .before .before .before .before .before .before .before .before .before .before .before .before .before .before .before .args .at) (c .before .before .before .before .before .before .before .before .before .before .before .before .before .before .before .before .before .before .before .args .free .now) (c .before .before .before .before .before .before .before .before .before .before .before .before .before .before .before .before .before .before .before .pre .1 .0) (c .before .before .before .before .before .before .before .before .before .before .before .before .before .before .before .before .before .before .before .pre .1 .1) _ (c .before .before .before .before .before .before .before .before .before .before .before .read-node .ensures) (c .before .before .before .before .before .before .before .before .u16-at .result) (c .before .before .before .before .before .before .before .before .u16-at .ensures .0) (c .before .before .before .before .before .before .common-length .result) (c .before .before .before .before .before .before .common-length .ensures .0) (omega arith), c .before .before .u16-at3 .ensures .1)
+slice-left-emit-left-requires t c κs = let sh = left-short (c .before .before .before .before .before .before .before .before .before .before .before .before .before .before .before .before .before .before .before .args .store .now) (c .before .before .before .before .before .before .before .before .before .before .before .before .before .before .before .before .before .before .before .args .num) (c .before .before .before .before .before .before .before .before .before .before .before .before .before .before .before .before .before .before .before .args .slot .level) (c .before .before .before .before .before .before .before .before .before .before .before .before .before .before .before .before .before .before .before .args .lo .now) (c .before .before .before .before .before .before .before .before .before .before .before .before .before .before .before .before .before .before .before .args .hi .now) (c .before .before .before .before .before .before .before .before .before .before .before .before .before .before .before .before .before .before .before .args .k .now) (c .before .before .before .before .before .before .before .before .before .before .before .before .before .before .before .before .before .before .before .args .slot .at) (c .before .before .before .before .before .before .before .before .before .before .before .before .before .before .before .before .before .before .before .args .free .now) (c .before .before .before .before .before .before .before .before .before .before .before .before .before .before .before .before .before .before .before .pre .1 .0) (c .before .before .before .before .before .before .before .before .before .before .before .before .before .before .before .before .before .before .before .pre .1 .1) _ (c .before .before .before .before .before .before .before .before .before .before .before .read-node .ensures) (c .before .before .before .before .before .before .before .before .u16-at .result) (c .before .before .before .before .before .before .before .before .u16-at .ensures .0) (c .before .before .before .before .before .before .common-length .result) (c .before .before .before .before .before .before .common-length .ensures .0) in let f = inner-fits (c .before .before .before .before .before .before .before .before .before .before .before .before .before .before .before .before .before .before .before .args .store .now) (c .before .before .before .before .before .before .before .before .before .before .before .before .before .before .before .before .before .before .before .args .num) (c .before .before .before .before .before .before .before .before .before .before .before .before .before .before .before .before .before .before .before .args .slot .level) (c .before .before .before .before .before .before .before .before .before .before .before .before .before .before .before .before .before .before .before .args .lo .now) (c .before .before .before .before .before .before .before .before .before .before .before .before .before .before .before .before .before .before .before .args .hi .now) (c .before .before .before .before .before .before .before .before .before .before .before .before .before .before .before .before .before .before .before .args .k .now) (c .before .before .before .before .before .before .before .before .before .before .before .before .before .before .before .before .before .before .before .args .slot .at) (c .before .before .before .before .before .before .before .before .before .before .before .before .before .before .before .before .before .before .before .args .free .now) (c .before .before .before .before .before .before .before .before .before .before .before .before .before .before .before .before .before .before .before .pre .1 .0) (c .before .before .before .before .before .before .before .before .before .before .before .before .before .before .before .before .before .before .before .pre .1 .1) _ (c .before .before .before .before .before .before .before .before .before .before .before .read-node .ensures) (c .before .before .before .before .before .before .before .before .u16-at .result) (c .before .before .before .before .before .before .before .before .u16-at .ensures .0) (c .before .before .before .before .before .before .common-length .result) (c .before .before .before .before .before .before .common-length .ensures .0) (omega arith) (c .before .before .before .find-point .result) (c .before .before .before .find-point .ensures) (c .before .before .u16-at3 .result) (c .before .before .u16-at3 .ensures .0) in (omega arith, c .before .before .before .find-point .ensures .fits, omega arith, omega arith, branches-small (c .before .before .before .before .before .before .before .before .before .before .before .before .before .before .before .before .before .before .before .args .store .now) (c .before .before .before .before .before .before .before .before .before .before .before .before .before .before .before .before .before .before .before .args .num) (c .before .before .before .before .before .before .before .before .before .before .before .before .before .before .before .before .before .before .before .args .slot .level) (c .before .before .before .before .before .before .before .before .before .before .before .before .before .before .before .before .before .before .before .args .lo .now) (c .before .before .before .before .before .before .before .before .before .before .before .before .before .before .before .before .before .before .before .args .hi .now) (c .before .before .before .before .before .before .before .before .before .before .before .before .before .before .before .before .before .before .before .args .k .now) (c .before .before .before .before .before .before .before .before .before .before .before .before .before .before .before .before .before .before .before .args .slot .at) (c .before .before .before .before .before .before .before .before .before .before .before .before .before .before .before .before .before .before .before .args .free .now) (c .before .before .before .before .before .before .before .before .before .before .before .before .before .before .before .before .before .before .before .pre .1 .0) (c .before .before .before .before .before .before .before .before .before .before .before .before .before .before .before .before .before .before .before .pre .1 .1) _ (c .before .before .before .before .before .before .before .before .before .before .before .read-node .ensures) (c .before .before .before .before .before .before .before .before .u16-at .result) (c .before .before .before .before .before .before .before .before .u16-at .ensures .0) (c .before .before .before .before .before .before .common-length .result) (c .before .before .before .before .before .before .common-length .ensures .0) (omega arith), c .before .before .u16-at3 .ensures .1)
 
 slice-left-slice-aggregate-slice-cut : (t : ℕ) → slice-left-lts.Need-slice-aggregate-slice-cut (
   read-node-reads.Asked,
@@ -862,7 +862,7 @@ slice-left-slice-aggregate-slice-cut : (t : ℕ) → slice-left-lts.Need-slice-a
 ) (slice-left-at t) slice-left.Post
 slice-left-slice-aggregate-slice-cut t c = search needs
 
-slice-left-sub-slice-cut : (t : ℕ) → slice-left-lts.Need-sub-slice-cut (
+slice-left-sub-down : (t : ℕ) → slice-left-lts.Need-sub-down (
   read-node-reads.Asked,
   read-node-reads.Learnt,
   u16-at-reads.Asked,
@@ -880,27 +880,7 @@ slice-left-sub-slice-cut : (t : ℕ) → slice-left-lts.Need-sub-slice-cut (
   write-page-reads.Asked,
   write-page-reads.Learnt,
 ) (slice-left-at t) slice-left.Post
-slice-left-sub-slice-cut t c = search needs
-
-slice-left-add-slice-cut : (t : ℕ) → slice-left-lts.Need-add-slice-cut (
-  read-node-reads.Asked,
-  read-node-reads.Learnt,
-  u16-at-reads.Asked,
-  u16-at-reads.Learnt,
-  common-length-reads.Asked,
-  common-length-reads.Learnt,
-  write-pairs-reads.Asked,
-  write-pairs-reads.Learnt,
-  find-point-reads.Asked,
-  find-point-reads.Learnt,
-  emit-left-reads.Asked,
-  emit-left-reads.Learnt,
-  slice-cut-below t,
-  slice-cut.Post,
-  write-page-reads.Asked,
-  write-page-reads.Learnt,
-) (slice-left-at t) slice-left.Post
-slice-left-add-slice-cut t c = slice-left-add-u16-at t (c .before .before .before .before .before .before .before)
+slice-left-sub-down t c = search needs
 
 slice-left-slice-cut-requires : (t : ℕ) → slice-left-lts.Need-slice-cut-requires (
   read-node-reads.Asked,
@@ -920,7 +900,7 @@ slice-left-slice-cut-requires : (t : ℕ) → slice-left-lts.Need-slice-cut-requ
   write-page-reads.Asked,
   write-page-reads.Learnt,
 ) (slice-left-at t) slice-left.Post
-slice-left-slice-cut-requires t c κs = (omega arith, (c .before .before .before .before .before .before .before .find-point .ensures .fits, child-asks (c .before .before .before .before .before .before .before .before .before .before .before .before .before .before .before .before .before .before .before .before .before .before .before .args .store .now) (c .before .before .before .before .before .before .before .before .before .before .before .before .before .before .before .before .before .before .before .before .before .before .before .args .num) (c .before .before .before .before .before .before .before .before .before .before .before .before .before .before .before .before .before .before .before .before .before .before .before .args .level) (c .before .before .before .before .before .before .before .before .before .before .before .before .before .before .before .before .before .before .before .before .before .before .before .args .lo .now) (c .before .before .before .before .before .before .before .before .before .before .before .before .before .before .before .before .before .before .before .before .before .before .before .args .hi .now) (c .before .before .before .before .before .before .before .before .before .before .before .before .before .before .before .before .before .before .before .before .before .before .before .args .k .now) (c .before .before .before .before .before .before .before .before .before .before .before .before .before .before .before .before .before .before .before .before .before .before .before .args .at) (c .before .before .before .before .before .before .before .before .before .before .before .before .before .before .before .before .before .before .before .before .before .before .before .args .free .now) (c .before .before .before .before .before .before .before .before .before .before .before .before .before .before .before .before .before .before .before .before .before .before .before .pre .1 .0) (c .before .before .before .before .before .before .before .before .before .before .before .before .before .before .before .before .before .before .before .before .before .before .before .pre .1 .1) _ (c .before .before .before .before .before .before .before .before .before .before .before .before .before .before .before .read-node .ensures) (c .before .before .before .before .before .before .before .before .before .before .before .before .u16-at .result) (c .before .before .before .before .before .before .before .before .before .before .before .before .u16-at .ensures .0) (c .before .before .before .before .before .before .before .before .before .before .common-length .result) (c .before .before .before .before .before .before .before .before .before .before .common-length .ensures .0) (omega arith) (c .before .before .before .before .before .before .before .find-point .result) (c .before .before .before .before .before .before .before .find-point .ensures) (c .before .before .before .before .before .before .u16-at3 .result) (c .before .before .before .before .before .before .u16-at3 .ensures .0)))
+slice-left-slice-cut-requires t c κs = (omega arith, (c .before .before .before .before .before .before .before .find-point .ensures .fits, child-asks (c .before .before .before .before .before .before .before .before .before .before .before .before .before .before .before .before .before .before .before .before .before .before .before .args .store .now) (c .before .before .before .before .before .before .before .before .before .before .before .before .before .before .before .before .before .before .before .before .before .before .before .args .num) (c .before .before .before .before .before .before .before .before .before .before .before .before .before .before .before .before .before .before .before .before .before .before .before .args .slot .level) (c .before .before .before .before .before .before .before .before .before .before .before .before .before .before .before .before .before .before .before .before .before .before .before .args .lo .now) (c .before .before .before .before .before .before .before .before .before .before .before .before .before .before .before .before .before .before .before .before .before .before .before .args .hi .now) (c .before .before .before .before .before .before .before .before .before .before .before .before .before .before .before .before .before .before .before .before .before .before .before .args .k .now) (c .before .before .before .before .before .before .before .before .before .before .before .before .before .before .before .before .before .before .before .before .before .before .before .args .slot .at) (c .before .before .before .before .before .before .before .before .before .before .before .before .before .before .before .before .before .before .before .before .before .before .before .args .free .now) (c .before .before .before .before .before .before .before .before .before .before .before .before .before .before .before .before .before .before .before .before .before .before .before .pre .1 .0) (c .before .before .before .before .before .before .before .before .before .before .before .before .before .before .before .before .before .before .before .before .before .before .before .pre .1 .1) _ (c .before .before .before .before .before .before .before .before .before .before .before .before .before .before .before .read-node .ensures) (c .before .before .before .before .before .before .before .before .before .before .before .before .u16-at .result) (c .before .before .before .before .before .before .before .before .before .before .before .before .u16-at .ensures .0) (c .before .before .before .before .before .before .before .before .before .before .common-length .result) (c .before .before .before .before .before .before .before .before .before .before .common-length .ensures .0) (omega arith) (c .before .before .before .before .before .before .before .find-point .result) (c .before .before .before .before .before .before .before .find-point .ensures) (c .before .before .before .before .before .before .u16-at3 .result) (c .before .before .before .before .before .before .u16-at3 .ensures .0)))
 
 slice-left-slice-aggregate-write-page : (t : ℕ) → slice-left-lts.Need-slice-aggregate-write-page (
   read-node-reads.Asked,
@@ -980,7 +960,7 @@ slice-left-write-page-requires : (t : ℕ) → slice-left-lts.Need-write-page-re
   write-page-reads.Asked,
   write-page-reads.Learnt,
 ) (slice-left-at t) slice-left.Post
-slice-left-write-page-requires t c κs = let r = left-new (c .before .before .before .before .before .before .before .before .before .before .before .before .before .before .before .before .before .before .before .before .before .before .before .before .before .before .before .before .args .store .now) (c .before .before .before .before .before .before .before .before .before .before .before .before .before .before .before .before .before .before .before .before .before .before .before .before .before .before .before .before .args .num) (c .before .before .before .before .before .before .before .before .before .before .before .before .before .before .before .before .before .before .before .before .before .before .before .before .before .before .before .before .args .level) (c .before .before .before .before .before .before .before .before .before .before .before .before .before .before .before .before .before .before .before .before .before .before .before .before .before .before .before .before .args .lo .now) (c .before .before .before .before .before .before .before .before .before .before .before .before .before .before .before .before .before .before .before .before .before .before .before .before .before .before .before .before .args .hi .now) (c .before .before .before .before .before .before .before .before .before .before .before .before .before .before .before .before .before .before .before .before .before .before .before .before .before .before .before .before .args .k .now) (c .before .before .before .before .before .before .before .before .before .before .before .before .before .before .before .before .before .before .before .before .before .before .before .before .before .before .before .before .args .at) (c .before .before .before .before .before .before .before .before .before .before .before .before .before .before .before .before .before .before .before .before .before .before .before .before .before .before .before .before .args .free .now) (c .before .before .before .before .before .before .before .before .before .before .before .before .before .before .before .before .before .before .before .before .before .before .before .before .before .before .before .before .pre .1 .0) (c .before .before .before .before .before .before .before .before .before .before .before .before .before .before .before .before .u16-at2 .result) (c .before .before .before .before .before .before .before .before .before .before .before .before .before .before .before .before .u16-at2 .ensures .0) in let f = inner-fits (c .before .before .before .before .before .before .before .before .before .before .before .before .before .before .before .before .before .before .before .before .before .before .before .before .before .before .before .before .args .store .now) (c .before .before .before .before .before .before .before .before .before .before .before .before .before .before .before .before .before .before .before .before .before .before .before .before .before .before .before .before .args .num) (c .before .before .before .before .before .before .before .before .before .before .before .before .before .before .before .before .before .before .before .before .before .before .before .before .before .before .before .before .args .level) (c .before .before .before .before .before .before .before .before .before .before .before .before .before .before .before .before .before .before .before .before .before .before .before .before .before .before .before .before .args .lo .now) (c .before .before .before .before .before .before .before .before .before .before .before .before .before .before .before .before .before .before .before .before .before .before .before .before .before .before .before .before .args .hi .now) (c .before .before .before .before .before .before .before .before .before .before .before .before .before .before .before .before .before .before .before .before .before .before .before .before .before .before .before .before .args .k .now) (c .before .before .before .before .before .before .before .before .before .before .before .before .before .before .before .before .before .before .before .before .before .before .before .before .before .before .before .before .args .at) (c .before .before .before .before .before .before .before .before .before .before .before .before .before .before .before .before .before .before .before .before .before .before .before .before .before .before .before .before .args .free .now) (c .before .before .before .before .before .before .before .before .before .before .before .before .before .before .before .before .before .before .before .before .before .before .before .before .before .before .before .before .pre .1 .0) (c .before .before .before .before .before .before .before .before .before .before .before .before .before .before .before .before .before .before .before .before .before .before .before .before .before .before .before .before .pre .1 .1) _ (c .before .before .before .before .before .before .before .before .before .before .before .before .before .before .before .before .before .before .before .before .read-node .ensures) (c .before .before .before .before .before .before .before .before .before .before .before .before .before .before .before .before .before .u16-at .result) (c .before .before .before .before .before .before .before .before .before .before .before .before .before .before .before .before .before .u16-at .ensures .0) (c .before .before .before .before .before .before .before .before .before .before .before .before .before .before .before .common-length .result) (c .before .before .before .before .before .before .before .before .before .before .before .before .before .before .before .common-length .ensures .0) (omega arith) (c .before .before .before .before .before .before .before .before .before .before .before .before .find-point .result) (c .before .before .before .before .before .before .before .before .before .before .before .before .find-point .ensures) (c .before .before .before .before .before .before .before .before .before .before .before .u16-at3 .result) (c .before .before .before .before .before .before .before .before .before .before .before .u16-at3 .ensures .0) in let v = c .before .before .before .before .before .before .before .before .before .before .before .before .before .before .before .before .before .before .before .before .before .before .before .before .before .before .before .before .pre .1 .0 .levels in (omega arith, search needs, omega arith, omega arith, omega arith)
+slice-left-write-page-requires t c κs = let r = left-new (c .before .before .before .before .before .before .before .before .before .before .before .before .before .before .before .before .before .before .before .before .before .before .before .before .before .before .before .before .args .store .now) (c .before .before .before .before .before .before .before .before .before .before .before .before .before .before .before .before .before .before .before .before .before .before .before .before .before .before .before .before .args .num) (c .before .before .before .before .before .before .before .before .before .before .before .before .before .before .before .before .before .before .before .before .before .before .before .before .before .before .before .before .args .slot .level) (c .before .before .before .before .before .before .before .before .before .before .before .before .before .before .before .before .before .before .before .before .before .before .before .before .before .before .before .before .args .lo .now) (c .before .before .before .before .before .before .before .before .before .before .before .before .before .before .before .before .before .before .before .before .before .before .before .before .before .before .before .before .args .hi .now) (c .before .before .before .before .before .before .before .before .before .before .before .before .before .before .before .before .before .before .before .before .before .before .before .before .before .before .before .before .args .k .now) (c .before .before .before .before .before .before .before .before .before .before .before .before .before .before .before .before .before .before .before .before .before .before .before .before .before .before .before .before .args .slot .at) (c .before .before .before .before .before .before .before .before .before .before .before .before .before .before .before .before .before .before .before .before .before .before .before .before .before .before .before .before .args .free .now) (c .before .before .before .before .before .before .before .before .before .before .before .before .before .before .before .before .before .before .before .before .before .before .before .before .before .before .before .before .pre .1 .0) (c .before .before .before .before .before .before .before .before .before .before .before .before .before .before .before .before .u16-at2 .result) (c .before .before .before .before .before .before .before .before .before .before .before .before .before .before .before .before .u16-at2 .ensures .0) in let f = inner-fits (c .before .before .before .before .before .before .before .before .before .before .before .before .before .before .before .before .before .before .before .before .before .before .before .before .before .before .before .before .args .store .now) (c .before .before .before .before .before .before .before .before .before .before .before .before .before .before .before .before .before .before .before .before .before .before .before .before .before .before .before .before .args .num) (c .before .before .before .before .before .before .before .before .before .before .before .before .before .before .before .before .before .before .before .before .before .before .before .before .before .before .before .before .args .slot .level) (c .before .before .before .before .before .before .before .before .before .before .before .before .before .before .before .before .before .before .before .before .before .before .before .before .before .before .before .before .args .lo .now) (c .before .before .before .before .before .before .before .before .before .before .before .before .before .before .before .before .before .before .before .before .before .before .before .before .before .before .before .before .args .hi .now) (c .before .before .before .before .before .before .before .before .before .before .before .before .before .before .before .before .before .before .before .before .before .before .before .before .before .before .before .before .args .k .now) (c .before .before .before .before .before .before .before .before .before .before .before .before .before .before .before .before .before .before .before .before .before .before .before .before .before .before .before .before .args .slot .at) (c .before .before .before .before .before .before .before .before .before .before .before .before .before .before .before .before .before .before .before .before .before .before .before .before .before .before .before .before .args .free .now) (c .before .before .before .before .before .before .before .before .before .before .before .before .before .before .before .before .before .before .before .before .before .before .before .before .before .before .before .before .pre .1 .0) (c .before .before .before .before .before .before .before .before .before .before .before .before .before .before .before .before .before .before .before .before .before .before .before .before .before .before .before .before .pre .1 .1) _ (c .before .before .before .before .before .before .before .before .before .before .before .before .before .before .before .before .before .before .before .before .read-node .ensures) (c .before .before .before .before .before .before .before .before .before .before .before .before .before .before .before .before .before .u16-at .result) (c .before .before .before .before .before .before .before .before .before .before .before .before .before .before .before .before .before .u16-at .ensures .0) (c .before .before .before .before .before .before .before .before .before .before .before .before .before .before .before .common-length .result) (c .before .before .before .before .before .before .before .before .before .before .before .before .before .before .before .common-length .ensures .0) (omega arith) (c .before .before .before .before .before .before .before .before .before .before .before .before .find-point .result) (c .before .before .before .before .before .before .before .before .before .before .before .before .find-point .ensures) (c .before .before .before .before .before .before .before .before .before .before .before .u16-at3 .result) (c .before .before .before .before .before .before .before .before .before .before .before .u16-at3 .ensures .0) in let v = c .before .before .before .before .before .before .before .before .before .before .before .before .before .before .before .before .before .before .before .before .before .before .before .before .before .before .before .before .pre .1 .0 .levels in (omega arith, search needs, omega arith, omega arith, omega arith)
 
 slice-left-same-length-2 : (t : ℕ) → slice-left-lts.Need-same-length-2 (
   read-node-reads.Asked,
@@ -1021,7 +1001,7 @@ slice-left-returns-2 : (t : ℕ) → slice-left-lts.Need-returns-2 (
   write-page-reads.Learnt,
 ) (slice-left-at t) slice-left.Post
 unfolding zerosOf
-slice-left-returns-2 t c = inner-written (c .before .before .before .before .before .before .before .before .before .before .before .before .before .before .before .before .before .before .before .before .before .before .before .before .before .before .before .before .before .before .before .before .args .store .now) (c .before .before .before .before .before .before .before .before .before .before .before .before .before .before .before .before .before .before .before .before .before .before .before .before .before .before .before .before .before .before .before .before .args .num) (c .before .before .before .before .before .before .before .before .before .before .before .before .before .before .before .before .before .before .before .before .before .before .before .before .before .before .before .before .before .before .before .before .args .level) (c .before .before .before .before .before .before .before .before .before .before .before .before .before .before .before .before .before .before .before .before .before .before .before .before .before .before .before .before .before .before .before .before .args .lo .now) (c .before .before .before .before .before .before .before .before .before .before .before .before .before .before .before .before .before .before .before .before .before .before .before .before .before .before .before .before .before .before .before .before .args .hi .now) (c .before .before .before .before .before .before .before .before .before .before .before .before .before .before .before .before .before .before .before .before .before .before .before .before .before .before .before .before .before .before .before .before .args .k .now) (c .before .before .before .before .before .before .before .before .before .before .before .before .before .before .before .before .before .before .before .before .before .before .before .before .before .before .before .before .before .before .before .before .args .at) (c .before .before .before .before .before .before .before .before .before .before .before .before .before .before .before .before .before .before .before .before .before .before .before .before .before .before .before .before .before .before .before .before .args .free .now) (c .before .before .before .before .before .before .before .before .before .before .before .before .before .before .before .before .before .before .before .before .before .before .before .before .before .before .before .before .before .before .before .before .pre .1 .0) (c .before .before .before .before .before .before .before .before .before .before .before .before .before .before .before .before .before .before .before .before .before .before .before .before .before .before .before .before .before .before .before .before .pre .1 .1) _ (c .before .before .before .before .before .before .before .before .before .before .before .before .before .before .before .before .before .before .before .before .before .before .before .before .read-node .ensures) (c .before .before .before .before .before .before .before .before .before .before .before .before .before .before .before .before .before .before .before .before .before .u16-at .result) (c .before .before .before .before .before .before .before .before .before .before .before .before .before .before .before .before .before .before .before .before .before .u16-at .ensures .0) (c .before .before .before .before .before .before .before .before .before .before .before .before .before .before .before .before .before .before .before .common-length .result) (c .before .before .before .before .before .before .before .before .before .before .before .before .before .before .before .before .before .before .before .common-length .ensures .0) (omega arith) (c .before .before .before .before .before .before .before .before .before .before .before .before .before .before .before .before .find-point .result) (c .before .before .before .before .before .before .before .before .before .before .before .before .before .before .before .before .find-point .ensures) (c .before .before .before .before .before .before .before .before .before .before .before .before .before .before .before .u16-at3 .result) (c .before .before .before .before .before .before .before .before .before .before .before .before .before .before .before .u16-at3 .ensures .0) _ _ _ (c .before .before .before .before .before .before .before .before .before .before .before .before .before .before .before .before .before .before .before .before .u16-at2 .ensures .0) (c .before .before .before .before .before .before .before .before .slice-cut .ensures) (page-written _ _ _ (c .before .before .before .before .before .before .before .before .before .before .before .before .before .before .before .before .before .before .before .before .u16-at2 .result) 2 (c .before .before .before .before .before .before .before .before .before .before .before .before .before .before .before .before .before .before .before .before .before .before .before .before .before .before .before .before .before .before .before .before .args .level) (c .before .before .before .before .before .before .before .before .before .before .before .before .emit-left .result) _ (inner-fits (c .before .before .before .before .before .before .before .before .before .before .before .before .before .before .before .before .before .before .before .before .before .before .before .before .before .before .before .before .before .before .before .before .args .store .now) (c .before .before .before .before .before .before .before .before .before .before .before .before .before .before .before .before .before .before .before .before .before .before .before .before .before .before .before .before .before .before .before .before .args .num) (c .before .before .before .before .before .before .before .before .before .before .before .before .before .before .before .before .before .before .before .before .before .before .before .before .before .before .before .before .before .before .before .before .args .level) (c .before .before .before .before .before .before .before .before .before .before .before .before .before .before .before .before .before .before .before .before .before .before .before .before .before .before .before .before .before .before .before .before .args .lo .now) (c .before .before .before .before .before .before .before .before .before .before .before .before .before .before .before .before .before .before .before .before .before .before .before .before .before .before .before .before .before .before .before .before .args .hi .now) (c .before .before .before .before .before .before .before .before .before .before .before .before .before .before .before .before .before .before .before .before .before .before .before .before .before .before .before .before .before .before .before .before .args .k .now) (c .before .before .before .before .before .before .before .before .before .before .before .before .before .before .before .before .before .before .before .before .before .before .before .before .before .before .before .before .before .before .before .before .args .at) (c .before .before .before .before .before .before .before .before .before .before .before .before .before .before .before .before .before .before .before .before .before .before .before .before .before .before .before .before .before .before .before .before .args .free .now) (c .before .before .before .before .before .before .before .before .before .before .before .before .before .before .before .before .before .before .before .before .before .before .before .before .before .before .before .before .before .before .before .before .pre .1 .0) (c .before .before .before .before .before .before .before .before .before .before .before .before .before .before .before .before .before .before .before .before .before .before .before .before .before .before .before .before .before .before .before .before .pre .1 .1) _ (c .before .before .before .before .before .before .before .before .before .before .before .before .before .before .before .before .before .before .before .before .before .before .before .before .read-node .ensures) (c .before .before .before .before .before .before .before .before .before .before .before .before .before .before .before .before .before .before .before .before .before .u16-at .result) (c .before .before .before .before .before .before .before .before .before .before .before .before .before .before .before .before .before .before .before .before .before .u16-at .ensures .0) (c .before .before .before .before .before .before .before .before .before .before .before .before .before .before .before .before .before .before .before .common-length .result) (c .before .before .before .before .before .before .before .before .before .before .before .before .before .before .before .before .before .before .before .common-length .ensures .0) (omega arith) (c .before .before .before .before .before .before .before .before .before .before .before .before .before .before .before .before .find-point .result) (c .before .before .before .before .before .before .before .before .before .before .before .before .before .before .before .before .find-point .ensures) (c .before .before .before .before .before .before .before .before .before .before .before .before .before .before .before .u16-at3 .result) (c .before .before .before .before .before .before .before .before .before .before .before .before .before .before .before .u16-at3 .ensures .0)) (c .before .before .before .before .before .before .before .before .before .before .before .before .emit-left .ensures .0) (c .before .before .before .before .before .before .before .before .before .before .before .before .emit-left .ensures .1) (c .before .before .before .write-page .ensures))
+slice-left-returns-2 t c = inner-written (c .before .before .before .before .before .before .before .before .before .before .before .before .before .before .before .before .before .before .before .before .before .before .before .before .before .before .before .before .before .before .before .before .args .store .now) (c .before .before .before .before .before .before .before .before .before .before .before .before .before .before .before .before .before .before .before .before .before .before .before .before .before .before .before .before .before .before .before .before .args .num) (c .before .before .before .before .before .before .before .before .before .before .before .before .before .before .before .before .before .before .before .before .before .before .before .before .before .before .before .before .before .before .before .before .args .slot .level) (c .before .before .before .before .before .before .before .before .before .before .before .before .before .before .before .before .before .before .before .before .before .before .before .before .before .before .before .before .before .before .before .before .args .lo .now) (c .before .before .before .before .before .before .before .before .before .before .before .before .before .before .before .before .before .before .before .before .before .before .before .before .before .before .before .before .before .before .before .before .args .hi .now) (c .before .before .before .before .before .before .before .before .before .before .before .before .before .before .before .before .before .before .before .before .before .before .before .before .before .before .before .before .before .before .before .before .args .k .now) (c .before .before .before .before .before .before .before .before .before .before .before .before .before .before .before .before .before .before .before .before .before .before .before .before .before .before .before .before .before .before .before .before .args .slot .at) (c .before .before .before .before .before .before .before .before .before .before .before .before .before .before .before .before .before .before .before .before .before .before .before .before .before .before .before .before .before .before .before .before .args .free .now) (c .before .before .before .before .before .before .before .before .before .before .before .before .before .before .before .before .before .before .before .before .before .before .before .before .before .before .before .before .before .before .before .before .pre .1 .0) (c .before .before .before .before .before .before .before .before .before .before .before .before .before .before .before .before .before .before .before .before .before .before .before .before .before .before .before .before .before .before .before .before .pre .1 .1) _ (c .before .before .before .before .before .before .before .before .before .before .before .before .before .before .before .before .before .before .before .before .before .before .before .before .read-node .ensures) (c .before .before .before .before .before .before .before .before .before .before .before .before .before .before .before .before .before .before .before .before .before .u16-at .result) (c .before .before .before .before .before .before .before .before .before .before .before .before .before .before .before .before .before .before .before .before .before .u16-at .ensures .0) (c .before .before .before .before .before .before .before .before .before .before .before .before .before .before .before .before .before .before .before .common-length .result) (c .before .before .before .before .before .before .before .before .before .before .before .before .before .before .before .before .before .before .before .common-length .ensures .0) (omega arith) (c .before .before .before .before .before .before .before .before .before .before .before .before .before .before .before .before .find-point .result) (c .before .before .before .before .before .before .before .before .before .before .before .before .before .before .before .before .find-point .ensures) (c .before .before .before .before .before .before .before .before .before .before .before .before .before .before .before .u16-at3 .result) (c .before .before .before .before .before .before .before .before .before .before .before .before .before .before .before .u16-at3 .ensures .0) _ _ _ (c .before .before .before .before .before .before .before .before .before .before .before .before .before .before .before .before .before .before .before .before .u16-at2 .ensures .0) (c .before .before .before .before .before .before .before .before .slice-cut .ensures) (page-written _ _ _ (c .before .before .before .before .before .before .before .before .before .before .before .before .before .before .before .before .before .before .before .before .u16-at2 .result) 2 (c .before .before .before .before .before .before .before .before .before .before .before .before .before .before .before .before .before .before .before .before .before .before .before .before .before .before .before .before .before .before .before .before .args .slot .level) (c .before .before .before .before .before .before .before .before .before .before .before .before .emit-left .result) _ (inner-fits (c .before .before .before .before .before .before .before .before .before .before .before .before .before .before .before .before .before .before .before .before .before .before .before .before .before .before .before .before .before .before .before .before .args .store .now) (c .before .before .before .before .before .before .before .before .before .before .before .before .before .before .before .before .before .before .before .before .before .before .before .before .before .before .before .before .before .before .before .before .args .num) (c .before .before .before .before .before .before .before .before .before .before .before .before .before .before .before .before .before .before .before .before .before .before .before .before .before .before .before .before .before .before .before .before .args .slot .level) (c .before .before .before .before .before .before .before .before .before .before .before .before .before .before .before .before .before .before .before .before .before .before .before .before .before .before .before .before .before .before .before .before .args .lo .now) (c .before .before .before .before .before .before .before .before .before .before .before .before .before .before .before .before .before .before .before .before .before .before .before .before .before .before .before .before .before .before .before .before .args .hi .now) (c .before .before .before .before .before .before .before .before .before .before .before .before .before .before .before .before .before .before .before .before .before .before .before .before .before .before .before .before .before .before .before .before .args .k .now) (c .before .before .before .before .before .before .before .before .before .before .before .before .before .before .before .before .before .before .before .before .before .before .before .before .before .before .before .before .before .before .before .before .args .slot .at) (c .before .before .before .before .before .before .before .before .before .before .before .before .before .before .before .before .before .before .before .before .before .before .before .before .before .before .before .before .before .before .before .before .args .free .now) (c .before .before .before .before .before .before .before .before .before .before .before .before .before .before .before .before .before .before .before .before .before .before .before .before .before .before .before .before .before .before .before .before .pre .1 .0) (c .before .before .before .before .before .before .before .before .before .before .before .before .before .before .before .before .before .before .before .before .before .before .before .before .before .before .before .before .before .before .before .before .pre .1 .1) _ (c .before .before .before .before .before .before .before .before .before .before .before .before .before .before .before .before .before .before .before .before .before .before .before .before .read-node .ensures) (c .before .before .before .before .before .before .before .before .before .before .before .before .before .before .before .before .before .before .before .before .before .u16-at .result) (c .before .before .before .before .before .before .before .before .before .before .before .before .before .before .before .before .before .before .before .before .before .u16-at .ensures .0) (c .before .before .before .before .before .before .before .before .before .before .before .before .before .before .before .before .before .before .before .common-length .result) (c .before .before .before .before .before .before .before .before .before .before .before .before .before .before .before .before .before .before .before .common-length .ensures .0) (omega arith) (c .before .before .before .before .before .before .before .before .before .before .before .before .before .before .before .before .find-point .result) (c .before .before .before .before .before .before .before .before .before .before .before .before .before .before .before .before .find-point .ensures) (c .before .before .before .before .before .before .before .before .before .before .before .before .before .before .before .u16-at3 .result) (c .before .before .before .before .before .before .before .before .before .before .before .before .before .before .before .u16-at3 .ensures .0)) (c .before .before .before .before .before .before .before .before .before .before .before .before .emit-left .ensures .0) (c .before .before .before .before .before .before .before .before .before .before .before .before .emit-left .ensures .1) (c .before .before .before .write-page .ensures))
 
 pub +slice-cut+slice-left-spec : {M : Type 1} → statement M
 +slice-cut+slice-left-spec = close μ-slice-cut μ-slice-left (λ t. slice-cut-lts.spec (
@@ -1111,16 +1091,15 @@ pub +slice-cut+slice-left-spec : {M : Type 1} → statement M
     (slice-left-slice-aggregate-find-point t)
     (slice-left-add-find-point t)
     (slice-left-find-point-requires t)
-    (slice-left-add-u16-at t)
+    (slice-left-add-next t)
     (slice-left-mul-u16-at-2 t)
     (slice-left-u16-at-requires-3 t)
     (slice-left-slice-aggregate-emit-left t)
     (slice-left-slice-aggregate-emit-left-2 t)
     (slice-left-add-emit-left t)
     (slice-left-emit-left-requires t)
+    (slice-left-sub-down t)
     (slice-left-slice-aggregate-slice-cut t)
-    (slice-left-sub-slice-cut t)
-    (slice-left-add-slice-cut t)
     (slice-left-slice-cut-requires t)
     (slice-left-slice-aggregate-write-page t)
     (slice-left-sub-write-page t)

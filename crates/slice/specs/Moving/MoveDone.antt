@@ -22,7 +22,7 @@ use Rattle.slice.specs.Slicing.SliceWrite.{in-hits, one-other, stays}
 use Rattle.laws.specs.Page.{numberOf, number-read, head-length, head-laid, head-header, headPage}
 use Rattle.slice.specs.Moving.Move.{movedTree}
 use Rattle.slice.specs.Moving.MoveLaws.{Well, move-well}
-use Rattle.slice.specs.Moving.MoveWrite.{movedImage, Holds, image-holds}
+use Rattle.slice.specs.Moving.MoveWrite.{movedImage, HoldsMoved, image-holds}
 use Rattle.slice.specs.Moving.MoveImage.{from-list, Free, Written, roots, hit-in, hits-once, range-hit, spent-list, move-sound, move-table, move-changed, move-settled}
 use Rattle.slice.specs.Slicing.FromImage.{image-good, image-fits}
 
@@ -108,7 +108,7 @@ module _ (s free from to : List ℕ) (whole : wholeNodes (length s) ≡ true) (o
   unfolding t
   fits-old = image-fits s
 
-  done : Holds fresh h (movedTree fresh h t from to) s (movedImage fresh h t from to s)
+  done : HoldsMoved fresh h (movedTree fresh h t from to) s (movedImage fresh h t from to s)
   done =
       image-holds fresh h (level-suc t h (good .level) .0) (level-suc t h (good .level) .1) t from to good fits-old formed-from formed-to apart apart′ well s room reads-old D
 

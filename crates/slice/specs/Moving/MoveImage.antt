@@ -10,7 +10,7 @@ use lib.Dec.{eqb, leb, ltb}
 use borrow.Author.Tests.{eqb-true, ne-eqb, eq-eqb, le-leb, leb-true, lt-ltb, ltb-true}
 use Rattle.image.specs.Bytes.{same, begins}
 use Rattle.image.specs.Path.{wellFormed, below}
-use Rattle.image.specs.Table.{Row, everyKey, rowsBelow, withoutBelow, renamed, putAll, moved}
+use Rattle.image.specs.Table.{Row, everyKey, rowsBelow, withoutBelow, renamed, moved}
 use Rattle.image.specs.Image.{Tree, nodeBytes, nodesOf, headerOf, headerLaidOut, treeAt, treeOf}
 use Rattle.image.specs.Meaning.{rows}
 use Rattle.image.specs.Sound.{soundHeader, soundRoot, sound, tableOf, lowest, highest, numbers, isIn, once, inRange}
@@ -22,7 +22,7 @@ use Rattle.slice.specs.Slicing.SliceNumbers.{one, hits, hits-met, spent,
 use Rattle.slice.specs.Moving.Move.{movedTree}
 use Rattle.slice.specs.Moving.MoveLaws.{Well, move-well}
 use Rattle.slice.specs.Slicing.FromImage.{image-good, image-fits}
-use Rattle.laws.specs.Tables.{with-length}
+use Rattle.laws.specs.Tables.{put-length}
 use Rattle.laws.specs.ButLive.{sound-parts, live-is}
 
 -- numbers in a list
@@ -140,11 +140,6 @@ pub changed-few : (fresh : ℕ → ℕ) (c : ℕ) (s s′ : List ℕ) → ((i : 
     → (k : ℕ) → changed k s s′ ≤ suc c
 changed-few fresh c s s′ h k =
     omega (arith, changed-sum (λ i. one i 0 + spent fresh i c 0) s s′ h k, sum-add (λ i. one i 0) (λ i. spent fresh i c 0) k, sum-one 0 k, sum-spent fresh c 0 k)
-
-put-length : (rs t : List Row) → length (putAll rs t) ≤ length rs + length t
-unfolding putAll
-put-length [] t = omega arith
-put-length (r ∷ rs) t = omega (arith, with-length (r .key) (r .value) (putAll rs t), put-length rs t)
 
 renamed-length : (from to : List ℕ) (t : List Row) → length (renamed from to t) ≡ length t
 unfolding renamed

@@ -313,7 +313,7 @@ movedImage fresh h t from to s =
     (im9 fresh h t from to s (leftPastP fresh h t from to) from (gapOf fresh h from (past from) (9 * h)) (midP fresh h t from to))
     (im9 fresh h t to from s (leftPastR fresh h t to from) from (midR fresh h t to from) (gapOf fresh h from (past from) (9 * h)))
 
-pub record Holds (fresh : ℕ → ℕ) (h : ℕ) (new : Tree) (s s′ : List ℕ) : Type 0 where
+pub record HoldsMoved (fresh : ℕ → ℕ) (h : ℕ) (new : Tree) (s s′ : List ℕ) : Type 0 where
   pub isThere : treeAt (suc h) s′ (fresh (10 * h)) ≡ new
   pub onlyNew : Only fresh s s′ (suc (10 * h)) 0
 
@@ -334,7 +334,7 @@ module _ (fresh : ℕ → ℕ) (h k : ℕ) (eh : h ≡ suc k) (t : Tree) (from t
   s-to : length (past to) ≤ pivotLimit
   s-to = short-past to formed-to
 
-  holds-up : before from to ≡ true → Holds fresh h (movedTree fresh h t from to) s (movedImage fresh h t from to s)
+  holds-up : before from to ≡ true → HoldsMoved fresh h (movedTree fresh h t from to) s (movedImage fresh h t from to s)
   unfolding movedImage movedTree midP
   holds-up b =
       let lt : before (past from) to ≡ true = before-aside from to highest b apart-1 in
@@ -361,7 +361,7 @@ module _ (fresh : ℕ → ℕ) (h k : ℕ) (eh : h ≡ suc k) (t : Tree) (from t
             (w′ .newFits) (w′ .newNumbers);
       })
 
-  holds-down : before from to ≡ false → Holds fresh h (movedTree fresh h t from to) s (movedImage fresh h t from to s)
+  holds-down : before from to ≡ false → HoldsMoved fresh h (movedTree fresh h t from to) s (movedImage fresh h t from to s)
   unfolding movedImage movedTree midR
   holds-down b =
       let z : same to from ≡ false = same-false to from (λ q. not-so (rw q (begins-refl from)) apart-2) in
@@ -389,9 +389,9 @@ module _ (fresh : ℕ → ℕ) (h k : ℕ) (eh : h ≡ suc k) (t : Tree) (from t
             (w′ .newFits) (w′ .newNumbers);
       })
 
-  pub image-holds : Holds fresh h (movedTree fresh h t from to) s (movedImage fresh h t from to s)
+  pub image-holds : HoldsMoved fresh h (movedTree fresh h t from to) s (movedImage fresh h t from to s)
   image-holds = go (before from to) refl
     where
-      go : (x : Bool) → before from to ≡ x → Holds fresh h (movedTree fresh h t from to) s (movedImage fresh h t from to s)
+      go : (x : Bool) → before from to ≡ x → HoldsMoved fresh h (movedTree fresh h t from to) s (movedImage fresh h t from to s)
       go true b = holds-up b
       go false b = holds-down b

@@ -11,16 +11,11 @@ use Rattle.laws.specs.Rising.{both}
 use Rattle.laws.specs.LookupTable.{not-low, under-high, does-own}
 use Rattle.laws.specs.Filter.{keep, upTo, since, keep-append, keep-all, keep-none, keep-passes, keep-rises, cut-whole, every-imp, rises-all, every-append}
 use Rattle.slice.specs.Slicing.Range.{past, before-past, begins-under, formed-low, range-below}
-use Rattle.laws.specs.Filter.{not-not}
+use Rattle.laws.specs.Filter.{not-not, keep-below}
 use Rattle.laws.specs.PushDown.{with-second}
 use Rattle.octets.specs.Beginnings.{begins-not-before}
 
--- clear and the rows below a path, as tests
-pub keep-below : (p : List ℕ) (t : List Row) → rowsBelow p t ≡ keep (λ q. begins p q) t
-unfolding rowsBelow keep below
-keep-below p [] = refl
-keep-below p (r ∷ t) = ap (λ l. cond (begins p (r .key)) (r ∷ l) l) (keep-below p t)
-
+-- clear, as a test
 pub keep-other : (p : List ℕ) (t : List Row) → withoutBelow p t ≡ keep (λ q. not (begins p q)) t
 unfolding withoutBelow keep below
 keep-other p [] = refl

@@ -13,7 +13,7 @@ use Rattle.image.specs.Sound.{soundTree, soundMessages, firstPivot, valuesFit, 
 use Rattle.laws.specs.Filter.{keep, lowerRows}
 use Rattle.laws.specs.Pieces.{joined, raise, lower, node, over, still, levelled}
 use Rattle.slice.specs.Slicing.Slice.{restIn, packed, after, leftOf, rightOf}
-use Rattle.slice.specs.Slicing.SliceFits.{fits, shortIn, shortAt, kidsSize, pairsSize}
+use Rattle.slice.specs.Slicing.SliceFits.{fits, shortIn, shortAt, branchesSize, pairsSize}
 use Rattle.slice.specs.Slicing.Tail.{firstOf}
 
 -- r1 00, and r2 00; then r1 00 followed by 65 bytes 'z'
@@ -42,7 +42,7 @@ unfolding soundTree firstPivot shared before owns same highOf everyKey underPref
 root-sound = refl
 
 root-fits : fits root ≡ true
-unfolding fits shortIn kidsSize pairsSize
+unfolding fits shortIn branchesSize pairsSize
 root-fits = refl
 
 -- the right part of the first cut, and the right part of its edge at the second: a pivot of 68 bytes

@@ -13,7 +13,7 @@ use Rattle.octets.specs.Order.{and-left, and-right}
 use Rattle.laws.specs.Rising.{both}
 use Rattle.image.specs.Entry.{Message, puts, drops, clears, Entry, pair, child, message, keyed, pointer, entryOf, entryThen, readAll, entriesOf}
 use Rattle.image.specs.Table.{Row}
-use Rattle.image.specs.Image.{Tree, unread, tree, Kid, Inside, nodeBytes, laidOut, entryBytes, nodeEntries, pairThen, pairsOf, messagesOf, noKids, kidThen, insideOf, forestOf, leafOf, interiorOf, orNone, treeAt, headerOf, treeOf}
+use Rattle.image.specs.Image.{Tree, unread, tree, Branch, Inside, nodeBytes, laidOut, entryBytes, nodeEntries, pairThen, pairsOf, messagesOf, noBranches, branchThen, insideOf, forestOf, leafOf, interiorOf, orNone, treeAt, headerOf, treeOf}
 use Rattle.image.specs.Meaning.{highOf}
 use Rattle.image.specs.Sound.{soundTree, soundForest, sound, lowest, highest}
 use Rattle.laws.specs.LookupTable.{Parts, parts, inner}
@@ -21,7 +21,7 @@ use Rattle.image.specs.Upkeep.{reachableNodes, holdsNoMessage, settled}
 use Rattle.laws.specs.Encode.{restOf, allowed, allAllowed}
 use Rattle.laws.specs.LiveCount.{quiet-still}
 use Rattle.laws.specs.Pieces.{levelled, levelledIn, Good}
-use Rattle.slice.specs.Slicing.SliceFits.{pairsSize, kidsSize, shortIn, fits, fitsIn}
+use Rattle.slice.specs.Slicing.SliceFits.{pairsSize, branchesSize, shortIn, fits, fitsIn}
 use Rattle.laws.specs.ButLive.{sound-parts}
 
 -- level
@@ -31,7 +31,7 @@ leaf-level i none lo hi e = absurd (false≢true e)
 leaf-level i (some rs) lo hi e = refl
 
 forest-level : (u : ℕ → Tree) (h : ℕ) → ((j : ℕ) (lo hi : List ℕ) → soundTree (u j) lo hi ≡ true → levelled (u j) h ≡ true)
-    → (ks : List Kid) (lifted lo hi : List ℕ) → soundForest (forestOf u ks) lifted lo hi ≡ true → levelledIn (forestOf u ks) h ≡ true
+    → (ks : List Branch) (lifted lo hi : List ℕ) → soundForest (forestOf u ks) lifted lo hi ≡ true → levelledIn (forestOf u ks) h ≡ true
 unfolding forestOf levelledIn
 forest-level u h g [] lifted lo hi e = refl
 forest-level u h g (k ∷ ks) lifted lo hi e =
@@ -46,7 +46,7 @@ inner-level u h i g none lo hi e = absurd (not-read i lo hi e)
     not-read : (i : ℕ) (lo hi : List ℕ) → soundTree (unread i) lo hi ≡ true → ⊥
     not-read i lo hi e = false≢true (unfold soundTree in e)
 inner-level u h i g (some x) lo hi e =
-    forest-level u h g (x .kids) (shared lo hi) lo hi (inner i (forestOf u (x .kids)) (x .messages) lo hi e .kids)
+    forest-level u h g (x .branches) (shared lo hi) lo hi (inner i (forestOf u (x .branches)) (x .messages) lo hi e .branches)
 
 pub read-level : (l : ℕ) (image : List ℕ) (i : ℕ) (lo hi : List ℕ) → soundTree (treeAt l image i) lo hi ≡ true → levelled (treeAt l image i) l ≡ true
 unfolding treeAt soundTree
@@ -186,39 +186,39 @@ pairs-sized (e ∷ es) rs h =
     let x : length (restOf e) ≡ suc (suc (length (s ++ v))) = ap (λ y. length (restOf y)) (w .1 .1 .1 .0) in
     ap pairsSize (w .1 .1 .1 .1 .1) ∙ (omega (arith, pairs-sized es t (w .1 .1 .1 .1 .0), length-append s v))
 
-kid-then : (k : Kid) (o : Option Inside) (x : Inside) → kidThen k o ≡ some x → (y : Inside) × ((o ≡ some y) × (x .kids ≡ k ∷ y .kids))
-unfolding kidThen
-kid-then k none x h = absurd (Option·none-ne-some x h)
-kid-then k (some y) x h =
-    (y, (refl, ap (λ z. z .kids) (sym (Option·some-injective (record { kids = k ∷ y .kids; messages = y .messages }) x h))))
+branch-then : (k : Branch) (o : Option Inside) (x : Inside) → branchThen k o ≡ some x → (y : Inside) × ((o ≡ some y) × (x .branches ≡ k ∷ y .branches))
+unfolding branchThen
+branch-then k none x h = absurd (Option·none-ne-some x h)
+branch-then k (some y) x h =
+    (y, (refl, ap (λ z. z .branches) (sym (Option·some-injective (record { branches = k ∷ y .branches; messages = y .messages }) x h))))
 
-no-kids : (o : Option (List Message)) (x : Inside) → noKids o ≡ some x → x .kids ≡ []
-unfolding noKids
-no-kids none x h = absurd (Option·none-ne-some x h)
-no-kids (some ms) x h = ap (λ z. z .kids) (sym (Option·some-injective (record { kids = []; messages = ms }) x h))
+no-branches : (o : Option (List Message)) (x : Inside) → noBranches o ≡ some x → x .branches ≡ []
+unfolding noBranches
+no-branches none x h = absurd (Option·none-ne-some x h)
+no-branches (some ms) x h = ap (λ z. z .branches) (sym (Option·some-injective (record { branches = []; messages = ms }) x h))
 
-none-sized : (u : ℕ → Tree) (ks : List Kid) (n : ℕ) → ks ≡ [] → (kidsSize (forestOf u ks) ≤ n) × (shortIn (forestOf u ks) ≡ true)
-unfolding forestOf kidsSize shortIn
+none-sized : (u : ℕ → Tree) (ks : List Branch) (n : ℕ) → ks ≡ [] → (branchesSize (forestOf u ks) ≤ n) × (shortIn (forestOf u ks) ≡ true)
+unfolding forestOf branchesSize shortIn
 none-sized u ks n e = rw e (omega arith, refl)
 
-kids-sized : (u : ℕ → Tree) (es : List Entry) (x : Inside) → insideOf es ≡ some x → allAllowed es ≡ true
-    → (kidsSize (forestOf u (x .kids)) ≤ sizes es) × (shortIn (forestOf u (x .kids)) ≡ true)
+branches-sized : (u : ℕ → Tree) (es : List Entry) (x : Inside) → insideOf es ≡ some x → allAllowed es ≡ true
+    → (branchesSize (forestOf u (x .branches)) ≤ sizes es) × (shortIn (forestOf u (x .branches)) ≡ true)
 unfolding insideOf allAllowed
-kids-sized u [] x h a = none-sized u (x .kids) (sizes []) (ap (λ z. z .kids) (sym (Option·some-injective (record { kids = []; messages = [] }) x h)))
-kids-sized u (pair s v ∷ es) x h a = absurd (Option·none-ne-some x h)
-kids-sized u (message m ∷ es) x h a = none-sized u (x .kids) (sizes (message m ∷ es)) (no-kids (messagesOf (message m ∷ es)) x h)
-kids-sized u (child i s ∷ es) x h a =
-    let k : Kid = record { number = i; pivot = s } in
-    let w : (y : Inside) × ((insideOf es ≡ some y) × (x .kids ≡ k ∷ y .kids)) = kid-then k (insideOf es) x h in
-    first-sized u i s es (x .kids) (w .0 .kids) (w .1 .1) (and-left _ _ a) (kids-sized u es (w .0) (w .1 .0) (and-right (allowed (child i s)) _ a))
+branches-sized u [] x h a = none-sized u (x .branches) (sizes []) (ap (λ z. z .branches) (sym (Option·some-injective (record { branches = []; messages = [] }) x h)))
+branches-sized u (pair s v ∷ es) x h a = absurd (Option·none-ne-some x h)
+branches-sized u (message m ∷ es) x h a = none-sized u (x .branches) (sizes (message m ∷ es)) (no-branches (messagesOf (message m ∷ es)) x h)
+branches-sized u (child i s ∷ es) x h a =
+    let k : Branch = record { number = i; pivot = s } in
+    let w : (y : Inside) × ((insideOf es ≡ some y) × (x .branches ≡ k ∷ y .branches)) = branch-then k (insideOf es) x h in
+    first-sized u i s es (x .branches) (w .0 .branches) (w .1 .1) (and-left _ _ a) (branches-sized u es (w .0) (w .1 .0) (and-right (allowed (child i s)) _ a))
   where
-    first-sized : (u : ℕ → Tree) (i : ℕ) (s : List ℕ) (es : List Entry) (ks ks′ : List Kid) → ks ≡ record { number = i; pivot = s } ∷ ks′ → allowed (child i s) ≡ true
-        → (kidsSize (forestOf u ks′) ≤ sizes es) × (shortIn (forestOf u ks′) ≡ true)
-        → (kidsSize (forestOf u ks) ≤ sizes (child i s ∷ es)) × (shortIn (forestOf u ks) ≡ true)
+    first-sized : (u : ℕ → Tree) (i : ℕ) (s : List ℕ) (es : List Entry) (ks ks′ : List Branch) → ks ≡ record { number = i; pivot = s } ∷ ks′ → allowed (child i s) ≡ true
+        → (branchesSize (forestOf u ks′) ≤ sizes es) × (shortIn (forestOf u ks′) ≡ true)
+        → (branchesSize (forestOf u ks) ≤ sizes (child i s ∷ es)) × (shortIn (forestOf u ks) ≡ true)
     first-sized u i s es ks ks′ e b ih =
-        rw e (unfold forestOf kidsSize sizes restOf in (omega (arith, ih .0)), unfold forestOf shortIn allowed in both b (ih .1))
+        rw e (unfold forestOf branchesSize sizes restOf in (omega (arith, ih .0)), unfold forestOf shortIn allowed in both b (ih .1))
 
-forest-fits : (u : ℕ → Tree) → ((j : ℕ) → fits (u j) ≡ true) → (ks : List Kid) → fitsIn (forestOf u ks) ≡ true
+forest-fits : (u : ℕ → Tree) → ((j : ℕ) → fits (u j) ≡ true) → (ks : List Branch) → fitsIn (forestOf u ks) ≡ true
 unfolding forestOf fitsIn
 forest-fits u g [] = refl
 forest-fits u g (k ∷ ks) = both (g (k .number)) (forest-fits u g ks)
@@ -241,8 +241,8 @@ inner-room u f i (some es) g = go (insideOf es) refl
     go : (p : Option Inside) → insideOf es ≡ p → fits (interiorOf u i p) ≡ true
     go none q = refl
     go (some x) q =
-        let z : (kidsSize (forestOf u (x .kids)) ≤ sizes es) × (shortIn (forestOf u (x .kids)) ≡ true) = kids-sized u es x q (g es refl .1) in
-        both (both (le-leb (kidsSize (forestOf u (x .kids))) 1016 (omega (arith, z .0, g es refl .0))) (z .1)) (forest-fits u f (x .kids))
+        let z : (branchesSize (forestOf u (x .branches)) ≤ sizes es) × (shortIn (forestOf u (x .branches)) ≡ true) = branches-sized u es x q (g es refl .1) in
+        both (both (le-leb (branchesSize (forestOf u (x .branches))) 1016 (omega (arith, z .0, g es refl .0))) (z .1)) (forest-fits u f (x .branches))
 
 -- whatever is read fits
 pub read-fits : (l : ℕ) (image : List ℕ) (i : ℕ) → fits (treeAt l image i) ≡ true

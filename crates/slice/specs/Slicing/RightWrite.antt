@@ -17,13 +17,13 @@ use Rattle.octets.specs.Order.{and-left, and-right}
 use Rattle.laws.specs.Rising.{both}
 use Rattle.laws.specs.WriteNode.{writeNode, write-length, write-other}
 use Rattle.laws.specs.Filter.{keep, since, lowerRows}
-use Rattle.laws.specs.Pieces.{still, levelled, Good, Kids, kid-first, kid-later, inner-kids, raise, node, over, joined}
+use Rattle.laws.specs.Pieces.{still, levelled, Good, Branches, branch-first, branch-later, inner-branches, raise, node, over, joined}
 use Rattle.slice.specs.Slicing.Slice.{restIn, packed, after, rightOf, edgeIn}
 use Rattle.slice.specs.Slicing.SliceNumbers.{one, met, metIn, met-joined, met-over, spent, taken, right-numbers-in}
-use Rattle.slice.specs.Slicing.SliceFits.{kidsSize, shortIn, fits, fitsIn, cut-fits, narrow-high}
+use Rattle.slice.specs.Slicing.SliceFits.{branchesSize, shortIn, fits, fitsIn, cut-fits, narrow-high}
 use Rattle.laws.specs.Page.{numberOf}
 use Rattle.slice.specs.Slicing.ReadBack.{ReadsIn}
-use Rattle.slice.specs.Slicing.SliceWrite.{pageOf, pageOf-full, stays-in, kids-read, node-done, leaf-done, no-inner, one-other, one-same, Only, only-none, only-more, first-met, later-met}
+use Rattle.slice.specs.Slicing.SliceWrite.{pageOf, pageOf-full, stays-in, branches-read, node-done, leaf-done, no-inner, one-other, one-same, Only, only-none, only-more, first-met, later-met}
 
 reads-raise : (under : ℕ → Tree) (l : List ℕ) (f : Forest) → ReadsIn under f → ReadsIn under (raise l f)
 unfolding ReadsIn raise
@@ -195,17 +195,17 @@ module _ (fresh : ℕ → ℕ) where
       go false c q = unfold after spent in (omega arith, omega arith)
 
   right-inner : (w : Bool) (i : ℕ) (f : Forest) (l : ℕ) (lo hi k : List ℕ) (at : ℕ) (s : List ℕ) → ((x : ℕ) → 1024 * fresh x + 1024 ≤ length s)
-      → fitsIn (rightOf fresh w (interior i f []) lo hi k at) ≡ true → Kids (suc l) f (shared lo hi) lo hi → ReadsIn (λ j. treeAt (suc l) s j) f
+      → fitsIn (rightOf fresh w (interior i f []) lo hi k at) ≡ true → Branches (suc l) f (shared lo hi) lo hi → ReadsIn (λ j. treeAt (suc l) s j) f
       → ((j : ℕ) → met j (interior i f []) + spent fresh j (taken w (suc (suc l))) at ≤ 1)
       → RightDone s (edgeWrite w f (suc l) (shared lo hi) hi k (after w at) s) (suc l) (taken w (suc l)) (after w at) (edgeIn fresh w f (shared lo hi) hi k (after w at))
       → RightDone s (rightWrite w (interior i f []) (suc (suc l)) lo hi k at s) (suc (suc l)) (taken w (suc (suc l))) at (rightOf fresh w (interior i f []) lo hi k at)
   unfolding rightWrite rightOf taken
-  right-inner w i f l lo hi k at s room fit kids r dist d =
+  right-inner w i f l lo hi k at s room fit branches r dist d =
       let e : Forest = edgeIn fresh w f (shared lo hi) hi k (after w at) in
       let g : Forest = restIn f (shared lo hi) hi k in
       let s1 : List ℕ = edgeWrite w f (suc l) (shared lo hi) hi k (after w at) s in
       packed-done w l (taken w (suc l)) at k hi e g s s1 room fit
-      (λ j. omega (arith, right-numbers-in j fresh w f (suc l) (shared lo hi) hi k (after w at) (kids .levels), deeper w i f [] (suc l) at j (dist j) .0))
+      (λ j. omega (arith, right-numbers-in j fresh w f (suc l) (shared lo hi) hi k (after w at) (branches .levels), deeper w i f [] (suc l) at j (dist j) .0))
       (d .only) (d .reads)
       (reads-rest (λ j. treeAt (suc l) s1 j) f (shared lo hi) hi k
       (stays-in (suc l) s s1 f r (λ j z. d .only .others j (omega (arith, deeper w i f [] (suc l) at j (dist j) .1)))))
@@ -226,20 +226,20 @@ module _ (fresh : ℕ → ℕ) where
       right-written (interior i f []) zero lo hi k at s room g e a b short v r d = absurd (false≢true (g .level))
       right-written (interior i f []) (suc zero) lo hi k at s room g e a b short v r d = absurd (no-inner s (numberOf (interior i f [])) i f [] r)
       right-written (interior i f []) (suc (suc l)) lo hi k at s room g e a b short v r d =
-          right-inner w i f l lo hi k at s room (cut-fits fresh w (interior i f []) (suc (suc l)) lo hi k 0 at g a b short v e .1) (inner-kids i f lo hi g)
-          (kids-read l s (numberOf (interior i f [])) i f [] r) d
-          (right-written-in f (suc l) (shared lo hi) lo hi k (after w at) s room (inner-kids i f lo hi g) (and-right (leb (kidsSize f) entriesLimit && shortIn f) _ e) short v
-          (kids-read l s (numberOf (interior i f [])) i f [] r) (λ j. deeper w i f [] (suc l) at j (d j) .1))
+          right-inner w i f l lo hi k at s room (cut-fits fresh w (interior i f []) (suc (suc l)) lo hi k 0 at g a b short v e .1) (inner-branches i f lo hi g)
+          (branches-read l s (numberOf (interior i f [])) i f [] r) d
+          (right-written-in f (suc l) (shared lo hi) lo hi k (after w at) s room (inner-branches i f lo hi g) (and-right (leb (branchesSize f) entriesLimit && shortIn f) _ e) short v
+          (branches-read l s (numberOf (interior i f [])) i f [] r) (λ j. deeper w i f [] (suc l) at j (d j) .1))
 
-      pub right-written-in : (f : Forest) (h : ℕ) (lifted lo hi k : List ℕ) (at : ℕ) (s : List ℕ) → ((x : ℕ) → 1024 * fresh x + 1024 ≤ length s) → Kids h f lifted lo hi
+      pub right-written-in : (f : Forest) (h : ℕ) (lifted lo hi k : List ℕ) (at : ℕ) (s : List ℕ) → ((x : ℕ) → 1024 * fresh x + 1024 ≤ length s) → Branches h f lifted lo hi
           → fitsIn f ≡ true → length k ≤ pivotLimit → w || begins k hi ≡ true → ReadsIn (λ j. treeAt h s j) f
           → ((j : ℕ) → metIn j f + spent fresh j (taken w h) at ≤ 1)
           → RightDone s (edgeWrite w f h lifted hi k at s) h (taken w h) at (edgeIn fresh w f lifted hi k at)
       right-written-in end h lifted lo hi k at s room g e short v r d = record { only = only-none fresh s (taken w h) at; reads = tt }
       right-written-in (tree q t f) h lifted lo hi k at s room g e short v r d =
           right-step w q t f h lifted hi k at s
-          (λ x y. right-written t h (lifted ++ q) (highOf lifted hi f) k at s room (kid-first q t f lifted lo hi g) (and-left (fits t) _ e) x y short
-          (narrow-high fresh w f lifted lo hi k (kid-later q t f lifted lo hi g) v y) (r .0)
+          (λ x y. right-written t h (lifted ++ q) (highOf lifted hi f) k at s room (branch-first q t f lifted lo hi g) (and-left (fits t) _ e) x y short
+          (narrow-high fresh w f lifted lo hi k (branch-later q t f lifted lo hi g) v y) (r .0)
           (λ j. first-met fresh q t f j (spent fresh j (taken w h) at) (d j)))
-          (right-written-in f h lifted lo hi k at s room (kid-later q t f lifted lo hi g) (and-right (fits t) _ e) short v (r .1)
+          (right-written-in f h lifted lo hi k at s room (branch-later q t f lifted lo hi g) (and-right (fits t) _ e) short v (r .1)
           (λ j. later-met fresh q t f j (spent fresh j (taken w h) at) (d j)))

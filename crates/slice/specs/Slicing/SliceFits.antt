@@ -18,7 +18,7 @@ use Rattle.octets.specs.Order.{and-left, and-right, before-le, before-asym, bet
 use Rattle.laws.specs.Rising.{both}
 use Rattle.laws.specs.LookupTable.{parts, under-high}
 use Rattle.laws.specs.Filter.{keep, upTo, since, lowerRows}
-use Rattle.laws.specs.Pieces.{still, levelled, Good, Run, done, more, joined, raise, lower, node, over, run-le, high-raise, Kids, kid-first, kid-later, inner-kids}
+use Rattle.laws.specs.Pieces.{still, levelled, Good, Run, done, more, joined, raise, lower, node, over, run-le, high-raise, Branches, branch-first, branch-later, inner-branches}
 use Rattle.slice.specs.Slicing.Slice.{restIn, packed, after, leftOf, leftIn, rightOf, edgeIn}
 use Rattle.slice.specs.Slicing.SliceLaws.{Cuts, inner-cuts}
 
@@ -27,9 +27,9 @@ unfoldable pub pairsSize : List Row → ℕ
 pairsSize [] = 0
 pairsSize (r ∷ t) = 6 + length (r .key) + length (r .value) + pairsSize t
 
-unfoldable pub kidsSize : Forest → ℕ
-kidsSize end = 0
-kidsSize (tree s t f) = 6 + length s + kidsSize f
+unfoldable pub branchesSize : Forest → ℕ
+branchesSize end = 0
+branchesSize (tree s t f) = 6 + length s + branchesSize f
 
 unfoldable pub shortIn : Forest → Bool
 shortIn end = true
@@ -40,7 +40,7 @@ unfoldable mutual
   pub fits : Tree → Bool
   fits (unread i) = true
   fits (leaf i rs) = leb (pairsSize rs) entriesLimit
-  fits (interior i f ms) = leb (kidsSize f) entriesLimit && shortIn f && fitsIn f
+  fits (interior i f ms) = leb (branchesSize f) entriesLimit && shortIn f && fitsIn f
 
   pub fitsIn : Forest → Bool
   fitsIn end = true
@@ -88,8 +88,8 @@ leaf-fits i n l l′ test rs h e =
     le-leb (pairsSize (lowerRows l′ (keep test (underPrefix l rs)))) entriesLimit (omega (arith, leb-true (pairsSize rs) entriesLimit e, leaf-size l l′ test rs h))
 
 -- pieces
-size-lower : (l : List ℕ) (f : Forest) → kidsSize (lower l f) ≡ sizeAt (length l) f
-unfolding kidsSize sizeAt lower
+size-lower : (l : List ℕ) (f : Forest) → branchesSize (lower l f) ≡ sizeAt (length l) f
+unfolding branchesSize sizeAt lower
 size-lower l end = refl
 size-lower l (tree s t f) = rw (length-drop (length l) s, size-lower l f)
 
@@ -141,7 +141,7 @@ pub node-fits : (n : ℕ) (lo hi : List ℕ) (f : Forest) → sizeAt (length (sh
     → fits (node n lo hi f) ≡ true
 unfolding node fits
 node-fits n lo hi f a b c =
-    both (both (le-leb (kidsSize (lower (shared lo hi) f)) entriesLimit (omega (arith, size-lower (shared lo hi) f))) (short-lower (shared lo hi) f ∙ b)) (fits-lower (shared lo hi) f ∙ c)
+    both (both (le-leb (branchesSize (lower (shared lo hi) f)) entriesLimit (omega (arith, size-lower (shared lo hi) f))) (short-lower (shared lo hi) f ∙ b)) (fits-lower (shared lo hi) f ∙ c)
 
 pub over-fits : (n : ℕ) (lo hi : List ℕ) (f : Forest) → sizeAt (length (shared lo hi)) f ≤ entriesLimit → shortAt (length (shared lo hi)) f ≡ true → fitsIn f ≡ true
     → fitsIn (over n lo hi f) ≡ true
@@ -170,8 +170,8 @@ unfolding over shortAt highOf
 over-high-short d n hi end h = refl
 over-high-short d n hi (tree s t f) h = both (and-left (leb (length s - d) pivotLimit) _ h) refl
 
-size-raise : (d : ℕ) (l : List ℕ) (f : Forest) → length l ≤ d → sizeAt d (raise l f) ≤ kidsSize f
-unfolding sizeAt kidsSize raise
+size-raise : (d : ℕ) (l : List ℕ) (f : Forest) → length l ≤ d → sizeAt d (raise l f) ≤ branchesSize f
+unfolding sizeAt branchesSize raise
 size-raise d l end h = omega arith
 size-raise d l (tree s t f) h = rw (length-append l s) (omega (arith, size-raise d l f h))
 
@@ -185,13 +185,13 @@ short-raise d l (tree s t f) h e =
     both (short-pivot d l s h (and-left _ _ e)) (short-raise d l f h (and-right (leb (length s) pivotLimit) _ e))
 
 -- the children from the cut on, and what lies before it
-rest-size : (d : ℕ) (f : Forest) (lifted hi k : List ℕ) → length lifted ≤ d → sizeAt d (restIn f lifted hi k) ≤ kidsSize f
-unfolding restIn sizeAt kidsSize
+rest-size : (d : ℕ) (f : Forest) (lifted hi k : List ℕ) → length lifted ≤ d → sizeAt d (restIn f lifted hi k) ≤ branchesSize f
+unfolding restIn sizeAt branchesSize
 rest-size d end lifted hi k h = omega arith
 rest-size d (tree s t f) lifted hi k h = go (before k (highOf lifted hi f)) refl (before (lifted ++ s) k) refl (rest-size d f lifted hi k h)
   where
-    go : (x : Bool) → before k (highOf lifted hi f) ≡ x → (y : Bool) → before (lifted ++ s) k ≡ y → sizeAt d (restIn f lifted hi k) ≤ kidsSize f
-        → sizeAt d (restIn (tree s t f) lifted hi k) ≤ kidsSize (tree s t f)
+    go : (x : Bool) → before k (highOf lifted hi f) ≡ x → (y : Bool) → before (lifted ++ s) k ≡ y → sizeAt d (restIn f lifted hi k) ≤ branchesSize f
+        → sizeAt d (restIn (tree s t f) lifted hi k) ≤ branchesSize (tree s t f)
     go true a true b ih = rw (a, b) (omega (arith, size-raise d lifted f h))
     go true a false b ih = rw (a, b, length-append lifted s) (omega (arith, size-raise d lifted f h))
     go false a y b ih = rw a (omega arith)
@@ -225,13 +225,13 @@ enough : (m : ℕ) → m ≤ 142 → m ≤ entriesLimit
 enough m h = omega arith
 
 module _ (fresh : ℕ → ℕ) where
-  left-size : (d : ℕ) (f : Forest) (lifted hi k : List ℕ) (at : ℕ) → length lifted ≤ d → sizeAt d (leftIn fresh f lifted hi k at) ≤ kidsSize f
-  unfolding leftIn sizeAt kidsSize
+  left-size : (d : ℕ) (f : Forest) (lifted hi k : List ℕ) (at : ℕ) → length lifted ≤ d → sizeAt d (leftIn fresh f lifted hi k at) ≤ branchesSize f
+  unfolding leftIn sizeAt branchesSize
   left-size d end lifted hi k at h = omega arith
   left-size d (tree s t f) lifted hi k at h = go (before k (highOf lifted hi f)) refl (before (lifted ++ s) k) refl (left-size d f lifted hi k at h)
     where
-      go : (x : Bool) → before k (highOf lifted hi f) ≡ x → (y : Bool) → before (lifted ++ s) k ≡ y → sizeAt d (leftIn fresh f lifted hi k at) ≤ kidsSize f
-          → sizeAt d (leftIn fresh (tree s t f) lifted hi k at) ≤ kidsSize (tree s t f)
+      go : (x : Bool) → before k (highOf lifted hi f) ≡ x → (y : Bool) → before (lifted ++ s) k ≡ y → sizeAt d (leftIn fresh f lifted hi k at) ≤ branchesSize f
+          → sizeAt d (leftIn fresh (tree s t f) lifted hi k at) ≤ branchesSize (tree s t f)
       go true a true b ih = rw (a, b, length-append lifted s) (omega arith)
       go true a false b ih = rw (a, b) (omega arith)
       go false a y b ih = rw (a, length-append lifted s) (omega arith)
@@ -272,7 +272,7 @@ module _ (fresh : ℕ → ℕ) where
   right-short w d (leaf i rs) lo hi k at e h g = both (le-leb _ _ g) refl
   right-short w d (interior i f ms) lo hi k at e h g =
       go w (edgeIn fresh w f (shared lo hi) hi k (after w at)) (restIn f (shared lo hi) hi k)
-      (rest-short d f (shared lo hi) hi k h (and-right (leb (kidsSize f) entriesLimit) _ (and-left _ _ e)))
+      (rest-short d f (shared lo hi) hi k h (and-right (leb (branchesSize f) entriesLimit) _ (and-left _ _ e)))
     where
       go : (v : Bool) (e r : Forest) → shortAt d r ≡ true → shortAt d (packed v (fresh at) (fresh (suc at)) k hi e r) ≡ true
       go true e r q =
@@ -317,14 +317,14 @@ module _ (fresh : ℕ → ℕ) where
 
   -- one node: the cut's suffix is empty, so the node is no larger
   narrow-both : (d : ℕ) (f : Forest) (lifted hi k : List ℕ) (at : ℕ) → length lifted ≤ d → length k ≤ d
-      → sizeAt d (edgeIn fresh false f lifted hi k at) + sizeAt d (restIn f lifted hi k) ≤ kidsSize f
-  unfolding edgeIn restIn sizeAt kidsSize
+      → sizeAt d (edgeIn fresh false f lifted hi k at) + sizeAt d (restIn f lifted hi k) ≤ branchesSize f
+  unfolding edgeIn restIn sizeAt branchesSize
   narrow-both d end lifted hi k at h g = omega arith
   narrow-both d (tree s t f) lifted hi k at h g = go (before k (highOf lifted hi f)) refl (before (lifted ++ s) k) refl (narrow-both d f lifted hi k at h g)
     where
       go : (x : Bool) → before k (highOf lifted hi f) ≡ x → (y : Bool) → before (lifted ++ s) k ≡ y
-          → sizeAt d (edgeIn fresh false f lifted hi k at) + sizeAt d (restIn f lifted hi k) ≤ kidsSize f
-          → sizeAt d (edgeIn fresh false (tree s t f) lifted hi k at) + sizeAt d (restIn (tree s t f) lifted hi k) ≤ kidsSize (tree s t f)
+          → sizeAt d (edgeIn fresh false f lifted hi k at) + sizeAt d (restIn f lifted hi k) ≤ branchesSize f
+          → sizeAt d (edgeIn fresh false (tree s t f) lifted hi k at) + sizeAt d (restIn (tree s t f) lifted hi k) ≤ branchesSize (tree s t f)
       go true a true b ih = rw (a, b) (omega (arith, narrow-size d t (lifted ++ s) (highOf lifted hi f) k at, size-raise d lifted f h))
       go true a false b ih = rw (a, b, length-append lifted s) (omega (arith, size-raise d lifted f h))
       go false a y b ih = rw a (omega arith)
@@ -357,7 +357,7 @@ module _ (fresh : ℕ → ℕ) where
 
   module _ (w : Bool) where
     -- a part's high pivot begins with the cut, where the whole's does
-    pub narrow-high : {h : ℕ} (f : Forest) (lifted lo hi k : List ℕ) → Kids h f lifted lo hi → w || begins k hi ≡ true → before k (highOf lifted hi f) ≡ true
+    pub narrow-high : {h : ℕ} (f : Forest) (lifted lo hi k : List ℕ) → Branches h f lifted lo hi → w || begins k hi ≡ true → before k (highOf lifted hi f) ≡ true
         → w || begins k (highOf lifted hi f) ≡ true
     unfolding highOf
     narrow-high end lifted lo hi k g e b = e
@@ -370,7 +370,7 @@ module _ (fresh : ℕ → ℕ) where
             (between-begins k hi (lifted ++ s) (before-asym k (lifted ++ s) b) (under-high lo hi (lifted ++ s) (parts s t f lifted lo hi (g .sounds) .owned)))
 
     right-fits : {h : ℕ} (f : Forest) (lo hi k : List ℕ) (at at′ : ℕ) (l : Forest) (v : Bool) → before lo k ≡ true → length k ≤ pivotLimit → v || begins k hi ≡ true
-        → kidsSize f ≤ entriesLimit → shortIn f ≡ true → fitsIn f ≡ true
+        → branchesSize f ≤ entriesLimit → shortIn f ≡ true → fitsIn f ≡ true
         → before k hi ≡ true
         → Cuts h lo k hi l (edgeIn fresh v f (shared lo hi) hi k at′) (restIn f (shared lo hi) hi k) (rowsIn f (shared lo hi) hi)
         → fitsIn (edgeIn fresh v f (shared lo hi) hi k at′) ≡ true
@@ -405,9 +405,9 @@ module _ (fresh : ℕ → ℕ) where
         → (fits (leftOf fresh (interior i f []) lo hi k at) ≡ true) × (fitsIn (rightOf fresh w (interior i f []) lo hi k at′) ≡ true)
     unfolding leftOf rightOf fits
     inner-fits i f lo hi k at at′ a b n v e c ih =
-        let room : kidsSize f ≤ entriesLimit = leb-true (kidsSize f) entriesLimit (and-left _ _ (and-left _ _ e)) in
-        let short : shortIn f ≡ true = and-right (leb (kidsSize f) entriesLimit) _ (and-left _ _ e) in
-        let fit : fitsIn f ≡ true = and-right (leb (kidsSize f) entriesLimit && shortIn f) _ e in
+        let room : branchesSize f ≤ entriesLimit = leb-true (branchesSize f) entriesLimit (and-left _ _ (and-left _ _ e)) in
+        let short : shortIn f ≡ true = and-right (leb (branchesSize f) entriesLimit) _ (and-left _ _ e) in
+        let fit : fitsIn f ≡ true = and-right (leb (branchesSize f) entriesLimit && shortIn f) _ e in
         let l : Forest = leftIn fresh f (shared lo hi) hi k (suc at) in
         let d : length (shared lo hi) ≤ length (shared lo k) = lifts-low lo k hi a b in (
           node-fits (fresh at) lo k l (omega (arith, left-size (length (shared lo k)) f (shared lo hi) hi k (suc at) d))
@@ -449,15 +449,15 @@ module _ (fresh : ℕ → ℕ) where
       cut-fits (interior i f []) zero lo hi k at at′ g a b n v e = absurd (false≢true (g .level))
       cut-fits (interior i f []) (suc h) lo hi k at at′ g a b n v e =
           inner-fits i f lo hi k at at′ a b n v e (inner-cuts fresh w i f h lo hi k (suc at) (after w at′) g a b)
-          (cut-fits-in f h (shared lo hi) lo hi k (suc at) (after w at′) (inner-kids i f lo hi g) n v
-          (and-right (leb (kidsSize f) entriesLimit && shortIn f) _ e))
+          (cut-fits-in f h (shared lo hi) lo hi k (suc at) (after w at′) (inner-branches i f lo hi g) n v
+          (and-right (leb (branchesSize f) entriesLimit && shortIn f) _ e))
 
-      pub cut-fits-in : (f : Forest) (h : ℕ) (lifted lo hi k : List ℕ) (at at′ : ℕ) → Kids h f lifted lo hi → length k ≤ pivotLimit
+      pub cut-fits-in : (f : Forest) (h : ℕ) (lifted lo hi k : List ℕ) (at at′ : ℕ) → Branches h f lifted lo hi → length k ≤ pivotLimit
           → w || begins k hi ≡ true → fitsIn f ≡ true
           → (fitsIn (leftIn fresh f lifted hi k at) ≡ true) × (fitsIn (edgeIn fresh w f lifted hi k at′) ≡ true)
       cut-fits-in end h lifted lo hi k at at′ g n v e = (refl, refl)
       cut-fits-in (tree s t f) h lifted lo hi k at at′ g n v e =
           step-fits s t f lifted hi k at at′ e
-          (λ x y. cut-fits t h (lifted ++ s) (highOf lifted hi f) k at at′ (kid-first s t f lifted lo hi g) x y n
-          (narrow-high f lifted lo hi k (kid-later s t f lifted lo hi g) v y) (and-left (fits t) _ e))
-          (cut-fits-in f h lifted lo hi k at at′ (kid-later s t f lifted lo hi g) n v (and-right (fits t) _ e))
+          (λ x y. cut-fits t h (lifted ++ s) (highOf lifted hi f) k at at′ (branch-first s t f lifted lo hi g) x y n
+          (narrow-high f lifted lo hi k (branch-later s t f lifted lo hi g) v y) (and-left (fits t) _ e))
+          (cut-fits-in f h lifted lo hi k at at′ (branch-later s t f lifted lo hi g) n v (and-right (fits t) _ e))

@@ -15,7 +15,7 @@ use Rattle.laws.specs.Rising.{one-key}
 use Rattle.laws.specs.LookupTable.{parts, later-none, under-high}
 use Rattle.laws.specs.RowsRising.{every-key, is-true}
 use Rattle.laws.specs.Filter.{keep, upTo, since, keep-append, keep-all, keep-none, every-imp, Rowed, leaf-rowed, leaf-rows, leaf-sound, rowed-low, rowed-high}
-use Rattle.laws.specs.Pieces.{still, levelled, Good, Run, done, more, joined, raise, run-high, run-join, rows-join, high-raise, rows-raise, Kids, kid-first, kid-later, kids-run, node-good, node-rows, over-run, over-rows, inner-kids, inner-first}
+use Rattle.laws.specs.Pieces.{still, levelled, Good, Run, done, more, joined, raise, run-high, run-join, rows-join, high-raise, rows-raise, Branches, branch-first, branch-later, branches-run, node-good, node-rows, over-run, over-rows, inner-branches, inner-first}
 use Rattle.slice.specs.Slicing.Slice.{restIn, packed, after, leftOf, leftIn, rightOf, edgeIn}
 use Rattle.laws.specs.Filter.{not-not}
 use Rattle.laws.specs.PushDown.{keys-owned}
@@ -87,7 +87,7 @@ module _ (fresh : ℕ → ℕ) (w : Bool) where
         highRows = packed-rows w (fresh at′) (fresh (suc at′)) (c .edges) (c .rests) ∙ c .highsRows;
       }
 
-  module _ (s : List ℕ) (t : Tree) (f : Forest) (h : ℕ) (lifted lo hi k : List ℕ) (at at′ : ℕ) (kids : Kids h (tree s t f) lifted lo hi) where
+  module _ (s : List ℕ) (t : Tree) (f : Forest) (h : ℕ) (lifted lo hi k : List ℕ) (at at′ : ℕ) (branches : Branches h (tree s t f) lifted lo hi) where
     -- the child holds the cut strictly inside
     cut-inside : before k (highOf lifted hi f) ≡ true → before (lifted ++ s) k ≡ true
         → Cut h (lifted ++ s) k (highOf lifted hi f) (leftOf fresh t (lifted ++ s) (highOf lifted hi f) k at)
@@ -96,8 +96,8 @@ module _ (fresh : ℕ → ℕ) (w : Bool) where
         (restIn (tree s t f) lifted hi k) (rowsIn (tree s t f) lifted hi)
     unfolding leftIn edgeIn restIn rowsIn highOf
     cut-inside x y c =
-        let later : Kids h f lifted lo hi = kid-later s t f lifted lo hi kids in
-        let run : Run h (raise lifted f) (highOf lifted hi f) hi = kids-run f lifted lo hi later in
+        let later : Branches h f lifted lo hi = branch-later s t f lifted lo hi branches in
+        let run : Run h (raise lifted f) (highOf lifted hi f) hi = branches-run f lifted lo hi later in
         let z : highOf [] hi (raise lifted f) ≡ highOf lifted hi f = high-raise lifted hi f in
         let keys : everyKey (since k) (rowsIn f lifted hi) ≡ true =
         keys-since f lifted lo hi k (later .sounds) (before-asym k (highOf lifted hi f) x) in
@@ -123,12 +123,12 @@ module _ (fresh : ℕ → ℕ) (w : Bool) where
     unfolding leftIn edgeIn restIn highOf joined raise rowsIn
     cut-at x y a =
         let e : lifted ++ s ≡ k = one-key (lifted ++ s) k y a in
-        let keys : everyKey (since k) (rowsIn (tree s t f) lifted hi) ≡ true = keys-since (tree s t f) lifted lo hi k (kids .sounds) y in
+        let keys : everyKey (since k) (rowsIn (tree s t f) lifted hi) ≡ true = keys-since (tree s t f) lifted lo hi k (branches .sounds) y in
         rw (x, y)
         (record {
           lows = subst (λ q. Run h end (lifted ++ s) q) e done;
           edges = subst (λ q. Run h end q (lifted ++ s)) e done;
-          rests = kids-run (tree s t f) lifted lo hi kids;
+          rests = branches-run (tree s t f) lifted lo hi branches;
           lowsRows = sym (keep-none (upTo k) (rowsIn (tree s t f) lifted hi) keys);
           highsRows = rows-raise lifted hi (tree s t f) ∙ sym (keep-all (since k) (rowsIn (tree s t f) lifted hi) keys);
         })
@@ -140,12 +140,12 @@ module _ (fresh : ℕ → ℕ) (w : Bool) where
         (restIn (tree s t f) lifted hi k) (rowsIn (tree s t f) lifted hi)
     unfolding leftIn edgeIn restIn rowsIn
     cut-past x c =
-        let first : Good h t (lifted ++ s) (highOf lifted hi f) = kid-first s t f lifted lo hi kids in
+        let first : Good h t (lifted ++ s) (highOf lifted hi f) = branch-first s t f lifted lo hi branches in
         let keys : everyKey (upTo k) (rows t (lifted ++ s) (highOf lifted hi f)) ≡ true =
         keys-before t (lifted ++ s) (highOf lifted hi f) k (first .sound) x in
         rw x
         (record {
-          lows = more (parts s t f lifted lo hi (kids .sounds) .rises) first (c .lows);
+          lows = more (parts s t f lifted lo hi (branches .sounds) .rises) first (c .lows);
           edges = c .edges;
           rests = c .rests;
           lowsRows =
@@ -213,20 +213,20 @@ module _ (fresh : ℕ → ℕ) (w : Bool) where
     cut-tree (interior i f []) (suc h) lo hi k at at′ g a b =
         cut-inner i f h lo hi k at at′ g a
         (cuts-first (highOf (shared lo hi) hi f) lo (inner-first i f lo hi g)
-        (cut-forest f h (shared lo hi) lo hi k (suc at) (after w at′) (inner-kids i f lo hi g)
+        (cut-forest f h (shared lo hi) lo hi k (suc at) (after w at′) (inner-branches i f lo hi g)
         (rw (inner-first i f lo hi g) (before-asym lo k a)) b))
 
-    pub cut-forest : (f : Forest) (h : ℕ) (lifted lo hi k : List ℕ) (at at′ : ℕ) → Kids h f lifted lo hi → before k (highOf lifted hi f) ≡ false → before k hi ≡ true
+    pub cut-forest : (f : Forest) (h : ℕ) (lifted lo hi k : List ℕ) (at at′ : ℕ) → Branches h f lifted lo hi → before k (highOf lifted hi f) ≡ false → before k hi ≡ true
         → Cuts h (highOf lifted hi f) k hi (leftIn fresh f lifted hi k at) (edgeIn fresh w f lifted hi k at′) (restIn f lifted hi k) (rowsIn f lifted hi)
     cut-forest end h lifted lo hi k at at′ g a b = absurd (at-end lifted hi k b a)
     cut-forest (tree s t f) h lifted lo hi k at at′ g a b =
         cuts-first (lifted ++ s) (highOf lifted hi (tree s t f)) (high-first lifted hi s t f)
         (cut-step s t f h lifted lo hi k at at′ g (at-first lifted hi k s t f a)
-        (λ x y. cut-tree t h (lifted ++ s) (highOf lifted hi f) k at at′ (kid-first s t f lifted lo hi g) x y)
-        (λ x. cut-forest f h lifted lo hi k at at′ (kid-later s t f lifted lo hi g) x b))
+        (λ x y. cut-tree t h (lifted ++ s) (highOf lifted hi f) k at at′ (branch-first s t f lifted lo hi g) x y)
+        (λ x. cut-forest f h lifted lo hi k at at′ (branch-later s t f lifted lo hi g) x b))
 
   pub inner-cuts : (i : ℕ) (f : Forest) (h : ℕ) (lo hi k : List ℕ) (at at′ : ℕ) → Good (suc h) (interior i f []) lo hi → before lo k ≡ true → before k hi ≡ true
       → Cuts h lo k hi (leftIn fresh f (shared lo hi) hi k at) (edgeIn fresh w f (shared lo hi) hi k at′) (restIn f (shared lo hi) hi k) (rowsIn f (shared lo hi) hi)
   inner-cuts i f h lo hi k at at′ g a b =
       cuts-first (highOf (shared lo hi) hi f) lo (inner-first i f lo hi g)
-      (cut-forest f h (shared lo hi) lo hi k at at′ (inner-kids i f lo hi g) (rw (inner-first i f lo hi g) (before-asym lo k a)) b)
+      (cut-forest f h (shared lo hi) lo hi k at at′ (inner-branches i f lo hi g) (rw (inner-first i f lo hi g) (before-asym lo k a)) b)

@@ -11,7 +11,7 @@ use borrow.Author.Tests.{leb-true, eqb-true, eq-eqb}
 use Rattle.image.specs.Bytes.{before, shared}
 use Rattle.image.specs.Entry.{Message, pivotLimit}
 use Rattle.image.specs.Table.{Row, underPrefix}
-use Rattle.image.specs.Image.{Tree, unread, leaf, interior, Forest, end, tree, Kid, Inside, nodeBytes, nodeEntries, pairsOf, insideOf, forestOf, leafOf, interiorOf, orNone, treeAt, entriesLimit}
+use Rattle.image.specs.Image.{Tree, unread, leaf, interior, Forest, end, tree, Branch, Inside, nodeBytes, nodeEntries, pairsOf, insideOf, forestOf, leafOf, interiorOf, orNone, treeAt, entriesLimit}
 use Rattle.image.specs.Meaning.{highOf}
 use Rattle.image.specs.Sound.{soundTree, numbers, isIn}
 use Rattle.octets.specs.Order.{and-left, and-right}
@@ -19,12 +19,12 @@ use Rattle.laws.specs.Frame.{Keeps, tree-stays}
 use Rattle.laws.specs.WriteNode.{writeNode, write-length, write-same, write-other}
 use Rattle.laws.specs.Encode.{bytesOfAll}
 use Rattle.laws.specs.Filter.{keep, upTo, lowerRows}
-use Rattle.laws.specs.Pieces.{still, levelled, Good, Kids, kid-first, kid-later, inner-kids, lower, node}
+use Rattle.laws.specs.Pieces.{still, levelled, Good, Branches, branch-first, branch-later, inner-branches, lower, node}
 use Rattle.slice.specs.Slicing.Slice.{leftOf, leftIn}
 use Rattle.slice.specs.Slicing.SliceNumbers.{one, hits, met, metIn, hits-met, spent, left-numbers-in}
-use Rattle.slice.specs.Slicing.SliceFits.{pairsSize, kidsSize, shortIn, fits, fitsIn, cut-fits}
+use Rattle.slice.specs.Slicing.SliceFits.{pairsSize, branchesSize, shortIn, fits, fitsIn, cut-fits}
 use Rattle.laws.specs.Page.{page, numberOf, pairEntries, childEntries, page-length, number-read}
-use Rattle.slice.specs.Slicing.ReadBack.{ReadsIn, pairs-size, kids-size, leaf-read, node-read}
+use Rattle.slice.specs.Slicing.ReadBack.{ReadsIn, pairs-size, branches-size, leaf-read, node-read}
 
 -- the page of a settled node
 unfoldable pub pageOf : ℕ → Tree → List ℕ
@@ -37,7 +37,7 @@ unfolding pageOf fits
 pageOf-full h (unread i) e = length-replicate {A = ℕ} 1024 0
 pageOf-full h (leaf i rs) e = page-length 0x0001 h (bytesOfAll (pairEntries rs)) (omega (arith, pairs-size rs, leb-true (pairsSize rs) 1016 e))
 pageOf-full h (interior i f ms) e =
-    page-length 0x0002 h (bytesOfAll (childEntries f)) (omega (arith, kids-size f, leb-true (kidsSize f) 1016 (and-left _ _ (and-left _ _ e))))
+    page-length 0x0002 h (bytesOfAll (childEntries f)) (omega (arith, branches-size f, leb-true (branchesSize f) 1016 (and-left _ _ (and-left _ _ e))))
 
 -- a tree stays where its nodes' bytes stay
 pub in-hits : (j : ℕ) (is : List ℕ) → isIn j is ≡ true → 1 ≤ hits j is
@@ -70,7 +70,7 @@ childrenOf (unread i) = end
 childrenOf (leaf i rs) = end
 childrenOf (interior i f ms) = f
 
-reads-forest : (under : ℕ → Tree) → ((j : ℕ) → numberOf (under j) ≡ j) → (ks : List Kid) → ReadsIn under (forestOf under ks)
+reads-forest : (under : ℕ → Tree) → ((j : ℕ) → numberOf (under j) ≡ j) → (ks : List Branch) → ReadsIn under (forestOf under ks)
 unfolding ReadsIn forestOf
 reads-forest under g [] = tt
 reads-forest under g (k ∷ ks) = (ap under (g (k .number)), reads-forest under g ks)
@@ -81,11 +81,11 @@ reads-children l s i = go (orNone insideOf (nodeEntries 0x0002 (suc (suc l)) (no
   where
     go : (o : Option Inside) → ReadsIn (λ j. treeAt (suc l) s j) (childrenOf (interiorOf (λ j. treeAt (suc l) s j) i o))
     go none = unfold interiorOf childrenOf ReadsIn in tt
-    go (some x) = unfold interiorOf childrenOf in (reads-forest (λ j. treeAt (suc l) s j) (λ j. number-read (suc l) s j) (x .kids))
+    go (some x) = unfold interiorOf childrenOf in (reads-forest (λ j. treeAt (suc l) s j) (λ j. number-read (suc l) s j) (x .branches))
 
-pub kids-read : (l : ℕ) (s : List ℕ) (i n : ℕ) (f : Forest) (ms : List Message) → treeAt (suc (suc l)) s i ≡ interior n f ms → ReadsIn (λ j. treeAt (suc l) s j) f
+pub branches-read : (l : ℕ) (s : List ℕ) (i n : ℕ) (f : Forest) (ms : List Message) → treeAt (suc (suc l)) s i ≡ interior n f ms → ReadsIn (λ j. treeAt (suc l) s j) f
 unfolding childrenOf
-kids-read l s i n f ms e = subst (λ x. ReadsIn (λ j. treeAt (suc l) s j) (childrenOf x)) e (reads-children l s i)
+branches-read l s i n f ms e = subst (λ x. ReadsIn (λ j. treeAt (suc l) s j) (childrenOf x)) e (reads-children l s i)
 
 is-inner : Tree → Bool
 is-inner (unread i) = false
@@ -116,8 +116,8 @@ node-done l s n lo hi g room fit new reads =
     let f : Forest = lower (shared lo hi) g in
     let pg : List ℕ = page 0x0002 (suc (suc l)) (bytesOfAll (childEntries f)) in
     let full : length pg ≡ 1024 = pageOf-full (suc (suc l)) (interior n f []) fit in
-    node-read (writeNode s n pg) l n f (write-same s n pg room full) (leb-true (kidsSize f) 1016 (and-left _ _ (and-left _ _ fit)))
-    (and-right (leb (kidsSize f) 1016) _ (and-left _ _ fit))
+    node-read (writeNode s n pg) l n f (write-same s n pg room full) (leb-true (branchesSize f) 1016 (and-left _ _ (and-left _ _ fit)))
+    (and-right (leb (branchesSize f) 1016) _ (and-left _ _ fit))
     (reads-lower (λ j. treeAt (suc l) (writeNode s n pg) j) (shared lo hi) g
     (stays-in (suc l) s (writeNode s n pg) g reads (λ j h. write-other s n pg room full j (λ q. never j q h))))
   where
@@ -266,18 +266,18 @@ module _ (fresh : ℕ → ℕ) where
       left-written (interior i f []) (suc (suc l)) lo hi k at s big g e a b short r d =
           left-inner i f l lo hi k at s (leftWriteIn f (suc l) (shared lo hi) hi k (suc at) s) (omega (arith, room at))
           (cut-fits fresh true (interior i f []) (suc (suc l)) lo hi k at 0 g a b short refl e .0)
-          (omega (arith, left-numbers-in (fresh at) fresh f (suc l) (shared lo hi) hi k (suc at) (inner-kids i f lo hi g .levels), own-new i f [] (suc l) at (d (fresh at))))
+          (omega (arith, left-numbers-in (fresh at) fresh f (suc l) (shared lo hi) hi k (suc at) (inner-branches i f lo hi g .levels), own-new i f [] (suc l) at (d (fresh at))))
           refl
-          (left-written-in f (suc l) (shared lo hi) lo hi k (suc at) s big (inner-kids i f lo hi g) (and-right (leb (kidsSize f) entriesLimit && shortIn f) _ e) short
-          (kids-read l s (numberOf (interior i f [])) i f [] r) (λ j. less-met i f [] (suc l) at j (d j)))
+          (left-written-in f (suc l) (shared lo hi) lo hi k (suc at) s big (inner-branches i f lo hi g) (and-right (leb (branchesSize f) entriesLimit && shortIn f) _ e) short
+          (branches-read l s (numberOf (interior i f [])) i f [] r) (λ j. less-met i f [] (suc l) at j (d j)))
 
-      pub left-written-in : (f : Forest) (h : ℕ) (lifted lo hi k : List ℕ) (at : ℕ) (s : List ℕ) → n ≤ length s → Kids h f lifted lo hi → fitsIn f ≡ true
+      pub left-written-in : (f : Forest) (h : ℕ) (lifted lo hi k : List ℕ) (at : ℕ) (s : List ℕ) → n ≤ length s → Branches h f lifted lo hi → fitsIn f ≡ true
           → length k ≤ pivotLimit → ReadsIn (λ j. treeAt h s j) f → ((j : ℕ) → metIn j f + spent fresh j h at ≤ 1)
           → LeftDoneIn s (leftWriteIn f h lifted hi k at s) h at (leftIn fresh f lifted hi k at)
       left-written-in end h lifted lo hi k at s big g e short r d = record { onlyIn = only-none fresh s h at; readsIn = tt }
       left-written-in (tree q t f) h lifted lo hi k at s big g e short r d =
-          step-written q t f h lifted hi k at s (kid-first q t f lifted lo hi g .level) (r .0) d
-          (λ x y. left-written t h (lifted ++ q) (highOf lifted hi f) k at s big (kid-first q t f lifted lo hi g) (and-left (fits t) _ e) x y short (r .0)
+          step-written q t f h lifted hi k at s (branch-first q t f lifted lo hi g .level) (r .0) d
+          (λ x y. left-written t h (lifted ++ q) (highOf lifted hi f) k at s big (branch-first q t f lifted lo hi g) (and-left (fits t) _ e) x y short (r .0)
           (λ j. first-met q t f j (spent fresh j h at) (d j)))
-          (left-written-in f h lifted lo hi k at s big (kid-later q t f lifted lo hi g) (and-right (fits t) _ e) short (r .1)
+          (left-written-in f h lifted lo hi k at s big (branch-later q t f lifted lo hi g) (and-right (fits t) _ e) short (r .1)
           (λ j. later-met q t f j (spent fresh j h at) (d j)))

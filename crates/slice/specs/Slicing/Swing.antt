@@ -49,12 +49,12 @@ module _ (P : List ℕ) where
   rise-shift : (l hi s : List ℕ) (f : Forest) → before ((P ++ l) ++ s) (highOf (P ++ l) (P ++ hi) f) ≡ before (l ++ s) (highOf l hi f)
   rise-shift l hi s f = rw (append-assoc P l s, high-shift P l hi f) (before-append P (l ++ s) (highOf l hi f))
 
-  kid-shift : (l hi s : List ℕ) (t : Tree) (f : Forest)
+  branch-shift : (l hi s : List ℕ) (t : Tree) (f : Forest)
       → soundTree t ((P ++ l) ++ s) (highOf (P ++ l) (P ++ hi) f) ≡ soundTree t (P ++ (l ++ s)) (P ++ highOf l hi f)
-  kid-shift l hi s t f = rw (append-assoc P l s, high-shift P l hi f)
+  branch-shift l hi s t f = rw (append-assoc P l s, high-shift P l hi f)
 
-  kid-rows : (l hi s : List ℕ) (t : Tree) (f : Forest) → rows t ((P ++ l) ++ s) (highOf (P ++ l) (P ++ hi) f) ≡ rows t (P ++ (l ++ s)) (P ++ highOf l hi f)
-  kid-rows l hi s t f = rw (append-assoc P l s, high-shift P l hi f)
+  branch-rows : (l hi s : List ℕ) (t : Tree) (f : Forest) → rows t ((P ++ l) ++ s) (highOf (P ++ l) (P ++ hi) f) ≡ rows t (P ++ (l ++ s)) (P ++ highOf l hi f)
+  branch-rows l hi s t f = rw (append-assoc P l s, high-shift P l hi f)
 
 module _ (P Q : List ℕ) where
   swing-leaf : (i : ℕ) (rs : List Row) (lo hi : List ℕ) → soundTree (leaf i rs) (P ++ lo) (P ++ hi) ≡ true
@@ -75,20 +75,20 @@ module _ (P Q : List ℕ) where
       let l : List ℕ = shared (P ++ lo) (P ++ hi) in
       let z : l ≡ P ++ shared lo hi = shared-append P lo hi in
       let first : firstPivot l (P ++ lo) f ≡ true = and-left _ _ (and-left _ _ e) in
-      let kids : soundForest f l (P ++ lo) (P ++ hi) ≡ true = and-right (firstPivot l (P ++ lo) f) _ (and-left _ _ e) in
+      let branches : soundForest f l (P ++ lo) (P ++ hi) ≡ true = and-right (firstPivot l (P ++ lo) f) _ (and-left _ _ e) in
       rw (shared-append Q lo hi)
       (both (both (first-shift Q (shared lo hi) lo f ∙ sym (first-shift P (shared lo hi) lo f) ∙ ap (λ x. firstPivot x (P ++ lo) f) (sym z) ∙ first)
-      (on (ap (λ x. soundForest f x (P ++ lo) (P ++ hi)) (sym z) ∙ kids))) refl)
+      (on (ap (λ x. soundForest f x (P ++ lo) (P ++ hi)) (sym z) ∙ branches))) refl)
 
-  swing-kid : (s : List ℕ) (t : Tree) (f : Forest) (l lo hi : List ℕ) → soundForest (tree s t f) (P ++ l) (P ++ lo) (P ++ hi) ≡ true
+  swing-branch : (s : List ℕ) (t : Tree) (f : Forest) (l lo hi : List ℕ) → soundForest (tree s t f) (P ++ l) (P ++ lo) (P ++ hi) ≡ true
       → (soundTree t (P ++ (l ++ s)) (P ++ highOf l hi f) ≡ true → soundTree t (Q ++ (l ++ s)) (Q ++ highOf l hi f) ≡ true)
       → (soundForest f (P ++ l) (P ++ lo) (P ++ hi) ≡ true → soundForest f (Q ++ l) (Q ++ lo) (Q ++ hi) ≡ true)
       → soundForest (tree s t f) (Q ++ l) (Q ++ lo) (Q ++ hi) ≡ true
   unfolding soundForest
-  swing-kid s t f l lo hi e here on =
+  swing-branch s t f l lo hi e here on =
       let p : Parts s t f (P ++ l) (P ++ lo) (P ++ hi) = parts s t f (P ++ l) (P ++ lo) (P ++ hi) e in
       both (both (both (pivot-shift Q l lo hi s ∙ sym (pivot-shift P l lo hi s) ∙ p .owned) (rise-shift Q l hi s f ∙ sym (rise-shift P l hi s f) ∙ p .rises))
-      (kid-shift Q l hi s t f ∙ here (sym (kid-shift P l hi s t f) ∙ p .first))) (on (p .later))
+      (branch-shift Q l hi s t f ∙ here (sym (branch-shift P l hi s t f) ∙ p .first))) (on (p .later))
 
   inner-rows : (i : ℕ) (f : Forest) (lo hi : List ℕ) → everyKey wellFormed (rows (interior i f []) (Q ++ lo) (Q ++ hi)) ≡ true
       → everyKey wellFormed (rowsIn f (Q ++ shared lo hi) (Q ++ hi)) ≡ true
@@ -99,7 +99,7 @@ module _ (P Q : List ℕ) where
       → (everyKey wellFormed (rows t (Q ++ (l ++ s)) (Q ++ highOf l hi f)) ≡ true) × (everyKey wellFormed (rowsIn f (Q ++ l) (Q ++ hi)) ≡ true)
   unfolding rowsIn
   forest-rows s t f l hi e = (
-    ap (everyKey wellFormed) (sym (kid-rows Q l hi s t f)) ∙ every-left wellFormed (rows t ((Q ++ l) ++ s) (highOf (Q ++ l) (Q ++ hi) f)) (rowsIn f (Q ++ l) (Q ++ hi)) e,
+    ap (everyKey wellFormed) (sym (branch-rows Q l hi s t f)) ∙ every-left wellFormed (rows t ((Q ++ l) ++ s) (highOf (Q ++ l) (Q ++ hi) f)) (rowsIn f (Q ++ l) (Q ++ hi)) e,
     every-right wellFormed (rows t ((Q ++ l) ++ s) (highOf (Q ++ l) (Q ++ hi) f)) (rowsIn f (Q ++ l) (Q ++ hi)) e,
   )
 
@@ -122,7 +122,7 @@ module _ (P Q : List ℕ) where
         → everyKey wellFormed (rowsIn f (Q ++ l) (Q ++ hi)) ≡ true → soundForest f (Q ++ l) (Q ++ lo) (Q ++ hi) ≡ true
     swing-sound-in end l lo hi q e g = none-sound (Q ++ l) (Q ++ lo) (Q ++ hi)
     swing-sound-in (tree s t f) l lo hi q e g =
-        swing-kid s t f l lo hi e
+        swing-branch s t f l lo hi e
         (λ h. swing-sound t (l ++ s) (highOf l hi f) (and-left _ _ q) h (forest-rows s t f l hi g .0))
         (λ h. swing-sound-in f l lo hi (and-right (still t) _ q) h (forest-rows s t f l hi g .1))
 
@@ -151,7 +151,7 @@ mutual
   pub rows-formed : (t : Tree) (lo hi : List ℕ) → still t ≡ true → soundTree t lo hi ≡ true → everyKey wellFormed (rows t lo hi) ≡ true
   rows-formed (unread i) lo hi q e = refl
   rows-formed (leaf i rs) lo hi q e = leaf-formed i rs lo hi e
-  rows-formed (interior i f []) lo hi q e = rows-formed-in f (shared lo hi) lo hi q (inner i f [] lo hi e .kids)
+  rows-formed (interior i f []) lo hi q e = rows-formed-in f (shared lo hi) lo hi q (inner i f [] lo hi e .branches)
   rows-formed (interior i f (m ∷ ms)) lo hi q e = absurd (false≢true q)
 
   pub rows-formed-in : (f : Forest) (l lo hi : List ℕ) → stillIn f ≡ true → soundForest f l lo hi ≡ true → everyKey wellFormed (rowsIn f l hi) ≡ true

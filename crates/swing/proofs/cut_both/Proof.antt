@@ -25,6 +25,9 @@ slice-aggregate-cut-range c = search needs
 cut-range-requires : tie.Need-cut-range-requires
 cut-range-requires c κs = (high-asked _ _ _ _ _ (c .before .before .before .before .before .before .before .before .before .before .before .before .pre .0) _ (c .before .before .before .before .u16-at .ensures .0), c .before .before .before .before .before .before .before .before .before .before .before .before .pre .2)
 
+mul-next : tie.Need-mul-next
+mul-next c = search needs
+
 sub-cut-range : tie.Need-sub-cut-range
 sub-cut-range c = search needs
 
@@ -33,9 +36,6 @@ part-cut-range-start c = search needs
 
 part-cut-range-end : tie.Need-part-cut-range-end
 part-cut-range-end c = search needs
-
-mul-cut-range : tie.Need-mul-cut-range
-mul-cut-range c = search needs
 
 cut-range-requires-2 : tie.Need-cut-range-requires-2
 cut-range-requires-2 c κs = (low-asked _ _ _ _ _ (c .before .before .before .before .before .before .before .before .before .before .before .before .before .before .before .before .before .before .before .before .pre .0) _ (c .before .before .before .before .before .before .before .before .before .before .before .before .u16-at .ensures .0) _ _ _ (c .before .before .before .before .before .before .before .cut-range .ensures) _ (c .before .before .before .before .before .before .before .before .before .before .before .u16-at2 .ensures .0), c .before .before .before .before .before .before .before .before .before .before .before .before .before .before .before .before .before .before .before .before .pre .1)
@@ -63,10 +63,10 @@ cut-both-spec =
     sub-n
     slice-aggregate-cut-range
     cut-range-requires
+    mul-next
     sub-cut-range
     part-cut-range-start
     part-cut-range-end
-    mul-cut-range
     cut-range-requires-2
     same-length
     same-length-2

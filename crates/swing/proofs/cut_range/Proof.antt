@@ -45,17 +45,8 @@ part-slice-right-start c = search needs
 part-slice-right-end : tie.Need-part-slice-right-end
 part-slice-right-end c = search needs
 
-sub-slice-right-2 : tie.Need-sub-slice-right-2
-sub-slice-right-2 c = search needs
-
-part-slice-right-start-2 : tie.Need-part-slice-right-start-2
-part-slice-right-start-2 c = search needs
-
-part-slice-right-end-2 : tie.Need-part-slice-right-end-2
-part-slice-right-end-2 c = search needs
-
 slice-right-requires : tie.Need-slice-right-requires
-slice-right-requires c κs = (then-right _ _ _ _ _ _ _ (c .before .before .before .before .before .before .before .before .before .before .before .before .before .before .before .pre .0) _ (c .before .before .before .before .before .before .slice-left .ensures), top-bare _, omega (arith, c .before .before .before .before .before .before .before .before .before .before .before .before .before .before .before .pre .1), omega (arith, c .before .before .before .before .before .before .before .before .before .before .before .before .before .before .before .pre .1, c .before .before .before .before .before .before .before .before .before .before .before .before .before .before .before .pre .0 .short))
+slice-right-requires c κs = (then-right _ _ _ _ _ _ _ (c .before .before .before .before .before .before .before .before .before .before .before .before .before .before .pre .0) _ (c .before .before .before .before .before .slice-left .ensures), omega (arith, c .before .before .before .before .before .before .before .before .before .before .before .before .before .before .pre .1), omega (arith, c .before .before .before .before .before .before .before .before .before .before .before .before .before .before .pre .1, c .before .before .before .before .before .before .before .before .before .before .before .before .before .before .pre .0 .short))
 
 sub-slice-left-2 : tie.Need-sub-slice-left-2
 sub-slice-left-2 c = search needs
@@ -76,7 +67,7 @@ part-slice-left-end-3 : tie.Need-part-slice-left-end-3
 part-slice-left-end-3 c = search needs
 
 slice-left-requires-2 : tie.Need-slice-left-requires-2
-slice-left-requires-2 c κs = (then-inner _ _ _ _ _ _ _ (c .before .before .before .before .before .before .before .before .before .before .before .before .before .before .before .before .before .before .before .before .before .before .before .pre .0) _ (c .before .before .before .before .before .before .before .before .before .before .before .before .before .before .slice-left .ensures) _ _ _ (c .before .before .before .before .before .before .before .slice-right .ensures) _ (c .before .before .before .before .before .before .before .before .before .before .before .before .before .before .before .before .before .u16-at .ensures .0), top-bare _)
+slice-left-requires-2 c κs = (then-inner _ _ _ _ _ _ _ (c .before .before .before .before .before .before .before .before .before .before .before .before .before .before .before .before .before .before .before .before .before .before .pre .0) _ (c .before .before .before .before .before .before .before .before .before .before .before .before .before .slice-left .ensures) _ _ _ (c .before .before .before .before .before .before .before .slice-right .ensures) _ (c .before .before .before .before .before .before .before .before .before .before .before .before .before .before .before .before .u16-at .ensures .0), top-bare _)
 
 same-length : tie.Need-same-length
 same-length c = search needs
@@ -85,7 +76,7 @@ same-length-2 : tie.Need-same-length-2
 same-length-2 c = search needs
 
 returns : tie.Need-returns
-returns c = range-done _ _ _ _ _ _ _ (c .before .before .before .before .before .before .before .before .before .before .before .before .before .before .before .before .before .before .before .before .before .before .before .before .before .before .pre .0) _ (c .before .before .before .before .before .before .before .before .before .before .before .before .before .before .before .before .before .slice-left .ensures) _ _ _ (c .before .before .before .before .before .before .before .before .before .before .slice-right .ensures) _ (c .before .before .before .before .before .before .before .before .before .before .before .before .before .before .before .before .before .before .before .before .u16-at .ensures .0) _ (c .before .before .slice-left2 .ensures)
+returns c = range-done _ _ _ _ _ _ _ (c .before .before .before .before .before .before .before .before .before .before .before .before .before .before .before .before .before .before .before .before .before .before .before .before .before .pre .0) _ (c .before .before .before .before .before .before .before .before .before .before .before .before .before .before .before .before .slice-left .ensures) _ _ _ (c .before .before .before .before .before .before .before .before .before .before .slice-right .ensures) _ (c .before .before .before .before .before .before .before .before .before .before .before .before .before .before .before .before .before .before .before .u16-at .ensures .0) _ (c .before .before .slice-left2 .ensures)
 
 pub cut-range-spec : {M : Type 1} → statement M
 cut-range-spec =
@@ -104,9 +95,6 @@ cut-range-spec =
     sub-slice-right
     part-slice-right-start
     part-slice-right-end
-    sub-slice-right-2
-    part-slice-right-start-2
-    part-slice-right-end-2
     slice-right-requires
     sub-slice-left-2
     part-slice-left-start-2

@@ -1,6 +1,5 @@
 -- `take_out` meets its contract: the tail, then the gap. Relies on specs/Code.
 use Rattle.swing.specs.Code.{tail-asked, front-short, gap-asked, out-done}
-use Rattle.slice.specs.Callers.{top-bare}
 use native.Mathlib.Omega.{arith}
 use borrow.Author.Needs.{needs}
 use Rattle.swing.proofs.take_out.Statement.{statement}
@@ -33,20 +32,11 @@ part-slice-right-start-2 c = search needs
 part-slice-right-end-2 : tie.Need-part-slice-right-end-2
 part-slice-right-end-2 c = search needs
 
-sub-slice-right-3 : tie.Need-sub-slice-right-3
-sub-slice-right-3 c = search needs
-
-part-slice-right-start-3 : tie.Need-part-slice-right-start-3
-part-slice-right-start-3 c = search needs
-
-part-slice-right-end-3 : tie.Need-part-slice-right-end-3
-part-slice-right-end-3 c = search needs
-
 slice-aggregate-slice-right : tie.Need-slice-aggregate-slice-right
 slice-aggregate-slice-right c = search needs
 
 slice-right-requires : tie.Need-slice-right-requires
-slice-right-requires c κs = (tail-asked _ _ _ _ _ (c .before .before .before .before .before .before .before .before .pre), top-bare _, search needs, omega (arith, front-short _ _ _ _ _ (c .before .before .before .before .before .before .before .before .pre)))
+slice-right-requires c κs = (tail-asked _ _ _ _ _ (c .before .before .before .before .before .before .before .pre), search needs, omega (arith, front-short _ _ _ _ _ (c .before .before .before .before .before .before .before .pre)))
 
 sub-write-gap : tie.Need-sub-write-gap
 sub-write-gap c = search needs
@@ -58,13 +48,13 @@ part-write-gap-end : tie.Need-part-write-gap-end
 part-write-gap-end c = search needs
 
 write-gap-requires : tie.Need-write-gap-requires
-write-gap-requires c κs = gap-asked _ _ _ _ _ (c .before .before .before .before .before .before .before .before .before .before .before .before .before .before .pre) _ _ _ (c .before .before .before .before .before .slice-right .ensures)
+write-gap-requires c κs = gap-asked _ _ _ _ _ (c .before .before .before .before .before .before .before .before .before .before .before .before .before .pre) _ _ _ (c .before .before .before .before .before .slice-right .ensures)
 
 same-length : tie.Need-same-length
 same-length c = search needs
 
 returns : tie.Need-returns
-returns c = out-done _ _ _ _ _ (c .before .before .before .before .before .before .before .before .before .before .before .before .before .before .before .before .before .pre) _ _ _ (c .before .before .before .before .before .before .before .before .slice-right .ensures) _ (c .before .before .write-gap .ensures)
+returns c = out-done _ _ _ _ _ (c .before .before .before .before .before .before .before .before .before .before .before .before .before .before .before .before .pre) _ _ _ (c .before .before .before .before .before .before .before .before .slice-right .ensures) _ (c .before .before .write-gap .ensures)
 
 pub take-out-spec : {M : Type 1} → statement M
 take-out-spec =
@@ -79,9 +69,6 @@ take-out-spec =
     sub-slice-right-2
     part-slice-right-start-2
     part-slice-right-end-2
-    sub-slice-right-3
-    part-slice-right-start-3
-    part-slice-right-end-3
     slice-aggregate-slice-right
     slice-right-requires
     sub-write-gap

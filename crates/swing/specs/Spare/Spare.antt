@@ -1,5 +1,5 @@
--- The numbers of the nodes that are not marked; with the marks of the check they are the free nodes, rising.
--- Relies on tree_check's Holds (what the marks say) and on moving's free list.
+-- The numbers of the nodes that are not marked; with the marks of the nodes in use they are the free nodes, rising.
+-- Relies on tree_check's Marks (what the marks say) and on moving's free list.
 use Prim.Native.Nat.{ℕ, zero, suc, _+_, _-_, _≤_, _<_}
 use mathlib.Core.Path.{_≡_, refl, sym, ap, _∙_}
 use mathlib.Core.List.{List, [], _∷_}
@@ -12,8 +12,7 @@ use Rattle.image.specs.Image.{nodesOf, treeOf}
 use Rattle.image.specs.Sound.{isIn, numbers}
 use Rattle.packed.specs.Build.HandedLaws.{listed-length}
 use Rattle.packed.specs.Build.Handed.{listed}
-use Rattle.tree_check.specs.declared.Tally.{Tally}
-use Rattle.tree_check.specs.Callers.{Holds}
+use Rattle.tree_check.specs.Whole.{Marks}
 use Rattle.slice.specs.Moving.FreeList.{freeFrom, freeList}
 
 -- of the c numbers from i up, those whose byte is 0
@@ -32,16 +31,16 @@ unmarked-free seen is (suc c) i h =
     go true q m ih = let z : getD seen i 0 ≡ 1 = m ∙ rw q in rw (ne-eqb (getD seen i 0) 0 (λ e. omega arith), q) ih
     go false q m ih = let z : getD seen i 0 ≡ 0 = m ∙ rw q in rw (eq-eqb (getD seen i 0) 0 z, q) (ap (λ l. i ∷ l) ih)
 
--- the marks of the check show the free nodes
-pub marks-free : (s seen : List ℕ) (t : Tally) (n : ℕ) → Holds s t seen → n ≡ nodesOf (length s) → 1 ≤ n → unmarked (n - 1) 1 seen ≡ freeList s
+-- the marks show the free nodes
+pub marks-free : (s seen : List ℕ) (n : ℕ) → Marks s seen → n ≡ nodesOf (length s) → 1 ≤ n → unmarked (n - 1) 1 seen ≡ freeList s
 unfolding freeList
-marks-free s seen t n h e some =
-    unmarked-free seen (numbers (treeOf s)) (n - 1) 1 (λ j a b. h .reached j (omega arith)) ∙ ap (λ k. freeFrom (k - 1) 1 (numbers (treeOf s))) e
+marks-free s seen n h e some =
+    unmarked-free seen (numbers (treeOf s)) (n - 1) 1 (λ j a b. h .marked j (omega arith)) ∙ ap (λ k. freeFrom (k - 1) 1 (numbers (treeOf s))) e
 
--- what free_list answers, on a checked store
-pub free-listed : (s seen bytes : List ℕ) (t : Tally) (n r : ℕ) → Holds s t seen → n ≡ nodesOf (length s) → 1 ≤ n → listed r bytes 0 ≡ unmarked (n - 1) 1 seen
+-- what free_list answers, on a marked store
+pub free-listed : (s seen bytes : List ℕ) (n r : ℕ) → Marks s seen → n ≡ nodesOf (length s) → 1 ≤ n → listed r bytes 0 ≡ unmarked (n - 1) 1 seen
     → listed r bytes 0 ≡ freeList s
-free-listed s seen bytes t n r h e some l = l ∙ marks-free s seen t n h e some
+free-listed s seen bytes n r h e some l = l ∙ marks-free s seen n h e some
 
 pub free-count : (s bytes : List ℕ) (r : ℕ) → listed r bytes 0 ≡ freeList s → r ≡ length (freeList s)
 free-count s bytes r e = sym (listed-length r bytes 0) ∙ ap length e

@@ -1,18 +1,19 @@
 -- The cycle of the check: a node, the list of children in it, which calls itself for the rest of the list, the last of them with the messages after
 -- it, and one child, which is a node again. The measure: the level first; then for the list what is left of the parent's entries (at most 1,016
 -- bytes), 2 for the last child, 1 for a child, 0 for a node. Relies on the exits in specs (NodeSteps, ChildSteps, HeldSteps).
-use Rattle.tree_check.specs.NodeSteps.{number-low, number-past, reached-before, level-zero, node-leaf, no-first, leads, kids-stop, kids-done}
+use Rattle.tree_check.specs.NodeSteps.{number-low, number-past, reached-before, level-zero, node-leaf, no-first, leads, branches-stop, branches-done}
 use Rattle.tree_check.specs.ChildSteps.{child-out, child-flat, child-walk, last-stops, last-done, next-place}
-use Rattle.tree_check.specs.HeldSteps.{list-last, list-messages, list-unread, list-stops, list-goes}
-use Rattle.tree_check.specs.Held.{flatIs}
+use Rattle.tree_check.specs.HeldSteps.{list-last, list-messages, list-unread, list-stops, list-goes, as-told}
+use Rattle.tree_check.specs.Held.{parentIs}
+use Rattle.tree_check.specs.declared.Parent.{Parent}
 use Rattle.laws.specs.WriteNode.{in-store}
-use Rattle.node.specs.Places.{part, step-read-is}
+use Rattle.node.specs.Places.{part, step-read-is, Within}
 use borrow.Author.Tests.{not-true, not-false}
-use mathlib.Core.Path.{sym, _∙_}
+use mathlib.Core.Path.{sym, ap, subst, _∙_}
 use Rattle.path.specs.Fed.{shapeIs}
 use borrow.Author.Needs.{needs}
 use native.Mathlib.Omega.{arith}
-use Prim.Native.Nat.{ℕ, _<_, _*_, _+_, _-_}
+use Prim.Native.Nat.{ℕ, _<_, _≤_, _*_, _+_, _-_}
 use lib.ListN.{length}
 use borrow.Fn.Kinds.{In}
 use borrow.Fn.PlainCycle.{Measures, is, falls, and}
@@ -33,53 +34,53 @@ use Rattle.octets.proofs.common_length.Reads as common-length-reads
 use Rattle.octets.proofs.owned.Reads as owned-reads
 use Rattle.octets.proofs.precedes.Reads as precedes-reads
 use Rattle.path.proofs.feed.Reads as feed-reads
-use Rattle.node.proofs.search.kid_of.Reads as kid-of-reads
+use Rattle.node.proofs.search.branch_of.Reads as branch-of-reads
 use Rattle.tree_check.proofs.check_leaf.Reads as check-leaf-reads
 use Rattle.tree_check.proofs.check_messages.Reads as check-messages-reads
 use Rattle.tree_check.proofs.first_child.Reads as first-child-reads
 use Rattle.tree_check.proofs.flattened.Reads as flattened-reads
 use Rattle.tree_check.proofs.hold.Reads as hold-reads
 use Rattle.tree_check.proofs.node_count.Reads as node-count-reads
-use Rattle.tree_check.proofs.shape_of.Reads as shape-of-reads
+use Rattle.tree_check.proofs.parent_of.Reads as parent-of-reads
 use Rattle.tree_check.proofs.tally_of.Reads as tally-of-reads
 use Rattle.tree_check.proofs.with_rest.Reads as with-rest-reads
 use Rattle.tree_check.proofs.+check_child+check_children+check_last+check_node.{statement}
 use Rattle.tree_check.proofs.+check_child+check_children+check_last+check_node.Tie.{close}
 
-abbrev μ-check-child : Measures 6 check-child-kinds.ps ℕ
-μ-check-child κs a = a .1 .1 .1 .1 .0 * 4096 + 1
+abbrev μ-check-child : Measures 5 check-child-kinds.ps ℕ
+μ-check-child κs a = a .1 .1 .1 .1 .0 .level * 4096 + 1
 
-abbrev μ-check-children : Measures 9 check-children-kinds.ps ℕ
-μ-check-children κs a = a .1 .1 .1 .1 .0 * 4096 + 3 + (a .1 .1 .1 .0 .end - a .1 .1 .1 .0 .at)
+abbrev μ-check-children : Measures 7 check-children-kinds.ps ℕ
+μ-check-children κs a = parentIs (a .1 .1 .1 .1 .0 .now) .level * 4096 + 3 + (parentIs (a .1 .1 .1 .1 .0 .now) .end - a .1 .0 .next)
 
 abbrev μ-check-last : Measures 4 check-last-kinds.ps ℕ
-μ-check-last κs a = a .1 .1 .1 .1 .0 * 4096 + 2
+μ-check-last κs a = a .1 .1 .1 .1 .0 .level * 4096 + 2
 
 abbrev μ-check-node : Measures 4 check-node-kinds.ps ℕ
 μ-check-node κs a = a .1 .1 .0 * 4096
 
-abbrev check-child-at : ℕ → In 6 check-child-kinds.ps
+abbrev check-child-at : ℕ → In 5 check-child-kinds.ps
 check-child-at t =
-    and 6 check-child-kinds.ps (is 6 check-child-kinds.ps μ-check-child t) check-child.Pre
+    and 5 check-child-kinds.ps (is 5 check-child-kinds.ps μ-check-child t) check-child.Pre
 
-abbrev check-child-below : ℕ → In 6 check-child-kinds.ps
+abbrev check-child-below : ℕ → In 5 check-child-kinds.ps
 check-child-below t =
-    and 6 check-child-kinds.ps (falls 6 check-child-kinds.ps _<_ μ-check-child t) check-child.Pre
+    and 5 check-child-kinds.ps (falls 5 check-child-kinds.ps _<_ μ-check-child t) check-child.Pre
 
-abbrev check-children-at : ℕ → In 9 check-children-kinds.ps
+abbrev check-children-at : ℕ → In 7 check-children-kinds.ps
 check-children-at t =
     and
-    9
+    7
     check-children-kinds.ps
-    (is 9 check-children-kinds.ps μ-check-children t)
+    (is 7 check-children-kinds.ps μ-check-children t)
     check-children.Pre
 
-abbrev check-children-below : ℕ → In 9 check-children-kinds.ps
+abbrev check-children-below : ℕ → In 7 check-children-kinds.ps
 check-children-below t =
     and
-    9
+    7
     check-children-kinds.ps
-    (falls 9 check-children-kinds.ps _<_ μ-check-children t)
+    (falls 7 check-children-kinds.ps _<_ μ-check-children t)
     check-children.Pre
 
 abbrev check-last-at : ℕ → In 4 check-last-kinds.ps
@@ -97,6 +98,48 @@ check-node-at t =
 abbrev check-node-below : ℕ → In 4 check-node-kinds.ps
 check-node-below t =
     and 4 check-node-kinds.ps (falls 4 check-node-kinds.ps _<_ μ-check-node t) check-node.Pre
+
+check-child-sub-owned : (t : ℕ) → check-child-lts.Need-sub-owned (
+  owned-reads.Asked,
+  owned-reads.Learnt,
+  precedes-reads.Asked,
+  precedes-reads.Learnt,
+  common-length-reads.Asked,
+  common-length-reads.Learnt,
+  feed-reads.Asked,
+  feed-reads.Learnt,
+  check-node-below t,
+  check-node.Post,
+) (check-child-at t) check-child.Post
+check-child-sub-owned t c = let w = c .before .before .before .before .before .pre .1 .1 in omega arith
+
+check-child-part-owned-start : (t : ℕ) → check-child-lts.Need-part-owned-start (
+  owned-reads.Asked,
+  owned-reads.Learnt,
+  precedes-reads.Asked,
+  precedes-reads.Learnt,
+  common-length-reads.Asked,
+  common-length-reads.Learnt,
+  feed-reads.Asked,
+  feed-reads.Learnt,
+  check-node-below t,
+  check-node.Post,
+) (check-child-at t) check-child.Post
+check-child-part-owned-start t c = let w = c .before .before .before .before .before .pre .1 .1 in omega arith
+
+check-child-part-owned-end : (t : ℕ) → check-child-lts.Need-part-owned-end (
+  owned-reads.Asked,
+  owned-reads.Learnt,
+  precedes-reads.Asked,
+  precedes-reads.Learnt,
+  common-length-reads.Asked,
+  common-length-reads.Learnt,
+  feed-reads.Asked,
+  feed-reads.Learnt,
+  check-node-below t,
+  check-node.Post,
+) (check-child-at t) check-child.Post
+check-child-part-owned-end t c = let w = c .before .before .before .before .before .pre .1 .1 in omega arith
 
 check-child-owned-requires : (t : ℕ) → check-child-lts.Need-owned-requires (
   owned-reads.Asked,
@@ -124,7 +167,7 @@ check-child-returns : (t : ℕ) → check-child-lts.Need-returns (
   check-node-below t,
   check-node.Post,
 ) (check-child-at t) check-child.Post
-check-child-returns t c = child-out (c .before .before .before .before .before .before .before .args .level) (c .before .before .before .before .before .before .before .args .store .now) (shapeIs (c .before .before .before .before .before .before .before .args .sh)) (c .before .before .before .before .before .before .before .args .lo .now) (c .before .before .before .before .before .before .before .args .hi .now) (c .before .before .before .before .before .before .before .args .num) (c .before .before .before .before .before .before .before .args .low .now) (c .before .before .before .before .before .before .before .args .high .now) (c .before .before .before .before .before .before .before .args .seen .now) _ (c .before .owned .ensures) (not-true _ (c .if1 .taken)) _
+check-child-returns t c = child-out (c .before .before .before .before .before .before .before .before .args .parent .level) (c .before .before .before .before .before .before .before .before .args .store .now) (shapeIs (c .before .before .before .before .before .before .before .before .args .parent .shape)) (part (c .before .before .before .before .before .before .before .before .args .store .now) (c .before .before .before .before .before .before .before .before .args .parent .low)) (c .before .before .before .before .before .before .before .before .args .hi .now) (c .before .before .before .before .before .before .before .before .args .num) (c .before .before .before .before .before .before .before .before .args .low .now) (c .before .before .before .before .before .before .before .before .args .high .now) (c .before .before .before .before .before .before .before .before .args .seen .now) _ (c .before .owned .ensures) (not-true _ (c .if1 .taken)) _
 
 check-child-precedes-requires : (t : ℕ) → check-child-lts.Need-precedes-requires (
   owned-reads.Asked,
@@ -152,7 +195,7 @@ check-child-returns-2 : (t : ℕ) → check-child-lts.Need-returns-2 (
   check-node-below t,
   check-node.Post,
 ) (check-child-at t) check-child.Post
-check-child-returns-2 t c = child-flat (c .before .before .before .before .before .before .before .before .before .args .level) (c .before .before .before .before .before .before .before .before .before .args .store .now) (shapeIs (c .before .before .before .before .before .before .before .before .before .args .sh)) (c .before .before .before .before .before .before .before .before .before .args .lo .now) (c .before .before .before .before .before .before .before .before .before .args .hi .now) (c .before .before .before .before .before .before .before .before .before .args .num) (c .before .before .before .before .before .before .before .before .before .args .low .now) (c .before .before .before .before .before .before .before .before .before .args .high .now) (c .before .before .before .before .before .before .before .before .before .args .seen .now) _ (c .before .precedes .ensures) (not-true _ (c .if2 .taken)) _
+check-child-returns-2 t c = child-flat (c .before .before .before .before .before .before .before .before .before .before .args .parent .level) (c .before .before .before .before .before .before .before .before .before .before .args .store .now) (shapeIs (c .before .before .before .before .before .before .before .before .before .before .args .parent .shape)) (part (c .before .before .before .before .before .before .before .before .before .before .args .store .now) (c .before .before .before .before .before .before .before .before .before .before .args .parent .low)) (c .before .before .before .before .before .before .before .before .before .before .args .hi .now) (c .before .before .before .before .before .before .before .before .before .before .args .num) (c .before .before .before .before .before .before .before .before .before .before .args .low .now) (c .before .before .before .before .before .before .before .before .before .before .args .high .now) (c .before .before .before .before .before .before .before .before .before .before .args .seen .now) _ (c .before .precedes .ensures) (not-true _ (c .if2 .taken)) _
 
 check-child-common-length-requires : (t : ℕ) → check-child-lts.Need-common-length-requires (
   owned-reads.Asked,
@@ -320,7 +363,7 @@ check-child-check-node-requires : (t : ℕ) → check-child-lts.Need-check-node-
   check-node-below t,
   check-node.Post,
 ) (check-child-at t) check-child.Post
-check-child-check-node-requires t c κs = search needs
+check-child-check-node-requires t c κs = (omega (arith, c .before .before .before .before .before .before .before .before .before .before .before .before .before .before .before .before .pre .0), c .before .before .before .before .before .before .before .before .before .before .before .before .before .before .before .before .pre .1 .0)
 
 check-child-returns-3 : (t : ℕ) → check-child-lts.Need-returns-3 (
   owned-reads.Asked,
@@ -334,55 +377,109 @@ check-child-returns-3 : (t : ℕ) → check-child-lts.Need-returns-3 (
   check-node-below t,
   check-node.Post,
 ) (check-child-at t) check-child.Post
-check-child-returns-3 t c = child-walk (c .before .before .before .before .before .before .before .before .before .before .before .before .before .before .before .before .args .level) (c .before .before .before .before .before .before .before .before .before .before .before .before .before .before .before .before .args .store .now) (shapeIs (c .before .before .before .before .before .before .before .before .before .before .before .before .before .before .before .before .args .sh)) (c .before .before .before .before .before .before .before .before .before .before .before .before .before .before .before .before .args .lo .now) (c .before .before .before .before .before .before .before .before .before .before .before .before .before .before .before .before .args .hi .now) (c .before .before .before .before .before .before .before .before .before .before .before .before .before .before .before .before .args .num) (c .before .before .before .before .before .before .before .before .before .before .before .before .before .before .before .before .args .low .now) (c .before .before .before .before .before .before .before .before .before .before .before .before .before .before .before .before .args .high .now) (c .before .before .before .before .before .before .before .before .before .before .before .before .before .before .before .before .args .seen .now) _ _ (c .before .before .before .before .before .before .before .before .before .before .owned .ensures) (not-false _ (c .before .before .before .before .before .before .before .before .before .if1 .left)) (c .before .before .before .before .before .before .before .before .precedes .ensures) (not-false _ (c .before .before .before .before .before .before .before .if2 .left)) (c .before .before .before .before .before .before .common-length .result) (c .before .before .before .before .before .before .common-length .result - 0) (c .before .before .before .before .before .before .common-length .ensures .0) (omega arith) _ (c .before .before .before .before .feed .ensures) _ _ (c .check-node .ensures)
+check-child-returns-3 t c = child-walk (c .before .before .before .before .before .before .before .before .before .before .before .before .before .before .before .before .before .args .parent .level) (c .before .before .before .before .before .before .before .before .before .before .before .before .before .before .before .before .before .args .store .now) (shapeIs (c .before .before .before .before .before .before .before .before .before .before .before .before .before .before .before .before .before .args .parent .shape)) (part (c .before .before .before .before .before .before .before .before .before .before .before .before .before .before .before .before .before .args .store .now) (c .before .before .before .before .before .before .before .before .before .before .before .before .before .before .before .before .before .args .parent .low)) (c .before .before .before .before .before .before .before .before .before .before .before .before .before .before .before .before .before .args .hi .now) (c .before .before .before .before .before .before .before .before .before .before .before .before .before .before .before .before .before .args .num) (c .before .before .before .before .before .before .before .before .before .before .before .before .before .before .before .before .before .args .low .now) (c .before .before .before .before .before .before .before .before .before .before .before .before .before .before .before .before .before .args .high .now) (c .before .before .before .before .before .before .before .before .before .before .before .before .before .before .before .before .before .args .seen .now) _ _ (c .before .before .before .before .before .before .before .before .before .before .owned .ensures) (not-false _ (c .before .before .before .before .before .before .before .before .before .if1 .left)) (c .before .before .before .before .before .before .before .before .precedes .ensures) (not-false _ (c .before .before .before .before .before .before .before .if2 .left)) (c .before .before .before .before .before .before .common-length .result) (c .before .before .before .before .before .before .common-length .result - 0) (c .before .before .before .before .before .before .common-length .ensures .0) (omega arith) _ (c .before .before .before .before .feed .ensures) _ _ (c .check-node .ensures)
 
-check-children-shape-of-requires : (t : ℕ) → check-children-lts.Need-shape-of-requires (
-  shape-of-reads.Asked,
-  shape-of-reads.Learnt,
+check-children-parent-of-requires : (t : ℕ) → check-children-lts.Need-parent-of-requires (
+  parent-of-reads.Asked,
+  parent-of-reads.Learnt,
   check-last-below t,
   check-last.Post,
   hold-reads.Asked,
   hold-reads.Learnt,
   step-reads.Asked,
   step-reads.Learnt,
-  kid-of-reads.Asked,
-  kid-of-reads.Learnt,
+  branch-of-reads.Asked,
+  branch-of-reads.Learnt,
   check-child-below t,
   check-child.Post,
   check-children-below t,
   check-children.Post,
 ) (check-children-at t) check-children.Post
-check-children-shape-of-requires t c κs = search needs
+check-children-parent-of-requires t c κs = search needs
+
+check-children-sub-check-last : (t : ℕ) → check-children-lts.Need-sub-check-last (
+  parent-of-reads.Asked,
+  parent-of-reads.Learnt,
+  check-last-below t,
+  check-last.Post,
+  hold-reads.Asked,
+  hold-reads.Learnt,
+  step-reads.Asked,
+  step-reads.Learnt,
+  branch-of-reads.Asked,
+  branch-of-reads.Learnt,
+  check-child-below t,
+  check-child.Post,
+  check-children-below t,
+  check-children.Post,
+) (check-children-at t) check-children.Post
+check-children-sub-check-last t c = let w = c .before .before .before .before .pre .1 .2 in omega arith
+
+check-children-part-check-last-start : (t : ℕ) → check-children-lts.Need-part-check-last-start (
+  parent-of-reads.Asked,
+  parent-of-reads.Learnt,
+  check-last-below t,
+  check-last.Post,
+  hold-reads.Asked,
+  hold-reads.Learnt,
+  step-reads.Asked,
+  step-reads.Learnt,
+  branch-of-reads.Asked,
+  branch-of-reads.Learnt,
+  check-child-below t,
+  check-child.Post,
+  check-children-below t,
+  check-children.Post,
+) (check-children-at t) check-children.Post
+check-children-part-check-last-start t c = let w = c .before .before .before .before .pre .1 .2 in omega arith
+
+check-children-part-check-last-end : (t : ℕ) → check-children-lts.Need-part-check-last-end (
+  parent-of-reads.Asked,
+  parent-of-reads.Learnt,
+  check-last-below t,
+  check-last.Post,
+  hold-reads.Asked,
+  hold-reads.Learnt,
+  step-reads.Asked,
+  step-reads.Learnt,
+  branch-of-reads.Asked,
+  branch-of-reads.Learnt,
+  check-child-below t,
+  check-child.Post,
+  check-children-below t,
+  check-children.Post,
+) (check-children-at t) check-children.Post
+check-children-part-check-last-end t c = let w = c .before .before .before .before .pre .1 .2 in omega arith
 
 check-children-check-last-requires : (t : ℕ) → check-children-lts.Need-check-last-requires (
-  shape-of-reads.Asked,
-  shape-of-reads.Learnt,
+  parent-of-reads.Asked,
+  parent-of-reads.Learnt,
   check-last-below t,
   check-last.Post,
   hold-reads.Asked,
   hold-reads.Learnt,
   step-reads.Asked,
   step-reads.Learnt,
-  kid-of-reads.Asked,
-  kid-of-reads.Learnt,
+  branch-of-reads.Asked,
+  branch-of-reads.Learnt,
   check-child-below t,
   check-child.Post,
   check-children-below t,
   check-children.Post,
 ) (check-children-at t) check-children.Post
-check-children-check-last-requires t c κs = (omega (arith, c .before .before .before .before .before .before .before .pre .0), (c .before .before .before .before .before .before .before .pre .1 .0, c .before .before .before .before .before .before .before .pre .1 .1, c .before .before .before .before .before .before .before .pre .1 .2))
+check-children-check-last-requires t c κs = (omega (arith, c .before .before .before .before .before .before .before .pre .0, ap (λ (q : Parent). q .level) (c .before .before .before .before .before .parent-of .ensures)), (c .before .before .before .before .before .before .before .pre .1 .0, subst (λ (q : Parent). q .end ≤ length (c .before .before .before .before .before .before .before .args .store .now .now)) (sym (c .before .before .before .before .before .parent-of .ensures)) (c .before .before .before .before .before .before .before .pre .1 .1), subst (λ (q : Parent). Within 0 (length (c .before .before .before .before .before .before .before .args .store .now .now)) (q .low)) (sym (c .before .before .before .before .before .parent-of .ensures)) (c .before .before .before .before .before .before .before .pre .1 .3)))
 
 check-children-hold-requires : (t : ℕ) → check-children-lts.Need-hold-requires (
-  shape-of-reads.Asked,
-  shape-of-reads.Learnt,
+  parent-of-reads.Asked,
+  parent-of-reads.Learnt,
   check-last-below t,
   check-last.Post,
   hold-reads.Asked,
   hold-reads.Learnt,
   step-reads.Asked,
   step-reads.Learnt,
-  kid-of-reads.Asked,
-  kid-of-reads.Learnt,
+  branch-of-reads.Asked,
+  branch-of-reads.Learnt,
   check-child-below t,
   check-child.Post,
   check-children-below t,
@@ -391,52 +488,52 @@ check-children-hold-requires : (t : ℕ) → check-children-lts.Need-hold-requir
 check-children-hold-requires t c κs = search needs
 
 check-children-returns : (t : ℕ) → check-children-lts.Need-returns (
-  shape-of-reads.Asked,
-  shape-of-reads.Learnt,
+  parent-of-reads.Asked,
+  parent-of-reads.Learnt,
   check-last-below t,
   check-last.Post,
   hold-reads.Asked,
   hold-reads.Learnt,
   step-reads.Asked,
   step-reads.Learnt,
-  kid-of-reads.Asked,
-  kid-of-reads.Learnt,
+  branch-of-reads.Asked,
+  branch-of-reads.Learnt,
   check-child-below t,
   check-child.Post,
   check-children-below t,
   check-children.Post,
 ) (check-children-at t) check-children.Post
-check-children-returns t c = list-last (c .before .before .before .before .before .before .before .before .before .before .args .level) (c .before .before .before .before .before .before .before .before .before .before .args .store .now .now) (flatIs (c .before .before .before .before .before .before .before .before .before .before .args .flat .now)) (c .before .before .before .before .before .before .before .before .before .before .args .lo .now .now) (c .before .before .before .before .before .before .before .before .before .before .args .hi .now .now) (c .before .before .before .before .before .before .before .before .before .before .args .num) (part (c .before .before .before .before .before .before .before .before .before .before .args .store .now .now) (c .before .before .before .before .before .before .before .before .before .before .args .low)) (c .before .before .before .before .before .before .before .before .before .before .args .start .at) (c .before .before .before .before .before .before .before .before .before .before .args .start .end) (c .before .before .before .before .before .before .before .before .before .before .args .seen .now) (c .before .before .before .before .before .before .before .before .before .before .args .held .now) _ (c .before .before .before .before .before .before .before .before .shape-of .ensures) _ _ (c .before .before .check-last .ensures) _ _ (c .hold .ensures) (omega (arith, c .before .before .before .before .before .before .if1 .taken))
+check-children-returns t c = as-told (c .before .before .before .before .before .before .before .before .parent-of .result) (parentIs (c .before .before .before .before .before .before .before .before .before .before .args .flat .now)) (c .before .before .before .before .before .before .before .before .parent-of .ensures) (c .before .before .before .before .before .before .before .before .before .before .args .store .now .now) (c .before .before .before .before .before .before .before .before .before .before .args .hi .now .now) (c .before .before .before .before .before .before .before .before .before .before .args .first .num) (part (c .before .before .before .before .before .before .before .before .before .before .args .store .now .now) (c .before .before .before .before .before .before .before .before .before .before .args .low)) (c .before .before .before .before .before .before .before .before .before .before .args .first .next) (c .before .before .before .before .before .before .before .before .before .before .args .seen .now) (c .before .before .before .before .before .before .before .before .before .before .args .held .now) _ _ _ (list-last (c .before .before .before .before .before .before .before .before .parent-of .result) (c .before .before .before .before .before .before .before .before .before .before .args .store .now .now) (c .before .before .before .before .before .before .before .before .before .before .args .hi .now .now) (c .before .before .before .before .before .before .before .before .before .before .args .first .num) (part (c .before .before .before .before .before .before .before .before .before .before .args .store .now .now) (c .before .before .before .before .before .before .before .before .before .before .args .low)) (c .before .before .before .before .before .before .before .before .before .before .args .first .next) (c .before .before .before .before .before .before .before .before .before .before .args .seen .now) (c .before .before .before .before .before .before .before .before .before .before .args .held .now) _ _ (c .before .before .check-last .ensures) _ _ (c .hold .ensures) (omega (arith, c .before .before .before .before .before .before .if1 .taken)))
 
 check-children-step-requires : (t : ℕ) → check-children-lts.Need-step-requires (
-  shape-of-reads.Asked,
-  shape-of-reads.Learnt,
+  parent-of-reads.Asked,
+  parent-of-reads.Learnt,
   check-last-below t,
   check-last.Post,
   hold-reads.Asked,
   hold-reads.Learnt,
   step-reads.Asked,
   step-reads.Learnt,
-  kid-of-reads.Asked,
-  kid-of-reads.Learnt,
+  branch-of-reads.Asked,
+  branch-of-reads.Learnt,
   check-child-below t,
   check-child.Post,
   check-children-below t,
   check-children.Post,
 ) (check-children-at t) check-children.Post
-check-children-step-requires t c κs = c .before .before .before .before .pre .1 .1
+check-children-step-requires t c κs = subst (λ (q : Parent). q .end ≤ length (c .before .before .before .before .args .store .now .now)) (sym (c .before .before .parent-of .ensures)) (c .before .before .before .before .pre .1 .1)
 
 check-children-enum-known-e : (t : ℕ) → check-children-lts.Need-enum-known-e (
-  shape-of-reads.Asked,
-  shape-of-reads.Learnt,
+  parent-of-reads.Asked,
+  parent-of-reads.Learnt,
   check-last-below t,
   check-last.Post,
   hold-reads.Asked,
   hold-reads.Learnt,
   step-reads.Asked,
   step-reads.Learnt,
-  kid-of-reads.Asked,
-  kid-of-reads.Learnt,
+  branch-of-reads.Asked,
+  branch-of-reads.Learnt,
   check-child-below t,
   check-child.Post,
   check-children-below t,
@@ -445,16 +542,16 @@ check-children-enum-known-e : (t : ℕ) → check-children-lts.Need-enum-known-e
 check-children-enum-known-e t c = search needs
 
 check-children-enum-told : (t : ℕ) → check-children-lts.Need-enum-told (
-  shape-of-reads.Asked,
-  shape-of-reads.Learnt,
+  parent-of-reads.Asked,
+  parent-of-reads.Learnt,
   check-last-below t,
   check-last.Post,
   hold-reads.Asked,
   hold-reads.Learnt,
   step-reads.Asked,
   step-reads.Learnt,
-  kid-of-reads.Asked,
-  kid-of-reads.Learnt,
+  branch-of-reads.Asked,
+  branch-of-reads.Learnt,
   check-child-below t,
   check-child.Post,
   check-children-below t,
@@ -463,52 +560,52 @@ check-children-enum-told : (t : ℕ) → check-children-lts.Need-enum-told (
 check-children-enum-told t c = search needs
 
 check-children-returns-2 : (t : ℕ) → check-children-lts.Need-returns-2 (
-  shape-of-reads.Asked,
-  shape-of-reads.Learnt,
+  parent-of-reads.Asked,
+  parent-of-reads.Learnt,
   check-last-below t,
   check-last.Post,
   hold-reads.Asked,
   hold-reads.Learnt,
   step-reads.Asked,
   step-reads.Learnt,
-  kid-of-reads.Asked,
-  kid-of-reads.Learnt,
+  branch-of-reads.Asked,
+  branch-of-reads.Learnt,
   check-child-below t,
   check-child.Post,
   check-children-below t,
   check-children.Post,
 ) (check-children-at t) check-children.Post
-check-children-returns-2 t c = list-unread (c .before .before .before .before .before .before .before .args .level) (c .before .before .before .before .before .before .before .args .store .now .now) (flatIs (c .before .before .before .before .before .before .before .args .flat .now)) (c .before .before .before .before .before .before .before .args .lo .now .now) (c .before .before .before .before .before .before .before .args .hi .now .now) (c .before .before .before .before .before .before .before .args .num) (part (c .before .before .before .before .before .before .before .args .store .now .now) (c .before .before .before .before .before .before .before .args .low)) (c .before .before .before .before .before .before .before .args .start .at) (c .before .before .before .before .before .before .before .args .start .end) (c .before .before .before .before .before .before .before .args .seen .now) (c .before .before .before .before .before .before .before .args .held .now) (omega (arith, c .before .before .before .if1 .left)) _ (c .before .before .step .ensures) (c .enum-told .given .1) _ _
+check-children-returns-2 t c = as-told (c .before .before .before .before .before .parent-of .result) (parentIs (c .before .before .before .before .before .before .before .args .flat .now)) (c .before .before .before .before .before .parent-of .ensures) (c .before .before .before .before .before .before .before .args .store .now .now) (c .before .before .before .before .before .before .before .args .hi .now .now) (c .before .before .before .before .before .before .before .args .first .num) (part (c .before .before .before .before .before .before .before .args .store .now .now) (c .before .before .before .before .before .before .before .args .low)) (c .before .before .before .before .before .before .before .args .first .next) (c .before .before .before .before .before .before .before .args .seen .now) (c .before .before .before .before .before .before .before .args .held .now) _ _ _ (list-unread (c .before .before .before .before .before .parent-of .result) (c .before .before .before .before .before .before .before .args .store .now .now) (c .before .before .before .before .before .before .before .args .hi .now .now) (c .before .before .before .before .before .before .before .args .first .num) (part (c .before .before .before .before .before .before .before .args .store .now .now) (c .before .before .before .before .before .before .before .args .low)) (c .before .before .before .before .before .before .before .args .first .next) (c .before .before .before .before .before .before .before .args .seen .now) (c .before .before .before .before .before .before .before .args .held .now) (omega (arith, c .before .before .before .if1 .left)) _ (c .before .before .step .ensures) (c .enum-told .given .1) _ _)
 
-check-children-kid-of-requires : (t : ℕ) → check-children-lts.Need-kid-of-requires (
-  shape-of-reads.Asked,
-  shape-of-reads.Learnt,
+check-children-branch-of-requires : (t : ℕ) → check-children-lts.Need-branch-of-requires (
+  parent-of-reads.Asked,
+  parent-of-reads.Learnt,
   check-last-below t,
   check-last.Post,
   hold-reads.Asked,
   hold-reads.Learnt,
   step-reads.Asked,
   step-reads.Learnt,
-  kid-of-reads.Asked,
-  kid-of-reads.Learnt,
+  branch-of-reads.Asked,
+  branch-of-reads.Learnt,
   check-child-below t,
   check-child.Post,
   check-children-below t,
   check-children.Post,
 ) (check-children-at t) check-children.Post
-check-children-kid-of-requires t c κs = search needs
+check-children-branch-of-requires t c κs = search needs
 
 check-children-enum-known-child : (t : ℕ) → check-children-lts.Need-enum-known-child (
-  shape-of-reads.Asked,
-  shape-of-reads.Learnt,
+  parent-of-reads.Asked,
+  parent-of-reads.Learnt,
   check-last-below t,
   check-last.Post,
   hold-reads.Asked,
   hold-reads.Learnt,
   step-reads.Asked,
   step-reads.Learnt,
-  kid-of-reads.Asked,
-  kid-of-reads.Learnt,
+  branch-of-reads.Asked,
+  branch-of-reads.Learnt,
   check-child-below t,
   check-child.Post,
   check-children-below t,
@@ -517,16 +614,16 @@ check-children-enum-known-child : (t : ℕ) → check-children-lts.Need-enum-kno
 check-children-enum-known-child t c = search needs
 
 check-children-enum-told-2 : (t : ℕ) → check-children-lts.Need-enum-told-2 (
-  shape-of-reads.Asked,
-  shape-of-reads.Learnt,
+  parent-of-reads.Asked,
+  parent-of-reads.Learnt,
   check-last-below t,
   check-last.Post,
   hold-reads.Asked,
   hold-reads.Learnt,
   step-reads.Asked,
   step-reads.Learnt,
-  kid-of-reads.Asked,
-  kid-of-reads.Learnt,
+  branch-of-reads.Asked,
+  branch-of-reads.Learnt,
   check-child-below t,
   check-child.Post,
   check-children-below t,
@@ -534,35 +631,89 @@ check-children-enum-told-2 : (t : ℕ) → check-children-lts.Need-enum-told-2 (
 ) (check-children-at t) check-children.Post
 check-children-enum-told-2 t c = search needs
 
-check-children-check-last-requires-2 : (t : ℕ) → check-children-lts.Need-check-last-requires-2 (
-  shape-of-reads.Asked,
-  shape-of-reads.Learnt,
+check-children-sub-check-last-2 : (t : ℕ) → check-children-lts.Need-sub-check-last-2 (
+  parent-of-reads.Asked,
+  parent-of-reads.Learnt,
   check-last-below t,
   check-last.Post,
   hold-reads.Asked,
   hold-reads.Learnt,
   step-reads.Asked,
   step-reads.Learnt,
-  kid-of-reads.Asked,
-  kid-of-reads.Learnt,
+  branch-of-reads.Asked,
+  branch-of-reads.Learnt,
   check-child-below t,
   check-child.Post,
   check-children-below t,
   check-children.Post,
 ) (check-children-at t) check-children.Post
-check-children-check-last-requires-2 t c κs = (omega (arith, c .before .before .before .before .before .before .before .before .before .before .before .before .before .before .pre .0), (c .before .before .before .before .before .before .before .before .before .before .before .before .before .before .pre .1 .0, c .before .before .before .before .before .before .before .before .before .before .before .before .before .before .pre .1 .1, c .before .before .before .before .before .before .before .before .before .before .before .before .before .before .pre .1 .2))
+check-children-sub-check-last-2 t c = let w = c .before .before .before .before .before .before .before .before .before .before .before .pre .1 .2 in omega arith
 
-check-children-hold-requires-2 : (t : ℕ) → check-children-lts.Need-hold-requires-2 (
-  shape-of-reads.Asked,
-  shape-of-reads.Learnt,
+check-children-part-check-last-start-2 : (t : ℕ) → check-children-lts.Need-part-check-last-start-2 (
+  parent-of-reads.Asked,
+  parent-of-reads.Learnt,
   check-last-below t,
   check-last.Post,
   hold-reads.Asked,
   hold-reads.Learnt,
   step-reads.Asked,
   step-reads.Learnt,
-  kid-of-reads.Asked,
-  kid-of-reads.Learnt,
+  branch-of-reads.Asked,
+  branch-of-reads.Learnt,
+  check-child-below t,
+  check-child.Post,
+  check-children-below t,
+  check-children.Post,
+) (check-children-at t) check-children.Post
+check-children-part-check-last-start-2 t c = let w = c .before .before .before .before .before .before .before .before .before .before .before .pre .1 .2 in omega arith
+
+check-children-part-check-last-end-2 : (t : ℕ) → check-children-lts.Need-part-check-last-end-2 (
+  parent-of-reads.Asked,
+  parent-of-reads.Learnt,
+  check-last-below t,
+  check-last.Post,
+  hold-reads.Asked,
+  hold-reads.Learnt,
+  step-reads.Asked,
+  step-reads.Learnt,
+  branch-of-reads.Asked,
+  branch-of-reads.Learnt,
+  check-child-below t,
+  check-child.Post,
+  check-children-below t,
+  check-children.Post,
+) (check-children-at t) check-children.Post
+check-children-part-check-last-end-2 t c = let w = c .before .before .before .before .before .before .before .before .before .before .before .pre .1 .2 in omega arith
+
+check-children-check-last-requires-2 : (t : ℕ) → check-children-lts.Need-check-last-requires-2 (
+  parent-of-reads.Asked,
+  parent-of-reads.Learnt,
+  check-last-below t,
+  check-last.Post,
+  hold-reads.Asked,
+  hold-reads.Learnt,
+  step-reads.Asked,
+  step-reads.Learnt,
+  branch-of-reads.Asked,
+  branch-of-reads.Learnt,
+  check-child-below t,
+  check-child.Post,
+  check-children-below t,
+  check-children.Post,
+) (check-children-at t) check-children.Post
+check-children-check-last-requires-2 t c κs = (omega (arith, c .before .before .before .before .before .before .before .before .before .before .before .before .before .before .pre .0, ap (λ (q : Parent). q .level) (c .before .before .before .before .before .before .before .before .before .before .before .before .parent-of .ensures)), (c .before .before .before .before .before .before .before .before .before .before .before .before .before .before .pre .1 .0, subst (λ (q : Parent). q .end ≤ length (c .before .before .before .before .before .before .before .before .before .before .before .before .before .before .args .store .now .now)) (sym (c .before .before .before .before .before .before .before .before .before .before .before .before .parent-of .ensures)) (c .before .before .before .before .before .before .before .before .before .before .before .before .before .before .pre .1 .1), subst (λ (q : Parent). Within 0 (length (c .before .before .before .before .before .before .before .before .before .before .before .before .before .before .args .store .now .now)) (q .low)) (sym (c .before .before .before .before .before .before .before .before .before .before .before .before .parent-of .ensures)) (c .before .before .before .before .before .before .before .before .before .before .before .before .before .before .pre .1 .3)))
+
+check-children-hold-requires-2 : (t : ℕ) → check-children-lts.Need-hold-requires-2 (
+  parent-of-reads.Asked,
+  parent-of-reads.Learnt,
+  check-last-below t,
+  check-last.Post,
+  hold-reads.Asked,
+  hold-reads.Learnt,
+  step-reads.Asked,
+  step-reads.Learnt,
+  branch-of-reads.Asked,
+  branch-of-reads.Learnt,
   check-child-below t,
   check-child.Post,
   check-children-below t,
@@ -571,34 +722,34 @@ check-children-hold-requires-2 : (t : ℕ) → check-children-lts.Need-hold-requ
 check-children-hold-requires-2 t c κs = search needs
 
 check-children-returns-3 : (t : ℕ) → check-children-lts.Need-returns-3 (
-  shape-of-reads.Asked,
-  shape-of-reads.Learnt,
+  parent-of-reads.Asked,
+  parent-of-reads.Learnt,
   check-last-below t,
   check-last.Post,
   hold-reads.Asked,
   hold-reads.Learnt,
   step-reads.Asked,
   step-reads.Learnt,
-  kid-of-reads.Asked,
-  kid-of-reads.Learnt,
+  branch-of-reads.Asked,
+  branch-of-reads.Learnt,
   check-child-below t,
   check-child.Post,
   check-children-below t,
   check-children.Post,
 ) (check-children-at t) check-children.Post
-check-children-returns-3 t c = list-messages (c .before .before .before .before .before .before .before .before .before .before .before .before .before .before .before .before .before .args .level) (c .before .before .before .before .before .before .before .before .before .before .before .before .before .before .before .before .before .args .store .now .now) (flatIs (c .before .before .before .before .before .before .before .before .before .before .before .before .before .before .before .before .before .args .flat .now)) (c .before .before .before .before .before .before .before .before .before .before .before .before .before .before .before .before .before .args .lo .now .now) (c .before .before .before .before .before .before .before .before .before .before .before .before .before .before .before .before .before .args .hi .now .now) (c .before .before .before .before .before .before .before .before .before .before .before .before .before .before .before .before .before .args .num) (part (c .before .before .before .before .before .before .before .before .before .before .before .before .before .before .before .before .before .args .store .now .now) (c .before .before .before .before .before .before .before .before .before .before .before .before .before .before .before .before .before .args .low)) (c .before .before .before .before .before .before .before .before .before .before .before .before .before .before .before .before .before .args .start .at) (c .before .before .before .before .before .before .before .before .before .before .before .before .before .before .before .before .before .args .start .end) (c .before .before .before .before .before .before .before .before .before .before .before .before .before .before .before .before .before .args .seen .now) (c .before .before .before .before .before .before .before .before .before .before .before .before .before .before .before .before .before .args .held .now) _ (c .before .before .before .before .before .before .before .before .before .before .before .before .before .before .before .shape-of .ensures) _ _ (c .before .before .check-last2 .ensures) _ _ (c .hold2 .ensures) _ _ (step-read-is _ _ _ _ _ _ (c .before .before .before .before .before .before .before .before .before .before .before .before .step .ensures) (c .before .before .before .before .before .before .before .before .before .before .e .given .1)) (sym (c .before .before .before .before .before .before .before .before .kid-of .ensures) ∙ c .before .before .before .before .before .before .enum-told2 .given .1)
+check-children-returns-3 t c = as-told (c .before .before .before .before .before .before .before .before .before .before .before .before .before .before .before .parent-of .result) (parentIs (c .before .before .before .before .before .before .before .before .before .before .before .before .before .before .before .before .before .args .flat .now)) (c .before .before .before .before .before .before .before .before .before .before .before .before .before .before .before .parent-of .ensures) (c .before .before .before .before .before .before .before .before .before .before .before .before .before .before .before .before .before .args .store .now .now) (c .before .before .before .before .before .before .before .before .before .before .before .before .before .before .before .before .before .args .hi .now .now) (c .before .before .before .before .before .before .before .before .before .before .before .before .before .before .before .before .before .args .first .num) (part (c .before .before .before .before .before .before .before .before .before .before .before .before .before .before .before .before .before .args .store .now .now) (c .before .before .before .before .before .before .before .before .before .before .before .before .before .before .before .before .before .args .low)) (c .before .before .before .before .before .before .before .before .before .before .before .before .before .before .before .before .before .args .first .next) (c .before .before .before .before .before .before .before .before .before .before .before .before .before .before .before .before .before .args .seen .now) (c .before .before .before .before .before .before .before .before .before .before .before .before .before .before .before .before .before .args .held .now) _ _ _ (list-messages (c .before .before .before .before .before .before .before .before .before .before .before .before .before .before .before .parent-of .result) (c .before .before .before .before .before .before .before .before .before .before .before .before .before .before .before .before .before .args .store .now .now) (c .before .before .before .before .before .before .before .before .before .before .before .before .before .before .before .before .before .args .hi .now .now) (c .before .before .before .before .before .before .before .before .before .before .before .before .before .before .before .before .before .args .first .num) (part (c .before .before .before .before .before .before .before .before .before .before .before .before .before .before .before .before .before .args .store .now .now) (c .before .before .before .before .before .before .before .before .before .before .before .before .before .before .before .before .before .args .low)) (c .before .before .before .before .before .before .before .before .before .before .before .before .before .before .before .before .before .args .first .next) (c .before .before .before .before .before .before .before .before .before .before .before .before .before .before .before .before .before .args .seen .now) (c .before .before .before .before .before .before .before .before .before .before .before .before .before .before .before .before .before .args .held .now) _ _ (c .before .before .check-last2 .ensures) _ _ (c .hold2 .ensures) _ _ (step-read-is _ _ _ _ _ _ (c .before .before .before .before .before .before .before .before .before .before .before .before .step .ensures) (c .before .before .before .before .before .before .before .before .before .before .e .given .1)) (sym (c .before .before .before .before .before .before .before .before .branch-of .ensures) ∙ c .before .before .before .before .before .before .enum-told2 .given .1))
 
 check-children-sub-check-child : (t : ℕ) → check-children-lts.Need-sub-check-child (
-  shape-of-reads.Asked,
-  shape-of-reads.Learnt,
+  parent-of-reads.Asked,
+  parent-of-reads.Learnt,
   check-last-below t,
   check-last.Post,
   hold-reads.Asked,
   hold-reads.Learnt,
   step-reads.Asked,
   step-reads.Learnt,
-  kid-of-reads.Asked,
-  kid-of-reads.Learnt,
+  branch-of-reads.Asked,
+  branch-of-reads.Learnt,
   check-child-below t,
   check-child.Post,
   check-children-below t,
@@ -607,16 +758,16 @@ check-children-sub-check-child : (t : ℕ) → check-children-lts.Need-sub-check
 check-children-sub-check-child t c = let w = c .before .before .before .before .before .before .before .before .before .before .before .before .pre .1 .2 in omega arith
 
 check-children-part-check-child-start : (t : ℕ) → check-children-lts.Need-part-check-child-start (
-  shape-of-reads.Asked,
-  shape-of-reads.Learnt,
+  parent-of-reads.Asked,
+  parent-of-reads.Learnt,
   check-last-below t,
   check-last.Post,
   hold-reads.Asked,
   hold-reads.Learnt,
   step-reads.Asked,
   step-reads.Learnt,
-  kid-of-reads.Asked,
-  kid-of-reads.Learnt,
+  branch-of-reads.Asked,
+  branch-of-reads.Learnt,
   check-child-below t,
   check-child.Post,
   check-children-below t,
@@ -625,16 +776,16 @@ check-children-part-check-child-start : (t : ℕ) → check-children-lts.Need-pa
 check-children-part-check-child-start t c = let w = c .before .before .before .before .before .before .before .before .before .before .before .before .pre .1 .2 in omega arith
 
 check-children-part-check-child-end : (t : ℕ) → check-children-lts.Need-part-check-child-end (
-  shape-of-reads.Asked,
-  shape-of-reads.Learnt,
+  parent-of-reads.Asked,
+  parent-of-reads.Learnt,
   check-last-below t,
   check-last.Post,
   hold-reads.Asked,
   hold-reads.Learnt,
   step-reads.Asked,
   step-reads.Learnt,
-  kid-of-reads.Asked,
-  kid-of-reads.Learnt,
+  branch-of-reads.Asked,
+  branch-of-reads.Learnt,
   check-child-below t,
   check-child.Post,
   check-children-below t,
@@ -643,89 +794,89 @@ check-children-part-check-child-end : (t : ℕ) → check-children-lts.Need-part
 check-children-part-check-child-end t c = let w = c .before .before .before .before .before .before .before .before .before .before .before .before .pre .1 .2 in omega arith
 
 check-children-sub-check-child-2 : (t : ℕ) → check-children-lts.Need-sub-check-child-2 (
-  shape-of-reads.Asked,
-  shape-of-reads.Learnt,
+  parent-of-reads.Asked,
+  parent-of-reads.Learnt,
   check-last-below t,
   check-last.Post,
   hold-reads.Asked,
   hold-reads.Learnt,
   step-reads.Asked,
   step-reads.Learnt,
-  kid-of-reads.Asked,
-  kid-of-reads.Learnt,
+  branch-of-reads.Asked,
+  branch-of-reads.Learnt,
   check-child-below t,
   check-child.Post,
   check-children-below t,
   check-children.Post,
 ) (check-children-at t) check-children.Post
-check-children-sub-check-child-2 t c = let w = next-place (c .before .before .before .before .before .before .before .before .before .before .before .before .before .args .level) (c .before .before .before .before .before .before .before .before .before .before .before .before .before .args .store .now .now) (flatIs (c .before .before .before .before .before .before .before .before .before .before .before .before .before .args .flat .now)) (c .before .before .before .before .before .before .before .before .before .before .before .before .before .args .lo .now .now) (c .before .before .before .before .before .before .before .before .before .before .before .before .before .args .hi .now .now) (c .before .before .before .before .before .before .before .before .before .before .before .before .before .args .num) (part (c .before .before .before .before .before .before .before .before .before .before .before .before .before .args .store .now .now) (c .before .before .before .before .before .before .before .before .before .before .before .before .before .args .low)) (c .before .before .before .before .before .before .before .before .before .before .before .before .before .args .start .at) (c .before .before .before .before .before .before .before .before .before .before .before .before .before .args .start .end) (c .before .before .before .before .before .before .before .before .before .before .before .before .before .args .seen .now) _ _ (step-read-is _ _ _ _ _ _ (c .before .before .before .before .before .before .before .before .step .ensures) (c .before .before .before .before .before .before .e .given .1)) _ _ (sym (c .before .before .before .before .kid-of .ensures) ∙ c .before .before .child .given .1) (c .before .before .before .before .before .before .before .before .before .before .before .before .before .pre .1 .1) in omega arith
+check-children-sub-check-child-2 t c = let w = next-place (c .before .before .before .before .before .before .before .before .before .before .before .parent-of .result .level) (c .before .before .before .before .before .before .before .before .before .before .before .before .before .args .store .now .now) (shapeIs (c .before .before .before .before .before .before .before .before .before .before .before .parent-of .result .shape)) (part (c .before .before .before .before .before .before .before .before .before .before .before .before .before .args .store .now .now) (c .before .before .before .before .before .before .before .before .before .before .before .parent-of .result .low)) (c .before .before .before .before .before .before .before .before .before .before .before .before .before .args .hi .now .now) (c .before .before .before .before .before .before .before .before .before .before .before .before .before .args .first .num) (part (c .before .before .before .before .before .before .before .before .before .before .before .before .before .args .store .now .now) (c .before .before .before .before .before .before .before .before .before .before .before .before .before .args .low)) (c .before .before .before .before .before .before .before .before .before .before .before .before .before .args .first .next) (c .before .before .before .before .before .before .before .before .before .before .before .parent-of .result .end) (c .before .before .before .before .before .before .before .before .before .before .before .before .before .args .seen .now) _ _ (step-read-is _ _ _ _ _ _ (c .before .before .before .before .before .before .before .before .step .ensures) (c .before .before .before .before .before .before .e .given .1)) _ _ (sym (c .before .before .before .before .branch-of .ensures) ∙ c .before .before .child .given .1) (subst (λ (q : Parent). q .end ≤ length (c .before .before .before .before .before .before .before .before .before .before .before .before .before .args .store .now .now)) (sym (c .before .before .before .before .before .before .before .before .before .before .before .parent-of .ensures)) (c .before .before .before .before .before .before .before .before .before .before .before .before .before .pre .1 .1)) in omega arith
 
 check-children-part-check-child-start-2 :
     (t : ℕ) → check-children-lts.Need-part-check-child-start-2 (
-      shape-of-reads.Asked,
-      shape-of-reads.Learnt,
+      parent-of-reads.Asked,
+      parent-of-reads.Learnt,
       check-last-below t,
       check-last.Post,
       hold-reads.Asked,
       hold-reads.Learnt,
       step-reads.Asked,
       step-reads.Learnt,
-      kid-of-reads.Asked,
-      kid-of-reads.Learnt,
+      branch-of-reads.Asked,
+      branch-of-reads.Learnt,
       check-child-below t,
       check-child.Post,
       check-children-below t,
       check-children.Post,
     ) (check-children-at t) check-children.Post
-check-children-part-check-child-start-2 t c = let w = next-place (c .before .before .before .before .before .before .before .before .before .before .before .before .before .args .level) (c .before .before .before .before .before .before .before .before .before .before .before .before .before .args .store .now .now) (flatIs (c .before .before .before .before .before .before .before .before .before .before .before .before .before .args .flat .now)) (c .before .before .before .before .before .before .before .before .before .before .before .before .before .args .lo .now .now) (c .before .before .before .before .before .before .before .before .before .before .before .before .before .args .hi .now .now) (c .before .before .before .before .before .before .before .before .before .before .before .before .before .args .num) (part (c .before .before .before .before .before .before .before .before .before .before .before .before .before .args .store .now .now) (c .before .before .before .before .before .before .before .before .before .before .before .before .before .args .low)) (c .before .before .before .before .before .before .before .before .before .before .before .before .before .args .start .at) (c .before .before .before .before .before .before .before .before .before .before .before .before .before .args .start .end) (c .before .before .before .before .before .before .before .before .before .before .before .before .before .args .seen .now) _ _ (step-read-is _ _ _ _ _ _ (c .before .before .before .before .before .before .before .before .step .ensures) (c .before .before .before .before .before .before .e .given .1)) _ _ (sym (c .before .before .before .before .kid-of .ensures) ∙ c .before .before .child .given .1) (c .before .before .before .before .before .before .before .before .before .before .before .before .before .pre .1 .1) in omega arith
+check-children-part-check-child-start-2 t c = let w = next-place (c .before .before .before .before .before .before .before .before .before .before .before .parent-of .result .level) (c .before .before .before .before .before .before .before .before .before .before .before .before .before .args .store .now .now) (shapeIs (c .before .before .before .before .before .before .before .before .before .before .before .parent-of .result .shape)) (part (c .before .before .before .before .before .before .before .before .before .before .before .before .before .args .store .now .now) (c .before .before .before .before .before .before .before .before .before .before .before .parent-of .result .low)) (c .before .before .before .before .before .before .before .before .before .before .before .before .before .args .hi .now .now) (c .before .before .before .before .before .before .before .before .before .before .before .before .before .args .first .num) (part (c .before .before .before .before .before .before .before .before .before .before .before .before .before .args .store .now .now) (c .before .before .before .before .before .before .before .before .before .before .before .before .before .args .low)) (c .before .before .before .before .before .before .before .before .before .before .before .before .before .args .first .next) (c .before .before .before .before .before .before .before .before .before .before .before .parent-of .result .end) (c .before .before .before .before .before .before .before .before .before .before .before .before .before .args .seen .now) _ _ (step-read-is _ _ _ _ _ _ (c .before .before .before .before .before .before .before .before .step .ensures) (c .before .before .before .before .before .before .e .given .1)) _ _ (sym (c .before .before .before .before .branch-of .ensures) ∙ c .before .before .child .given .1) (subst (λ (q : Parent). q .end ≤ length (c .before .before .before .before .before .before .before .before .before .before .before .before .before .args .store .now .now)) (sym (c .before .before .before .before .before .before .before .before .before .before .before .parent-of .ensures)) (c .before .before .before .before .before .before .before .before .before .before .before .before .before .pre .1 .1)) in omega arith
 
 check-children-part-check-child-end-2 : (t : ℕ) → check-children-lts.Need-part-check-child-end-2 (
-  shape-of-reads.Asked,
-  shape-of-reads.Learnt,
+  parent-of-reads.Asked,
+  parent-of-reads.Learnt,
   check-last-below t,
   check-last.Post,
   hold-reads.Asked,
   hold-reads.Learnt,
   step-reads.Asked,
   step-reads.Learnt,
-  kid-of-reads.Asked,
-  kid-of-reads.Learnt,
+  branch-of-reads.Asked,
+  branch-of-reads.Learnt,
   check-child-below t,
   check-child.Post,
   check-children-below t,
   check-children.Post,
 ) (check-children-at t) check-children.Post
-check-children-part-check-child-end-2 t c = let w = next-place (c .before .before .before .before .before .before .before .before .before .before .before .before .before .args .level) (c .before .before .before .before .before .before .before .before .before .before .before .before .before .args .store .now .now) (flatIs (c .before .before .before .before .before .before .before .before .before .before .before .before .before .args .flat .now)) (c .before .before .before .before .before .before .before .before .before .before .before .before .before .args .lo .now .now) (c .before .before .before .before .before .before .before .before .before .before .before .before .before .args .hi .now .now) (c .before .before .before .before .before .before .before .before .before .before .before .before .before .args .num) (part (c .before .before .before .before .before .before .before .before .before .before .before .before .before .args .store .now .now) (c .before .before .before .before .before .before .before .before .before .before .before .before .before .args .low)) (c .before .before .before .before .before .before .before .before .before .before .before .before .before .args .start .at) (c .before .before .before .before .before .before .before .before .before .before .before .before .before .args .start .end) (c .before .before .before .before .before .before .before .before .before .before .before .before .before .args .seen .now) _ _ (step-read-is _ _ _ _ _ _ (c .before .before .before .before .before .before .before .before .step .ensures) (c .before .before .before .before .before .before .e .given .1)) _ _ (sym (c .before .before .before .before .kid-of .ensures) ∙ c .before .before .child .given .1) (c .before .before .before .before .before .before .before .before .before .before .before .before .before .pre .1 .1) in omega arith
+check-children-part-check-child-end-2 t c = let w = next-place (c .before .before .before .before .before .before .before .before .before .before .before .parent-of .result .level) (c .before .before .before .before .before .before .before .before .before .before .before .before .before .args .store .now .now) (shapeIs (c .before .before .before .before .before .before .before .before .before .before .before .parent-of .result .shape)) (part (c .before .before .before .before .before .before .before .before .before .before .before .before .before .args .store .now .now) (c .before .before .before .before .before .before .before .before .before .before .before .parent-of .result .low)) (c .before .before .before .before .before .before .before .before .before .before .before .before .before .args .hi .now .now) (c .before .before .before .before .before .before .before .before .before .before .before .before .before .args .first .num) (part (c .before .before .before .before .before .before .before .before .before .before .before .before .before .args .store .now .now) (c .before .before .before .before .before .before .before .before .before .before .before .before .before .args .low)) (c .before .before .before .before .before .before .before .before .before .before .before .before .before .args .first .next) (c .before .before .before .before .before .before .before .before .before .before .before .parent-of .result .end) (c .before .before .before .before .before .before .before .before .before .before .before .before .before .args .seen .now) _ _ (step-read-is _ _ _ _ _ _ (c .before .before .before .before .before .before .before .before .step .ensures) (c .before .before .before .before .before .before .e .given .1)) _ _ (sym (c .before .before .before .before .branch-of .ensures) ∙ c .before .before .child .given .1) (subst (λ (q : Parent). q .end ≤ length (c .before .before .before .before .before .before .before .before .before .before .before .before .before .args .store .now .now)) (sym (c .before .before .before .before .before .before .before .before .before .before .before .parent-of .ensures)) (c .before .before .before .before .before .before .before .before .before .before .before .before .before .pre .1 .1)) in omega arith
 
 check-children-check-child-requires : (t : ℕ) → check-children-lts.Need-check-child-requires (
-  shape-of-reads.Asked,
-  shape-of-reads.Learnt,
+  parent-of-reads.Asked,
+  parent-of-reads.Learnt,
   check-last-below t,
   check-last.Post,
   hold-reads.Asked,
   hold-reads.Learnt,
   step-reads.Asked,
   step-reads.Learnt,
-  kid-of-reads.Asked,
-  kid-of-reads.Learnt,
+  branch-of-reads.Asked,
+  branch-of-reads.Learnt,
   check-child-below t,
   check-child.Post,
   check-children-below t,
   check-children.Post,
 ) (check-children-at t) check-children.Post
-check-children-check-child-requires t c κs = (omega (arith, c .before .before .before .before .before .before .before .before .before .before .before .before .before .before .before .before .before .pre .0), c .before .before .before .before .before .before .before .before .before .before .before .before .before .before .before .before .before .pre .1 .0)
+check-children-check-child-requires t c κs = (omega (arith, c .before .before .before .before .before .before .before .before .before .before .before .before .before .before .before .before .pre .0, ap (λ (q : Parent). q .level) (c .before .before .before .before .before .before .before .before .before .before .before .before .before .before .parent-of .ensures)), (c .before .before .before .before .before .before .before .before .before .before .before .before .before .before .before .before .pre .1 .0, subst (λ (q : Parent). Within 0 (length (c .before .before .before .before .before .before .before .before .before .before .before .before .before .before .before .before .args .store .now .now)) (q .low)) (sym (c .before .before .before .before .before .before .before .before .before .before .before .before .before .before .parent-of .ensures)) (c .before .before .before .before .before .before .before .before .before .before .before .before .before .before .before .before .pre .1 .3)))
 
 check-children-hold-requires-3 : (t : ℕ) → check-children-lts.Need-hold-requires-3 (
-  shape-of-reads.Asked,
-  shape-of-reads.Learnt,
+  parent-of-reads.Asked,
+  parent-of-reads.Learnt,
   check-last-below t,
   check-last.Post,
   hold-reads.Asked,
   hold-reads.Learnt,
   step-reads.Asked,
   step-reads.Learnt,
-  kid-of-reads.Asked,
-  kid-of-reads.Learnt,
+  branch-of-reads.Asked,
+  branch-of-reads.Learnt,
   check-child-below t,
   check-child.Post,
   check-children-below t,
@@ -734,88 +885,58 @@ check-children-hold-requires-3 : (t : ℕ) → check-children-lts.Need-hold-requ
 check-children-hold-requires-3 t c κs = search needs
 
 check-children-returns-4 : (t : ℕ) → check-children-lts.Need-returns-4 (
-  shape-of-reads.Asked,
-  shape-of-reads.Learnt,
+  parent-of-reads.Asked,
+  parent-of-reads.Learnt,
   check-last-below t,
   check-last.Post,
   hold-reads.Asked,
   hold-reads.Learnt,
   step-reads.Asked,
   step-reads.Learnt,
-  kid-of-reads.Asked,
-  kid-of-reads.Learnt,
+  branch-of-reads.Asked,
+  branch-of-reads.Learnt,
   check-child-below t,
   check-child.Post,
   check-children-below t,
   check-children.Post,
 ) (check-children-at t) check-children.Post
-check-children-returns-4 t c = list-stops (c .before .before .before .before .before .before .before .before .before .before .before .before .before .before .before .before .before .before .before .before .before .args .level) (c .before .before .before .before .before .before .before .before .before .before .before .before .before .before .before .before .before .before .before .before .before .args .store .now .now) (flatIs (c .before .before .before .before .before .before .before .before .before .before .before .before .before .before .before .before .before .before .before .before .before .args .flat .now)) (c .before .before .before .before .before .before .before .before .before .before .before .before .before .before .before .before .before .before .before .before .before .args .lo .now .now) (c .before .before .before .before .before .before .before .before .before .before .before .before .before .before .before .before .before .before .before .before .before .args .hi .now .now) (c .before .before .before .before .before .before .before .before .before .before .before .before .before .before .before .before .before .before .before .before .before .args .num) (part (c .before .before .before .before .before .before .before .before .before .before .before .before .before .before .before .before .before .before .before .before .before .args .store .now .now) (c .before .before .before .before .before .before .before .before .before .before .before .before .before .before .before .before .before .before .before .before .before .args .low)) (c .before .before .before .before .before .before .before .before .before .before .before .before .before .before .before .before .before .before .before .before .before .args .start .at) (c .before .before .before .before .before .before .before .before .before .before .before .before .before .before .before .before .before .before .before .before .before .args .start .end) (c .before .before .before .before .before .before .before .before .before .before .before .before .before .before .before .before .before .before .before .before .before .args .seen .now) (c .before .before .before .before .before .before .before .before .before .before .before .before .before .before .before .before .before .before .before .before .before .args .held .now) _ (c .before .before .before .before .before .before .before .before .before .before .before .before .before .before .before .before .before .before .before .shape-of .ensures) _ _ (step-read-is _ _ _ _ _ _ (c .before .before .before .before .before .before .before .before .before .before .before .before .before .before .before .before .step .ensures) (c .before .before .before .before .before .before .before .before .before .before .before .before .before .before .e .given .1)) _ _ (sym (c .before .before .before .before .before .before .before .before .before .before .before .before .kid-of .ensures) ∙ c .before .before .before .before .before .before .before .before .before .before .child .given .1) _ _ (c .before .before .before .check-child .ensures) _ _ (c .before .hold3 .ensures) (not-true _ (c .if2 .taken)) _ _
+check-children-returns-4 t c = as-told (c .before .before .before .before .before .before .before .before .before .before .before .before .before .before .before .before .before .before .parent-of .result) (parentIs (c .before .before .before .before .before .before .before .before .before .before .before .before .before .before .before .before .before .before .before .before .args .flat .now)) (c .before .before .before .before .before .before .before .before .before .before .before .before .before .before .before .before .before .before .parent-of .ensures) (c .before .before .before .before .before .before .before .before .before .before .before .before .before .before .before .before .before .before .before .before .args .store .now .now) (c .before .before .before .before .before .before .before .before .before .before .before .before .before .before .before .before .before .before .before .before .args .hi .now .now) (c .before .before .before .before .before .before .before .before .before .before .before .before .before .before .before .before .before .before .before .before .args .first .num) (part (c .before .before .before .before .before .before .before .before .before .before .before .before .before .before .before .before .before .before .before .before .args .store .now .now) (c .before .before .before .before .before .before .before .before .before .before .before .before .before .before .before .before .before .before .before .before .args .low)) (c .before .before .before .before .before .before .before .before .before .before .before .before .before .before .before .before .before .before .before .before .args .first .next) (c .before .before .before .before .before .before .before .before .before .before .before .before .before .before .before .before .before .before .before .before .args .seen .now) (c .before .before .before .before .before .before .before .before .before .before .before .before .before .before .before .before .before .before .before .before .args .held .now) _ _ _ (list-stops (c .before .before .before .before .before .before .before .before .before .before .before .before .before .before .before .before .before .before .parent-of .result) (c .before .before .before .before .before .before .before .before .before .before .before .before .before .before .before .before .before .before .before .before .args .store .now .now) (c .before .before .before .before .before .before .before .before .before .before .before .before .before .before .before .before .before .before .before .before .args .hi .now .now) (c .before .before .before .before .before .before .before .before .before .before .before .before .before .before .before .before .before .before .before .before .args .first .num) (part (c .before .before .before .before .before .before .before .before .before .before .before .before .before .before .before .before .before .before .before .before .args .store .now .now) (c .before .before .before .before .before .before .before .before .before .before .before .before .before .before .before .before .before .before .before .before .args .low)) (c .before .before .before .before .before .before .before .before .before .before .before .before .before .before .before .before .before .before .before .before .args .first .next) (c .before .before .before .before .before .before .before .before .before .before .before .before .before .before .before .before .before .before .before .before .args .seen .now) (c .before .before .before .before .before .before .before .before .before .before .before .before .before .before .before .before .before .before .before .before .args .held .now) _ _ (step-read-is _ _ _ _ _ _ (c .before .before .before .before .before .before .before .before .before .before .before .before .before .before .before .step .ensures) (c .before .before .before .before .before .before .before .before .before .before .before .before .before .e .given .1)) _ _ (sym (c .before .before .before .before .before .before .before .before .before .before .before .branch-of .ensures) ∙ c .before .before .before .before .before .before .before .before .before .child .given .1) _ _ (c .before .before .before .check-child .ensures) _ _ (c .before .hold3 .ensures) (not-true _ (c .if2 .taken)) _ _)
 
 check-children-check-children-requires : (t : ℕ) → check-children-lts.Need-check-children-requires (
-  shape-of-reads.Asked,
-  shape-of-reads.Learnt,
+  parent-of-reads.Asked,
+  parent-of-reads.Learnt,
   check-last-below t,
   check-last.Post,
   hold-reads.Asked,
   hold-reads.Learnt,
   step-reads.Asked,
   step-reads.Learnt,
-  kid-of-reads.Asked,
-  kid-of-reads.Learnt,
+  branch-of-reads.Asked,
+  branch-of-reads.Learnt,
   check-child-below t,
   check-child.Post,
   check-children-below t,
   check-children.Post,
 ) (check-children-at t) check-children.Post
-check-children-check-children-requires t c κs = let n = (step-read-is _ _ _ _ _ _ (c .before .before .before .before .before .before .before .before .before .before .before .before .before .before .before .before .before .before .step .ensures) (c .before .before .before .before .before .before .before .before .before .before .before .before .before .before .before .before .e .given .1)) in (omega (arith, c .before .before .before .before .before .before .before .before .before .before .before .before .before .before .before .before .before .before .before .before .before .before .before .pre .0, c .before .before .before .before .before .before .before .before .before .before .before .before .before .before .before .before .before .before .before .if1 .left), (c .before .before .before .before .before .before .before .before .before .before .before .before .before .before .before .before .before .before .before .before .before .before .before .pre .1 .0, omega (arith, c .before .before .before .before .before .before .before .before .before .before .before .before .before .before .before .before .before .before .before .before .before .before .before .pre .1 .1), next-place (c .before .before .before .before .before .before .before .before .before .before .before .before .before .before .before .before .before .before .before .before .before .before .before .args .level) (c .before .before .before .before .before .before .before .before .before .before .before .before .before .before .before .before .before .before .before .before .before .before .before .args .store .now .now) (flatIs (c .before .before .before .before .before .before .before .before .before .before .before .before .before .before .before .before .before .before .before .before .before .before .before .args .flat .now)) (c .before .before .before .before .before .before .before .before .before .before .before .before .before .before .before .before .before .before .before .before .before .before .before .args .lo .now .now) (c .before .before .before .before .before .before .before .before .before .before .before .before .before .before .before .before .before .before .before .before .before .before .before .args .hi .now .now) (c .before .before .before .before .before .before .before .before .before .before .before .before .before .before .before .before .before .before .before .before .before .before .before .args .num) (part (c .before .before .before .before .before .before .before .before .before .before .before .before .before .before .before .before .before .before .before .before .before .before .before .args .store .now .now) (c .before .before .before .before .before .before .before .before .before .before .before .before .before .before .before .before .before .before .before .before .before .before .before .args .low)) (c .before .before .before .before .before .before .before .before .before .before .before .before .before .before .before .before .before .before .before .before .before .before .before .args .start .at) (c .before .before .before .before .before .before .before .before .before .before .before .before .before .before .before .before .before .before .before .before .before .before .before .args .start .end) (c .before .before .before .before .before .before .before .before .before .before .before .before .before .before .before .before .before .before .before .before .before .before .before .args .seen .now) _ _ (step-read-is _ _ _ _ _ _ (c .before .before .before .before .before .before .before .before .before .before .before .before .before .before .before .before .before .before .step .ensures) (c .before .before .before .before .before .before .before .before .before .before .before .before .before .before .before .before .e .given .1)) _ _ (sym (c .before .before .before .before .before .before .before .before .before .before .before .before .before .before .kid-of .ensures) ∙ c .before .before .before .before .before .before .before .before .before .before .before .before .child .given .1) (c .before .before .before .before .before .before .before .before .before .before .before .before .before .before .before .before .before .before .before .before .before .before .before .pre .1 .1)))
+check-children-check-children-requires t c κs = let n = (step-read-is _ _ _ _ _ _ (c .before .before .before .before .before .before .before .before .before .before .before .before .before .before .before .before .before .step .ensures) (c .before .before .before .before .before .before .before .before .before .before .before .before .before .before .before .e .given .1)) in (omega (arith, c .before .before .before .before .before .before .before .before .before .before .before .before .before .before .before .before .before .before .before .before .before .before .pre .0, c .before .before .before .before .before .before .before .before .before .before .before .before .before .before .before .before .before .before .if1 .left, ap (λ (q : Parent). q .end) (c .before .before .before .before .before .before .before .before .before .before .before .before .before .before .before .before .before .before .before .before .parent-of .ensures)), (c .before .before .before .before .before .before .before .before .before .before .before .before .before .before .before .before .before .before .before .before .before .before .pre .1 .0, c .before .before .before .before .before .before .before .before .before .before .before .before .before .before .before .before .before .before .before .before .before .before .pre .1 .1, next-place (c .before .before .before .before .before .before .before .before .before .before .before .before .before .before .before .before .before .before .before .before .parent-of .result .level) (c .before .before .before .before .before .before .before .before .before .before .before .before .before .before .before .before .before .before .before .before .before .before .args .store .now .now) (shapeIs (c .before .before .before .before .before .before .before .before .before .before .before .before .before .before .before .before .before .before .before .before .parent-of .result .shape)) (part (c .before .before .before .before .before .before .before .before .before .before .before .before .before .before .before .before .before .before .before .before .before .before .args .store .now .now) (c .before .before .before .before .before .before .before .before .before .before .before .before .before .before .before .before .before .before .before .before .parent-of .result .low)) (c .before .before .before .before .before .before .before .before .before .before .before .before .before .before .before .before .before .before .before .before .before .before .args .hi .now .now) (c .before .before .before .before .before .before .before .before .before .before .before .before .before .before .before .before .before .before .before .before .before .before .args .first .num) (part (c .before .before .before .before .before .before .before .before .before .before .before .before .before .before .before .before .before .before .before .before .before .before .args .store .now .now) (c .before .before .before .before .before .before .before .before .before .before .before .before .before .before .before .before .before .before .before .before .before .before .args .low)) (c .before .before .before .before .before .before .before .before .before .before .before .before .before .before .before .before .before .before .before .before .before .before .args .first .next) (c .before .before .before .before .before .before .before .before .before .before .before .before .before .before .before .before .before .before .before .before .parent-of .result .end) (c .before .before .before .before .before .before .before .before .before .before .before .before .before .before .before .before .before .before .before .before .before .before .args .seen .now) _ _ (step-read-is _ _ _ _ _ _ (c .before .before .before .before .before .before .before .before .before .before .before .before .before .before .before .before .before .step .ensures) (c .before .before .before .before .before .before .before .before .before .before .before .before .before .before .before .e .given .1)) _ _ (sym (c .before .before .before .before .before .before .before .before .before .before .before .before .before .branch-of .ensures) ∙ c .before .before .before .before .before .before .before .before .before .before .before .child .given .1) (subst (λ (q : Parent). q .end ≤ length (c .before .before .before .before .before .before .before .before .before .before .before .before .before .before .before .before .before .before .before .before .before .before .args .store .now .now)) (sym (c .before .before .before .before .before .before .before .before .before .before .before .before .before .before .before .before .before .before .before .before .parent-of .ensures)) (c .before .before .before .before .before .before .before .before .before .before .before .before .before .before .before .before .before .before .before .before .before .before .pre .1 .1)), c .before .before .before .before .before .before .before .before .before .before .before .before .before .before .before .before .before .before .before .before .before .before .pre .1 .3))
 
 check-children-returns-5 : (t : ℕ) → check-children-lts.Need-returns-5 (
-  shape-of-reads.Asked,
-  shape-of-reads.Learnt,
+  parent-of-reads.Asked,
+  parent-of-reads.Learnt,
   check-last-below t,
   check-last.Post,
   hold-reads.Asked,
   hold-reads.Learnt,
   step-reads.Asked,
   step-reads.Learnt,
-  kid-of-reads.Asked,
-  kid-of-reads.Learnt,
+  branch-of-reads.Asked,
+  branch-of-reads.Learnt,
   check-child-below t,
   check-child.Post,
   check-children-below t,
   check-children.Post,
 ) (check-children-at t) check-children.Post
-check-children-returns-5 t c = list-goes (c .before .before .before .before .before .before .before .before .before .before .before .before .before .before .before .before .before .before .before .before .before .before .before .before .args .level) (c .before .before .before .before .before .before .before .before .before .before .before .before .before .before .before .before .before .before .before .before .before .before .before .before .args .store .now .now) (flatIs (c .before .before .before .before .before .before .before .before .before .before .before .before .before .before .before .before .before .before .before .before .before .before .before .before .args .flat .now)) (c .before .before .before .before .before .before .before .before .before .before .before .before .before .before .before .before .before .before .before .before .before .before .before .before .args .lo .now .now) (c .before .before .before .before .before .before .before .before .before .before .before .before .before .before .before .before .before .before .before .before .before .before .before .before .args .hi .now .now) (c .before .before .before .before .before .before .before .before .before .before .before .before .before .before .before .before .before .before .before .before .before .before .before .before .args .num) (part (c .before .before .before .before .before .before .before .before .before .before .before .before .before .before .before .before .before .before .before .before .before .before .before .before .args .store .now .now) (c .before .before .before .before .before .before .before .before .before .before .before .before .before .before .before .before .before .before .before .before .before .before .before .before .args .low)) (c .before .before .before .before .before .before .before .before .before .before .before .before .before .before .before .before .before .before .before .before .before .before .before .before .args .start .at) (c .before .before .before .before .before .before .before .before .before .before .before .before .before .before .before .before .before .before .before .before .before .before .before .before .args .start .end) (c .before .before .before .before .before .before .before .before .before .before .before .before .before .before .before .before .before .before .before .before .before .before .before .before .args .seen .now) (c .before .before .before .before .before .before .before .before .before .before .before .before .before .before .before .before .before .before .before .before .before .before .before .before .args .held .now) _ (c .before .before .before .before .before .before .before .before .before .before .before .before .before .before .before .before .before .before .before .before .before .before .shape-of .ensures) _ _ (step-read-is _ _ _ _ _ _ (c .before .before .before .before .before .before .before .before .before .before .before .before .before .before .before .before .before .before .before .step .ensures) (c .before .before .before .before .before .before .before .before .before .before .before .before .before .before .before .before .before .e .given .1)) _ _ (sym (c .before .before .before .before .before .before .before .before .before .before .before .before .before .before .before .kid-of .ensures) ∙ c .before .before .before .before .before .before .before .before .before .before .before .before .before .child .given .1) _ _ (c .before .before .before .before .before .before .check-child .ensures) _ _ (c .before .before .before .before .hold3 .ensures) (not-false _ (c .before .before .before .if2 .left)) _ _ _ (c .check-children .ensures)
-
-check-last-sub-check-child : (t : ℕ) → check-last-lts.Need-sub-check-child (
-  check-child-below t,
-  check-child.Post,
-  check-messages-reads.Asked,
-  check-messages-reads.Learnt,
-  with-rest-reads.Asked,
-  with-rest-reads.Learnt,
-) (check-last-at t) check-last.Post
-check-last-sub-check-child t c = let w = c .before .before .before .pre .1 .2 in omega arith
-
-check-last-part-check-child-start : (t : ℕ) → check-last-lts.Need-part-check-child-start (
-  check-child-below t,
-  check-child.Post,
-  check-messages-reads.Asked,
-  check-messages-reads.Learnt,
-  with-rest-reads.Asked,
-  with-rest-reads.Learnt,
-) (check-last-at t) check-last.Post
-check-last-part-check-child-start t c = let w = c .before .before .before .pre .1 .2 in omega arith
-
-check-last-part-check-child-end : (t : ℕ) → check-last-lts.Need-part-check-child-end (
-  check-child-below t,
-  check-child.Post,
-  check-messages-reads.Asked,
-  check-messages-reads.Learnt,
-  with-rest-reads.Asked,
-  with-rest-reads.Learnt,
-) (check-last-at t) check-last.Post
-check-last-part-check-child-end t c = let w = c .before .before .before .pre .1 .2 in omega arith
+check-children-returns-5 t c = as-told (c .before .before .before .before .before .before .before .before .before .before .before .before .before .before .before .before .before .before .before .before .before .parent-of .result) (parentIs (c .before .before .before .before .before .before .before .before .before .before .before .before .before .before .before .before .before .before .before .before .before .before .before .args .flat .now)) (c .before .before .before .before .before .before .before .before .before .before .before .before .before .before .before .before .before .before .before .before .before .parent-of .ensures) (c .before .before .before .before .before .before .before .before .before .before .before .before .before .before .before .before .before .before .before .before .before .before .before .args .store .now .now) (c .before .before .before .before .before .before .before .before .before .before .before .before .before .before .before .before .before .before .before .before .before .before .before .args .hi .now .now) (c .before .before .before .before .before .before .before .before .before .before .before .before .before .before .before .before .before .before .before .before .before .before .before .args .first .num) (part (c .before .before .before .before .before .before .before .before .before .before .before .before .before .before .before .before .before .before .before .before .before .before .before .args .store .now .now) (c .before .before .before .before .before .before .before .before .before .before .before .before .before .before .before .before .before .before .before .before .before .before .before .args .low)) (c .before .before .before .before .before .before .before .before .before .before .before .before .before .before .before .before .before .before .before .before .before .before .before .args .first .next) (c .before .before .before .before .before .before .before .before .before .before .before .before .before .before .before .before .before .before .before .before .before .before .before .args .seen .now) (c .before .before .before .before .before .before .before .before .before .before .before .before .before .before .before .before .before .before .before .before .before .before .before .args .held .now) _ _ _ (list-goes (c .before .before .before .before .before .before .before .before .before .before .before .before .before .before .before .before .before .before .before .before .before .parent-of .result) (c .before .before .before .before .before .before .before .before .before .before .before .before .before .before .before .before .before .before .before .before .before .before .before .args .store .now .now) (c .before .before .before .before .before .before .before .before .before .before .before .before .before .before .before .before .before .before .before .before .before .before .before .args .hi .now .now) (c .before .before .before .before .before .before .before .before .before .before .before .before .before .before .before .before .before .before .before .before .before .before .before .args .first .num) (part (c .before .before .before .before .before .before .before .before .before .before .before .before .before .before .before .before .before .before .before .before .before .before .before .args .store .now .now) (c .before .before .before .before .before .before .before .before .before .before .before .before .before .before .before .before .before .before .before .before .before .before .before .args .low)) (c .before .before .before .before .before .before .before .before .before .before .before .before .before .before .before .before .before .before .before .before .before .before .before .args .first .next) (c .before .before .before .before .before .before .before .before .before .before .before .before .before .before .before .before .before .before .before .before .before .before .before .args .seen .now) (c .before .before .before .before .before .before .before .before .before .before .before .before .before .before .before .before .before .before .before .before .before .before .before .args .held .now) _ _ (step-read-is _ _ _ _ _ _ (c .before .before .before .before .before .before .before .before .before .before .before .before .before .before .before .before .before .before .step .ensures) (c .before .before .before .before .before .before .before .before .before .before .before .before .before .before .before .before .e .given .1)) _ _ (sym (c .before .before .before .before .before .before .before .before .before .before .before .before .before .before .branch-of .ensures) ∙ c .before .before .before .before .before .before .before .before .before .before .before .before .child .given .1) _ _ (c .before .before .before .before .before .before .check-child .ensures) _ _ (c .before .before .before .before .hold3 .ensures) (not-false _ (c .before .before .before .if2 .left)) _ _ _ (as-told (parentIs (c .before .before .before .before .before .before .before .before .before .before .before .before .before .before .before .before .before .before .before .before .before .before .before .args .flat .now)) (c .before .before .before .before .before .before .before .before .before .before .before .before .before .before .before .before .before .before .before .before .before .parent-of .result) (sym (c .before .before .before .before .before .before .before .before .before .before .before .before .before .before .before .before .before .before .before .before .before .parent-of .ensures)) (c .before .before .before .before .before .before .before .before .before .before .before .before .before .before .before .before .before .before .before .before .before .before .before .args .store .now .now) (c .before .before .before .before .before .before .before .before .before .before .before .before .before .before .before .before .before .before .before .before .before .before .before .args .hi .now .now) _ _ _ _ _ _ _ _ (c .check-children .ensures)))
 
 check-last-check-child-requires : (t : ℕ) → check-last-lts.Need-check-child-requires (
   check-child-below t,
@@ -825,7 +946,7 @@ check-last-check-child-requires : (t : ℕ) → check-last-lts.Need-check-child-
   with-rest-reads.Asked,
   with-rest-reads.Learnt,
 ) (check-last-at t) check-last.Post
-check-last-check-child-requires t c κs = (omega (arith, c .before .before .before .before .before .pre .0), c .before .before .before .before .before .pre .1 .0)
+check-last-check-child-requires t c κs = (omega (arith, c .before .before .before .before .pre .0), (c .before .before .before .before .pre .1 .0, c .before .before .before .before .pre .1 .2))
 
 check-last-enum-known-one : (t : ℕ) → check-last-lts.Need-enum-known-one (
   check-child-below t,
@@ -855,7 +976,37 @@ check-last-returns : (t : ℕ) → check-last-lts.Need-returns (
   with-rest-reads.Asked,
   with-rest-reads.Learnt,
 ) (check-last-at t) check-last.Post
-check-last-returns t c = last-stops (c .before .before .before .before .before .before .before .before .args .level) (c .before .before .before .before .before .before .before .before .args .store .now) (shapeIs (c .before .before .before .before .before .before .before .before .args .sh)) (c .before .before .before .before .before .before .before .before .args .lo .now) (c .before .before .before .before .before .before .before .before .args .hi .now) (c .before .before .before .before .before .before .before .before .args .num) (part (c .before .before .before .before .before .before .before .before .args .store .now) (c .before .before .before .before .before .before .before .before .args .low)) (c .before .before .before .before .before .before .before .before .args .rest .at) (c .before .before .before .before .before .before .before .before .args .rest .end) (c .before .before .before .before .before .before .before .before .args .seen .now) _ _ (c .before .before .check-child .ensures) (c .enum-told .given .1) _
+check-last-returns t c = last-stops (c .before .before .before .before .before .before .before .args .parent .level) (c .before .before .before .before .before .before .before .args .store .now) (shapeIs (c .before .before .before .before .before .before .before .args .parent .shape)) (part (c .before .before .before .before .before .before .before .args .store .now) (c .before .before .before .before .before .before .before .args .parent .low)) (c .before .before .before .before .before .before .before .args .hi .now) (c .before .before .before .before .before .before .before .args .num) (c .before .before .before .before .before .before .before .args .low .now) (c .before .before .before .before .before .before .before .args .rest .at) (c .before .before .before .before .before .before .before .args .rest .end) (c .before .before .before .before .before .before .before .args .seen .now) _ _ (c .before .before .check-child .ensures) (c .enum-told .given .1) _
+
+check-last-sub-check-messages : (t : ℕ) → check-last-lts.Need-sub-check-messages (
+  check-child-below t,
+  check-child.Post,
+  check-messages-reads.Asked,
+  check-messages-reads.Learnt,
+  with-rest-reads.Asked,
+  with-rest-reads.Learnt,
+) (check-last-at t) check-last.Post
+check-last-sub-check-messages t c = let w = c .before .before .before .before .before .before .before .before .before .pre .1 .2 in omega arith
+
+check-last-part-check-messages-start : (t : ℕ) → check-last-lts.Need-part-check-messages-start (
+  check-child-below t,
+  check-child.Post,
+  check-messages-reads.Asked,
+  check-messages-reads.Learnt,
+  with-rest-reads.Asked,
+  with-rest-reads.Learnt,
+) (check-last-at t) check-last.Post
+check-last-part-check-messages-start t c = let w = c .before .before .before .before .before .before .before .before .before .pre .1 .2 in omega arith
+
+check-last-part-check-messages-end : (t : ℕ) → check-last-lts.Need-part-check-messages-end (
+  check-child-below t,
+  check-child.Post,
+  check-messages-reads.Asked,
+  check-messages-reads.Learnt,
+  with-rest-reads.Asked,
+  with-rest-reads.Learnt,
+) (check-last-at t) check-last.Post
+check-last-part-check-messages-end t c = let w = c .before .before .before .before .before .before .before .before .before .pre .1 .2 in omega arith
 
 check-last-check-messages-requires : (t : ℕ) → check-last-lts.Need-check-messages-requires (
   check-child-below t,
@@ -865,7 +1016,7 @@ check-last-check-messages-requires : (t : ℕ) → check-last-lts.Need-check-mes
   with-rest-reads.Asked,
   with-rest-reads.Learnt,
 ) (check-last-at t) check-last.Post
-check-last-check-messages-requires t c κs = search needs
+check-last-check-messages-requires t c κs = c .before .before .before .before .before .before .before .before .before .before .pre .1 .1
 
 check-last-with-rest-requires : (t : ℕ) → check-last-lts.Need-with-rest-requires (
   check-child-below t,
@@ -885,7 +1036,7 @@ check-last-returns-2 : (t : ℕ) → check-last-lts.Need-returns-2 (
   with-rest-reads.Asked,
   with-rest-reads.Learnt,
 ) (check-last-at t) check-last.Post
-check-last-returns-2 t c = last-done (c .before .before .before .before .before .before .before .before .before .before .before .args .level) (c .before .before .before .before .before .before .before .before .before .before .before .args .store .now) (shapeIs (c .before .before .before .before .before .before .before .before .before .before .before .args .sh)) (c .before .before .before .before .before .before .before .before .before .before .before .args .lo .now) (c .before .before .before .before .before .before .before .before .before .before .before .args .hi .now) (c .before .before .before .before .before .before .before .before .before .before .before .args .num) (part (c .before .before .before .before .before .before .before .before .before .before .before .args .store .now) (c .before .before .before .before .before .before .before .before .before .before .before .args .low)) (c .before .before .before .before .before .before .before .before .before .before .before .args .rest .at) (c .before .before .before .before .before .before .before .before .before .before .before .args .rest .end) (c .before .before .before .before .before .before .before .before .before .before .before .args .seen .now) _ _ (c .before .before .before .before .before .check-child .ensures) _ (c .before .before .before .one .given .1) _ (c .before .check-messages .ensures) _ (c .with-rest .ensures)
+check-last-returns-2 t c = last-done (c .before .before .before .before .before .before .before .before .before .before .before .before .args .parent .level) (c .before .before .before .before .before .before .before .before .before .before .before .before .args .store .now) (shapeIs (c .before .before .before .before .before .before .before .before .before .before .before .before .args .parent .shape)) (part (c .before .before .before .before .before .before .before .before .before .before .before .before .args .store .now) (c .before .before .before .before .before .before .before .before .before .before .before .before .args .parent .low)) (c .before .before .before .before .before .before .before .before .before .before .before .before .args .hi .now) (c .before .before .before .before .before .before .before .before .before .before .before .before .args .num) (c .before .before .before .before .before .before .before .before .before .before .before .before .args .low .now) (c .before .before .before .before .before .before .before .before .before .before .before .before .args .rest .at) (c .before .before .before .before .before .before .before .before .before .before .before .before .args .rest .end) (c .before .before .before .before .before .before .before .before .before .before .before .before .args .seen .now) _ _ (c .before .before .before .before .before .before .before .check-child .ensures) _ (c .before .before .before .before .before .one .given .1) _ (c .before .check-messages .ensures) _ (c .with-rest .ensures)
 
 check-node-returns : (t : ℕ) → check-node-lts.Need-returns (
   node-count-reads.Asked,
@@ -901,7 +1052,7 @@ check-node-returns : (t : ℕ) → check-node-lts.Need-returns (
   tally-of-reads.Asked,
   tally-of-reads.Learnt,
 ) (check-node-at t) check-node.Post
-check-node-returns t c = number-low (c .before .before .before .before .args .t1 .now) (c .before .before .before .before .args .num) (c .before .before .before .before .args .level) (shapeIs (c .before .before .before .before .args .sh)) (c .before .before .before .before .args .t4 .now) (c .before .before .before .before .args .t5 .now) (c .before .before .before .before .args .seen .now) (c .if1 .taken) _
+check-node-returns t c = number-low (c .before .before .before .before .args .t1 .now) (c .before .before .before .before .args .num) (c .before .before .before .before .args .level) (shapeIs (c .before .before .before .before .args .sh)) (c .before .before .before .before .args .lo .now) (c .before .before .before .before .args .t5 .now) (c .before .before .before .before .args .seen .now) (c .if1 .taken) _
 
 check-node-node-count-requires : (t : ℕ) → check-node-lts.Need-node-count-requires (
   node-count-reads.Asked,
@@ -933,7 +1084,7 @@ check-node-returns-2 : (t : ℕ) → check-node-lts.Need-returns-2 (
   tally-of-reads.Asked,
   tally-of-reads.Learnt,
 ) (check-node-at t) check-node.Post
-check-node-returns-2 t c = number-past (c .before .before .before .before .before .before .args .t1 .now) (c .before .before .before .before .before .before .args .num) (c .before .before .before .before .before .before .args .level) (shapeIs (c .before .before .before .before .before .before .args .sh)) (c .before .before .before .before .before .before .args .t4 .now) (c .before .before .before .before .before .before .args .t5 .now) (c .before .before .before .before .before .before .args .seen .now) _ (c .before .node-count .ensures) (c .if2 .taken) _
+check-node-returns-2 t c = number-past (c .before .before .before .before .before .before .args .t1 .now) (c .before .before .before .before .before .before .args .num) (c .before .before .before .before .before .before .args .level) (shapeIs (c .before .before .before .before .before .before .args .sh)) (c .before .before .before .before .before .before .args .lo .now) (c .before .before .before .before .before .before .args .t5 .now) (c .before .before .before .before .before .before .args .seen .now) _ (c .before .node-count .ensures) (c .if2 .taken) _
 
 check-node-returns-3 : (t : ℕ) → check-node-lts.Need-returns-3 (
   node-count-reads.Asked,
@@ -949,7 +1100,7 @@ check-node-returns-3 : (t : ℕ) → check-node-lts.Need-returns-3 (
   tally-of-reads.Asked,
   tally-of-reads.Learnt,
 ) (check-node-at t) check-node.Post
-check-node-returns-3 t c = level-zero (c .before .before .before .before .before .before .before .args .t1 .now) (c .before .before .before .before .before .before .before .args .num) (c .before .before .before .before .before .before .before .args .level) (shapeIs (c .before .before .before .before .before .before .before .args .sh)) (c .before .before .before .before .before .before .before .args .t4 .now) (c .before .before .before .before .before .before .before .args .t5 .now) (c .before .before .before .before .before .before .before .args .seen .now) (c .if3 .taken) _
+check-node-returns-3 t c = level-zero (c .before .before .before .before .before .before .before .args .t1 .now) (c .before .before .before .before .before .before .before .args .num) (c .before .before .before .before .before .before .before .args .level) (shapeIs (c .before .before .before .before .before .before .before .args .sh)) (c .before .before .before .before .before .before .before .args .lo .now) (c .before .before .before .before .before .before .before .args .t5 .now) (c .before .before .before .before .before .before .before .args .seen .now) (c .if3 .taken) _
 
 check-node-element-copy-out-if4 : (t : ℕ) → check-node-lts.Need-element-copy-out-if4 (
   node-count-reads.Asked,
@@ -981,7 +1132,7 @@ check-node-returns-4 : (t : ℕ) → check-node-lts.Need-returns-4 (
   tally-of-reads.Asked,
   tally-of-reads.Learnt,
 ) (check-node-at t) check-node.Post
-check-node-returns-4 t c = reached-before (c .before .before .before .before .before .before .before .before .before .args .t1 .now) (c .before .before .before .before .before .before .before .before .before .args .num) (c .before .before .before .before .before .before .before .before .before .args .level) (shapeIs (c .before .before .before .before .before .before .before .before .before .args .sh)) (c .before .before .before .before .before .before .before .before .before .args .t4 .now) (c .before .before .before .before .before .before .before .before .before .args .t5 .now) (c .before .before .before .before .before .before .before .before .before .args .seen .now) (λ h. omega (arith, h, c .if4 .taken)) _
+check-node-returns-4 t c = reached-before (c .before .before .before .before .before .before .before .before .before .args .t1 .now) (c .before .before .before .before .before .before .before .before .before .args .num) (c .before .before .before .before .before .before .before .before .before .args .level) (shapeIs (c .before .before .before .before .before .before .before .before .before .args .sh)) (c .before .before .before .before .before .before .before .before .before .args .lo .now) (c .before .before .before .before .before .before .before .before .before .args .t5 .now) (c .before .before .before .before .before .before .before .before .before .args .seen .now) (λ h. omega (arith, h, c .if4 .taken)) _
 
 check-node-element-write-seen : (t : ℕ) → check-node-lts.Need-element-write-seen (
   node-count-reads.Asked,
@@ -1029,7 +1180,7 @@ check-node-returns-5 : (t : ℕ) → check-node-lts.Need-returns-5 (
   tally-of-reads.Asked,
   tally-of-reads.Learnt,
 ) (check-node-at t) check-node.Post
-check-node-returns-5 t c = node-leaf (c .before .before .before .before .before .before .before .before .before .before .before .args .t1 .now) (c .before .before .before .before .before .before .before .before .before .before .before .args .num) (c .before .before .before .before .before .before .before .before .before .before .before .args .level) (shapeIs (c .before .before .before .before .before .before .before .before .before .before .before .args .sh)) (c .before .before .before .before .before .before .before .before .before .before .before .args .t4 .now) (c .before .before .before .before .before .before .before .before .before .before .before .args .t5 .now) (c .before .before .before .before .before .before .before .before .before .before .before .args .seen .now) _ (c .before .before .before .before .before .before .node-count .ensures) (omega arith) (omega arith) (omega arith) (omega arith) _ (c .check-leaf .ensures)
+check-node-returns-5 t c = node-leaf (c .before .before .before .before .before .before .before .before .before .before .before .args .t1 .now) (c .before .before .before .before .before .before .before .before .before .before .before .args .num) (c .before .before .before .before .before .before .before .before .before .before .before .args .level) (shapeIs (c .before .before .before .before .before .before .before .before .before .before .before .args .sh)) (c .before .before .before .before .before .before .before .before .before .before .before .args .lo .now) (c .before .before .before .before .before .before .before .before .before .before .before .args .t5 .now) (c .before .before .before .before .before .before .before .before .before .before .before .args .seen .now) _ (c .before .before .before .before .before .before .node-count .ensures) (omega arith) (omega arith) (omega arith) (omega arith) _ (c .check-leaf .ensures)
 
 check-node-first-child-requires : (t : ℕ) → check-node-lts.Need-first-child-requires (
   node-count-reads.Asked,
@@ -1093,7 +1244,7 @@ check-node-returns-6 : (t : ℕ) → check-node-lts.Need-returns-6 (
   tally-of-reads.Asked,
   tally-of-reads.Learnt,
 ) (check-node-at t) check-node.Post
-check-node-returns-6 t c = no-first (c .before .before .before .before .before .before .before .before .before .before .before .before .before .args .t1 .now) (c .before .before .before .before .before .before .before .before .before .before .before .before .before .args .num) (c .before .before .before .before .before .before .before .before .before .before .before .before .before .args .level) (shapeIs (c .before .before .before .before .before .before .before .before .before .before .before .before .before .args .sh)) (c .before .before .before .before .before .before .before .before .before .before .before .before .before .args .t4 .now) (c .before .before .before .before .before .before .before .before .before .before .before .before .before .args .t5 .now) (c .before .before .before .before .before .before .before .before .before .before .before .before .before .args .seen .now) _ (c .before .before .before .before .before .before .before .before .node-count .ensures) (omega arith) (omega arith) (omega arith) (omega arith) _ (c .before .before .first-child .ensures) (c .enum-told .given .1) _
+check-node-returns-6 t c = no-first (c .before .before .before .before .before .before .before .before .before .before .before .before .before .args .t1 .now) (c .before .before .before .before .before .before .before .before .before .before .before .before .before .args .num) (c .before .before .before .before .before .before .before .before .before .before .before .before .before .args .level) (shapeIs (c .before .before .before .before .before .before .before .before .before .before .before .before .before .args .sh)) (c .before .before .before .before .before .before .before .before .before .before .before .before .before .args .lo .now) (c .before .before .before .before .before .before .before .before .before .before .before .before .before .args .t5 .now) (c .before .before .before .before .before .before .before .before .before .before .before .before .before .args .seen .now) _ (c .before .before .before .before .before .before .before .before .node-count .ensures) (omega arith) (omega arith) (omega arith) (omega arith) _ (c .before .before .first-child .ensures) (c .enum-told .given .1) _
 
 check-node-flattened-requires : (t : ℕ) → check-node-lts.Need-flattened-requires (
   node-count-reads.Asked,
@@ -1125,7 +1276,7 @@ check-node-check-children-requires : (t : ℕ) → check-node-lts.Need-check-chi
   tally-of-reads.Asked,
   tally-of-reads.Learnt,
 ) (check-node-at t) check-node.Post
-check-node-check-children-requires t c κs = let l = leads (c .before .before .before .before .before .before .before .before .before .before .before .before .before .before .before .before .before .before .before .before .before .args .t1 .now) (c .before .before .before .before .before .before .before .before .before .before .before .before .before .before .before .before .before .before .before .before .before .args .num) (c .before .before .before .before .before .before .before .before .before .before .before .before .before .before .before .before .before .before .before .before .before .args .level) (shapeIs (c .before .before .before .before .before .before .before .before .before .before .before .before .before .before .before .before .before .before .before .before .before .args .sh)) (c .before .before .before .before .before .before .before .before .before .before .before .before .before .before .before .before .before .before .before .before .before .args .t4 .now) (c .before .before .before .before .before .before .before .before .before .before .before .before .before .before .before .before .before .before .before .before .before .args .t5 .now) (c .before .before .before .before .before .before .before .before .before .before .before .before .before .before .before .before .before .before .before .before .before .args .seen .now) _ (c .before .before .before .before .before .before .before .before .before .before .before .before .before .before .before .before .node-count .ensures) (omega (arith, c .before .before .before .before .before .before .before .before .before .before .before .before .before .before .before .before .before .if1 .left)) (omega (arith, c .before .before .before .before .before .before .before .before .before .before .before .before .before .before .before .if2 .left)) (omega (arith, c .before .before .before .before .before .before .before .before .before .before .before .before .if4 .left)) (omega (arith, c .before .before .before .before .before .before .before .before .before .before .before .before .before .before .if3 .left, c .before .before .before .before .before .before .before .before .before .before .before .if5 .left)) _ (c .before .before .before .before .before .before .before .before .before .before .first-child .ensures) _ _ _ (c .before .before .before .before .before .before .before .before .child .given .1) in (omega (arith, c .before .before .before .before .before .before .before .before .before .before .before .before .before .before .before .before .before .before .before .before .before .pre .0), (c .before .before .before .before .before .before .before .before .before .before .before .before .before .before .before .before .before .before .before .before .before .pre .1, l .fits, l .place))
+check-node-check-children-requires t c κs = let l = leads (c .before .before .before .before .before .before .before .before .before .before .before .before .before .before .before .before .before .before .before .before .args .t1 .now) (c .before .before .before .before .before .before .before .before .before .before .before .before .before .before .before .before .before .before .before .before .args .num) (c .before .before .before .before .before .before .before .before .before .before .before .before .before .before .before .before .before .before .before .before .args .level) (shapeIs (c .before .before .before .before .before .before .before .before .before .before .before .before .before .before .before .before .before .before .before .before .args .sh)) (c .before .before .before .before .before .before .before .before .before .before .before .before .before .before .before .before .before .before .before .before .args .lo .now) (c .before .before .before .before .before .before .before .before .before .before .before .before .before .before .before .before .before .before .before .before .args .t5 .now) (c .before .before .before .before .before .before .before .before .before .before .before .before .before .before .before .before .before .before .before .before .args .seen .now) _ (c .before .before .before .before .before .before .before .before .before .before .before .before .before .before .before .node-count .ensures) (omega (arith, c .before .before .before .before .before .before .before .before .before .before .before .before .before .before .before .before .if1 .left)) (omega (arith, c .before .before .before .before .before .before .before .before .before .before .before .before .before .before .if2 .left)) (omega (arith, c .before .before .before .before .before .before .before .before .before .before .before .if4 .left)) (omega (arith, c .before .before .before .before .before .before .before .before .before .before .before .before .before .if3 .left, c .before .before .before .before .before .before .before .before .before .before .if5 .left)) _ (c .before .before .before .before .before .before .before .before .before .first-child .ensures) _ _ _ (c .before .before .before .before .before .before .before .child .given .1) in (omega (arith, c .before .before .before .before .before .before .before .before .before .before .before .before .before .before .before .before .before .before .before .before .pre .0, ap (λ (q : Parent). q .level) (c .before .before .before .before .before .flattened .ensures), ap (λ (q : Parent). q .end) (c .before .before .before .before .before .flattened .ensures)), (c .before .before .before .before .before .before .before .before .before .before .before .before .before .before .before .before .before .before .before .before .pre .1, subst (λ (q : Parent). q .end ≤ length (c .before .before .before .before .before .before .before .before .before .before .before .before .before .before .before .before .before .before .before .before .args .t1 .now)) (sym (c .before .before .before .before .before .flattened .ensures)) (l .fits), l .place, subst (λ (q : Parent). Within 0 (length (c .before .before .before .before .before .before .before .before .before .before .before .before .before .before .before .before .before .before .before .before .args .t1 .now)) (q .low)) (sym (c .before .before .before .before .before .flattened .ensures)) (l .place)))
 
 check-node-returns-7 : (t : ℕ) → check-node-lts.Need-returns-7 (
   node-count-reads.Asked,
@@ -1141,7 +1292,7 @@ check-node-returns-7 : (t : ℕ) → check-node-lts.Need-returns-7 (
   tally-of-reads.Asked,
   tally-of-reads.Learnt,
 ) (check-node-at t) check-node.Post
-check-node-returns-7 t c = kids-stop (c .before .before .before .before .before .before .before .before .before .before .before .before .before .before .before .before .before .before .before .before .before .before .before .args .t1 .now) (c .before .before .before .before .before .before .before .before .before .before .before .before .before .before .before .before .before .before .before .before .before .before .before .args .num) (c .before .before .before .before .before .before .before .before .before .before .before .before .before .before .before .before .before .before .before .before .before .before .before .args .level) (shapeIs (c .before .before .before .before .before .before .before .before .before .before .before .before .before .before .before .before .before .before .before .before .before .before .before .args .sh)) (c .before .before .before .before .before .before .before .before .before .before .before .before .before .before .before .before .before .before .before .before .before .before .before .args .t4 .now) (c .before .before .before .before .before .before .before .before .before .before .before .before .before .before .before .before .before .before .before .before .before .before .before .args .t5 .now) (c .before .before .before .before .before .before .before .before .before .before .before .before .before .before .before .before .before .before .before .before .before .before .before .args .seen .now) _ (c .before .before .before .before .before .before .before .before .before .before .before .before .before .before .before .before .before .before .node-count .ensures) (omega (arith, c .before .before .before .before .before .before .before .before .before .before .before .before .before .before .before .before .before .before .before .if1 .left)) (omega (arith, c .before .before .before .before .before .before .before .before .before .before .before .before .before .before .before .before .before .if2 .left)) (omega (arith, c .before .before .before .before .before .before .before .before .before .before .before .before .before .before .if4 .left)) (omega (arith, c .before .before .before .before .before .before .before .before .before .before .before .before .before .before .before .before .if3 .left, c .before .before .before .before .before .before .before .before .before .before .before .before .before .if5 .left)) _ (c .before .before .before .before .before .before .before .before .before .before .before .before .first-child .ensures) _ _ _ (c .before .before .before .before .before .before .before .before .before .before .child .given .1) _ (c .before .before .before .before .before .before .before .before .flattened .ensures) _ _ _ (c .before .check-children .ensures) (not-true _ (c .if6 .taken)) _
+check-node-returns-7 t c = branches-stop (c .before .before .before .before .before .before .before .before .before .before .before .before .before .before .before .before .before .before .before .before .before .before .args .t1 .now) (c .before .before .before .before .before .before .before .before .before .before .before .before .before .before .before .before .before .before .before .before .before .before .args .num) (c .before .before .before .before .before .before .before .before .before .before .before .before .before .before .before .before .before .before .before .before .before .before .args .level) (shapeIs (c .before .before .before .before .before .before .before .before .before .before .before .before .before .before .before .before .before .before .before .before .before .before .args .sh)) (c .before .before .before .before .before .before .before .before .before .before .before .before .before .before .before .before .before .before .before .before .before .before .args .lo .now) (c .before .before .before .before .before .before .before .before .before .before .before .before .before .before .before .before .before .before .before .before .before .before .args .t5 .now) (c .before .before .before .before .before .before .before .before .before .before .before .before .before .before .before .before .before .before .before .before .before .before .args .seen .now) _ (c .before .before .before .before .before .before .before .before .before .before .before .before .before .before .before .before .before .node-count .ensures) (omega (arith, c .before .before .before .before .before .before .before .before .before .before .before .before .before .before .before .before .before .before .if1 .left)) (omega (arith, c .before .before .before .before .before .before .before .before .before .before .before .before .before .before .before .before .if2 .left)) (omega (arith, c .before .before .before .before .before .before .before .before .before .before .before .before .before .if4 .left)) (omega (arith, c .before .before .before .before .before .before .before .before .before .before .before .before .before .before .before .if3 .left, c .before .before .before .before .before .before .before .before .before .before .before .before .if5 .left)) _ (c .before .before .before .before .before .before .before .before .before .before .before .first-child .ensures) _ _ _ (c .before .before .before .before .before .before .before .before .before .child .given .1) (parentIs (c .before .before .before .before .before .before .before .flattened .result)) (ap (λ (q : Parent). q .level) (c .before .before .before .before .before .before .before .flattened .ensures)) (ap (λ (q : Parent). q .end) (c .before .before .before .before .before .before .before .flattened .ensures)) (ap (λ (q : Parent). q .low) (c .before .before .before .before .before .before .before .flattened .ensures)) (ap (λ (q : Parent). shapeIs (q .shape)) (c .before .before .before .before .before .before .before .flattened .ensures)) _ _ _ (c .before .check-children .ensures) (not-true _ (c .if6 .taken)) _
 
 check-node-tally-of-requires : (t : ℕ) → check-node-lts.Need-tally-of-requires (
   node-count-reads.Asked,
@@ -1173,7 +1324,7 @@ check-node-returns-8 : (t : ℕ) → check-node-lts.Need-returns-8 (
   tally-of-reads.Asked,
   tally-of-reads.Learnt,
 ) (check-node-at t) check-node.Post
-check-node-returns-8 t c = kids-done (c .before .before .before .before .before .before .before .before .before .before .before .before .before .before .before .before .before .before .before .before .before .before .before .before .before .args .t1 .now) (c .before .before .before .before .before .before .before .before .before .before .before .before .before .before .before .before .before .before .before .before .before .before .before .before .before .args .num) (c .before .before .before .before .before .before .before .before .before .before .before .before .before .before .before .before .before .before .before .before .before .before .before .before .before .args .level) (shapeIs (c .before .before .before .before .before .before .before .before .before .before .before .before .before .before .before .before .before .before .before .before .before .before .before .before .before .args .sh)) (c .before .before .before .before .before .before .before .before .before .before .before .before .before .before .before .before .before .before .before .before .before .before .before .before .before .args .t4 .now) (c .before .before .before .before .before .before .before .before .before .before .before .before .before .before .before .before .before .before .before .before .before .before .before .before .before .args .t5 .now) (c .before .before .before .before .before .before .before .before .before .before .before .before .before .before .before .before .before .before .before .before .before .before .before .before .before .args .seen .now) _ (c .before .before .before .before .before .before .before .before .before .before .before .before .before .before .before .before .before .before .before .before .node-count .ensures) (omega (arith, c .before .before .before .before .before .before .before .before .before .before .before .before .before .before .before .before .before .before .before .before .before .if1 .left)) (omega (arith, c .before .before .before .before .before .before .before .before .before .before .before .before .before .before .before .before .before .before .before .if2 .left)) (omega (arith, c .before .before .before .before .before .before .before .before .before .before .before .before .before .before .before .before .if4 .left)) (omega (arith, c .before .before .before .before .before .before .before .before .before .before .before .before .before .before .before .before .before .before .if3 .left, c .before .before .before .before .before .before .before .before .before .before .before .before .before .before .before .if5 .left)) _ (c .before .before .before .before .before .before .before .before .before .before .before .before .before .before .first-child .ensures) _ _ _ (c .before .before .before .before .before .before .before .before .before .before .before .before .child .given .1) _ (c .before .before .before .before .before .before .before .before .before .before .flattened .ensures) _ _ _ (c .before .before .before .check-children .ensures) (not-false _ (c .before .before .if6 .left)) _ (c .tally-of .ensures)
+check-node-returns-8 t c = branches-done (c .before .before .before .before .before .before .before .before .before .before .before .before .before .before .before .before .before .before .before .before .before .before .before .before .args .t1 .now) (c .before .before .before .before .before .before .before .before .before .before .before .before .before .before .before .before .before .before .before .before .before .before .before .before .args .num) (c .before .before .before .before .before .before .before .before .before .before .before .before .before .before .before .before .before .before .before .before .before .before .before .before .args .level) (shapeIs (c .before .before .before .before .before .before .before .before .before .before .before .before .before .before .before .before .before .before .before .before .before .before .before .before .args .sh)) (c .before .before .before .before .before .before .before .before .before .before .before .before .before .before .before .before .before .before .before .before .before .before .before .before .args .lo .now) (c .before .before .before .before .before .before .before .before .before .before .before .before .before .before .before .before .before .before .before .before .before .before .before .before .args .t5 .now) (c .before .before .before .before .before .before .before .before .before .before .before .before .before .before .before .before .before .before .before .before .before .before .before .before .args .seen .now) _ (c .before .before .before .before .before .before .before .before .before .before .before .before .before .before .before .before .before .before .before .node-count .ensures) (omega (arith, c .before .before .before .before .before .before .before .before .before .before .before .before .before .before .before .before .before .before .before .before .if1 .left)) (omega (arith, c .before .before .before .before .before .before .before .before .before .before .before .before .before .before .before .before .before .before .if2 .left)) (omega (arith, c .before .before .before .before .before .before .before .before .before .before .before .before .before .before .before .if4 .left)) (omega (arith, c .before .before .before .before .before .before .before .before .before .before .before .before .before .before .before .before .before .if3 .left, c .before .before .before .before .before .before .before .before .before .before .before .before .before .before .if5 .left)) _ (c .before .before .before .before .before .before .before .before .before .before .before .before .before .first-child .ensures) _ _ _ (c .before .before .before .before .before .before .before .before .before .before .before .child .given .1) (parentIs (c .before .before .before .before .before .before .before .before .before .flattened .result)) (ap (λ (q : Parent). q .level) (c .before .before .before .before .before .before .before .before .before .flattened .ensures)) (ap (λ (q : Parent). q .end) (c .before .before .before .before .before .before .before .before .before .flattened .ensures)) (ap (λ (q : Parent). q .low) (c .before .before .before .before .before .before .before .before .before .flattened .ensures)) (ap (λ (q : Parent). shapeIs (q .shape)) (c .before .before .before .before .before .before .before .before .before .flattened .ensures)) _ _ _ (c .before .before .before .check-children .ensures) (not-false _ (c .before .before .if6 .left)) _ (c .tally-of .ensures)
 
 pub +check-child+check-children+check-last+check-node-spec : {M : Type 1} → statement M
 +check-child+check-children+check-last+check-node-spec =
@@ -1191,6 +1342,9 @@ pub +check-child+check-children+check-last+check-node-spec : {M : Type 1} → st
     )
     (check-child-at t)
     check-child.Post
+    (check-child-sub-owned t)
+    (check-child-part-owned-start t)
+    (check-child-part-owned-end t)
     (check-child-owned-requires t)
     (check-child-returns t)
     (check-child-precedes-requires t)
@@ -1209,16 +1363,16 @@ pub +check-child+check-children+check-last+check-node-spec : {M : Type 1} → st
     (check-child-check-node-requires t)
     (check-child-returns-3 t))
     (λ t. check-children-lts.spec (
-      shape-of-reads.Asked,
-      shape-of-reads.Learnt,
+      parent-of-reads.Asked,
+      parent-of-reads.Learnt,
       check-last-below t,
       check-last.Post,
       hold-reads.Asked,
       hold-reads.Learnt,
       step-reads.Asked,
       step-reads.Learnt,
-      kid-of-reads.Asked,
-      kid-of-reads.Learnt,
+      branch-of-reads.Asked,
+      branch-of-reads.Learnt,
       check-child-below t,
       check-child.Post,
       check-children-below t,
@@ -1226,7 +1380,10 @@ pub +check-child+check-children+check-last+check-node-spec : {M : Type 1} → st
     )
     (check-children-at t)
     check-children.Post
-    (check-children-shape-of-requires t)
+    (check-children-parent-of-requires t)
+    (check-children-sub-check-last t)
+    (check-children-part-check-last-start t)
+    (check-children-part-check-last-end t)
     (check-children-check-last-requires t)
     (check-children-hold-requires t)
     (check-children-returns t)
@@ -1234,9 +1391,12 @@ pub +check-child+check-children+check-last+check-node-spec : {M : Type 1} → st
     (check-children-enum-known-e t)
     (check-children-enum-told t)
     (check-children-returns-2 t)
-    (check-children-kid-of-requires t)
+    (check-children-branch-of-requires t)
     (check-children-enum-known-child t)
     (check-children-enum-told-2 t)
+    (check-children-sub-check-last-2 t)
+    (check-children-part-check-last-start-2 t)
+    (check-children-part-check-last-end-2 t)
     (check-children-check-last-requires-2 t)
     (check-children-hold-requires-2 t)
     (check-children-returns-3 t)
@@ -1261,13 +1421,13 @@ pub +check-child+check-children+check-last+check-node-spec : {M : Type 1} → st
     )
     (check-last-at t)
     check-last.Post
-    (check-last-sub-check-child t)
-    (check-last-part-check-child-start t)
-    (check-last-part-check-child-end t)
     (check-last-check-child-requires t)
     (check-last-enum-known-one t)
     (check-last-enum-told t)
     (check-last-returns t)
+    (check-last-sub-check-messages t)
+    (check-last-part-check-messages-start t)
+    (check-last-part-check-messages-end t)
     (check-last-check-messages-requires t)
     (check-last-with-rest-requires t)
     (check-last-returns-2 t))

@@ -11,7 +11,7 @@ use Rattle.tree_check.proofs.first_child.Statement.{statement}
 use Rattle.tree_check.proofs.first_child.Tie as tie
 
 place-in : (c : tie.After-known-told2) → Within 0 (length (c .before .before .before .before .before .before .before .before .before .before .before .before .before .args .store .now)) (c .before .child .given .0 .1 .0)
-place-in c = first-place (c .before .before .before .before .before .before .before .before .before .before .before .before .before .args .store .now) (c .before .before .before .before .before .before .before .before .before .before .before .before .before .args .num) (c .before .before .before .before .before .before .before .before .before .before .before .before .before .args .level) (c .before .before .before .before .before .before .before .before .before .before .before .before .before .args .lo .now) (c .before .before .before .before .before .before .before .before .before .before .before .before .before .pre) _ (c .before .before .before .before .before .before .before .before .before .before .laid-out .ensures) (not-false _ (c .before .before .before .before .before .before .before .before .before .if1 .left)) _ (c .before .before .before .before .before .before .before .before .u16-at .ensures .0) _ (c .before .before .before .before .before .before .before .step .ensures) _ _ (c .before .before .before .before .before .e .given .1) _ _ (sym (c .before .before .before .kid-of .ensures) ∙ c .before .child .given .1)
+place-in c = first-place (c .before .before .before .before .before .before .before .before .before .before .before .before .before .args .store .now) (c .before .before .before .before .before .before .before .before .before .before .before .before .before .args .num) (c .before .before .before .before .before .before .before .before .before .before .before .before .before .args .level) (c .before .before .before .before .before .before .before .before .before .before .before .before .before .args .lo .now) (c .before .before .before .before .before .before .before .before .before .before .before .before .before .pre) _ (c .before .before .before .before .before .before .before .before .before .before .laid-out .ensures) (not-false _ (c .before .before .before .before .before .before .before .before .before .if1 .left)) _ (c .before .before .before .before .before .before .before .before .u16-at .ensures .0) _ (c .before .before .before .before .before .before .before .step .ensures) _ _ (c .before .before .before .before .before .e .given .1) _ _ (sym (c .before .before .before .branch-of .ensures) ∙ c .before .child .given .1)
 
 laid-out-requires : tie.Need-laid-out-requires
 laid-out-requires c κs = search needs
@@ -43,8 +43,8 @@ enum-told c = search needs
 returns-2 : tie.Need-returns-2
 returns-2 c = no-entry (c .before .before .before .before .before .before .before .before .args .store .now) (c .before .before .before .before .before .before .before .before .args .num) (c .before .before .before .before .before .before .before .before .args .level) (c .before .before .before .before .before .before .before .before .args .lo .now) (c .before .before .before .before .before .before .before .before .pre) _ (c .before .before .before .before .before .laid-out .ensures) (not-false _ (c .before .before .before .before .if1 .left)) _ (c .before .before .before .u16-at .ensures .0) _ (c .before .before .step .ensures) (c .enum-told .given .1)
 
-kid-of-requires : tie.Need-kid-of-requires
-kid-of-requires c κs = search needs
+branch-of-requires : tie.Need-branch-of-requires
+branch-of-requires c κs = search needs
 
 enum-known-child : tie.Need-enum-known-child
 enum-known-child c = search needs
@@ -53,7 +53,7 @@ enum-told-2 : tie.Need-enum-told-2
 enum-told-2 c = search needs
 
 returns-3 : tie.Need-returns-3
-returns-3 c = no-child (c .before .before .before .before .before .before .before .before .before .before .before .before .args .store .now) (c .before .before .before .before .before .before .before .before .before .before .before .before .args .num) (c .before .before .before .before .before .before .before .before .before .before .before .before .args .level) (c .before .before .before .before .before .before .before .before .before .before .before .before .args .lo .now) (c .before .before .before .before .before .before .before .before .before .before .before .before .pre) _ (c .before .before .before .before .before .before .before .before .before .laid-out .ensures) (not-false _ (c .before .before .before .before .before .before .before .before .if1 .left)) _ (c .before .before .before .before .before .before .before .u16-at .ensures .0) _ (c .before .before .before .before .before .before .step .ensures) _ _ (c .before .before .before .before .e .given .1) (sym (c .before .before .kid-of .ensures) ∙ c .enum-told2 .given .1)
+returns-3 c = no-child (c .before .before .before .before .before .before .before .before .before .before .before .before .args .store .now) (c .before .before .before .before .before .before .before .before .before .before .before .before .args .num) (c .before .before .before .before .before .before .before .before .before .before .before .before .args .level) (c .before .before .before .before .before .before .before .before .before .before .before .before .args .lo .now) (c .before .before .before .before .before .before .before .before .before .before .before .before .pre) _ (c .before .before .before .before .before .before .before .before .before .laid-out .ensures) (not-false _ (c .before .before .before .before .before .before .before .before .if1 .left)) _ (c .before .before .before .before .before .before .before .u16-at .ensures .0) _ (c .before .before .before .before .before .before .step .ensures) _ _ (c .before .before .before .before .e .given .1) (sym (c .before .before .branch-of .ensures) ∙ c .enum-told2 .given .1)
 
 sub-equal : tie.Need-sub-equal
 sub-equal c = let w = place-in c in omega arith
@@ -68,10 +68,10 @@ equal-requires : tie.Need-equal-requires
 equal-requires c κs = search needs
 
 returns-4 : tie.Need-returns-4
-returns-4 c = other-pivot (c .before .before .before .before .before .before .before .before .before .before .before .before .before .before .before .before .args .store .now) (c .before .before .before .before .before .before .before .before .before .before .before .before .before .before .before .before .args .num) (c .before .before .before .before .before .before .before .before .before .before .before .before .before .before .before .before .args .level) (c .before .before .before .before .before .before .before .before .before .before .before .before .before .before .before .before .args .lo .now) (c .before .before .before .before .before .before .before .before .before .before .before .before .before .before .before .before .pre) _ (c .before .before .before .before .before .before .before .before .before .before .before .before .before .laid-out .ensures) (not-false _ (c .before .before .before .before .before .before .before .before .before .before .before .before .if1 .left)) _ (c .before .before .before .before .before .before .before .before .before .before .before .u16-at .ensures .0) _ (c .before .before .before .before .before .before .before .before .before .before .step .ensures) _ _ (c .before .before .before .before .before .before .before .before .e .given .1) _ _ (sym (c .before .before .before .before .before .before .kid-of .ensures) ∙ c .before .before .before .before .child .given .1) (c .before .equal .result) (c .before .equal .ensures) (not-true _ (c .if2 .taken))
+returns-4 c = other-pivot (c .before .before .before .before .before .before .before .before .before .before .before .before .before .before .before .before .args .store .now) (c .before .before .before .before .before .before .before .before .before .before .before .before .before .before .before .before .args .num) (c .before .before .before .before .before .before .before .before .before .before .before .before .before .before .before .before .args .level) (c .before .before .before .before .before .before .before .before .before .before .before .before .before .before .before .before .args .lo .now) (c .before .before .before .before .before .before .before .before .before .before .before .before .before .before .before .before .pre) _ (c .before .before .before .before .before .before .before .before .before .before .before .before .before .laid-out .ensures) (not-false _ (c .before .before .before .before .before .before .before .before .before .before .before .before .if1 .left)) _ (c .before .before .before .before .before .before .before .before .before .before .before .u16-at .ensures .0) _ (c .before .before .before .before .before .before .before .before .before .before .step .ensures) _ _ (c .before .before .before .before .before .before .before .before .e .given .1) _ _ (sym (c .before .before .before .before .before .before .branch-of .ensures) ∙ c .before .before .before .before .child .given .1) (c .before .equal .result) (c .before .equal .ensures) (not-true _ (c .if2 .taken))
 
 returns-5 : tie.Need-returns-5
-returns-5 c = first-child (c .before .before .before .before .before .before .before .before .before .before .before .before .before .before .before .before .args .store .now) (c .before .before .before .before .before .before .before .before .before .before .before .before .before .before .before .before .args .num) (c .before .before .before .before .before .before .before .before .before .before .before .before .before .before .before .before .args .level) (c .before .before .before .before .before .before .before .before .before .before .before .before .before .before .before .before .args .lo .now) (c .before .before .before .before .before .before .before .before .before .before .before .before .before .before .before .before .pre) _ (c .before .before .before .before .before .before .before .before .before .before .before .before .before .laid-out .ensures) (not-false _ (c .before .before .before .before .before .before .before .before .before .before .before .before .if1 .left)) _ (c .before .before .before .before .before .before .before .before .before .before .before .u16-at .ensures .0) _ (c .before .before .before .before .before .before .before .before .before .before .step .ensures) _ _ (c .before .before .before .before .before .before .before .before .e .given .1) _ _ (sym (c .before .before .before .before .before .before .kid-of .ensures) ∙ c .before .before .before .before .child .given .1) (c .before .equal .result) (c .before .equal .ensures) (not-false _ (c .if2 .left))
+returns-5 c = first-child (c .before .before .before .before .before .before .before .before .before .before .before .before .before .before .before .before .args .store .now) (c .before .before .before .before .before .before .before .before .before .before .before .before .before .before .before .before .args .num) (c .before .before .before .before .before .before .before .before .before .before .before .before .before .before .before .before .args .level) (c .before .before .before .before .before .before .before .before .before .before .before .before .before .before .before .before .args .lo .now) (c .before .before .before .before .before .before .before .before .before .before .before .before .before .before .before .before .pre) _ (c .before .before .before .before .before .before .before .before .before .before .before .before .before .laid-out .ensures) (not-false _ (c .before .before .before .before .before .before .before .before .before .before .before .before .if1 .left)) _ (c .before .before .before .before .before .before .before .before .before .before .before .u16-at .ensures .0) _ (c .before .before .before .before .before .before .before .before .before .before .step .ensures) _ _ (c .before .before .before .before .before .before .before .before .e .given .1) _ _ (sym (c .before .before .before .before .before .before .branch-of .ensures) ∙ c .before .before .before .before .child .given .1) (c .before .equal .result) (c .before .equal .ensures) (not-false _ (c .if2 .left))
 
 pub first-child-spec : {M : Type 1} → statement M
 first-child-spec =
@@ -87,7 +87,7 @@ first-child-spec =
     enum-known-e
     enum-told
     returns-2
-    kid-of-requires
+    branch-of-requires
     enum-known-child
     enum-told-2
     returns-3

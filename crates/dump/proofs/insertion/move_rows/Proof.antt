@@ -1,47 +1,60 @@
--- `move_rows` meets its contract: the part that has the rows and one place more is shifted. Relies on specs/Moves.
+-- `move_rows` meets its contract: before each turn the rows from `at` on are moved. Relies on specs/Insertion/Moves.
 use borrow.Author.Needs.{needs}
 use native.Mathlib.Omega.{arith}
-use Rattle.dump.specs.Insertion.Moves.{part-moved}
+use Prim.Native.Nat.{_≤_}
+use mathlib.Core.Path.{_≡_, refl, _∙_}
+use lib.ListN.{length}
+use Rattle.dump.specs.Insertion.Moves.{moved, move-none, move-one, move-all}
 use Rattle.dump.proofs.insertion.move_rows.Statement.{statement}
 use Rattle.dump.proofs.insertion.move_rows.Tie as tie
 
-mul-start : tie.Need-mul-start
-mul-start c = search needs
+abbrev Inv-loop : tie.InvT-loop
+Inv-loop area₀ i m by at₀ area at = (i ≤ at) × (at ≤ m) × (length area ≡ length area₀) × (area ≡ moved area₀ m by at)
 
-mul-end : tie.Need-mul-end
-mul-end c = search needs
+abbrev μ-loop : tie.MeasureT-loop
+μ-loop area₀ i m by at₀ area at = at
 
-add-end : tie.Need-add-end
-add-end c = search needs
+loop-holds : tie.Need-loop-holds Inv-loop μ-loop
+loop-holds c = (omega arith, omega arith, refl, move-none _ _ _)
 
-sub-shift-up : tie.Need-sub-shift-up
-sub-shift-up c = search needs
+sub-at : tie.Need-sub-at Inv-loop μ-loop
+sub-at c = search needs
 
-part-shift-up-start : tie.Need-part-shift-up-start
-part-shift-up-start c = search needs
+add-copy-row : tie.Need-add-copy-row Inv-loop μ-loop
+add-copy-row c = search needs
 
-part-shift-up-end : tie.Need-part-shift-up-end
-part-shift-up-end c = search needs
+copy-row-requires : tie.Need-copy-row-requires Inv-loop μ-loop
+copy-row-requires c κs = search needs
 
-shift-up-requires : tie.Need-shift-up-requires
-shift-up-requires c κs = search needs
+loop-less : tie.Need-loop-less Inv-loop μ-loop
+loop-less c = search needs
 
-same-length : tie.Need-same-length
+loop-again : tie.Need-loop-again Inv-loop μ-loop
+loop-again c =
+    let a = c .before .before .before .before .before .before .before .args in
+    let l = c .before .before .before .before .before .loop in
+    (omega arith, omega arith, search needs, c .before .before .copy-row .ensures ∙ move-one (a .area .now) (l .area) (a .m) (a .by) (l .at) (omega arith) (omega arith) (omega arith) (omega arith) (l .inv .3))
+
+same-length : tie.Need-same-length Inv-loop μ-loop
 same-length c = search needs
 
-returns : tie.Need-returns
-returns c = part-moved (c .before .before .before .before .before .args .area .now) _ (c .before .before .before .before .before .args .i) (c .before .before .before .before .before .args .m) (omega arith) (omega arith) (c .before .before .shift-up .ensures)
+returns : tie.Need-returns Inv-loop μ-loop
+returns c =
+    let a = c .before .before .before .args in
+    let l = c .before .loop in
+    move-all (a .area .now) (l .area) (a .i) (a .m) (a .by) (l .at) (omega arith) (omega arith) (l .inv .3)
 
 pub move-rows-spec : {M : Type 1} → statement M
 move-rows-spec =
     tie.close
     (tie.spec
-    mul-start
-    mul-end
-    add-end
-    sub-shift-up
-    part-shift-up-start
-    part-shift-up-end
-    shift-up-requires
+    Inv-loop
+    μ-loop
+    loop-holds
+    sub-at
+    add-copy-row
+    copy-row-requires
+    loop-less
+    loop-again
     same-length
     returns)

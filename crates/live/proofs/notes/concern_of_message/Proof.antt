@@ -1,6 +1,6 @@
 -- `concern_of_message` meets its contract, by the kind of the message. Relies on specs/Steps.
 use native.Mathlib.Omega.{arith}
-use Rattle.node.specs.Search.Hear.{put-places, drop-places, clear-places}
+use Rattle.node.specs.Search.Latest.{put-places, drop-places, clear-places}
 use Rattle.live.specs.Notes.Steps.{put-concerned, drop-concerned, clear-concerned}
 use borrow.Author.Needs.{needs}
 use Rattle.live.proofs.notes.concern_of_message.Statement.{statement}

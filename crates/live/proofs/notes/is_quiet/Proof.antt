@@ -4,12 +4,12 @@ use Prim.Native.Nat.{_≤_, _-_}
 use mathlib.Core.Path.{_≡_, refl}
 use native.Mathlib.Omega.{arith}
 use Rattle.live.specs.Notes.Notes.{quiet}
-use Rattle.live.specs.Notes.Apart.{heard-one, passed-one, passed-all}
+use Rattle.live.specs.Notes.Apart.{latest-one, passed-one, passed-all}
 use Rattle.live.proofs.notes.is_quiet.Statement.{statement}
 use Rattle.live.proofs.notes.is_quiet.Tie as tie
 use Rattle.live.proofs.notes.is_quiet.Reads as reads
 use Rattle.live.proofs.notes.is_quiet.Lts as lts
-use Rattle.live.proofs.notes.note_speaks.Reads as note-speaks-reads
+use Rattle.live.proofs.notes.note_covers.Reads as note-covers-reads
 
 abbrev Inv-loop : tie.InvT-loop
 Inv-loop s notes count key i₀ i = (i ≤ i₀) × (quiet s notes i₀ key ≡ quiet s notes i key)
@@ -23,23 +23,23 @@ loop-holds c = (omega arith, refl)
 sub-i : tie.Need-sub-i Inv-loop μ-loop
 sub-i c = search needs
 
-mul-note-speaks : tie.Need-mul-note-speaks Inv-loop μ-loop
-mul-note-speaks c = search needs
+mul-note-covers : tie.Need-mul-note-covers Inv-loop μ-loop
+mul-note-covers c = search needs
 
-element-copy-out-note-speaks : tie.Need-element-copy-out-note-speaks Inv-loop μ-loop
-element-copy-out-note-speaks c = search needs
+element-copy-out-note-covers : tie.Need-element-copy-out-note-covers Inv-loop μ-loop
+element-copy-out-note-covers c = search needs
 
-note-speaks-requires : tie.Need-note-speaks-requires Inv-loop μ-loop
-note-speaks-requires c κs = c .before .before .before .before .before .pre .1 (c .before .before .loop .i - 1) (omega arith)
+note-covers-requires : tie.Need-note-covers-requires Inv-loop μ-loop
+note-covers-requires c κs = c .before .before .before .before .before .pre .1 (c .before .before .loop .i - 1) (omega arith)
 
 returns : tie.Need-returns Inv-loop μ-loop
-returns c = heard-one _ _ _ _ _ _ (omega arith) (c .before .before .before .before .loop .inv .1) (c .before .note-speaks .ensures) (c .if1 .taken)
+returns c = latest-one _ _ _ _ _ _ (omega arith) (c .before .before .before .before .loop .inv .1) (c .before .note-covers .ensures) (c .if1 .taken)
 
 loop-less : tie.Need-loop-less Inv-loop μ-loop
 loop-less c = search needs
 
 loop-again : tie.Need-loop-again Inv-loop μ-loop
-loop-again c = (omega arith, passed-one _ _ _ _ _ _ (omega arith) (c .before .before .before .before .loop .inv .1) (c .before .note-speaks .ensures) (c .if1 .left))
+loop-again c = (omega arith, passed-one _ _ _ _ _ _ (omega arith) (c .before .before .before .before .loop .inv .1) (c .before .note-covers .ensures) (c .if1 .left))
 
 returns-2 : tie.Need-returns-2 Inv-loop μ-loop
 returns-2 c = passed-all _ _ _ _ _ (omega arith) (c .before .loop .inv .1)
@@ -52,9 +52,9 @@ is-quiet-spec =
     μ-loop
     loop-holds
     sub-i
-    mul-note-speaks
-    element-copy-out-note-speaks
-    note-speaks-requires
+    mul-note-covers
+    element-copy-out-note-covers
+    note-covers-requires
     returns
     loop-less
     loop-again

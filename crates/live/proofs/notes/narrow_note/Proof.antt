@@ -1,6 +1,6 @@
 -- `narrow_note` meets its contract: a note is a message of its own. Relies on specs/Steps.
 use Rattle.live.specs.Notes.Steps.{kept-used, note-concerned}
-use Rattle.live.specs.Notes.Notes.{noteSpeaks}
+use Rattle.live.specs.Notes.Notes.{noteCovers}
 use mathlib.Core.Bool.{not}
 use borrow.Author.Needs.{needs}
 use Prim.Native.Nat.{_-_}
@@ -21,7 +21,7 @@ same-length : tie.Need-same-length
 same-length c = search needs
 
 returns : tie.Need-returns
-returns c = kept-used _ _ _ _ _ _ (c .before .before .before .before .before .before .before .before .before .before .args .w .now) (c .before .before .before .before .before .before .before .before .before .before .args .lo .now) (c .before .before .before .before .before .before .before .before .before .before .args .hi .now) (λ q. not (noteSpeaks (c .before .before .before .before .before .before .before .before .before .before .args .s .now) (c .before .before .before .before .before .before .before .before .before .before .args .v) q)) (c .before .before .keep .ensures) (note-concerned (c .before .before .before .before .before .before .before .before .before .before .args .s .now) (c .before .before .before .before .before .before .before .before .before .before .args .v) _ _ _ (c .before .before .before .before .before .before .before .before .before .before .args .w .now) (c .before .before .before .before .before .before .before .before .before .before .args .lo .now) (c .before .before .before .before .before .before .before .before .before .before .args .hi .now) _ refl refl refl (c .before .before .before .before .concern-of .ensures))
+returns c = kept-used _ _ _ _ _ _ (c .before .before .before .before .before .before .before .before .before .before .args .w .now) (c .before .before .before .before .before .before .before .before .before .before .args .lo .now) (c .before .before .before .before .before .before .before .before .before .before .args .hi .now) (λ q. not (noteCovers (c .before .before .before .before .before .before .before .before .before .before .args .s .now) (c .before .before .before .before .before .before .before .before .before .before .args .v) q)) (c .before .before .keep .ensures) (note-concerned (c .before .before .before .before .before .before .before .before .before .before .args .s .now) (c .before .before .before .before .before .before .before .before .before .before .args .v) _ _ _ (c .before .before .before .before .before .before .before .before .before .before .args .w .now) (c .before .before .before .before .before .before .before .before .before .before .args .lo .now) (c .before .before .before .before .before .before .before .before .before .before .args .hi .now) _ refl refl refl (c .before .before .before .before .concern-of .ensures))
 
 pub narrow-note-spec : {M : Type 1} → statement M
 narrow-note-spec = tie.close (tie.spec add-b concern-of-requires keep-requires same-length returns)

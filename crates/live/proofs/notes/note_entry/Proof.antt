@@ -1,5 +1,5 @@
 -- `note_entry` meets its contract, by the kind of the entry. Relies on specs/Steps.
-use Rattle.node.specs.Search.Hear.{message-places}
+use Rattle.node.specs.Search.Latest.{message-places}
 use Rattle.live.specs.Notes.Steps.{noted-pair, noted-child, noted-message}
 use borrow.Author.Needs.{needs}
 use Rattle.live.proofs.notes.note_entry.Statement.{statement}

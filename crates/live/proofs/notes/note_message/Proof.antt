@@ -1,6 +1,6 @@
 -- `note_message` meets its contract: what the message is to the keys, kept. Relies on specs/Steps.
 use Rattle.live.specs.Notes.Steps.{kept-used}
-use Rattle.live.specs.Notes.Notes.{isSilent}
+use Rattle.live.specs.Notes.Notes.{notCovers}
 use Rattle.node.specs.Places.{messageIn}
 use borrow.Author.Needs.{needs}
 use Prim.Native.Nat.{_-_}
@@ -17,7 +17,7 @@ same-length : tie.Need-same-length
 same-length c = search needs
 
 returns : tie.Need-returns
-returns c = kept-used _ _ _ _ _ _ (c .before .before .before .before .before .before .before .before .before .before .args .w .now) (c .before .before .before .before .before .before .before .before .before .before .args .lo .now) (c .before .before .before .before .before .before .before .before .before .before .args .hi .now) (λ x. isSilent (messageIn (c .before .before .before .before .before .before .before .before .before .before .args .s .now) (c .before .before .before .before .before .before .before .before .before .before .args .m)) x) (c .before .before .keep .ensures) (c .before .before .before .before .concern-of-message .ensures)
+returns c = kept-used _ _ _ _ _ _ (c .before .before .before .before .before .before .before .before .before .before .args .w .now) (c .before .before .before .before .before .before .before .before .before .before .args .lo .now) (c .before .before .before .before .before .before .before .before .before .before .args .hi .now) (λ x. notCovers (messageIn (c .before .before .before .before .before .before .before .before .before .before .args .s .now) (c .before .before .before .before .before .before .before .before .before .before .args .m)) x) (c .before .before .keep .ensures) (c .before .before .before .before .concern-of-message .ensures)
 
 pub note-message-spec : {M : Type 1} → statement M
 note-message-spec =

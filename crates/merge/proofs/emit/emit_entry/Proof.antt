@@ -4,7 +4,7 @@ use borrow.Author.Needs.{needs}
 use native.Mathlib.Omega.{arith}
 use lib.ListN.{length}
 use Rattle.node.specs.Places.{Within}
-use Rattle.node.specs.Search.Hear.{message-places}
+use Rattle.node.specs.Search.Latest.{message-places}
 use Rattle.merge.specs.WeighSteps.{pair-places, child-places}
 use Rattle.merge.specs.EmitSteps.{as-pair, as-child, as-message, small-child, fits-by, puts-by, ends-by}
 use Rattle.merge.proofs.emit.emit_entry.Statement.{statement}

@@ -1,4 +1,4 @@
-use Rattle.node.specs.Search.Pairs.{pairIs, findE, nothing-is, value-is, find-end, find-other, find-here, find-on, pair-places}
+use Rattle.node.specs.Search.Pairs.{pairIs, findAmong, nothing-is, value-is, find-end, find-other, find-here, find-on, pair-places}
 use Rattle.node.specs.declared.search.Pair.{Pair}
 use Rattle.node.specs.Places.{Within, Next, step-bad-is, step-read-is}
 use Rattle.node.specs.Entries.{listed, listed-end}
@@ -10,7 +10,7 @@ use Rattle.node.proofs.search.find.Statement.{statement}
 use Rattle.node.proofs.search.find.Tie as tie
 
 abbrev Inv-loop : tie.InvT-loop
-Inv-loop s from end rest c₀ c = (c .end ≡ end) × (findE (listed s (c .at) (c .end)) rest ≡ findE (listed s from end) rest)
+Inv-loop s from end rest c₀ c = (c .end ≡ end) × (findAmong (listed s (c .at) (c .end)) rest ≡ findAmong (listed s from end) rest)
 
 abbrev μ-loop : tie.MeasureT-loop
 μ-loop s from end rest c₀ c = end - c .at

@@ -1,5 +1,5 @@
-use Rattle.node.specs.Search.Own.{kidIs, kid-place, kids-none, kids-other, kids-more, nobody-is, as-kids}
-use Rattle.node.specs.declared.search.Kid.{Kid}
+use Rattle.node.specs.Search.Own.{branchIs, branch-place, branches-none, branches-other, branches-more, nobody-is, as-branches}
+use Rattle.node.specs.declared.search.Branch.{Branch}
 use Rattle.node.specs.Places.{Within, Next, step-bad-is, step-read-is}
 use lib.ListN.{length}
 use mathlib.Core.Path.{_≡_, sym, _∙_}
@@ -11,13 +11,13 @@ use Rattle.node.proofs.search.owner_of.Tie as tie
 next-is : (c : tie.After-known-told) → Next (c .before .before .before .before .before .before .before .args .s .now) (c .before .before .before .before .before .before .before .args .from) (c .before .before .before .before .before .before .before .args .end) (c .before .e .given .0 .0) (c .before .e .given .0 .1 .0)
 next-is c = step-read-is _ _ _ _ _ _ (c .before .before .before .step .ensures) (c .before .e .given .1)
 
-kid-is-of : (c : tie.After-known-told2) → kidIs (c .before .before .before .before .before .e .given .0 .0) ≡ Kid.Of (c .before .k .given .0 .0) (c .before .k .given .0 .1 .0)
-kid-is-of c = sym (c .before .before .before .kid-of .ensures) ∙ c .before .k .given .1
+branch-is-of : (c : tie.After-known-told2) → branchIs (c .before .before .before .before .before .e .given .0 .0) ≡ Branch.Of (c .before .k .given .0 .0) (c .before .k .given .0 .1 .0)
+branch-is-of c = sym (c .before .before .before .branch-of .ensures) ∙ c .before .k .given .1
 
 place-in : (c : tie.After-known-told2) → Within 0 (length (c .before .before .before .before .before .before .before .before .before .before .before .args .s .now)) (c .before .k .given .0 .1 .0)
 place-in c =
     let n = next-is (c .before .before .before .before) in
-    let w = kid-place (c .before .before .before .before .before .before .before .before .before .before .before .args .from) (c .before .before .before .before .before .before .before .before .before .before .before .args .end) (c .before .before .before .before .before .e .given .0 .0) _ _ (kid-is-of c) (n .reachable) in
+    let w = branch-place (c .before .before .before .before .before .before .before .before .before .before .before .args .from) (c .before .before .before .before .before .before .before .before .before .before .before .args .end) (c .before .before .before .before .before .e .given .0 .0) _ _ (branch-is-of c) (n .reachable) in
     record { low = omega arith; rises = omega arith; high = omega arith }
 
 step-requires : tie.Need-step-requires
@@ -30,10 +30,10 @@ enum-told : tie.Need-enum-told
 enum-told c = search needs
 
 returns : tie.Need-returns
-returns c = nobody-is _ _ _ _ (kids-none _ (step-bad-is _ _ _ _ (c .before .before .step .ensures) (c .enum-told .given .1) .1))
+returns c = nobody-is _ _ _ _ (branches-none _ (step-bad-is _ _ _ _ (c .before .before .step .ensures) (c .enum-told .given .1) .1))
 
-kid-of-requires : tie.Need-kid-of-requires
-kid-of-requires c κs = search needs
+branch-of-requires : tie.Need-branch-of-requires
+branch-of-requires c κs = search needs
 
 enum-known-k : tie.Need-enum-known-k
 enum-known-k c = search needs
@@ -42,13 +42,13 @@ enum-told-2 : tie.Need-enum-told-2
 enum-told-2 c = search needs
 
 returns-2 : tie.Need-returns-2
-returns-2 c = nobody-is _ _ _ _ (kids-other _ _ _ _ (next-is (c .before .before .before) .lists) (sym (c .before .before .kid-of .ensures) ∙ c .enum-told2 .given .1))
+returns-2 c = nobody-is _ _ _ _ (branches-other _ _ _ _ (next-is (c .before .before .before) .lists) (sym (c .before .before .branch-of .ensures) ∙ c .enum-told2 .given .1))
 
 owner-after-requires : tie.Need-owner-after-requires
 owner-after-requires c κs = let n = next-is (c .before .before .before .before) in (omega arith, place-in c)
 
 returns-3 : tie.Need-returns-3
-returns-3 c = as-kids _ _ _ _ _ _ (kids-more _ _ _ _ _ _ (next-is (c .before .before .before .before .before) .lists) (kid-is-of (c .before))) (c .owner-after .ensures)
+returns-3 c = as-branches _ _ _ _ _ _ (branches-more _ _ _ _ _ _ (next-is (c .before .before .before .before .before) .lists) (branch-is-of (c .before))) (c .owner-after .ensures)
 
 pub owner-of-spec : {M : Type 1} → statement M
 owner-of-spec =
@@ -58,7 +58,7 @@ owner-of-spec =
     enum-known-e
     enum-told
     returns
-    kid-of-requires
+    branch-of-requires
     enum-known-k
     enum-told-2
     returns-2

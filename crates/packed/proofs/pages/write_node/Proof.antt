@@ -10,11 +10,11 @@ use Rattle.packed.proofs.pages.write_node.Tie as tie
 lifted-requires : tie.Need-lifted-requires
 lifted-requires c κs = search needs
 
-slice-aggregate-emit-kids : tie.Need-slice-aggregate-emit-kids
-slice-aggregate-emit-kids c = search needs
+slice-aggregate-emit-branches : tie.Need-slice-aggregate-emit-branches
+slice-aggregate-emit-branches c = search needs
 
-emit-kids-requires : tie.Need-emit-kids-requires
-emit-kids-requires c κs = let q = bytes-of (c .before .before .before .before .args .m) (c .before .before .before .before .args .area .now) (c .before .before .before .before .args .i) (c .before .before .before .before .args .j) (c .before .lifted .result) (c .before .lifted .ensures) in (c .before .before .before .before .pre .0, omega arith, omega arith, omega arith, omega arith, omega arith)
+emit-branches-requires : tie.Need-emit-branches-requires
+emit-branches-requires c κs = let q = bytes-of (c .before .before .before .before .args .m) (c .before .before .before .before .args .area .now) (c .before .before .before .before .args .i) (c .before .before .before .before .args .j) (c .before .lifted .result) (c .before .lifted .ensures) in (c .before .before .before .before .pre .0, omega arith, omega arith, omega arith, omega arith, omega arith)
 
 slice-aggregate-write-page : tie.Need-slice-aggregate-write-page
 slice-aggregate-write-page c = search needs
@@ -32,15 +32,15 @@ returns : tie.Need-returns
 unfolding zerosOf
 returns c =
     inner-written (c .before .before .before .before .before .before .before .before .before .before .before .before .args .store .now) _ (c .before .before .before .before .before .before .before .before .before .before .before .before .args .num) (c .before .before .before .before .before .before .before .before .before .before .before .before .args .level) (c .before .before .before .before .before .before .before .before .before .before .before .before .args .m) (c .before .before .before .before .before .before .before .before .before .before .before .before .args .area .now) (c .before .before .before .before .before .before .before .before .before .before .before .before .args .i) (c .before .before .before .before .before .before .before .before .before .before .before .before .args .j) (c .before .before .before .before .before .before .before .before .before .lifted .result) (c .before .before .before .before .before .before .before .before .before .lifted .ensures) (omega arith)
-    _ _ (c .before .before .before .before .before .before .before .emit-kids .ensures .0) (c .before .before .before .before .before .before .before .emit-kids .ensures .1) (c .before .before .before .write-page .ensures)
+    _ _ (c .before .before .before .before .before .before .before .emit-branches .ensures .0) (c .before .before .before .before .before .before .before .emit-branches .ensures .1) (c .before .before .before .write-page .ensures)
 
 pub write-node-spec : {M : Type 1} → statement M
 write-node-spec =
     tie.close
     (tie.spec
     lifted-requires
-    slice-aggregate-emit-kids
-    emit-kids-requires
+    slice-aggregate-emit-branches
+    emit-branches-requires
     slice-aggregate-write-page
     sub-write-page
     write-page-requires

@@ -1,6 +1,6 @@
 use borrow.Author.Needs.{needs}
 use Rattle.image.specs.Bytes.{u16}
-use Rattle.packed.specs.Rows.Kids.{markAt}
+use Rattle.packed.specs.Rows.Branches.{markAt}
 use Rattle.packed.proofs.rows.mark_at.Statement.{statement}
 use Rattle.packed.proofs.rows.mark_at.Tie as tie
 

@@ -2,7 +2,7 @@ use Prim.Native.Nat.{_-_, _≤_}
 use mathlib.Core.Path.{_≡_, sym, _∙_}
 use native.Mathlib.Omega.{arith}
 use borrow.Author.Needs.{needs}
-use Rattle.packed.specs.Rows.Kids.{nodeEnd, end-done, node-end-stop, node-end-on}
+use Rattle.packed.specs.Rows.Branches.{nodeEnd, end-done, node-end-stop, node-end-on}
 use Rattle.packed.proofs.rows.node_end.Statement.{statement}
 use Rattle.packed.proofs.rows.node_end.Tie as tie
 

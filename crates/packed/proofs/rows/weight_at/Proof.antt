@@ -1,7 +1,7 @@
 use mathlib.Core.Path.{sym}
 use native.Mathlib.Omega.{arith}
 use borrow.Author.Needs.{needs}
-use Rattle.packed.specs.Rows.Kids.{weight-none, weight-some}
+use Rattle.packed.specs.Rows.Branches.{weight-none, weight-some}
 use Rattle.packed.proofs.rows.weight_at.Statement.{statement}
 use Rattle.packed.proofs.rows.weight_at.Tie as tie
 

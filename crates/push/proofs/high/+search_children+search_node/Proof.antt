@@ -1,12 +1,12 @@
 -- `search_node` and `search_children` meet their contracts. The level falls from a node to its children. The loop over the children: the
 -- search in the child in hand and in those after it is the search in all. Relies on specs/Steps.
-use Rattle.push.specs.High.Steps.{seen-missing, high-leaf, node-found, node-bare, kids-ready, node-above, at-last, not-here, is-here}
+use Rattle.push.specs.High.Steps.{seen-missing, high-leaf, node-found, node-bare, branches-ready, node-above, at-last, not-here, is-here}
 use Rattle.push.specs.Laws.High.{highIn}
 use Rattle.live.specs.WalkLaws.{first-usable, later-usable}
 use Rattle.live.specs.Steps.{pends-child, pends-end}
 use Rattle.live.specs.Walk.{NextChild}
 use Rattle.lookup.specs.Look.{node-inside}
-use Rattle.node.specs.Search.Own.{kid, kidsE}
+use Rattle.node.specs.Search.Own.{branch, branchesAmong}
 use Rattle.node.specs.Entries.{listed}
 use Rattle.node.specs.Places.{part, Within}
 use Rattle.laws.specs.Reading.Relative.{usableIn}
@@ -35,7 +35,7 @@ use Rattle.push.proofs.high.+search_children+search_node.{statement}
 use Rattle.push.proofs.high.+search_children+search_node.Tie.{close}
 
 abbrev μ-search-children : Measures 3 search-children-kinds.ps ℕ
-μ-search-children κs a = a .1 .1 .1 .1 .0 * 2 + 1
+μ-search-children κs a = a .1 .0 .level * 2 + 1
 
 abbrev μ-search-node : Measures 4 search-node-kinds.ps ℕ
 μ-search-node κs a = a .1 .1 .0 * 2
@@ -65,19 +65,19 @@ search-node-below t =
     and 4 search-node-kinds.ps (falls 4 search-node-kinds.ps _<_ μ-search-node t) search-node.Pre
 
 abbrev search-children-Inv-loop : search-children-lts.InvT-loop
-search-children-Inv-loop store first level hi num out₀ c₀ cur₀ low₀ out c cur low = (c .end ≤ length store) × Within 0 (length store) low × (length out ≡ length out₀) × (usableIn (nodesOf (length store)) (forestOf (λ j. treeAt level store j) (kid cur (part store low) ∷ kidsE (listed store (c .at) (c .end)))) ≡ true) × (highIn num (forestOf (λ j. treeAt level store j) (kid cur (part store low) ∷ kidsE (listed store (c .at) (c .end)))) hi ≡ highIn num (forestOf (λ j. treeAt level store j) (kid first (part store low₀) ∷ kidsE (listed store (c₀ .at) (c₀ .end)))) hi)
+search-children-Inv-loop store run hi num out₀ c₀ cur₀ low₀ out c cur low = (c .end ≤ length store) × Within 0 (length store) low × (length out ≡ length out₀) × (usableIn (nodesOf (length store)) (forestOf (λ j. treeAt (run .level) store j) (branch cur (part store low) ∷ branchesAmong (listed store (c .at) (c .end)))) ≡ true) × (highIn num (forestOf (λ j. treeAt (run .level) store j) (branch cur (part store low) ∷ branchesAmong (listed store (c .at) (c .end)))) hi ≡ highIn num (forestOf (λ j. treeAt (run .level) store j) (branch (run .first) (part store low₀) ∷ branchesAmong (listed store (c₀ .at) (c₀ .end)))) hi)
 
 abbrev search-children-μ-loop : search-children-lts.MeasureT-loop
-search-children-μ-loop store first level hi num out₀ c₀ cur₀ low₀ out c cur low = c .end - c .at
+search-children-μ-loop store run hi num out₀ c₀ cur₀ low₀ out c cur low = c .end - c .at
 
 -- the next child that was read, and where it leaves the cursor
-kid-next : (t : ℕ) (c : search-children-lts.After-known-told (
+branch-next : (t : ℕ) (c : search-children-lts.After-known-told (
   read-child-reads.Asked,
   read-child-reads.Learnt,
   search-node-below t,
   search-node.Post,
-) (search-children-at t) search-children.Post search-children-Inv-loop search-children-μ-loop) → NextChild (c .before .before .before .before .before .before .before .before .args .store .now) (c .before .before .before .before .loop .c .at) (c .before .before .before .before .loop .c .end) (c .before .k .given .0 .0) (c .before .k .given .0 .1 .0) (c .before .k .given .0 .1 .1 .0)
-kid-next t c = pends-child _ _ _ _ _ _ _ (c .before .before .before .read-child .ensures) (c .before .k .given .1)
+) (search-children-at t) search-children.Post search-children-Inv-loop search-children-μ-loop) → NextChild (c .before .before .before .before .before .before .before .before .before .before .args .store .now) (c .before .before .before .before .loop .c .at) (c .before .before .before .before .loop .c .end) (c .before .k .given .0 .0) (c .before .k .given .0 .1 .0) (c .before .k .given .0 .1 .1 .0)
+branch-next t c = pends-child _ _ _ _ _ _ _ (c .before .before .before .read-child .ensures) (c .before .k .given .1)
 
 first-next : (t : ℕ) (c : search-node-lts.After-known-told (
   common-length-reads.Asked,
@@ -99,7 +99,7 @@ search-children-loop-holds : (t : ℕ) → search-children-lts.Need-loop-holds (
   search-node-below t,
   search-node.Post,
 ) (search-children-at t) search-children.Post search-children-Inv-loop search-children-μ-loop
-search-children-loop-holds t c = ((c .before .before .before .pre .1) .ends, (c .before .before .before .pre .1) .place, refl, (c .before .before .before .pre .1) .reads, refl)
+search-children-loop-holds t c = ((c .before .before .before .before .before .pre .1) .ends, (c .before .before .before .before .before .pre .1) .place, refl, (c .before .before .before .before .before .pre .1) .reads, refl)
 
 search-children-read-child-requires : (t : ℕ) → search-children-lts.Need-read-child-requires (
   read-child-reads.Asked,
@@ -155,7 +155,7 @@ search-children-search-node-requires : (t : ℕ) → search-children-lts.Need-se
   search-node-below t,
   search-node.Post,
 ) (search-children-at t) search-children.Post search-children-Inv-loop search-children-μ-loop
-search-children-search-node-requires t c κs = (omega arith, first-usable (nodesOf (length (c .before .before .before .before .before .before .before .before .before .args .store .now))) (λ j. treeAt (c .before .before .before .before .before .before .before .before .before .args .level) (c .before .before .before .before .before .before .before .before .before .args .store .now) j) (kid (c .before .before .before .before .before .loop .cur) (part (c .before .before .before .before .before .before .before .before .before .args .store .now) (c .before .before .before .before .before .loop .low))) (kidsE (listed (c .before .before .before .before .before .before .before .before .before .args .store .now) (c .before .before .before .before .before .loop .c .at) (c .before .before .before .before .before .loop .c .end))) (c .before .before .before .before .before .loop .inv .3))
+search-children-search-node-requires t c κs = (omega arith, first-usable (nodesOf (length (c .before .before .before .before .before .before .before .before .before .before .before .args .store .now))) (λ j. treeAt (c .before .before .before .before .before .before .before .before .before .before .before .args .run .level) (c .before .before .before .before .before .before .before .before .before .before .before .args .store .now) j) (branch (c .before .before .before .before .before .loop .cur) (part (c .before .before .before .before .before .before .before .before .before .before .before .args .store .now) (c .before .before .before .before .before .loop .low))) (branchesAmong (listed (c .before .before .before .before .before .before .before .before .before .before .before .args .store .now) (c .before .before .before .before .before .loop .c .at) (c .before .before .before .before .before .loop .c .end))) (c .before .before .before .before .before .loop .inv .3))
 
 search-children-same-length : (t : ℕ) → search-children-lts.Need-same-length (
   read-child-reads.Asked,
@@ -171,7 +171,7 @@ search-children-returns : (t : ℕ) → search-children-lts.Need-returns (
   search-node-below t,
   search-node.Post,
 ) (search-children-at t) search-children.Post search-children-Inv-loop search-children-μ-loop
-search-children-returns t c = at-last (c .before .before .before .before .before .before .before .before .before .before .before .before .args .num) (λ j. treeAt (c .before .before .before .before .before .before .before .before .before .before .before .before .args .level) (c .before .before .before .before .before .before .before .before .before .before .before .before .args .store .now) j) (c .before .before .before .before .before .before .before .before .before .before .before .before .args .hi .now) (c .before .before .before .before .before .before .before .before .loop .cur) (part (c .before .before .before .before .before .before .before .before .before .before .before .before .args .store .now) (c .before .before .before .before .before .before .before .before .loop .low)) (kidsE (listed (c .before .before .before .before .before .before .before .before .before .before .before .before .args .store .now) (c .before .before .before .before .before .before .before .before .loop .c .at) (c .before .before .before .before .before .before .before .before .loop .c .end))) _ (c .before .before .before .before .before .before .before .before .loop .inv .4) _ _ (pends-end _ _ _ _ (c .before .before .before .before .before .before .before .read-child .ensures) (c .before .before .before .before .before .enum-told .given .1)) (c .before .before .search-node .ensures)
+search-children-returns t c = at-last (c .before .before .before .before .before .before .before .before .before .before .before .before .before .before .args .num) (λ j. treeAt (c .before .before .before .before .before .before .before .before .before .before .before .before .before .before .args .run .level) (c .before .before .before .before .before .before .before .before .before .before .before .before .before .before .args .store .now) j) (c .before .before .before .before .before .before .before .before .before .before .before .before .before .before .args .hi .now) (c .before .before .before .before .before .before .before .before .loop .cur) (part (c .before .before .before .before .before .before .before .before .before .before .before .before .before .before .args .store .now) (c .before .before .before .before .before .before .before .before .loop .low)) (branchesAmong (listed (c .before .before .before .before .before .before .before .before .before .before .before .before .before .before .args .store .now) (c .before .before .before .before .before .before .before .before .loop .c .at) (c .before .before .before .before .before .before .before .before .loop .c .end))) _ (c .before .before .before .before .before .before .before .before .loop .inv .4) _ _ (pends-end _ _ _ _ (c .before .before .before .before .before .before .before .read-child .ensures) (c .before .before .before .before .before .enum-told .given .1)) (c .before .before .search-node .ensures)
 
 search-children-sub-search-node-2 : (t : ℕ) → search-children-lts.Need-sub-search-node-2 (
   read-child-reads.Asked,
@@ -204,7 +204,7 @@ search-children-sub-search-node-3 : (t : ℕ) → search-children-lts.Need-sub-s
   search-node-below t,
   search-node.Post,
 ) (search-children-at t) search-children.Post search-children-Inv-loop search-children-μ-loop
-search-children-sub-search-node-3 t c = let n = kid-next t (c .before) in let w = n .place in omega arith
+search-children-sub-search-node-3 t c = let n = branch-next t (c .before) in let w = n .place in omega arith
 
 search-children-part-search-node-start-3 :
     (t : ℕ) → search-children-lts.Need-part-search-node-start-3 (
@@ -213,7 +213,7 @@ search-children-part-search-node-start-3 :
       search-node-below t,
       search-node.Post,
     ) (search-children-at t) search-children.Post search-children-Inv-loop search-children-μ-loop
-search-children-part-search-node-start-3 t c = let n = kid-next t (c .before) in let w = n .place in omega arith
+search-children-part-search-node-start-3 t c = let n = branch-next t (c .before) in let w = n .place in omega arith
 
 search-children-part-search-node-end-3 : (t : ℕ) → search-children-lts.Need-part-search-node-end-3 (
   read-child-reads.Asked,
@@ -221,7 +221,7 @@ search-children-part-search-node-end-3 : (t : ℕ) → search-children-lts.Need-
   search-node-below t,
   search-node.Post,
 ) (search-children-at t) search-children.Post search-children-Inv-loop search-children-μ-loop
-search-children-part-search-node-end-3 t c = let n = kid-next t (c .before) in let w = n .place in omega arith
+search-children-part-search-node-end-3 t c = let n = branch-next t (c .before) in let w = n .place in omega arith
 
 search-children-search-node-requires-2 : (t : ℕ) → search-children-lts.Need-search-node-requires-2 (
   read-child-reads.Asked,
@@ -229,7 +229,7 @@ search-children-search-node-requires-2 : (t : ℕ) → search-children-lts.Need-
   search-node-below t,
   search-node.Post,
 ) (search-children-at t) search-children.Post search-children-Inv-loop search-children-μ-loop
-search-children-search-node-requires-2 t c κs = (omega arith, first-usable (nodesOf (length (c .before .before .before .before .before .before .before .before .before .before .before .args .store .now))) (λ j. treeAt (c .before .before .before .before .before .before .before .before .before .before .before .args .level) (c .before .before .before .before .before .before .before .before .before .before .before .args .store .now) j) (kid (c .before .before .before .before .before .before .before .loop .cur) (part (c .before .before .before .before .before .before .before .before .before .before .before .args .store .now) (c .before .before .before .before .before .before .before .loop .low))) (kidsE (listed (c .before .before .before .before .before .before .before .before .before .before .before .args .store .now) (c .before .before .before .before .before .before .before .loop .c .at) (c .before .before .before .before .before .before .before .loop .c .end))) (c .before .before .before .before .before .before .before .loop .inv .3))
+search-children-search-node-requires-2 t c κs = (omega arith, first-usable (nodesOf (length (c .before .before .before .before .before .before .before .before .before .before .before .before .before .args .store .now))) (λ j. treeAt (c .before .before .before .before .before .before .before .before .before .before .before .before .before .args .run .level) (c .before .before .before .before .before .before .before .before .before .before .before .before .before .args .store .now) j) (branch (c .before .before .before .before .before .before .before .loop .cur) (part (c .before .before .before .before .before .before .before .before .before .before .before .before .before .args .store .now) (c .before .before .before .before .before .before .before .loop .low))) (branchesAmong (listed (c .before .before .before .before .before .before .before .before .before .before .before .before .before .args .store .now) (c .before .before .before .before .before .before .before .loop .c .at) (c .before .before .before .before .before .before .before .loop .c .end))) (c .before .before .before .before .before .before .before .loop .inv .3))
 
 search-children-enum-told-2 : (t : ℕ) → search-children-lts.Need-enum-told-2 (
   read-child-reads.Asked,
@@ -261,7 +261,7 @@ search-children-returns-2 : (t : ℕ) → search-children-lts.Need-returns-2 (
   search-node-below t,
   search-node.Post,
 ) (search-children-at t) search-children.Post search-children-Inv-loop search-children-μ-loop
-search-children-returns-2 t c = let n = kid-next t (c .before .before .before .before .before .before .before .before) in is-here (c .before .before .before .before .before .before .before .before .before .before .before .before .before .before .before .before .args .num) (λ j. treeAt (c .before .before .before .before .before .before .before .before .before .before .before .before .before .before .before .before .args .level) (c .before .before .before .before .before .before .before .before .before .before .before .before .before .before .before .before .args .store .now) j) (c .before .before .before .before .before .before .before .before .before .before .before .before .before .before .before .before .args .hi .now) (c .before .before .before .before .before .before .before .before .before .before .before .before .loop .cur) (part (c .before .before .before .before .before .before .before .before .before .before .before .before .before .before .before .before .args .store .now) (c .before .before .before .before .before .before .before .before .before .before .before .before .loop .low)) (kidsE (listed (c .before .before .before .before .before .before .before .before .before .before .before .before .before .before .before .before .args .store .now) (c .before .before .before .before .before .before .before .before .before .before .before .before .loop .c .at) (c .before .before .before .before .before .before .before .before .before .before .before .before .loop .c .end))) _ (c .before .before .before .before .before .before .before .before .before .before .before .before .loop .inv .4) (c .before .before .before .before .before .before .before .before .before .k .given .0 .0) (part (c .before .before .before .before .before .before .before .before .before .before .before .before .before .before .before .before .args .store .now) (c .before .before .before .before .before .before .before .before .before .k .given .0 .1 .0)) (kidsE (listed (c .before .before .before .before .before .before .before .before .before .before .before .before .before .before .before .before .args .store .now) (c .before .before .before .before .before .before .before .before .before .k .given .0 .1 .1 .0 .at) (c .before .before .before .before .before .before .before .before .before .k .given .0 .1 .1 .0 .end))) (n .lists) _ _ _ (c .before .before .before .before .search-node2 .ensures) (c .enum-told3 .given .1)
+search-children-returns-2 t c = let n = branch-next t (c .before .before .before .before .before .before .before .before) in is-here (c .before .before .before .before .before .before .before .before .before .before .before .before .before .before .before .before .before .before .args .num) (λ j. treeAt (c .before .before .before .before .before .before .before .before .before .before .before .before .before .before .before .before .before .before .args .run .level) (c .before .before .before .before .before .before .before .before .before .before .before .before .before .before .before .before .before .before .args .store .now) j) (c .before .before .before .before .before .before .before .before .before .before .before .before .before .before .before .before .before .before .args .hi .now) (c .before .before .before .before .before .before .before .before .before .before .before .before .loop .cur) (part (c .before .before .before .before .before .before .before .before .before .before .before .before .before .before .before .before .before .before .args .store .now) (c .before .before .before .before .before .before .before .before .before .before .before .before .loop .low)) (branchesAmong (listed (c .before .before .before .before .before .before .before .before .before .before .before .before .before .before .before .before .before .before .args .store .now) (c .before .before .before .before .before .before .before .before .before .before .before .before .loop .c .at) (c .before .before .before .before .before .before .before .before .before .before .before .before .loop .c .end))) _ (c .before .before .before .before .before .before .before .before .before .before .before .before .loop .inv .4) (c .before .before .before .before .before .before .before .before .before .k .given .0 .0) (part (c .before .before .before .before .before .before .before .before .before .before .before .before .before .before .before .before .before .before .args .store .now) (c .before .before .before .before .before .before .before .before .before .k .given .0 .1 .0)) (branchesAmong (listed (c .before .before .before .before .before .before .before .before .before .before .before .before .before .before .before .before .before .before .args .store .now) (c .before .before .before .before .before .before .before .before .before .k .given .0 .1 .1 .0 .at) (c .before .before .before .before .before .before .before .before .before .k .given .0 .1 .1 .0 .end))) (n .lists) _ _ _ (c .before .before .before .before .search-node2 .ensures) (c .enum-told3 .given .1)
 
 search-children-loop-less : (t : ℕ) → search-children-lts.Need-loop-less (
   read-child-reads.Asked,
@@ -269,7 +269,7 @@ search-children-loop-less : (t : ℕ) → search-children-lts.Need-loop-less (
   search-node-below t,
   search-node.Post,
 ) (search-children-at t) search-children.Post search-children-Inv-loop search-children-μ-loop
-search-children-loop-less t c = let n = kid-next t (c .before .before .before .before .before .before .before .before) in omega arith
+search-children-loop-less t c = let n = branch-next t (c .before .before .before .before .before .before .before .before) in omega arith
 
 search-children-loop-again : (t : ℕ) → search-children-lts.Need-loop-again (
   read-child-reads.Asked,
@@ -277,7 +277,7 @@ search-children-loop-again : (t : ℕ) → search-children-lts.Need-loop-again (
   search-node-below t,
   search-node.Post,
 ) (search-children-at t) search-children.Post search-children-Inv-loop search-children-μ-loop
-search-children-loop-again t c = let n = kid-next t (c .before .before .before .before .before .before .before .before) in (omega arith, n .place, search needs, later-usable (nodesOf (length (c .before .before .before .before .before .before .before .before .before .before .before .before .before .before .before .before .args .store .now))) (λ j. treeAt (c .before .before .before .before .before .before .before .before .before .before .before .before .before .before .before .before .args .level) (c .before .before .before .before .before .before .before .before .before .before .before .before .before .before .before .before .args .store .now) j) (kid (c .before .before .before .before .before .before .before .before .before .before .before .before .loop .cur) (part (c .before .before .before .before .before .before .before .before .before .before .before .before .before .before .before .before .args .store .now) (c .before .before .before .before .before .before .before .before .before .before .before .before .loop .low))) _ _ (n .lists) (c .before .before .before .before .before .before .before .before .before .before .before .before .loop .inv .3), not-here (c .before .before .before .before .before .before .before .before .before .before .before .before .before .before .before .before .args .num) (λ j. treeAt (c .before .before .before .before .before .before .before .before .before .before .before .before .before .before .before .before .args .level) (c .before .before .before .before .before .before .before .before .before .before .before .before .before .before .before .before .args .store .now) j) (c .before .before .before .before .before .before .before .before .before .before .before .before .before .before .before .before .args .hi .now) (c .before .before .before .before .before .before .before .before .before .before .before .before .loop .cur) (part (c .before .before .before .before .before .before .before .before .before .before .before .before .before .before .before .before .args .store .now) (c .before .before .before .before .before .before .before .before .before .before .before .before .loop .low)) (kidsE (listed (c .before .before .before .before .before .before .before .before .before .before .before .before .before .before .before .before .args .store .now) (c .before .before .before .before .before .before .before .before .before .before .before .before .loop .c .at) (c .before .before .before .before .before .before .before .before .before .before .before .before .loop .c .end))) _ (c .before .before .before .before .before .before .before .before .before .before .before .before .loop .inv .4) (c .before .before .before .before .before .before .before .before .before .k .given .0 .0) (part (c .before .before .before .before .before .before .before .before .before .before .before .before .before .before .before .before .args .store .now) (c .before .before .before .before .before .before .before .before .before .k .given .0 .1 .0)) (kidsE (listed (c .before .before .before .before .before .before .before .before .before .before .before .before .before .before .before .before .args .store .now) (c .before .before .before .before .before .before .before .before .before .k .given .0 .1 .1 .0 .at) (c .before .before .before .before .before .before .before .before .before .k .given .0 .1 .1 .0 .end))) (n .lists) _ _ (c .before .before .before .before .search-node2 .ensures) (c .enum-told2 .given .1))
+search-children-loop-again t c = let n = branch-next t (c .before .before .before .before .before .before .before .before) in (omega arith, n .place, search needs, later-usable (nodesOf (length (c .before .before .before .before .before .before .before .before .before .before .before .before .before .before .before .before .before .before .args .store .now))) (λ j. treeAt (c .before .before .before .before .before .before .before .before .before .before .before .before .before .before .before .before .before .before .args .run .level) (c .before .before .before .before .before .before .before .before .before .before .before .before .before .before .before .before .before .before .args .store .now) j) (branch (c .before .before .before .before .before .before .before .before .before .before .before .before .loop .cur) (part (c .before .before .before .before .before .before .before .before .before .before .before .before .before .before .before .before .before .before .args .store .now) (c .before .before .before .before .before .before .before .before .before .before .before .before .loop .low))) _ _ (n .lists) (c .before .before .before .before .before .before .before .before .before .before .before .before .loop .inv .3), not-here (c .before .before .before .before .before .before .before .before .before .before .before .before .before .before .before .before .before .before .args .num) (λ j. treeAt (c .before .before .before .before .before .before .before .before .before .before .before .before .before .before .before .before .before .before .args .run .level) (c .before .before .before .before .before .before .before .before .before .before .before .before .before .before .before .before .before .before .args .store .now) j) (c .before .before .before .before .before .before .before .before .before .before .before .before .before .before .before .before .before .before .args .hi .now) (c .before .before .before .before .before .before .before .before .before .before .before .before .loop .cur) (part (c .before .before .before .before .before .before .before .before .before .before .before .before .before .before .before .before .before .before .args .store .now) (c .before .before .before .before .before .before .before .before .before .before .before .before .loop .low)) (branchesAmong (listed (c .before .before .before .before .before .before .before .before .before .before .before .before .before .before .before .before .before .before .args .store .now) (c .before .before .before .before .before .before .before .before .before .before .before .before .loop .c .at) (c .before .before .before .before .before .before .before .before .before .before .before .before .loop .c .end))) _ (c .before .before .before .before .before .before .before .before .before .before .before .before .loop .inv .4) (c .before .before .before .before .before .before .before .before .before .k .given .0 .0) (part (c .before .before .before .before .before .before .before .before .before .before .before .before .before .before .before .before .before .before .args .store .now) (c .before .before .before .before .before .before .before .before .before .k .given .0 .1 .0)) (branchesAmong (listed (c .before .before .before .before .before .before .before .before .before .before .before .before .before .before .before .before .before .before .args .store .now) (c .before .before .before .before .before .before .before .before .before .k .given .0 .1 .1 .0 .at) (c .before .before .before .before .before .before .before .before .before .k .given .0 .1 .1 .0 .end))) (n .lists) _ _ (c .before .before .before .before .search-node2 .ensures) (c .enum-told2 .given .1))
 
 search-node-returns : (t : ℕ) → search-node-lts.Need-returns (
   common-length-reads.Asked,
@@ -503,6 +503,20 @@ search-node-returns-3 : (t : ℕ) → search-node-lts.Need-returns-3 (
 ) (search-node-at t) search-node.Post
 search-node-returns-3 t c = node-bare (c .before .before .before .before .before .before .before .before .before .before .before .args .num) (c .before .before .before .before .before .before .before .before .before .before .before .args .level) (c .before .before .before .before .before .before .before .before .before .before .before .args .store .now) (c .before .before .before .before .before .before .before .before .before .before .before .args .cur) (c .before .before .before .before .before .before .before .before .before .before .before .pre .1) (omega arith) (c .before .before .before .before .before .before .before .before .before .before .before .args .lo .now) (c .before .before .before .before .before .before .before .before .before .before .before .args .hi .now) (c .before .before .before .before .before .common-length .result) (c .before .before .before .before .before .common-length .ensures .0) (λ h. omega arith) (c .before .before .before .u16-at .result) (c .before .before .before .u16-at .ensures .0) _ (pends-end _ _ _ _ (c .before .before .read-child .ensures) (c .enum-told .given .1))
 
+search-node-sub-down : (t : ℕ) → search-node-lts.Need-sub-down (
+  common-length-reads.Asked,
+  common-length-reads.Learnt,
+  keep-high-reads.Asked,
+  keep-high-reads.Learnt,
+  u16-at-reads.Asked,
+  u16-at-reads.Learnt,
+  read-child-reads.Asked,
+  read-child-reads.Learnt,
+  search-children-below t,
+  search-children.Post,
+) (search-node-at t) search-node.Post
+search-node-sub-down t c = search needs
+
 search-node-sub-search-children : (t : ℕ) → search-node-lts.Need-sub-search-children (
   common-length-reads.Asked,
   common-length-reads.Learnt,
@@ -516,20 +530,6 @@ search-node-sub-search-children : (t : ℕ) → search-node-lts.Need-sub-search-
   search-children.Post,
 ) (search-node-at t) search-node.Post
 search-node-sub-search-children t c = search needs
-
-search-node-sub-search-children-2 : (t : ℕ) → search-node-lts.Need-sub-search-children-2 (
-  common-length-reads.Asked,
-  common-length-reads.Learnt,
-  keep-high-reads.Asked,
-  keep-high-reads.Learnt,
-  u16-at-reads.Asked,
-  u16-at-reads.Learnt,
-  read-child-reads.Asked,
-  read-child-reads.Learnt,
-  search-children-below t,
-  search-children.Post,
-) (search-node-at t) search-node.Post
-search-node-sub-search-children-2 t c = search needs
 
 search-node-part-search-children-start : (t : ℕ) → search-node-lts.Need-part-search-children-start (
   common-length-reads.Asked,
@@ -571,7 +571,7 @@ search-node-search-children-requires : (t : ℕ) → search-node-lts.Need-search
   search-children-below t,
   search-children.Post,
 ) (search-node-at t) search-node.Post
-search-node-search-children-requires t c κs = let w = node-inside (c .before .before .before .before .before .before .before .before .before .before .before .before .before .before .args .store .now) (c .before .before .before .before .before .before .before .before .before .before .before .before .before .before .args .cur) (c .before .before .before .before .before .before .before .before .before .before .before .before .before .before .args .level) (c .before .before .before .before .before .before .before .before .before .before .before .before .before .before .pre .1) in let n = first-next t (c .before .before) in (omega arith, kids-ready (c .before .before .before .before .before .before .before .before .before .before .before .before .before .before .args .num) (c .before .before .before .before .before .before .before .before .before .before .before .before .before .before .args .level) (c .before .before .before .before .before .before .before .before .before .before .before .before .before .before .args .store .now) (c .before .before .before .before .before .before .before .before .before .before .before .before .before .before .args .cur) (c .before .before .before .before .before .before .before .before .before .before .before .before .before .before .pre .1) (omega arith) (c .before .before .before .before .before .before .before .before .before .before .before .before .before .before .args .lo .now) (c .before .before .before .before .before .before .before .before .before .before .before .before .before .before .args .hi .now) (c .before .before .before .before .before .before .before .before .common-length .result) (c .before .before .before .before .before .before .before .before .common-length .ensures .0) (λ h. omega arith) (c .before .before .before .before .before .before .u16-at .result) (c .before .before .before .before .before .before .u16-at .ensures .0) _ _ _ n (omega arith))
+search-node-search-children-requires t c κs = let w = node-inside (c .before .before .before .before .before .before .before .before .before .before .before .before .before .before .args .store .now) (c .before .before .before .before .before .before .before .before .before .before .before .before .before .before .args .cur) (c .before .before .before .before .before .before .before .before .before .before .before .before .before .before .args .level) (c .before .before .before .before .before .before .before .before .before .before .before .before .before .before .pre .1) in let n = first-next t (c .before .before) in (omega arith, branches-ready (c .before .before .before .before .before .before .before .before .before .before .before .before .before .before .args .num) (c .before .before .before .before .before .before .before .before .before .before .before .before .before .before .args .level) (c .before .before .before .before .before .before .before .before .before .before .before .before .before .before .args .store .now) (c .before .before .before .before .before .before .before .before .before .before .before .before .before .before .args .cur) (c .before .before .before .before .before .before .before .before .before .before .before .before .before .before .pre .1) (omega arith) (c .before .before .before .before .before .before .before .before .before .before .before .before .before .before .args .lo .now) (c .before .before .before .before .before .before .before .before .before .before .before .before .before .before .args .hi .now) (c .before .before .before .before .before .before .before .before .common-length .result) (c .before .before .before .before .before .before .before .before .common-length .ensures .0) (λ h. omega arith) (c .before .before .before .before .before .before .u16-at .result) (c .before .before .before .before .before .before .u16-at .ensures .0) _ _ _ n (omega arith))
 
 search-node-same-length-2 : (t : ℕ) → search-node-lts.Need-same-length-2 (
   common-length-reads.Asked,
@@ -666,8 +666,8 @@ pub +search-children+search-node-spec : {M : Type 1} → statement M
     (search-node-enum-known-first t)
     (search-node-enum-told t)
     (search-node-returns-3 t)
+    (search-node-sub-down t)
     (search-node-sub-search-children t)
-    (search-node-sub-search-children-2 t)
     (search-node-part-search-children-start t)
     (search-node-part-search-children-end t)
     (search-node-search-children-requires t)

@@ -5,7 +5,7 @@ use lib.ListN.{length}
 use mathlib.Core.Path.{refl}
 use Rattle.node.specs.Entries.{listed}
 use Rattle.node.specs.Places.{Within}
-use Rattle.node.specs.Search.Hear.{put-places, drop-places, clear-places}
+use Rattle.node.specs.Search.Latest.{put-places, drop-places, clear-places}
 use Rattle.push.specs.WriteSteps.{puts-as, ends-as, fits-as}
 use Rattle.push.specs.LeafSteps.{put-after, drop-after, clear-after}
 use borrow.Author.Needs.{needs}

@@ -3,7 +3,7 @@
 use native.Mathlib.Omega.{arith}
 use lib.ListN.{length}
 use mathlib.Core.Path.{ap}
-use Rattle.node.specs.Search.Hear.{message-places}
+use Rattle.node.specs.Search.Latest.{message-places}
 use Rattle.push.specs.ReadSteps.{brought-yes}
 use Rattle.push.specs.LeafSteps.{takes-pair, takes-child, takes-not, takes-yes}
 use borrow.Author.Needs.{needs}

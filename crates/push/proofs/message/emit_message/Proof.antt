@@ -5,7 +5,7 @@ use lib.ListN.{length}
 use mathlib.Core.Path.{_≡_, sym}
 use Rattle.node.specs.Places.{Within, messageIn}
 use Rattle.node.specs.Cut.{cut}
-use Rattle.node.specs.Search.Hear.{put-places, drop-places, clear-places}
+use Rattle.node.specs.Search.Latest.{put-places, drop-places, clear-places}
 use Rattle.push.specs.Laws.Arriving.{loweredBy}
 use Rattle.laws.specs.Encode.{bytesOf, keyedEntry, shortEntry, keyed-length, short-length}
 use Rattle.image.specs.Entry.{message}

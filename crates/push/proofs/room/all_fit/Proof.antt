@@ -6,7 +6,7 @@ use lib.ListN.{length}
 use mathlib.Core.List.{_∷_}
 use mathlib.Core.Path.{_≡_, refl, sym, ap}
 use Prim.Native.Nat.{_≤_, _-_}
-use Rattle.node.specs.Search.Own.{kid, kidsE}
+use Rattle.node.specs.Search.Own.{branch, branchesAmong}
 use Rattle.node.specs.Entries.{listed}
 use Rattle.node.specs.Places.{Within, part}
 use Rattle.live.specs.Steps.{pends-child, pends-end}
@@ -17,7 +17,7 @@ use Rattle.push.proofs.room.all_fit.Statement.{statement}
 use Rattle.push.proofs.room.all_fit.Tie as tie
 
 abbrev Inv-loop : tie.InvT-loop
-Inv-loop store node stop hi first c₀ num₀ low₀ c num low = (c .end ≤ length node) × Within 0 (length node) low × (allHaveRoom (listed node 8 stop) (kid num (part node low) ∷ kidsE (listed node (c .at) (c .end))) hi store ≡ allHaveRoom (listed node 8 stop) (kidsE (listed node 8 stop)) hi store)
+Inv-loop store node stop hi first c₀ num₀ low₀ c num low = (c .end ≤ length node) × Within 0 (length node) low × (allHaveRoom (listed node 8 stop) (branch num (part node low) ∷ branchesAmong (listed node (c .at) (c .end))) hi store ≡ allHaveRoom (listed node 8 stop) (branchesAmong (listed node 8 stop)) hi store)
 
 abbrev μ-loop : tie.MeasureT-loop
 μ-loop store node stop hi first c₀ num₀ low₀ c num low = c .end - c .at
@@ -26,8 +26,8 @@ abbrev μ-loop : tie.MeasureT-loop
 first-next : (c : tie.After-known-told Inv-loop μ-loop) → NextChild (c .before .before .before .before .before .before .before .args .node .now) 8 (c .before .before .before .before .before .before .before .args .stop) (c .before .first .given .0 .0) (c .before .first .given .0 .1 .0) (c .before .first .given .0 .1 .1 .0)
 first-next c = pends-child _ _ _ _ _ _ _ (c .before .before .before .read-child .ensures) (c .before .first .given .1)
 
-kid-next : (c : tie.After-known-told2 Inv-loop μ-loop) → NextChild (c .before .before .before .before .before .before .before .before .before .before .before .before .args .node .now) (c .before .before .before .before .loop .c .at) (c .before .before .before .before .loop .c .end) (c .before .k .given .0 .0) (c .before .k .given .0 .1 .0) (c .before .k .given .0 .1 .1 .0)
-kid-next c = pends-child _ _ _ _ _ _ _ (c .before .before .before .read-child2 .ensures) (c .before .k .given .1)
+branch-next : (c : tie.After-known-told2 Inv-loop μ-loop) → NextChild (c .before .before .before .before .before .before .before .before .before .before .before .before .args .node .now) (c .before .before .before .before .loop .c .at) (c .before .before .before .before .loop .c .end) (c .before .k .given .0 .0) (c .before .k .given .0 .1 .0) (c .before .k .given .0 .1 .1 .0)
+branch-next c = pends-child _ _ _ _ _ _ _ (c .before .before .before .read-child2 .ensures) (c .before .k .given .1)
 
 read-child-requires : tie.Need-read-child-requires Inv-loop μ-loop
 read-child-requires c κs = search needs
@@ -39,7 +39,7 @@ enum-told : tie.Need-enum-told Inv-loop μ-loop
 enum-told c = search needs
 
 returns : tie.Need-returns Inv-loop μ-loop
-returns c = rooms-none (listed (c .before .before .before .before .before .before .args .node .now) 8 (c .before .before .before .before .before .before .args .stop)) (c .before .before .before .before .before .before .args .hi .now) (c .before .before .before .before .before .before .args .store .now) _ (kidsE (listed (c .before .before .before .before .before .before .args .node .now) 8 (c .before .before .before .before .before .before .args .stop))) (pends-end _ _ _ _ (c .before .before .read-child .ensures) (c .enum-told .given .1)) refl
+returns c = rooms-none (listed (c .before .before .before .before .before .before .args .node .now) 8 (c .before .before .before .before .before .before .args .stop)) (c .before .before .before .before .before .before .args .hi .now) (c .before .before .before .before .before .before .args .store .now) _ (branchesAmong (listed (c .before .before .before .before .before .before .args .node .now) 8 (c .before .before .before .before .before .before .args .stop))) (pends-end _ _ _ _ (c .before .before .read-child .ensures) (c .enum-told .given .1)) refl
 
 loop-holds : tie.Need-loop-holds Inv-loop μ-loop
 loop-holds c = let n = first-next c in (omega arith, n .place, ap (λ l. allHaveRoom (listed (c .before .before .before .before .before .before .before .args .node .now) 8 (c .before .before .before .before .before .before .before .args .stop)) l (c .before .before .before .before .before .before .before .args .hi .now) (c .before .before .before .before .before .before .before .args .store .now)) (sym (n .lists)))
@@ -66,7 +66,7 @@ child-fits-requires : tie.Need-child-fits-requires Inv-loop μ-loop
 child-fits-requires c κs = search needs
 
 returns-2 : tie.Need-returns-2 Inv-loop μ-loop
-returns-2 c = rooms-last (listed (c .before .before .before .before .before .before .before .before .before .before .before .before .before .args .node .now) 8 (c .before .before .before .before .before .before .before .before .before .before .before .before .before .args .stop)) (c .before .before .before .before .before .before .before .before .before .before .before .before .before .args .hi .now) (c .before .before .before .before .before .before .before .before .before .before .before .before .before .args .store .now) _ (c .before .before .before .before .before .loop .num) (part (c .before .before .before .before .before .before .before .before .before .before .before .before .before .args .node .now) (c .before .before .before .before .before .loop .low)) (kidsE (listed (c .before .before .before .before .before .before .before .before .before .before .before .before .before .args .node .now) (c .before .before .before .before .before .loop .c .at) (c .before .before .before .before .before .loop .c .end))) (c .before .before .before .before .before .loop .inv .2) _ (pends-end _ _ _ _ (c .before .before .before .before .read-child2 .ensures) (c .before .before .enum-told2 .given .1)) (c .child-fits .ensures)
+returns-2 c = rooms-last (listed (c .before .before .before .before .before .before .before .before .before .before .before .before .before .args .node .now) 8 (c .before .before .before .before .before .before .before .before .before .before .before .before .before .args .stop)) (c .before .before .before .before .before .before .before .before .before .before .before .before .before .args .hi .now) (c .before .before .before .before .before .before .before .before .before .before .before .before .before .args .store .now) _ (c .before .before .before .before .before .loop .num) (part (c .before .before .before .before .before .before .before .before .before .before .before .before .before .args .node .now) (c .before .before .before .before .before .loop .low)) (branchesAmong (listed (c .before .before .before .before .before .before .before .before .before .before .before .before .before .args .node .now) (c .before .before .before .before .before .loop .c .at) (c .before .before .before .before .before .loop .c .end))) (c .before .before .before .before .before .loop .inv .2) _ (pends-end _ _ _ _ (c .before .before .before .before .read-child2 .ensures) (c .before .before .enum-told2 .given .1)) (c .child-fits .ensures)
 
 sub-child-fits-2 : tie.Need-sub-child-fits-2 Inv-loop μ-loop
 sub-child-fits-2 c = let w = c .before .before .before .before .loop .inv .1 in omega arith
@@ -78,25 +78,25 @@ part-child-fits-end-2 : tie.Need-part-child-fits-end-2 Inv-loop μ-loop
 part-child-fits-end-2 c = let w = c .before .before .before .before .loop .inv .1 in omega arith
 
 sub-child-fits-3 : tie.Need-sub-child-fits-3 Inv-loop μ-loop
-sub-child-fits-3 c = let n = kid-next (c .before) in let w = n .place in omega arith
+sub-child-fits-3 c = let n = branch-next (c .before) in let w = n .place in omega arith
 
 part-child-fits-start-3 : tie.Need-part-child-fits-start-3 Inv-loop μ-loop
-part-child-fits-start-3 c = let n = kid-next (c .before) in let w = n .place in omega arith
+part-child-fits-start-3 c = let n = branch-next (c .before) in let w = n .place in omega arith
 
 part-child-fits-end-3 : tie.Need-part-child-fits-end-3 Inv-loop μ-loop
-part-child-fits-end-3 c = let n = kid-next (c .before) in let w = n .place in omega arith
+part-child-fits-end-3 c = let n = branch-next (c .before) in let w = n .place in omega arith
 
 child-fits-requires-2 : tie.Need-child-fits-requires-2 Inv-loop μ-loop
 child-fits-requires-2 c κs = search needs
 
 returns-3 : tie.Need-returns-3 Inv-loop μ-loop
-returns-3 c = let n = kid-next (c .before .before .before .before) in rooms-no (listed (c .before .before .before .before .before .before .before .before .before .before .before .before .before .before .before .before .args .node .now) 8 (c .before .before .before .before .before .before .before .before .before .before .before .before .before .before .before .before .args .stop)) (c .before .before .before .before .before .before .before .before .before .before .before .before .before .before .before .before .args .hi .now) (c .before .before .before .before .before .before .before .before .before .before .before .before .before .before .before .before .args .store .now) _ (c .before .before .before .before .before .before .before .before .loop .num) (part (c .before .before .before .before .before .before .before .before .before .before .before .before .before .before .before .before .args .node .now) (c .before .before .before .before .before .before .before .before .loop .low)) (kidsE (listed (c .before .before .before .before .before .before .before .before .before .before .before .before .before .before .before .before .args .node .now) (c .before .before .before .before .before .before .before .before .loop .c .at) (c .before .before .before .before .before .before .before .before .loop .c .end))) (c .before .before .before .before .before .before .before .before .loop .inv .2) _ _ (part (c .before .before .before .before .before .before .before .before .before .before .before .before .before .before .before .before .args .node .now) (c .before .before .before .before .before .k .given .0 .1 .0)) (kidsE (listed (c .before .before .before .before .before .before .before .before .before .before .before .before .before .before .before .before .args .node .now) (c .before .before .before .before .before .k .given .0 .1 .1 .0 .at) (c .before .before .before .before .before .k .given .0 .1 .1 .0 .end))) (n .lists) (c .before .child-fits2 .ensures) (c .if1 .taken)
+returns-3 c = let n = branch-next (c .before .before .before .before) in rooms-no (listed (c .before .before .before .before .before .before .before .before .before .before .before .before .before .before .before .before .args .node .now) 8 (c .before .before .before .before .before .before .before .before .before .before .before .before .before .before .before .before .args .stop)) (c .before .before .before .before .before .before .before .before .before .before .before .before .before .before .before .before .args .hi .now) (c .before .before .before .before .before .before .before .before .before .before .before .before .before .before .before .before .args .store .now) _ (c .before .before .before .before .before .before .before .before .loop .num) (part (c .before .before .before .before .before .before .before .before .before .before .before .before .before .before .before .before .args .node .now) (c .before .before .before .before .before .before .before .before .loop .low)) (branchesAmong (listed (c .before .before .before .before .before .before .before .before .before .before .before .before .before .before .before .before .args .node .now) (c .before .before .before .before .before .before .before .before .loop .c .at) (c .before .before .before .before .before .before .before .before .loop .c .end))) (c .before .before .before .before .before .before .before .before .loop .inv .2) _ _ (part (c .before .before .before .before .before .before .before .before .before .before .before .before .before .before .before .before .args .node .now) (c .before .before .before .before .before .k .given .0 .1 .0)) (branchesAmong (listed (c .before .before .before .before .before .before .before .before .before .before .before .before .before .before .before .before .args .node .now) (c .before .before .before .before .before .k .given .0 .1 .1 .0 .at) (c .before .before .before .before .before .k .given .0 .1 .1 .0 .end))) (n .lists) (c .before .child-fits2 .ensures) (c .if1 .taken)
 
 loop-less : tie.Need-loop-less Inv-loop μ-loop
-loop-less c = let n = kid-next (c .before .before .before .before) in omega arith
+loop-less c = let n = branch-next (c .before .before .before .before) in omega arith
 
 loop-again : tie.Need-loop-again Inv-loop μ-loop
-loop-again c = let n = kid-next (c .before .before .before .before) in (omega arith, n .place, rooms-on (listed (c .before .before .before .before .before .before .before .before .before .before .before .before .before .before .before .before .args .node .now) 8 (c .before .before .before .before .before .before .before .before .before .before .before .before .before .before .before .before .args .stop)) (c .before .before .before .before .before .before .before .before .before .before .before .before .before .before .before .before .args .hi .now) (c .before .before .before .before .before .before .before .before .before .before .before .before .before .before .before .before .args .store .now) _ (c .before .before .before .before .before .before .before .before .loop .num) (part (c .before .before .before .before .before .before .before .before .before .before .before .before .before .before .before .before .args .node .now) (c .before .before .before .before .before .before .before .before .loop .low)) (kidsE (listed (c .before .before .before .before .before .before .before .before .before .before .before .before .before .before .before .before .args .node .now) (c .before .before .before .before .before .before .before .before .loop .c .at) (c .before .before .before .before .before .before .before .before .loop .c .end))) (c .before .before .before .before .before .before .before .before .loop .inv .2) _ _ (part (c .before .before .before .before .before .before .before .before .before .before .before .before .before .before .before .before .args .node .now) (c .before .before .before .before .before .k .given .0 .1 .0)) (kidsE (listed (c .before .before .before .before .before .before .before .before .before .before .before .before .before .before .before .before .args .node .now) (c .before .before .before .before .before .k .given .0 .1 .1 .0 .at) (c .before .before .before .before .before .k .given .0 .1 .1 .0 .end))) (n .lists) (c .before .child-fits2 .ensures) (c .if1 .left))
+loop-again c = let n = branch-next (c .before .before .before .before) in (omega arith, n .place, rooms-on (listed (c .before .before .before .before .before .before .before .before .before .before .before .before .before .before .before .before .args .node .now) 8 (c .before .before .before .before .before .before .before .before .before .before .before .before .before .before .before .before .args .stop)) (c .before .before .before .before .before .before .before .before .before .before .before .before .before .before .before .before .args .hi .now) (c .before .before .before .before .before .before .before .before .before .before .before .before .before .before .before .before .args .store .now) _ (c .before .before .before .before .before .before .before .before .loop .num) (part (c .before .before .before .before .before .before .before .before .before .before .before .before .before .before .before .before .args .node .now) (c .before .before .before .before .before .before .before .before .loop .low)) (branchesAmong (listed (c .before .before .before .before .before .before .before .before .before .before .before .before .before .before .before .before .args .node .now) (c .before .before .before .before .before .before .before .before .loop .c .at) (c .before .before .before .before .before .before .before .before .loop .c .end))) (c .before .before .before .before .before .before .before .before .loop .inv .2) _ _ (part (c .before .before .before .before .before .before .before .before .before .before .before .before .before .before .before .before .args .node .now) (c .before .before .before .before .before .k .given .0 .1 .0)) (branchesAmong (listed (c .before .before .before .before .before .before .before .before .before .before .before .before .before .before .before .before .args .node .now) (c .before .before .before .before .before .k .given .0 .1 .1 .0 .at) (c .before .before .before .before .before .k .given .0 .1 .1 .0 .end))) (n .lists) (c .before .child-fits2 .ensures) (c .if1 .left))
 
 pub all-fit-spec : {M : Type 1} → statement M
 all-fit-spec =

@@ -3,7 +3,7 @@
 use native.Mathlib.Omega.{arith}
 use lib.ListN.{length}
 use mathlib.Core.Path.{sym, ap, _∙_}
-use Rattle.node.specs.Search.Hear.{message-places}
+use Rattle.node.specs.Search.Latest.{message-places}
 use Rattle.push.specs.ReadSteps.{brought-pair, brought-child, brought-not, brought-yes, brings-none}
 use borrow.Author.Needs.{needs}
 use Rattle.push.proofs.room.entry_size.Statement.{statement}

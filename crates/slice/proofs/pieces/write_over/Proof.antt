@@ -3,8 +3,8 @@
 use Rattle.slice.specs.PieceSteps.{twice-put, twice-ends, over-none, told-none, over-some, told-some}
 use Rattle.slice.specs.PairSteps.{page-written}
 use Rattle.slice.specs.Right.{allLine, piecesIn}
-use Rattle.slice.specs.Point.{kidLine}
-use Rattle.node.specs.Search.Own.{kidsE}
+use Rattle.slice.specs.Point.{branchLine}
+use Rattle.node.specs.Search.Own.{branchesAmong}
 use Rattle.node.specs.Entries.{listed}
 use mathlib.Core.List.{_++_}
 use Rattle.packed.specs.Form.Tidy.{zerosOf}
@@ -19,18 +19,18 @@ slice-aggregate-emit-parts : tie.Need-slice-aggregate-emit-parts
 slice-aggregate-emit-parts c = search needs
 
 emit-parts-requires : tie.Need-emit-parts-requires
-emit-parts-requires c κs = let l = length-append (allLine (c .before .before .before .before .before .args .d) (piecesIn (c .before .before .before .before .before .args .a) (c .before .before .before .before .before .args .b) (c .before .before .before .before .before .args .k .now) (c .before .before .before .before .before .args .out .now) (c .before .before .before .before .before .args .parts))) (kidLine (c .before .before .before .before .before .args .d) (c .before .before .before .before .before .args .count) (kidsE (listed (c .before .before .before .before .before .args .node .now) (c .before .before .before .before .before .args .start .at) (c .before .before .before .before .before .args .start .end)))) in let f = c .before .before .before .before .before .pre .7 in (c .before .before .before .before .before .pre .2, omega arith, search needs, c .before .before .before .before .before .pre .3, c .before .before .before .before .before .pre .4)
+emit-parts-requires c κs = let l = length-append (allLine (c .before .before .before .before .before .before .args .new .lifts) (piecesIn (c .before .before .before .before .before .before .args .pieces .edge) (c .before .before .before .before .before .before .args .pieces .rest) (c .before .before .before .before .before .before .args .k .now) (c .before .before .before .before .before .before .args .out .now) (c .before .before .before .before .before .before .args .pieces .parts))) (branchLine (c .before .before .before .before .before .before .args .new .lifts) (c .before .before .before .before .before .before .args .next .count) (branchesAmong (listed (c .before .before .before .before .before .before .args .node .now) (c .before .before .before .before .before .before .args .next .start .at) (c .before .before .before .before .before .before .args .next .start .end)))) in let f = c .before .before .before .before .before .before .pre .7 in (c .before .before .before .before .before .before .pre .2, omega arith, search needs, c .before .before .before .before .before .before .pre .3, c .before .before .before .before .before .before .pre .4)
 
-slice-aggregate-emit-kids : tie.Need-slice-aggregate-emit-kids
-slice-aggregate-emit-kids c = search needs
+slice-aggregate-emit-branches : tie.Need-slice-aggregate-emit-branches
+slice-aggregate-emit-branches c = search needs
 
-emit-kids-requires : tie.Need-emit-kids-requires
+emit-branches-requires : tie.Need-emit-branches-requires
 unfolding zerosOf
-emit-kids-requires c κs = let l = length-append (allLine (c .before .before .before .before .before .before .before .before .args .d) (piecesIn (c .before .before .before .before .before .before .before .before .args .a) (c .before .before .before .before .before .before .before .before .args .b) (c .before .before .before .before .before .before .before .before .args .k .now) (c .before .before .before .before .before .before .before .before .args .out .now) (c .before .before .before .before .before .before .before .before .args .parts))) (kidLine (c .before .before .before .before .before .before .before .before .args .d) (c .before .before .before .before .before .before .before .before .args .count) (kidsE (listed (c .before .before .before .before .before .before .before .before .args .node .now) (c .before .before .before .before .before .before .before .before .args .start .at) (c .before .before .before .before .before .before .before .before .args .start .end)))) in let f = c .before .before .before .before .before .before .before .before .pre .7 in let t = c .before .before .emit-parts .ensures .1 in (c .before .before .before .before .before .before .before .before .pre .5, omega arith, search needs, c .before .before .before .before .before .before .before .before .pre .6)
+emit-branches-requires c κs = let l = length-append (allLine (c .before .before .before .before .before .before .before .before .before .args .new .lifts) (piecesIn (c .before .before .before .before .before .before .before .before .before .args .pieces .edge) (c .before .before .before .before .before .before .before .before .before .args .pieces .rest) (c .before .before .before .before .before .before .before .before .before .args .k .now) (c .before .before .before .before .before .before .before .before .before .args .out .now) (c .before .before .before .before .before .before .before .before .before .args .pieces .parts))) (branchLine (c .before .before .before .before .before .before .before .before .before .args .new .lifts) (c .before .before .before .before .before .before .before .before .before .args .next .count) (branchesAmong (listed (c .before .before .before .before .before .before .before .before .before .args .node .now) (c .before .before .before .before .before .before .before .before .before .args .next .start .at) (c .before .before .before .before .before .before .before .before .before .args .next .start .end)))) in let f = c .before .before .before .before .before .before .before .before .before .pre .7 in let t = c .before .before .emit-parts .ensures .1 in (c .before .before .before .before .before .before .before .before .before .pre .5, omega arith, search needs, c .before .before .before .before .before .before .before .before .before .pre .6)
 
 returns : tie.Need-returns
 unfolding zerosOf
-returns c = let l = length-append (allLine (c .before .before .before .before .before .before .before .before .before .before .before .args .d) (piecesIn (c .before .before .before .before .before .before .before .before .before .before .before .args .a) (c .before .before .before .before .before .before .before .before .before .before .before .args .b) (c .before .before .before .before .before .before .before .before .before .before .before .args .k .now) (c .before .before .before .before .before .before .before .before .before .before .before .args .out .now) (c .before .before .before .before .before .before .before .before .before .before .before .args .parts))) (kidLine (c .before .before .before .before .before .before .before .before .before .before .before .args .d) (c .before .before .before .before .before .before .before .before .before .before .before .args .count) (kidsE (listed (c .before .before .before .before .before .before .before .before .before .before .before .args .node .now) (c .before .before .before .before .before .before .before .before .before .before .before .args .start .at) (c .before .before .before .before .before .before .before .before .before .before .before .args .start .end)))) in let f = c .before .before .before .before .before .before .before .before .before .before .before .pre .7 in let e = (twice-ends (zerosOf 1024) (zerosOf 1024) (allLine (c .before .before .before .before .before .before .before .before .before .before .before .args .d) (piecesIn (c .before .before .before .before .before .before .before .before .before .before .before .args .a) (c .before .before .before .before .before .before .before .before .before .before .before .args .b) (c .before .before .before .before .before .before .before .before .before .before .before .args .k .now) (c .before .before .before .before .before .before .before .before .before .before .before .args .out .now) (c .before .before .before .before .before .before .before .before .before .before .before .args .parts))) (kidLine (c .before .before .before .before .before .before .before .before .before .before .before .args .d) (c .before .before .before .before .before .before .before .before .before .before .before .args .count) (kidsE (listed (c .before .before .before .before .before .before .before .before .before .before .before .args .node .now) (c .before .before .before .before .before .before .before .before .before .before .before .args .start .at) (c .before .before .before .before .before .before .before .before .before .before .before .args .start .end)))) _ 8 _ refl (omega (arith, c .before .before .before .before .before .before .before .before .before .before .before .pre .7)) (c .before .before .before .before .before .emit-parts .ensures .1) _ (c .before .before .emit-kids .ensures .1)) in (over-none _ _ _ _ (omega arith), told-none (c .before .before .before .before .before .before .before .before .before .before .before .args .num) (c .before .before .before .before .before .before .before .before .before .before .before .args .level) ((allLine (c .before .before .before .before .before .before .before .before .before .before .before .args .d) (piecesIn (c .before .before .before .before .before .before .before .before .before .before .before .args .a) (c .before .before .before .before .before .before .before .before .before .before .before .args .b) (c .before .before .before .before .before .before .before .before .before .before .before .args .k .now) (c .before .before .before .before .before .before .before .before .before .before .before .args .out .now) (c .before .before .before .before .before .before .before .before .before .before .before .args .parts))) ++ (kidLine (c .before .before .before .before .before .before .before .before .before .before .before .args .d) (c .before .before .before .before .before .before .before .before .before .before .before .args .count) (kidsE (listed (c .before .before .before .before .before .before .before .before .before .before .before .args .node .now) (c .before .before .before .before .before .before .before .before .before .before .before .args .start .at) (c .before .before .before .before .before .before .before .before .before .before .before .args .start .end))))) (c .before .before .before .before .before .before .before .before .before .before .before .args .store .now) (omega arith))
+returns c = let l = length-append (allLine (c .before .before .before .before .before .before .before .before .before .before .before .before .args .new .lifts) (piecesIn (c .before .before .before .before .before .before .before .before .before .before .before .before .args .pieces .edge) (c .before .before .before .before .before .before .before .before .before .before .before .before .args .pieces .rest) (c .before .before .before .before .before .before .before .before .before .before .before .before .args .k .now) (c .before .before .before .before .before .before .before .before .before .before .before .before .args .out .now) (c .before .before .before .before .before .before .before .before .before .before .before .before .args .pieces .parts))) (branchLine (c .before .before .before .before .before .before .before .before .before .before .before .before .args .new .lifts) (c .before .before .before .before .before .before .before .before .before .before .before .before .args .next .count) (branchesAmong (listed (c .before .before .before .before .before .before .before .before .before .before .before .before .args .node .now) (c .before .before .before .before .before .before .before .before .before .before .before .before .args .next .start .at) (c .before .before .before .before .before .before .before .before .before .before .before .before .args .next .start .end)))) in let f = c .before .before .before .before .before .before .before .before .before .before .before .before .pre .7 in let e = (twice-ends (zerosOf 1024) (zerosOf 1024) (allLine (c .before .before .before .before .before .before .before .before .before .before .before .before .args .new .lifts) (piecesIn (c .before .before .before .before .before .before .before .before .before .before .before .before .args .pieces .edge) (c .before .before .before .before .before .before .before .before .before .before .before .before .args .pieces .rest) (c .before .before .before .before .before .before .before .before .before .before .before .before .args .k .now) (c .before .before .before .before .before .before .before .before .before .before .before .before .args .out .now) (c .before .before .before .before .before .before .before .before .before .before .before .before .args .pieces .parts))) (branchLine (c .before .before .before .before .before .before .before .before .before .before .before .before .args .new .lifts) (c .before .before .before .before .before .before .before .before .before .before .before .before .args .next .count) (branchesAmong (listed (c .before .before .before .before .before .before .before .before .before .before .before .before .args .node .now) (c .before .before .before .before .before .before .before .before .before .before .before .before .args .next .start .at) (c .before .before .before .before .before .before .before .before .before .before .before .before .args .next .start .end)))) _ 8 _ refl (omega (arith, c .before .before .before .before .before .before .before .before .before .before .before .before .pre .7)) (c .before .before .before .before .before .emit-parts .ensures .1) _ (c .before .before .emit-branches .ensures .1)) in (over-none _ _ _ _ (omega arith), told-none (c .before .before .before .before .before .before .before .before .before .before .before .before .args .new .num) (c .before .before .before .before .before .before .before .before .before .before .before .before .args .new .level) ((allLine (c .before .before .before .before .before .before .before .before .before .before .before .before .args .new .lifts) (piecesIn (c .before .before .before .before .before .before .before .before .before .before .before .before .args .pieces .edge) (c .before .before .before .before .before .before .before .before .before .before .before .before .args .pieces .rest) (c .before .before .before .before .before .before .before .before .before .before .before .before .args .k .now) (c .before .before .before .before .before .before .before .before .before .before .before .before .args .out .now) (c .before .before .before .before .before .before .before .before .before .before .before .before .args .pieces .parts))) ++ (branchLine (c .before .before .before .before .before .before .before .before .before .before .before .before .args .new .lifts) (c .before .before .before .before .before .before .before .before .before .before .before .before .args .next .count) (branchesAmong (listed (c .before .before .before .before .before .before .before .before .before .before .before .before .args .node .now) (c .before .before .before .before .before .before .before .before .before .before .before .before .args .next .start .at) (c .before .before .before .before .before .before .before .before .before .before .before .before .args .next .start .end))))) (c .before .before .before .before .before .before .before .before .before .before .before .before .args .store .now) (omega arith))
 
 slice-aggregate-write-page : tie.Need-slice-aggregate-write-page
 slice-aggregate-write-page c = search needs
@@ -40,14 +40,14 @@ sub-write-page c = search needs
 
 write-page-requires : tie.Need-write-page-requires
 unfolding zerosOf
-write-page-requires c κs = let l = length-append (allLine (c .before .before .before .before .before .before .before .before .before .before .before .before .before .args .d) (piecesIn (c .before .before .before .before .before .before .before .before .before .before .before .before .before .args .a) (c .before .before .before .before .before .before .before .before .before .before .before .before .before .args .b) (c .before .before .before .before .before .before .before .before .before .before .before .before .before .args .k .now) (c .before .before .before .before .before .before .before .before .before .before .before .before .before .args .out .now) (c .before .before .before .before .before .before .before .before .before .before .before .before .before .args .parts))) (kidLine (c .before .before .before .before .before .before .before .before .before .before .before .before .before .args .d) (c .before .before .before .before .before .before .before .before .before .before .before .before .before .args .count) (kidsE (listed (c .before .before .before .before .before .before .before .before .before .before .before .before .before .args .node .now) (c .before .before .before .before .before .before .before .before .before .before .before .before .before .args .start .at) (c .before .before .before .before .before .before .before .before .before .before .before .before .before .args .start .end)))) in let f = c .before .before .before .before .before .before .before .before .before .before .before .before .before .pre .7 in let e = (twice-ends (zerosOf 1024) (zerosOf 1024) (allLine (c .before .before .before .before .before .before .before .before .before .before .before .before .before .args .d) (piecesIn (c .before .before .before .before .before .before .before .before .before .before .before .before .before .args .a) (c .before .before .before .before .before .before .before .before .before .before .before .before .before .args .b) (c .before .before .before .before .before .before .before .before .before .before .before .before .before .args .k .now) (c .before .before .before .before .before .before .before .before .before .before .before .before .before .args .out .now) (c .before .before .before .before .before .before .before .before .before .before .before .before .before .args .parts))) (kidLine (c .before .before .before .before .before .before .before .before .before .before .before .before .before .args .d) (c .before .before .before .before .before .before .before .before .before .before .before .before .before .args .count) (kidsE (listed (c .before .before .before .before .before .before .before .before .before .before .before .before .before .args .node .now) (c .before .before .before .before .before .before .before .before .before .before .before .before .before .args .start .at) (c .before .before .before .before .before .before .before .before .before .before .before .before .before .args .start .end)))) _ 8 _ refl (omega (arith, c .before .before .before .before .before .before .before .before .before .before .before .before .before .pre .7)) (c .before .before .before .before .before .before .before .emit-parts .ensures .1) _ (c .before .before .before .before .emit-kids .ensures .1)) in (c .before .before .before .before .before .before .before .before .before .before .before .before .before .pre .0, search needs, omega arith, omega arith, omega arith)
+write-page-requires c κs = let l = length-append (allLine (c .before .before .before .before .before .before .before .before .before .before .before .before .before .before .args .new .lifts) (piecesIn (c .before .before .before .before .before .before .before .before .before .before .before .before .before .before .args .pieces .edge) (c .before .before .before .before .before .before .before .before .before .before .before .before .before .before .args .pieces .rest) (c .before .before .before .before .before .before .before .before .before .before .before .before .before .before .args .k .now) (c .before .before .before .before .before .before .before .before .before .before .before .before .before .before .args .out .now) (c .before .before .before .before .before .before .before .before .before .before .before .before .before .before .args .pieces .parts))) (branchLine (c .before .before .before .before .before .before .before .before .before .before .before .before .before .before .args .new .lifts) (c .before .before .before .before .before .before .before .before .before .before .before .before .before .before .args .next .count) (branchesAmong (listed (c .before .before .before .before .before .before .before .before .before .before .before .before .before .before .args .node .now) (c .before .before .before .before .before .before .before .before .before .before .before .before .before .before .args .next .start .at) (c .before .before .before .before .before .before .before .before .before .before .before .before .before .before .args .next .start .end)))) in let f = c .before .before .before .before .before .before .before .before .before .before .before .before .before .before .pre .7 in let e = (twice-ends (zerosOf 1024) (zerosOf 1024) (allLine (c .before .before .before .before .before .before .before .before .before .before .before .before .before .before .args .new .lifts) (piecesIn (c .before .before .before .before .before .before .before .before .before .before .before .before .before .before .args .pieces .edge) (c .before .before .before .before .before .before .before .before .before .before .before .before .before .before .args .pieces .rest) (c .before .before .before .before .before .before .before .before .before .before .before .before .before .before .args .k .now) (c .before .before .before .before .before .before .before .before .before .before .before .before .before .before .args .out .now) (c .before .before .before .before .before .before .before .before .before .before .before .before .before .before .args .pieces .parts))) (branchLine (c .before .before .before .before .before .before .before .before .before .before .before .before .before .before .args .new .lifts) (c .before .before .before .before .before .before .before .before .before .before .before .before .before .before .args .next .count) (branchesAmong (listed (c .before .before .before .before .before .before .before .before .before .before .before .before .before .before .args .node .now) (c .before .before .before .before .before .before .before .before .before .before .before .before .before .before .args .next .start .at) (c .before .before .before .before .before .before .before .before .before .before .before .before .before .before .args .next .start .end)))) _ 8 _ refl (omega (arith, c .before .before .before .before .before .before .before .before .before .before .before .before .before .before .pre .7)) (c .before .before .before .before .before .before .before .emit-parts .ensures .1) _ (c .before .before .before .before .emit-branches .ensures .1)) in (c .before .before .before .before .before .before .before .before .before .before .before .before .before .before .pre .0, search needs, omega arith, omega arith, omega arith)
 
 same-length : tie.Need-same-length
 same-length c = search needs
 
 returns-2 : tie.Need-returns-2
 unfolding zerosOf
-returns-2 c = let l = length-append (allLine (c .before .before .before .before .before .before .before .before .before .before .before .before .before .before .before .before .before .args .d) (piecesIn (c .before .before .before .before .before .before .before .before .before .before .before .before .before .before .before .before .before .args .a) (c .before .before .before .before .before .before .before .before .before .before .before .before .before .before .before .before .before .args .b) (c .before .before .before .before .before .before .before .before .before .before .before .before .before .before .before .before .before .args .k .now) (c .before .before .before .before .before .before .before .before .before .before .before .before .before .before .before .before .before .args .out .now) (c .before .before .before .before .before .before .before .before .before .before .before .before .before .before .before .before .before .args .parts))) (kidLine (c .before .before .before .before .before .before .before .before .before .before .before .before .before .before .before .before .before .args .d) (c .before .before .before .before .before .before .before .before .before .before .before .before .before .before .before .before .before .args .count) (kidsE (listed (c .before .before .before .before .before .before .before .before .before .before .before .before .before .before .before .before .before .args .node .now) (c .before .before .before .before .before .before .before .before .before .before .before .before .before .before .before .before .before .args .start .at) (c .before .before .before .before .before .before .before .before .before .before .before .before .before .before .before .before .before .args .start .end)))) in let f = c .before .before .before .before .before .before .before .before .before .before .before .before .before .before .before .before .before .pre .7 in let e = (twice-ends (zerosOf 1024) (zerosOf 1024) (allLine (c .before .before .before .before .before .before .before .before .before .before .before .before .before .before .before .before .before .args .d) (piecesIn (c .before .before .before .before .before .before .before .before .before .before .before .before .before .before .before .before .before .args .a) (c .before .before .before .before .before .before .before .before .before .before .before .before .before .before .before .before .before .args .b) (c .before .before .before .before .before .before .before .before .before .before .before .before .before .before .before .before .before .args .k .now) (c .before .before .before .before .before .before .before .before .before .before .before .before .before .before .before .before .before .args .out .now) (c .before .before .before .before .before .before .before .before .before .before .before .before .before .before .before .before .before .args .parts))) (kidLine (c .before .before .before .before .before .before .before .before .before .before .before .before .before .before .before .before .before .args .d) (c .before .before .before .before .before .before .before .before .before .before .before .before .before .before .before .before .before .args .count) (kidsE (listed (c .before .before .before .before .before .before .before .before .before .before .before .before .before .before .before .before .before .args .node .now) (c .before .before .before .before .before .before .before .before .before .before .before .before .before .before .before .before .before .args .start .at) (c .before .before .before .before .before .before .before .before .before .before .before .before .before .before .before .before .before .args .start .end)))) _ 8 _ refl (omega (arith, c .before .before .before .before .before .before .before .before .before .before .before .before .before .before .before .before .before .pre .7)) (c .before .before .before .before .before .before .before .before .before .before .before .emit-parts .ensures .1) _ (c .before .before .before .before .before .before .before .before .emit-kids .ensures .1)) in (over-some _ _ ((allLine (c .before .before .before .before .before .before .before .before .before .before .before .before .before .before .before .before .before .args .d) (piecesIn (c .before .before .before .before .before .before .before .before .before .before .before .before .before .before .before .before .before .args .a) (c .before .before .before .before .before .before .before .before .before .before .before .before .before .before .before .before .before .args .b) (c .before .before .before .before .before .before .before .before .before .before .before .before .before .before .before .before .before .args .k .now) (c .before .before .before .before .before .before .before .before .before .before .before .before .before .before .before .before .before .args .out .now) (c .before .before .before .before .before .before .before .before .before .before .before .before .before .before .before .before .before .args .parts))) ++ (kidLine (c .before .before .before .before .before .before .before .before .before .before .before .before .before .before .before .before .before .args .d) (c .before .before .before .before .before .before .before .before .before .before .before .before .before .before .before .before .before .args .count) (kidsE (listed (c .before .before .before .before .before .before .before .before .before .before .before .before .before .before .before .before .before .args .node .now) (c .before .before .before .before .before .before .before .before .before .before .before .before .before .before .before .before .before .args .start .at) (c .before .before .before .before .before .before .before .before .before .before .before .before .before .before .before .before .before .args .start .end))))) _ _ (λ z. c .before .before .before .before .before .before .if1 .left (omega arith)) (page-written (c .before .before .before .before .before .before .before .before .before .before .before .before .before .before .before .before .before .args .store .now) _ _ (c .before .before .before .before .before .before .before .before .before .before .before .before .before .before .before .before .before .args .num) 2 (c .before .before .before .before .before .before .before .before .before .before .before .before .before .before .before .before .before .args .level) (c .before .before .before .before .before .before .before .before .emit-kids .result) _ (c .before .before .before .before .before .before .before .before .before .before .before .before .before .before .before .before .before .pre .7) (twice-put (zerosOf 1024) _ (allLine (c .before .before .before .before .before .before .before .before .before .before .before .before .before .before .before .before .before .args .d) (piecesIn (c .before .before .before .before .before .before .before .before .before .before .before .before .before .before .before .before .before .args .a) (c .before .before .before .before .before .before .before .before .before .before .before .before .before .before .before .before .before .args .b) (c .before .before .before .before .before .before .before .before .before .before .before .before .before .before .before .before .before .args .k .now) (c .before .before .before .before .before .before .before .before .before .before .before .before .before .before .before .before .before .args .out .now) (c .before .before .before .before .before .before .before .before .before .before .before .before .before .before .before .before .before .args .parts))) (kidLine (c .before .before .before .before .before .before .before .before .before .before .before .before .before .before .before .before .before .args .d) (c .before .before .before .before .before .before .before .before .before .before .before .before .before .before .before .before .before .args .count) (kidsE (listed (c .before .before .before .before .before .before .before .before .before .before .before .before .before .before .before .before .before .args .node .now) (c .before .before .before .before .before .before .before .before .before .before .before .before .before .before .before .before .before .args .start .at) (c .before .before .before .before .before .before .before .before .before .before .before .before .before .before .before .before .before .args .start .end)))) _ 8 _ refl (omega (arith, c .before .before .before .before .before .before .before .before .before .before .before .before .before .before .before .before .before .pre .7)) (c .before .before .before .before .before .before .before .before .before .before .before .emit-parts .ensures .1) _ (c .before .before .before .before .before .before .before .before .before .before .before .emit-parts .ensures .0) (c .before .before .before .before .before .before .before .before .emit-kids .ensures .0)) e (c .before .before .before .write-page .ensures)), told-some (c .before .before .before .before .before .before .before .before .before .before .before .before .before .before .before .before .before .args .num) (c .before .before .before .before .before .before .before .before .before .before .before .before .before .before .before .before .before .args .level) ((allLine (c .before .before .before .before .before .before .before .before .before .before .before .before .before .before .before .before .before .args .d) (piecesIn (c .before .before .before .before .before .before .before .before .before .before .before .before .before .before .before .before .before .args .a) (c .before .before .before .before .before .before .before .before .before .before .before .before .before .before .before .before .before .args .b) (c .before .before .before .before .before .before .before .before .before .before .before .before .before .before .before .before .before .args .k .now) (c .before .before .before .before .before .before .before .before .before .before .before .before .before .before .before .before .before .args .out .now) (c .before .before .before .before .before .before .before .before .before .before .before .before .before .before .before .before .before .args .parts))) ++ (kidLine (c .before .before .before .before .before .before .before .before .before .before .before .before .before .before .before .before .before .args .d) (c .before .before .before .before .before .before .before .before .before .before .before .before .before .before .before .before .before .args .count) (kidsE (listed (c .before .before .before .before .before .before .before .before .before .before .before .before .before .before .before .before .before .args .node .now) (c .before .before .before .before .before .before .before .before .before .before .before .before .before .before .before .before .before .args .start .at) (c .before .before .before .before .before .before .before .before .before .before .before .before .before .before .before .before .before .args .start .end))))) (c .before .before .before .before .before .before .before .before .before .before .before .before .before .before .before .before .before .args .store .now) (λ z. c .before .before .before .before .before .before .if1 .left (omega arith)))
+returns-2 c = let l = length-append (allLine (c .before .before .before .before .before .before .before .before .before .before .before .before .before .before .before .before .before .before .args .new .lifts) (piecesIn (c .before .before .before .before .before .before .before .before .before .before .before .before .before .before .before .before .before .before .args .pieces .edge) (c .before .before .before .before .before .before .before .before .before .before .before .before .before .before .before .before .before .before .args .pieces .rest) (c .before .before .before .before .before .before .before .before .before .before .before .before .before .before .before .before .before .before .args .k .now) (c .before .before .before .before .before .before .before .before .before .before .before .before .before .before .before .before .before .before .args .out .now) (c .before .before .before .before .before .before .before .before .before .before .before .before .before .before .before .before .before .before .args .pieces .parts))) (branchLine (c .before .before .before .before .before .before .before .before .before .before .before .before .before .before .before .before .before .before .args .new .lifts) (c .before .before .before .before .before .before .before .before .before .before .before .before .before .before .before .before .before .before .args .next .count) (branchesAmong (listed (c .before .before .before .before .before .before .before .before .before .before .before .before .before .before .before .before .before .before .args .node .now) (c .before .before .before .before .before .before .before .before .before .before .before .before .before .before .before .before .before .before .args .next .start .at) (c .before .before .before .before .before .before .before .before .before .before .before .before .before .before .before .before .before .before .args .next .start .end)))) in let f = c .before .before .before .before .before .before .before .before .before .before .before .before .before .before .before .before .before .before .pre .7 in let e = (twice-ends (zerosOf 1024) (zerosOf 1024) (allLine (c .before .before .before .before .before .before .before .before .before .before .before .before .before .before .before .before .before .before .args .new .lifts) (piecesIn (c .before .before .before .before .before .before .before .before .before .before .before .before .before .before .before .before .before .before .args .pieces .edge) (c .before .before .before .before .before .before .before .before .before .before .before .before .before .before .before .before .before .before .args .pieces .rest) (c .before .before .before .before .before .before .before .before .before .before .before .before .before .before .before .before .before .before .args .k .now) (c .before .before .before .before .before .before .before .before .before .before .before .before .before .before .before .before .before .before .args .out .now) (c .before .before .before .before .before .before .before .before .before .before .before .before .before .before .before .before .before .before .args .pieces .parts))) (branchLine (c .before .before .before .before .before .before .before .before .before .before .before .before .before .before .before .before .before .before .args .new .lifts) (c .before .before .before .before .before .before .before .before .before .before .before .before .before .before .before .before .before .before .args .next .count) (branchesAmong (listed (c .before .before .before .before .before .before .before .before .before .before .before .before .before .before .before .before .before .before .args .node .now) (c .before .before .before .before .before .before .before .before .before .before .before .before .before .before .before .before .before .before .args .next .start .at) (c .before .before .before .before .before .before .before .before .before .before .before .before .before .before .before .before .before .before .args .next .start .end)))) _ 8 _ refl (omega (arith, c .before .before .before .before .before .before .before .before .before .before .before .before .before .before .before .before .before .before .pre .7)) (c .before .before .before .before .before .before .before .before .before .before .before .emit-parts .ensures .1) _ (c .before .before .before .before .before .before .before .before .emit-branches .ensures .1)) in (over-some _ _ ((allLine (c .before .before .before .before .before .before .before .before .before .before .before .before .before .before .before .before .before .before .args .new .lifts) (piecesIn (c .before .before .before .before .before .before .before .before .before .before .before .before .before .before .before .before .before .before .args .pieces .edge) (c .before .before .before .before .before .before .before .before .before .before .before .before .before .before .before .before .before .before .args .pieces .rest) (c .before .before .before .before .before .before .before .before .before .before .before .before .before .before .before .before .before .before .args .k .now) (c .before .before .before .before .before .before .before .before .before .before .before .before .before .before .before .before .before .before .args .out .now) (c .before .before .before .before .before .before .before .before .before .before .before .before .before .before .before .before .before .before .args .pieces .parts))) ++ (branchLine (c .before .before .before .before .before .before .before .before .before .before .before .before .before .before .before .before .before .before .args .new .lifts) (c .before .before .before .before .before .before .before .before .before .before .before .before .before .before .before .before .before .before .args .next .count) (branchesAmong (listed (c .before .before .before .before .before .before .before .before .before .before .before .before .before .before .before .before .before .before .args .node .now) (c .before .before .before .before .before .before .before .before .before .before .before .before .before .before .before .before .before .before .args .next .start .at) (c .before .before .before .before .before .before .before .before .before .before .before .before .before .before .before .before .before .before .args .next .start .end))))) _ _ (λ z. c .before .before .before .before .before .before .if1 .left (omega arith)) (page-written (c .before .before .before .before .before .before .before .before .before .before .before .before .before .before .before .before .before .before .args .store .now) _ _ (c .before .before .before .before .before .before .before .before .before .before .before .before .before .before .before .before .before .before .args .new .num) 2 (c .before .before .before .before .before .before .before .before .before .before .before .before .before .before .before .before .before .before .args .new .level) (c .before .before .before .before .before .before .before .before .emit-branches .result) _ (c .before .before .before .before .before .before .before .before .before .before .before .before .before .before .before .before .before .before .pre .7) (twice-put (zerosOf 1024) _ (allLine (c .before .before .before .before .before .before .before .before .before .before .before .before .before .before .before .before .before .before .args .new .lifts) (piecesIn (c .before .before .before .before .before .before .before .before .before .before .before .before .before .before .before .before .before .before .args .pieces .edge) (c .before .before .before .before .before .before .before .before .before .before .before .before .before .before .before .before .before .before .args .pieces .rest) (c .before .before .before .before .before .before .before .before .before .before .before .before .before .before .before .before .before .before .args .k .now) (c .before .before .before .before .before .before .before .before .before .before .before .before .before .before .before .before .before .before .args .out .now) (c .before .before .before .before .before .before .before .before .before .before .before .before .before .before .before .before .before .before .args .pieces .parts))) (branchLine (c .before .before .before .before .before .before .before .before .before .before .before .before .before .before .before .before .before .before .args .new .lifts) (c .before .before .before .before .before .before .before .before .before .before .before .before .before .before .before .before .before .before .args .next .count) (branchesAmong (listed (c .before .before .before .before .before .before .before .before .before .before .before .before .before .before .before .before .before .before .args .node .now) (c .before .before .before .before .before .before .before .before .before .before .before .before .before .before .before .before .before .before .args .next .start .at) (c .before .before .before .before .before .before .before .before .before .before .before .before .before .before .before .before .before .before .args .next .start .end)))) _ 8 _ refl (omega (arith, c .before .before .before .before .before .before .before .before .before .before .before .before .before .before .before .before .before .before .pre .7)) (c .before .before .before .before .before .before .before .before .before .before .before .emit-parts .ensures .1) _ (c .before .before .before .before .before .before .before .before .before .before .before .emit-parts .ensures .0) (c .before .before .before .before .before .before .before .before .emit-branches .ensures .0)) e (c .before .before .before .write-page .ensures)), told-some (c .before .before .before .before .before .before .before .before .before .before .before .before .before .before .before .before .before .before .args .new .num) (c .before .before .before .before .before .before .before .before .before .before .before .before .before .before .before .before .before .before .args .new .level) ((allLine (c .before .before .before .before .before .before .before .before .before .before .before .before .before .before .before .before .before .before .args .new .lifts) (piecesIn (c .before .before .before .before .before .before .before .before .before .before .before .before .before .before .before .before .before .before .args .pieces .edge) (c .before .before .before .before .before .before .before .before .before .before .before .before .before .before .before .before .before .before .args .pieces .rest) (c .before .before .before .before .before .before .before .before .before .before .before .before .before .before .before .before .before .before .args .k .now) (c .before .before .before .before .before .before .before .before .before .before .before .before .before .before .before .before .before .before .args .out .now) (c .before .before .before .before .before .before .before .before .before .before .before .before .before .before .before .before .before .before .args .pieces .parts))) ++ (branchLine (c .before .before .before .before .before .before .before .before .before .before .before .before .before .before .before .before .before .before .args .new .lifts) (c .before .before .before .before .before .before .before .before .before .before .before .before .before .before .before .before .before .before .args .next .count) (branchesAmong (listed (c .before .before .before .before .before .before .before .before .before .before .before .before .before .before .before .before .before .before .args .node .now) (c .before .before .before .before .before .before .before .before .before .before .before .before .before .before .before .before .before .before .args .next .start .at) (c .before .before .before .before .before .before .before .before .before .before .before .before .before .before .before .before .before .before .args .next .start .end))))) (c .before .before .before .before .before .before .before .before .before .before .before .before .before .before .before .before .before .before .args .store .now) (λ z. c .before .before .before .before .before .before .if1 .left (omega arith)))
 
 pub write-over-spec : {M : Type 1} → statement M
 write-over-spec =
@@ -55,8 +55,8 @@ write-over-spec =
     (tie.spec
     slice-aggregate-emit-parts
     emit-parts-requires
-    slice-aggregate-emit-kids
-    emit-kids-requires
+    slice-aggregate-emit-branches
+    emit-branches-requires
     returns
     slice-aggregate-write-page
     sub-write-page

@@ -6,7 +6,7 @@ use Rattle.live.specs.Walk.{NextChild}
 use Rattle.live.specs.Steps.{pends-child, pends-end}
 use Rattle.node.specs.Places.{Within, part}
 use Rattle.node.specs.Entries.{listed}
-use Rattle.node.specs.Search.Own.{kid, kidsE}
+use Rattle.node.specs.Search.Own.{branch, branchesAmong}
 use Prim.Native.Nat.{_≤_, _-_}
 use mathlib.Core.Path.{_≡_}
 use mathlib.Core.List.{_∷_}
@@ -17,7 +17,7 @@ use Rattle.slice.proofs.point.find_point.Statement.{statement}
 use Rattle.slice.proofs.point.find_point.Tie as tie
 
 abbrev Inv-loop : tie.InvT-loop
-Inv-loop node stop hi k first c₀ num₀ low₀ n₀ c num low n = (c .end ≤ length node) × Within 0 (length node) low × (n ≤ c .at) × (pointOf n (kid num (part node low) ∷ kidsE (listed node (c .at) (c .end))) hi k ≡ pointOf 0 (kidsE (listed node 8 stop)) hi k) × (c .at ≤ c .end)
+Inv-loop node stop hi k first c₀ num₀ low₀ n₀ c num low n = (c .end ≤ length node) × Within 0 (length node) low × (n ≤ c .at) × (pointOf n (branch num (part node low) ∷ branchesAmong (listed node (c .at) (c .end))) hi k ≡ pointOf 0 (branchesAmong (listed node 8 stop)) hi k) × (c .at ≤ c .end)
 
 abbrev μ-loop : tie.MeasureT-loop
 μ-loop node stop hi k first c₀ num₀ low₀ n₀ c num low n = c .end - c .at
@@ -26,8 +26,8 @@ abbrev μ-loop : tie.MeasureT-loop
 first-next : (c : tie.After-known-told Inv-loop μ-loop) → NextChild (c .before .before .before .before .before .before .before .args .node .now) 8 (c .before .before .before .before .before .before .before .args .stop) (c .before .first .given .0 .0) (c .before .first .given .0 .1 .0) (c .before .first .given .0 .1 .1 .0)
 first-next c = pends-child _ _ _ _ _ _ _ (c .before .before .before .read-child .ensures) (c .before .first .given .1)
 
-kid-next : (c : tie.After-known-told2 Inv-loop μ-loop) → NextChild (c .before .before .before .before .before .before .before .before .before .before .before .before .args .node .now) (c .before .before .before .before .loop .c .at) (c .before .before .before .before .loop .c .end) (c .before .j .given .0 .0) (c .before .j .given .0 .1 .0) (c .before .j .given .0 .1 .1 .0)
-kid-next c = pends-child _ _ _ _ _ _ _ (c .before .before .before .read-child2 .ensures) (c .before .j .given .1)
+branch-next : (c : tie.After-known-told2 Inv-loop μ-loop) → NextChild (c .before .before .before .before .before .before .before .before .before .before .before .before .args .node .now) (c .before .before .before .before .loop .c .at) (c .before .before .before .before .loop .c .end) (c .before .j .given .0 .0) (c .before .j .given .0 .1 .0) (c .before .j .given .0 .1 .1 .0)
+branch-next c = pends-child _ _ _ _ _ _ _ (c .before .before .before .read-child2 .ensures) (c .before .j .given .1)
 
 read-child-requires : tie.Need-read-child-requires Inv-loop μ-loop
 read-child-requires c κs = search needs
@@ -57,16 +57,16 @@ last-point-requires : tie.Need-last-point-requires Inv-loop μ-loop
 last-point-requires c κs = (c .before .before .before .loop .inv .1, omega arith)
 
 returns-2 : tie.Need-returns-2 Inv-loop μ-loop
-returns-2 c = point-last (c .before .before .before .before .before .before .before .before .before .before .before .before .args .node .now) (c .before .before .before .before .before .before .before .before .before .before .before .before .args .hi .now) (c .before .before .before .before .before .before .before .before .before .before .before .before .args .k .now) _ (c .before .before .before .before .loop .n) (c .before .before .before .before .loop .num) (c .before .before .before .before .loop .low) (kidsE (listed (c .before .before .before .before .before .before .before .before .before .before .before .before .args .node .now) (c .before .before .before .before .loop .c .at) (c .before .before .before .before .loop .c .end))) (c .before .before .before .before .loop .inv .3) _ (pends-end _ _ _ _ (c .before .before .before .read-child2 .ensures) (c .before .enum-told2 .given .1)) (c .last-point .ensures)
+returns-2 c = point-last (c .before .before .before .before .before .before .before .before .before .before .before .before .args .node .now) (c .before .before .before .before .before .before .before .before .before .before .before .before .args .hi .now) (c .before .before .before .before .before .before .before .before .before .before .before .before .args .k .now) _ (c .before .before .before .before .loop .n) (c .before .before .before .before .loop .num) (c .before .before .before .before .loop .low) (branchesAmong (listed (c .before .before .before .before .before .before .before .before .before .before .before .before .args .node .now) (c .before .before .before .before .loop .c .at) (c .before .before .before .before .loop .c .end))) (c .before .before .before .before .loop .inv .3) _ (pends-end _ _ _ _ (c .before .before .before .read-child2 .ensures) (c .before .enum-told2 .given .1)) (c .last-point .ensures)
 
 sub-precedes : tie.Need-sub-precedes Inv-loop μ-loop
-sub-precedes c = let n = kid-next c in let w = n .place in omega arith
+sub-precedes c = let n = branch-next c in let w = n .place in omega arith
 
 part-precedes-start : tie.Need-part-precedes-start Inv-loop μ-loop
-part-precedes-start c = let n = kid-next c in let w = n .place in omega arith
+part-precedes-start c = let n = branch-next c in let w = n .place in omega arith
 
 part-precedes-end : tie.Need-part-precedes-end Inv-loop μ-loop
-part-precedes-end c = let n = kid-next c in let w = n .place in omega arith
+part-precedes-end c = let n = branch-next c in let w = n .place in omega arith
 
 precedes-requires : tie.Need-precedes-requires Inv-loop μ-loop
 precedes-requires c κs = search needs
@@ -84,19 +84,19 @@ precedes-requires-2 : tie.Need-precedes-requires-2 Inv-loop μ-loop
 precedes-requires-2 c κs = search needs
 
 returns-3 : tie.Need-returns-3 Inv-loop μ-loop
-returns-3 c = let n = kid-next (c .before .before .before .before .before .before) in point-in (c .before .before .before .before .before .before .before .before .before .before .before .before .before .before .before .before .before .before .args .node .now) (c .before .before .before .before .before .before .before .before .before .before .before .before .before .before .before .before .before .before .args .hi .now) (c .before .before .before .before .before .before .before .before .before .before .before .before .before .before .before .before .before .before .args .k .now) _ (c .before .before .before .before .before .before .before .before .before .before .loop .n) (c .before .before .before .before .before .before .before .before .before .before .loop .num) (c .before .before .before .before .before .before .before .before .before .before .loop .low) (kidsE (listed (c .before .before .before .before .before .before .before .before .before .before .before .before .before .before .before .before .before .before .args .node .now) (c .before .before .before .before .before .before .before .before .before .before .loop .c .at) (c .before .before .before .before .before .before .before .before .before .before .loop .c .end))) (c .before .before .before .before .before .before .before .before .before .before .loop .inv .3) (c .before .before .before .before .before .before .before .j .given .0 .0) (c .before .before .before .before .before .before .before .j .given .0 .1 .0) (kidsE (listed (c .before .before .before .before .before .before .before .before .before .before .before .before .before .before .before .before .before .before .args .node .now) (c .before .before .before .before .before .before .before .j .given .0 .1 .1 .0 .at) (c .before .before .before .before .before .before .before .j .given .0 .1 .1 .0 .end))) (n .lists) _ (c .before .before .before .before .precedes .ensures) (c .before .before .before .if1 .taken) _ (c .before .precedes2 .ensures) (c .before .before .before .before .before .before .before .before .before .before .loop .inv .1) (c .if2 .taken) (n .place)
+returns-3 c = let n = branch-next (c .before .before .before .before .before .before) in point-in (c .before .before .before .before .before .before .before .before .before .before .before .before .before .before .before .before .before .before .args .node .now) (c .before .before .before .before .before .before .before .before .before .before .before .before .before .before .before .before .before .before .args .hi .now) (c .before .before .before .before .before .before .before .before .before .before .before .before .before .before .before .before .before .before .args .k .now) _ (c .before .before .before .before .before .before .before .before .before .before .loop .n) (c .before .before .before .before .before .before .before .before .before .before .loop .num) (c .before .before .before .before .before .before .before .before .before .before .loop .low) (branchesAmong (listed (c .before .before .before .before .before .before .before .before .before .before .before .before .before .before .before .before .before .before .args .node .now) (c .before .before .before .before .before .before .before .before .before .before .loop .c .at) (c .before .before .before .before .before .before .before .before .before .before .loop .c .end))) (c .before .before .before .before .before .before .before .before .before .before .loop .inv .3) (c .before .before .before .before .before .before .before .j .given .0 .0) (c .before .before .before .before .before .before .before .j .given .0 .1 .0) (branchesAmong (listed (c .before .before .before .before .before .before .before .before .before .before .before .before .before .before .before .before .before .before .args .node .now) (c .before .before .before .before .before .before .before .j .given .0 .1 .1 .0 .at) (c .before .before .before .before .before .before .before .j .given .0 .1 .1 .0 .end))) (n .lists) _ (c .before .before .before .before .precedes .ensures) (c .before .before .before .if1 .taken) _ (c .before .precedes2 .ensures) (c .before .before .before .before .before .before .before .before .before .before .loop .inv .1) (c .if2 .taken) (n .place)
 
 returns-4 : tie.Need-returns-4 Inv-loop μ-loop
-returns-4 c = let n = kid-next (c .before .before .before .before .before .before) in point-between (c .before .before .before .before .before .before .before .before .before .before .before .before .before .before .before .before .before .before .args .node .now) (c .before .before .before .before .before .before .before .before .before .before .before .before .before .before .before .before .before .before .args .hi .now) (c .before .before .before .before .before .before .before .before .before .before .before .before .before .before .before .before .before .before .args .k .now) _ (c .before .before .before .before .before .before .before .before .before .before .loop .n) (c .before .before .before .before .before .before .before .before .before .before .loop .num) (c .before .before .before .before .before .before .before .before .before .before .loop .low) (kidsE (listed (c .before .before .before .before .before .before .before .before .before .before .before .before .before .before .before .before .before .before .args .node .now) (c .before .before .before .before .before .before .before .before .before .before .loop .c .at) (c .before .before .before .before .before .before .before .before .before .before .loop .c .end))) (c .before .before .before .before .before .before .before .before .before .before .loop .inv .3) (c .before .before .before .before .before .before .before .j .given .0 .0) (c .before .before .before .before .before .before .before .j .given .0 .1 .0) (kidsE (listed (c .before .before .before .before .before .before .before .before .before .before .before .before .before .before .before .before .before .before .args .node .now) (c .before .before .before .before .before .before .before .j .given .0 .1 .1 .0 .at) (c .before .before .before .before .before .before .before .j .given .0 .1 .1 .0 .end))) (n .lists) _ (c .before .before .before .before .precedes .ensures) (c .before .before .before .if1 .taken) _ (c .before .precedes2 .ensures) (c .before .before .before .before .before .before .before .before .before .before .loop .inv .1) (c .if2 .left)
+returns-4 c = let n = branch-next (c .before .before .before .before .before .before) in point-between (c .before .before .before .before .before .before .before .before .before .before .before .before .before .before .before .before .before .before .args .node .now) (c .before .before .before .before .before .before .before .before .before .before .before .before .before .before .before .before .before .before .args .hi .now) (c .before .before .before .before .before .before .before .before .before .before .before .before .before .before .before .before .before .before .args .k .now) _ (c .before .before .before .before .before .before .before .before .before .before .loop .n) (c .before .before .before .before .before .before .before .before .before .before .loop .num) (c .before .before .before .before .before .before .before .before .before .before .loop .low) (branchesAmong (listed (c .before .before .before .before .before .before .before .before .before .before .before .before .before .before .before .before .before .before .args .node .now) (c .before .before .before .before .before .before .before .before .before .before .loop .c .at) (c .before .before .before .before .before .before .before .before .before .before .loop .c .end))) (c .before .before .before .before .before .before .before .before .before .before .loop .inv .3) (c .before .before .before .before .before .before .before .j .given .0 .0) (c .before .before .before .before .before .before .before .j .given .0 .1 .0) (branchesAmong (listed (c .before .before .before .before .before .before .before .before .before .before .before .before .before .before .before .before .before .before .args .node .now) (c .before .before .before .before .before .before .before .j .given .0 .1 .1 .0 .at) (c .before .before .before .before .before .before .before .j .given .0 .1 .1 .0 .end))) (n .lists) _ (c .before .before .before .before .precedes .ensures) (c .before .before .before .if1 .taken) _ (c .before .precedes2 .ensures) (c .before .before .before .before .before .before .before .before .before .before .loop .inv .1) (c .if2 .left)
 
 add-n : tie.Need-add-n Inv-loop μ-loop
 add-n c = omega arith
 
 loop-less : tie.Need-loop-less Inv-loop μ-loop
-loop-less c = let n = kid-next (c .before .before .before) in omega arith
+loop-less c = let n = branch-next (c .before .before .before) in omega arith
 
 loop-again : tie.Need-loop-again Inv-loop μ-loop
-loop-again c = let n = kid-next (c .before .before .before) in (omega arith, n .place, omega arith, point-on (c .before .before .before .before .before .before .before .before .before .before .before .before .before .before .before .args .node .now) (c .before .before .before .before .before .before .before .before .before .before .before .before .before .before .before .args .hi .now) (c .before .before .before .before .before .before .before .before .before .before .before .before .before .before .before .args .k .now) _ (c .before .before .before .before .before .before .before .loop .n) (c .before .before .before .before .before .before .before .loop .num) (c .before .before .before .before .before .before .before .loop .low) (kidsE (listed (c .before .before .before .before .before .before .before .before .before .before .before .before .before .before .before .args .node .now) (c .before .before .before .before .before .before .before .loop .c .at) (c .before .before .before .before .before .before .before .loop .c .end))) (c .before .before .before .before .before .before .before .loop .inv .3) (c .before .before .before .before .j .given .0 .0) (c .before .before .before .before .j .given .0 .1 .0) (kidsE (listed (c .before .before .before .before .before .before .before .before .before .before .before .before .before .before .before .args .node .now) (c .before .before .before .before .j .given .0 .1 .1 .0 .at) (c .before .before .before .before .j .given .0 .1 .1 .0 .end))) (n .lists) _ (c .before .precedes .ensures) (c .if1 .left), omega arith)
+loop-again c = let n = branch-next (c .before .before .before) in (omega arith, n .place, omega arith, point-on (c .before .before .before .before .before .before .before .before .before .before .before .before .before .before .before .args .node .now) (c .before .before .before .before .before .before .before .before .before .before .before .before .before .before .before .args .hi .now) (c .before .before .before .before .before .before .before .before .before .before .before .before .before .before .before .args .k .now) _ (c .before .before .before .before .before .before .before .loop .n) (c .before .before .before .before .before .before .before .loop .num) (c .before .before .before .before .before .before .before .loop .low) (branchesAmong (listed (c .before .before .before .before .before .before .before .before .before .before .before .before .before .before .before .args .node .now) (c .before .before .before .before .before .before .before .loop .c .at) (c .before .before .before .before .before .before .before .loop .c .end))) (c .before .before .before .before .before .before .before .loop .inv .3) (c .before .before .before .before .j .given .0 .0) (c .before .before .before .before .j .given .0 .1 .0) (branchesAmong (listed (c .before .before .before .before .before .before .before .before .before .before .before .before .before .before .before .args .node .now) (c .before .before .before .before .j .given .0 .1 .1 .0 .at) (c .before .before .before .before .j .given .0 .1 .1 .0 .end))) (n .lists) _ (c .before .precedes .ensures) (c .if1 .left), omega arith)
 
 pub find-point-spec : {M : Type 1} → statement M
 find-point-spec =

@@ -1,11 +1,14 @@
 -- `slice_right` and `right_cut` meet their contracts. The level falls from a node to its child. Relies on specs/RightSteps.
-use Rattle.slice.specs.RightSteps.{after-wide, after-narrow, right-inside, right-level, right-new, right-short, leaf-fits, leaf-done, wide-ready, wide-done, narrow-ready, narrow-done, asks-wide, asks-narrow, strip-short, strip-high, lift-is, strip-asks, strip-bare, strip-done, inner-asks, last-asks, inner-at, last-at, between-at, nowhere-at}
+use Rattle.slice.specs.RightSteps.{after-wide, after-narrow, right-inside, right-level, right-new, right-short, leaf-fits, leaf-done, wide-ready, wide-done, narrow-ready, narrow-done, asks-wide, asks-narrow, strip-short, strip-high, lift-is, strip-asks, strip-done, inner-asks, last-asks, inner-at, last-at, between-at, nowhere-at}
+use Rattle.slice.specs.PieceSteps.{wide-both}
+use Rattle.slice.specs.Callers.{top-bare}
 use Rattle.slice.specs.LeftSteps.{inner-places, last-places}
 use Rattle.lookup.specs.Look.{part-rest}
 use Rattle.node.specs.Places.{part}
 use Rattle.node.specs.Cut.{cut-length, cut-drop}
 use lib.ListN.{length, take, drop, length-drop}
 use mathlib.Core.Path.{refl, sym, ap}
+use mathlib.Core.List.{[]}
 use Prim.Native.Nat.{_+_, _*_, _-_}
 use native.Mathlib.Omega.{arith}
 use borrow.Author.Needs.{needs}
@@ -25,15 +28,16 @@ use Rattle.slice.proofs.pieces.rest_start.Reads as rest-start-reads
 use Rattle.slice.proofs.point.find_point.Reads as find-point-reads
 use Rattle.slice.proofs.read_node.Reads as read-node-reads
 use Rattle.slice.proofs.right.finish_narrow.Reads as finish-narrow-reads
-use Rattle.slice.proofs.right.finish_wide.Reads as finish-wide-reads
+use Rattle.slice.proofs.right.write_both.Reads as write-both-reads
+use Rattle.slice.proofs.right.tell_both.Reads as tell-both-reads
 use Rattle.slice.proofs.right.+right_cut+slice_right.{statement}
 use Rattle.slice.proofs.right.+right_cut+slice_right.Tie.{close}
 
 abbrev μ-right-cut : Measures 6 right-cut-kinds.ps ℕ
-μ-right-cut κs a = a .1 .1 .1 .0 * 2 + 1
+μ-right-cut κs a = a .1 .1 .0 .level * 2 + 1
 
-abbrev μ-slice-right : Measures 7 slice-right-kinds.ps ℕ
-μ-slice-right κs a = a .1 .1 .0 * 2
+abbrev μ-slice-right : Measures 6 slice-right-kinds.ps ℕ
+μ-slice-right κs a = a .1 .0 .level * 2
 
 abbrev right-cut-at : ℕ → In 6 right-cut-kinds.ps
 right-cut-at t = and 6 right-cut-kinds.ps (is 6 right-cut-kinds.ps μ-right-cut t) right-cut.Pre
@@ -42,13 +46,13 @@ abbrev right-cut-below : ℕ → In 6 right-cut-kinds.ps
 right-cut-below t =
     and 6 right-cut-kinds.ps (falls 6 right-cut-kinds.ps _<_ μ-right-cut t) right-cut.Pre
 
-abbrev slice-right-at : ℕ → In 7 slice-right-kinds.ps
+abbrev slice-right-at : ℕ → In 6 slice-right-kinds.ps
 slice-right-at t =
-    and 7 slice-right-kinds.ps (is 7 slice-right-kinds.ps μ-slice-right t) slice-right.Pre
+    and 6 slice-right-kinds.ps (is 6 slice-right-kinds.ps μ-slice-right t) slice-right.Pre
 
-abbrev slice-right-below : ℕ → In 7 slice-right-kinds.ps
+abbrev slice-right-below : ℕ → In 6 slice-right-kinds.ps
 slice-right-below t =
-    and 7 slice-right-kinds.ps (falls 7 slice-right-kinds.ps _<_ μ-slice-right t) slice-right.Pre
+    and 6 slice-right-kinds.ps (falls 6 slice-right-kinds.ps _<_ μ-slice-right t) slice-right.Pre
 
 right-cut-enum-known-cut : (t : ℕ) → right-cut-lts.Need-enum-known-cut (
   common-length-reads.Asked,
@@ -64,7 +68,7 @@ right-cut-sub-common-length : (t : ℕ) → right-cut-lts.Need-sub-common-length
   slice-right-below t,
   slice-right.Post,
 ) (right-cut-at t) right-cut.Post
-right-cut-sub-common-length t c = let w = inner-places (c .before .before .before .before .before .before .before .before .before .args .store .now) (c .before .before .before .before .before .before .before .before .before .args .node .now) (c .before .before .before .before .before .before .before .before .before .args .hi .now) (c .before .before .before .before .before .before .before .before .before .args .k .now) (c .before .before .before .before .before .before .before .before .before .args .level) (c .before .before .before .before .before .before .before .before .before .args .at) (c .before .before .before .before .before .before .before .before .before .args .free .now) (c .before .before .before .before .before .before .before .before .before .args .cut) _ _ _ _ (c .before .cut .given .1) (c .before .before .before .before .before .before .before .before .before .pre .1 .0) in let la = cut-length (c .before .before .before .before .before .before .before .before .before .args .node .now) ((c .before .cut .given .0 .1 .1 .0) .start) ((c .before .cut .given .0 .1 .1 .0) .stop) (w .0 .rises) (w .0 .high) in let lb = cut-length (c .before .before .before .before .before .before .before .before .before .args .node .now) ((c .before .cut .given .0 .1 .1 .1 .0) .start) ((c .before .cut .given .0 .1 .1 .1 .0) .stop) (w .1 .rises) (w .1 .high) in omega arith
+right-cut-sub-common-length t c = let w = inner-places (c .before .before .before .before .before .before .before .before .before .args .store .now) (c .before .before .before .before .before .before .before .before .before .args .node .now) (c .before .before .before .before .before .before .before .before .before .args .hi .now) (c .before .before .before .before .before .before .before .before .before .args .k .now) (c .before .before .before .before .before .before .before .before .before .args .split .level) (c .before .before .before .before .before .before .before .before .before .args .split .at) (c .before .before .before .before .before .before .before .before .before .args .free .now) (c .before .before .before .before .before .before .before .before .before .args .split .cut) _ _ _ _ (c .before .cut .given .1) (c .before .before .before .before .before .before .before .before .before .pre .1 .0) in let la = cut-length (c .before .before .before .before .before .before .before .before .before .args .node .now) ((c .before .cut .given .0 .1 .1 .0) .start) ((c .before .cut .given .0 .1 .1 .0) .stop) (w .0 .rises) (w .0 .high) in let lb = cut-length (c .before .before .before .before .before .before .before .before .before .args .node .now) ((c .before .cut .given .0 .1 .1 .1 .0) .start) ((c .before .cut .given .0 .1 .1 .1 .0) .stop) (w .1 .rises) (w .1 .high) in omega arith
 
 right-cut-part-common-length-start : (t : ℕ) → right-cut-lts.Need-part-common-length-start (
   common-length-reads.Asked,
@@ -72,7 +76,7 @@ right-cut-part-common-length-start : (t : ℕ) → right-cut-lts.Need-part-commo
   slice-right-below t,
   slice-right.Post,
 ) (right-cut-at t) right-cut.Post
-right-cut-part-common-length-start t c = let w = inner-places (c .before .before .before .before .before .before .before .before .before .args .store .now) (c .before .before .before .before .before .before .before .before .before .args .node .now) (c .before .before .before .before .before .before .before .before .before .args .hi .now) (c .before .before .before .before .before .before .before .before .before .args .k .now) (c .before .before .before .before .before .before .before .before .before .args .level) (c .before .before .before .before .before .before .before .before .before .args .at) (c .before .before .before .before .before .before .before .before .before .args .free .now) (c .before .before .before .before .before .before .before .before .before .args .cut) _ _ _ _ (c .before .cut .given .1) (c .before .before .before .before .before .before .before .before .before .pre .1 .0) in let la = cut-length (c .before .before .before .before .before .before .before .before .before .args .node .now) ((c .before .cut .given .0 .1 .1 .0) .start) ((c .before .cut .given .0 .1 .1 .0) .stop) (w .0 .rises) (w .0 .high) in let lb = cut-length (c .before .before .before .before .before .before .before .before .before .args .node .now) ((c .before .cut .given .0 .1 .1 .1 .0) .start) ((c .before .cut .given .0 .1 .1 .1 .0) .stop) (w .1 .rises) (w .1 .high) in omega arith
+right-cut-part-common-length-start t c = let w = inner-places (c .before .before .before .before .before .before .before .before .before .args .store .now) (c .before .before .before .before .before .before .before .before .before .args .node .now) (c .before .before .before .before .before .before .before .before .before .args .hi .now) (c .before .before .before .before .before .before .before .before .before .args .k .now) (c .before .before .before .before .before .before .before .before .before .args .split .level) (c .before .before .before .before .before .before .before .before .before .args .split .at) (c .before .before .before .before .before .before .before .before .before .args .free .now) (c .before .before .before .before .before .before .before .before .before .args .split .cut) _ _ _ _ (c .before .cut .given .1) (c .before .before .before .before .before .before .before .before .before .pre .1 .0) in let la = cut-length (c .before .before .before .before .before .before .before .before .before .args .node .now) ((c .before .cut .given .0 .1 .1 .0) .start) ((c .before .cut .given .0 .1 .1 .0) .stop) (w .0 .rises) (w .0 .high) in let lb = cut-length (c .before .before .before .before .before .before .before .before .before .args .node .now) ((c .before .cut .given .0 .1 .1 .1 .0) .start) ((c .before .cut .given .0 .1 .1 .1 .0) .stop) (w .1 .rises) (w .1 .high) in omega arith
 
 right-cut-part-common-length-end : (t : ℕ) → right-cut-lts.Need-part-common-length-end (
   common-length-reads.Asked,
@@ -80,7 +84,7 @@ right-cut-part-common-length-end : (t : ℕ) → right-cut-lts.Need-part-common-
   slice-right-below t,
   slice-right.Post,
 ) (right-cut-at t) right-cut.Post
-right-cut-part-common-length-end t c = let w = inner-places (c .before .before .before .before .before .before .before .before .before .args .store .now) (c .before .before .before .before .before .before .before .before .before .args .node .now) (c .before .before .before .before .before .before .before .before .before .args .hi .now) (c .before .before .before .before .before .before .before .before .before .args .k .now) (c .before .before .before .before .before .before .before .before .before .args .level) (c .before .before .before .before .before .before .before .before .before .args .at) (c .before .before .before .before .before .before .before .before .before .args .free .now) (c .before .before .before .before .before .before .before .before .before .args .cut) _ _ _ _ (c .before .cut .given .1) (c .before .before .before .before .before .before .before .before .before .pre .1 .0) in let la = cut-length (c .before .before .before .before .before .before .before .before .before .args .node .now) ((c .before .cut .given .0 .1 .1 .0) .start) ((c .before .cut .given .0 .1 .1 .0) .stop) (w .0 .rises) (w .0 .high) in let lb = cut-length (c .before .before .before .before .before .before .before .before .before .args .node .now) ((c .before .cut .given .0 .1 .1 .1 .0) .start) ((c .before .cut .given .0 .1 .1 .1 .0) .stop) (w .1 .rises) (w .1 .high) in omega arith
+right-cut-part-common-length-end t c = let w = inner-places (c .before .before .before .before .before .before .before .before .before .args .store .now) (c .before .before .before .before .before .before .before .before .before .args .node .now) (c .before .before .before .before .before .before .before .before .before .args .hi .now) (c .before .before .before .before .before .before .before .before .before .args .k .now) (c .before .before .before .before .before .before .before .before .before .args .split .level) (c .before .before .before .before .before .before .before .before .before .args .split .at) (c .before .before .before .before .before .before .before .before .before .args .free .now) (c .before .before .before .before .before .before .before .before .before .args .split .cut) _ _ _ _ (c .before .cut .given .1) (c .before .before .before .before .before .before .before .before .before .pre .1 .0) in let la = cut-length (c .before .before .before .before .before .before .before .before .before .args .node .now) ((c .before .cut .given .0 .1 .1 .0) .start) ((c .before .cut .given .0 .1 .1 .0) .stop) (w .0 .rises) (w .0 .high) in let lb = cut-length (c .before .before .before .before .before .before .before .before .before .args .node .now) ((c .before .cut .given .0 .1 .1 .1 .0) .start) ((c .before .cut .given .0 .1 .1 .1 .0) .stop) (w .1 .rises) (w .1 .high) in omega arith
 
 right-cut-sub-common-length-2 : (t : ℕ) → right-cut-lts.Need-sub-common-length-2 (
   common-length-reads.Asked,
@@ -88,7 +92,7 @@ right-cut-sub-common-length-2 : (t : ℕ) → right-cut-lts.Need-sub-common-leng
   slice-right-below t,
   slice-right.Post,
 ) (right-cut-at t) right-cut.Post
-right-cut-sub-common-length-2 t c = let w = inner-places (c .before .before .before .before .before .before .before .before .before .before .args .store .now) (c .before .before .before .before .before .before .before .before .before .before .args .node .now) (c .before .before .before .before .before .before .before .before .before .before .args .hi .now) (c .before .before .before .before .before .before .before .before .before .before .args .k .now) (c .before .before .before .before .before .before .before .before .before .before .args .level) (c .before .before .before .before .before .before .before .before .before .before .args .at) (c .before .before .before .before .before .before .before .before .before .before .args .free .now) (c .before .before .before .before .before .before .before .before .before .before .args .cut) _ _ _ _ (c .before .before .cut .given .1) (c .before .before .before .before .before .before .before .before .before .before .pre .1 .0) in let la = cut-length (c .before .before .before .before .before .before .before .before .before .before .args .node .now) ((c .before .before .cut .given .0 .1 .1 .0) .start) ((c .before .before .cut .given .0 .1 .1 .0) .stop) (w .0 .rises) (w .0 .high) in let lb = cut-length (c .before .before .before .before .before .before .before .before .before .before .args .node .now) ((c .before .before .cut .given .0 .1 .1 .1 .0) .start) ((c .before .before .cut .given .0 .1 .1 .1 .0) .stop) (w .1 .rises) (w .1 .high) in omega arith
+right-cut-sub-common-length-2 t c = let w = inner-places (c .before .before .before .before .before .before .before .before .before .before .args .store .now) (c .before .before .before .before .before .before .before .before .before .before .args .node .now) (c .before .before .before .before .before .before .before .before .before .before .args .hi .now) (c .before .before .before .before .before .before .before .before .before .before .args .k .now) (c .before .before .before .before .before .before .before .before .before .before .args .split .level) (c .before .before .before .before .before .before .before .before .before .before .args .split .at) (c .before .before .before .before .before .before .before .before .before .before .args .free .now) (c .before .before .before .before .before .before .before .before .before .before .args .split .cut) _ _ _ _ (c .before .before .cut .given .1) (c .before .before .before .before .before .before .before .before .before .before .pre .1 .0) in let la = cut-length (c .before .before .before .before .before .before .before .before .before .before .args .node .now) ((c .before .before .cut .given .0 .1 .1 .0) .start) ((c .before .before .cut .given .0 .1 .1 .0) .stop) (w .0 .rises) (w .0 .high) in let lb = cut-length (c .before .before .before .before .before .before .before .before .before .before .args .node .now) ((c .before .before .cut .given .0 .1 .1 .1 .0) .start) ((c .before .before .cut .given .0 .1 .1 .1 .0) .stop) (w .1 .rises) (w .1 .high) in omega arith
 
 right-cut-part-common-length-start-2 : (t : ℕ) → right-cut-lts.Need-part-common-length-start-2 (
   common-length-reads.Asked,
@@ -96,7 +100,7 @@ right-cut-part-common-length-start-2 : (t : ℕ) → right-cut-lts.Need-part-com
   slice-right-below t,
   slice-right.Post,
 ) (right-cut-at t) right-cut.Post
-right-cut-part-common-length-start-2 t c = let w = inner-places (c .before .before .before .before .before .before .before .before .before .before .args .store .now) (c .before .before .before .before .before .before .before .before .before .before .args .node .now) (c .before .before .before .before .before .before .before .before .before .before .args .hi .now) (c .before .before .before .before .before .before .before .before .before .before .args .k .now) (c .before .before .before .before .before .before .before .before .before .before .args .level) (c .before .before .before .before .before .before .before .before .before .before .args .at) (c .before .before .before .before .before .before .before .before .before .before .args .free .now) (c .before .before .before .before .before .before .before .before .before .before .args .cut) _ _ _ _ (c .before .before .cut .given .1) (c .before .before .before .before .before .before .before .before .before .before .pre .1 .0) in let la = cut-length (c .before .before .before .before .before .before .before .before .before .before .args .node .now) ((c .before .before .cut .given .0 .1 .1 .0) .start) ((c .before .before .cut .given .0 .1 .1 .0) .stop) (w .0 .rises) (w .0 .high) in let lb = cut-length (c .before .before .before .before .before .before .before .before .before .before .args .node .now) ((c .before .before .cut .given .0 .1 .1 .1 .0) .start) ((c .before .before .cut .given .0 .1 .1 .1 .0) .stop) (w .1 .rises) (w .1 .high) in omega arith
+right-cut-part-common-length-start-2 t c = let w = inner-places (c .before .before .before .before .before .before .before .before .before .before .args .store .now) (c .before .before .before .before .before .before .before .before .before .before .args .node .now) (c .before .before .before .before .before .before .before .before .before .before .args .hi .now) (c .before .before .before .before .before .before .before .before .before .before .args .k .now) (c .before .before .before .before .before .before .before .before .before .before .args .split .level) (c .before .before .before .before .before .before .before .before .before .before .args .split .at) (c .before .before .before .before .before .before .before .before .before .before .args .free .now) (c .before .before .before .before .before .before .before .before .before .before .args .split .cut) _ _ _ _ (c .before .before .cut .given .1) (c .before .before .before .before .before .before .before .before .before .before .pre .1 .0) in let la = cut-length (c .before .before .before .before .before .before .before .before .before .before .args .node .now) ((c .before .before .cut .given .0 .1 .1 .0) .start) ((c .before .before .cut .given .0 .1 .1 .0) .stop) (w .0 .rises) (w .0 .high) in let lb = cut-length (c .before .before .before .before .before .before .before .before .before .before .args .node .now) ((c .before .before .cut .given .0 .1 .1 .1 .0) .start) ((c .before .before .cut .given .0 .1 .1 .1 .0) .stop) (w .1 .rises) (w .1 .high) in omega arith
 
 right-cut-part-common-length-end-2 : (t : ℕ) → right-cut-lts.Need-part-common-length-end-2 (
   common-length-reads.Asked,
@@ -104,7 +108,7 @@ right-cut-part-common-length-end-2 : (t : ℕ) → right-cut-lts.Need-part-commo
   slice-right-below t,
   slice-right.Post,
 ) (right-cut-at t) right-cut.Post
-right-cut-part-common-length-end-2 t c = let w = inner-places (c .before .before .before .before .before .before .before .before .before .before .args .store .now) (c .before .before .before .before .before .before .before .before .before .before .args .node .now) (c .before .before .before .before .before .before .before .before .before .before .args .hi .now) (c .before .before .before .before .before .before .before .before .before .before .args .k .now) (c .before .before .before .before .before .before .before .before .before .before .args .level) (c .before .before .before .before .before .before .before .before .before .before .args .at) (c .before .before .before .before .before .before .before .before .before .before .args .free .now) (c .before .before .before .before .before .before .before .before .before .before .args .cut) _ _ _ _ (c .before .before .cut .given .1) (c .before .before .before .before .before .before .before .before .before .before .pre .1 .0) in let la = cut-length (c .before .before .before .before .before .before .before .before .before .before .args .node .now) ((c .before .before .cut .given .0 .1 .1 .0) .start) ((c .before .before .cut .given .0 .1 .1 .0) .stop) (w .0 .rises) (w .0 .high) in let lb = cut-length (c .before .before .before .before .before .before .before .before .before .before .args .node .now) ((c .before .before .cut .given .0 .1 .1 .1 .0) .start) ((c .before .before .cut .given .0 .1 .1 .1 .0) .stop) (w .1 .rises) (w .1 .high) in omega arith
+right-cut-part-common-length-end-2 t c = let w = inner-places (c .before .before .before .before .before .before .before .before .before .before .args .store .now) (c .before .before .before .before .before .before .before .before .before .before .args .node .now) (c .before .before .before .before .before .before .before .before .before .before .args .hi .now) (c .before .before .before .before .before .before .before .before .before .before .args .k .now) (c .before .before .before .before .before .before .before .before .before .before .args .split .level) (c .before .before .before .before .before .before .before .before .before .before .args .split .at) (c .before .before .before .before .before .before .before .before .before .before .args .free .now) (c .before .before .before .before .before .before .before .before .before .before .args .split .cut) _ _ _ _ (c .before .before .cut .given .1) (c .before .before .before .before .before .before .before .before .before .before .pre .1 .0) in let la = cut-length (c .before .before .before .before .before .before .before .before .before .before .args .node .now) ((c .before .before .cut .given .0 .1 .1 .0) .start) ((c .before .before .cut .given .0 .1 .1 .0) .stop) (w .0 .rises) (w .0 .high) in let lb = cut-length (c .before .before .before .before .before .before .before .before .before .before .args .node .now) ((c .before .before .cut .given .0 .1 .1 .1 .0) .start) ((c .before .before .cut .given .0 .1 .1 .1 .0) .stop) (w .1 .rises) (w .1 .high) in omega arith
 
 right-cut-common-length-requires : (t : ℕ) → right-cut-lts.Need-common-length-requires (
   common-length-reads.Asked,
@@ -114,21 +118,13 @@ right-cut-common-length-requires : (t : ℕ) → right-cut-lts.Need-common-lengt
 ) (right-cut-at t) right-cut.Post
 right-cut-common-length-requires t c κs = search needs
 
-right-cut-add-f : (t : ℕ) → right-cut-lts.Need-add-f (
-  common-length-reads.Asked,
-  common-length-reads.Learnt,
-  slice-right-below t,
-  slice-right.Post,
-) (right-cut-at t) right-cut.Post
-right-cut-add-f t c = let w = inner-places (c .before .before .before .before .before .before .before .before .before .before .before .before .args .store .now) (c .before .before .before .before .before .before .before .before .before .before .before .before .args .node .now) (c .before .before .before .before .before .before .before .before .before .before .before .before .args .hi .now) (c .before .before .before .before .before .before .before .before .before .before .before .before .args .k .now) (c .before .before .before .before .before .before .before .before .before .before .before .before .args .level) (c .before .before .before .before .before .before .before .before .before .before .before .before .args .at) (c .before .before .before .before .before .before .before .before .before .before .before .before .args .free .now) (c .before .before .before .before .before .before .before .before .before .before .before .before .args .cut) _ _ _ _ (c .before .before .before .before .cut .given .1) (c .before .before .before .before .before .before .before .before .before .before .before .before .pre .1 .0) in let la = cut-length (c .before .before .before .before .before .before .before .before .before .before .before .before .args .node .now) ((c .before .before .before .before .cut .given .0 .1 .1 .0) .start) ((c .before .before .before .before .cut .given .0 .1 .1 .0) .stop) (w .0 .rises) (w .0 .high) in let lb = cut-length (c .before .before .before .before .before .before .before .before .before .before .before .before .args .node .now) ((c .before .before .before .before .cut .given .0 .1 .1 .1 .0) .start) ((c .before .before .before .before .cut .given .0 .1 .1 .1 .0) .stop) (w .1 .rises) (w .1 .high) in omega arith
-
 right-cut-add-g : (t : ℕ) → right-cut-lts.Need-add-g (
   common-length-reads.Asked,
   common-length-reads.Learnt,
   slice-right-below t,
   slice-right.Post,
 ) (right-cut-at t) right-cut.Post
-right-cut-add-g t c = let w = inner-places (c .before .before .before .before .before .before .before .before .before .before .before .before .args .store .now) (c .before .before .before .before .before .before .before .before .before .before .before .before .args .node .now) (c .before .before .before .before .before .before .before .before .before .before .before .before .args .hi .now) (c .before .before .before .before .before .before .before .before .before .before .before .before .args .k .now) (c .before .before .before .before .before .before .before .before .before .before .before .before .args .level) (c .before .before .before .before .before .before .before .before .before .before .before .before .args .at) (c .before .before .before .before .before .before .before .before .before .before .before .before .args .free .now) (c .before .before .before .before .before .before .before .before .before .before .before .before .args .cut) _ _ _ _ (c .before .before .before .before .cut .given .1) (c .before .before .before .before .before .before .before .before .before .before .before .before .pre .1 .0) in let la = cut-length (c .before .before .before .before .before .before .before .before .before .before .before .before .args .node .now) ((c .before .before .before .before .cut .given .0 .1 .1 .0) .start) ((c .before .before .before .before .cut .given .0 .1 .1 .0) .stop) (w .0 .rises) (w .0 .high) in let lb = cut-length (c .before .before .before .before .before .before .before .before .before .before .before .before .args .node .now) ((c .before .before .before .before .cut .given .0 .1 .1 .1 .0) .start) ((c .before .before .before .before .cut .given .0 .1 .1 .1 .0) .stop) (w .1 .rises) (w .1 .high) in omega arith
+right-cut-add-g t c = let w = inner-places (c .before .before .before .before .before .before .before .before .before .before .before .before .args .store .now) (c .before .before .before .before .before .before .before .before .before .before .before .before .args .node .now) (c .before .before .before .before .before .before .before .before .before .before .before .before .args .hi .now) (c .before .before .before .before .before .before .before .before .before .before .before .before .args .k .now) (c .before .before .before .before .before .before .before .before .before .before .before .before .args .split .level) (c .before .before .before .before .before .before .before .before .before .before .before .before .args .split .at) (c .before .before .before .before .before .before .before .before .before .before .before .before .args .free .now) (c .before .before .before .before .before .before .before .before .before .before .before .before .args .split .cut) _ _ _ _ (c .before .before .before .before .cut .given .1) (c .before .before .before .before .before .before .before .before .before .before .before .before .pre .1 .0) in let la = cut-length (c .before .before .before .before .before .before .before .before .before .before .before .before .args .node .now) ((c .before .before .before .before .cut .given .0 .1 .1 .0) .start) ((c .before .before .before .before .cut .given .0 .1 .1 .0) .stop) (w .0 .rises) (w .0 .high) in let lb = cut-length (c .before .before .before .before .before .before .before .before .before .before .before .before .args .node .now) ((c .before .before .before .before .cut .given .0 .1 .1 .1 .0) .start) ((c .before .before .before .before .cut .given .0 .1 .1 .1 .0) .stop) (w .1 .rises) (w .1 .high) in omega arith
 
 right-cut-sub-slice-right : (t : ℕ) → right-cut-lts.Need-sub-slice-right (
   common-length-reads.Asked,
@@ -136,7 +132,7 @@ right-cut-sub-slice-right : (t : ℕ) → right-cut-lts.Need-sub-slice-right (
   slice-right-below t,
   slice-right.Post,
 ) (right-cut-at t) right-cut.Post
-right-cut-sub-slice-right t c = let w = inner-places (c .before .before .before .before .before .before .before .before .before .before .before .before .before .args .store .now) (c .before .before .before .before .before .before .before .before .before .before .before .before .before .args .node .now) (c .before .before .before .before .before .before .before .before .before .before .before .before .before .args .hi .now) (c .before .before .before .before .before .before .before .before .before .before .before .before .before .args .k .now) (c .before .before .before .before .before .before .before .before .before .before .before .before .before .args .level) (c .before .before .before .before .before .before .before .before .before .before .before .before .before .args .at) (c .before .before .before .before .before .before .before .before .before .before .before .before .before .args .free .now) (c .before .before .before .before .before .before .before .before .before .before .before .before .before .args .cut) _ _ _ _ (c .before .before .before .before .before .cut .given .1) (c .before .before .before .before .before .before .before .before .before .before .before .before .before .pre .1 .0) in let la = cut-length (c .before .before .before .before .before .before .before .before .before .before .before .before .before .args .node .now) ((c .before .before .before .before .before .cut .given .0 .1 .1 .0) .start) ((c .before .before .before .before .before .cut .given .0 .1 .1 .0) .stop) (w .0 .rises) (w .0 .high) in let lb = cut-length (c .before .before .before .before .before .before .before .before .before .before .before .before .before .args .node .now) ((c .before .before .before .before .before .cut .given .0 .1 .1 .1 .0) .start) ((c .before .before .before .before .before .cut .given .0 .1 .1 .1 .0) .stop) (w .1 .rises) (w .1 .high) in omega arith
+right-cut-sub-slice-right t c = let w = inner-places (c .before .before .before .before .before .before .before .before .before .before .before .before .before .args .store .now) (c .before .before .before .before .before .before .before .before .before .before .before .before .before .args .node .now) (c .before .before .before .before .before .before .before .before .before .before .before .before .before .args .hi .now) (c .before .before .before .before .before .before .before .before .before .before .before .before .before .args .k .now) (c .before .before .before .before .before .before .before .before .before .before .before .before .before .args .split .level) (c .before .before .before .before .before .before .before .before .before .before .before .before .before .args .split .at) (c .before .before .before .before .before .before .before .before .before .before .before .before .before .args .free .now) (c .before .before .before .before .before .before .before .before .before .before .before .before .before .args .split .cut) _ _ _ _ (c .before .before .before .before .before .cut .given .1) (c .before .before .before .before .before .before .before .before .before .before .before .before .before .pre .1 .0) in let la = cut-length (c .before .before .before .before .before .before .before .before .before .before .before .before .before .args .node .now) ((c .before .before .before .before .before .cut .given .0 .1 .1 .0) .start) ((c .before .before .before .before .before .cut .given .0 .1 .1 .0) .stop) (w .0 .rises) (w .0 .high) in let lb = cut-length (c .before .before .before .before .before .before .before .before .before .before .before .before .before .args .node .now) ((c .before .before .before .before .before .cut .given .0 .1 .1 .1 .0) .start) ((c .before .before .before .before .before .cut .given .0 .1 .1 .1 .0) .stop) (w .1 .rises) (w .1 .high) in omega arith
 
 right-cut-part-slice-right-start : (t : ℕ) → right-cut-lts.Need-part-slice-right-start (
   common-length-reads.Asked,
@@ -144,7 +140,7 @@ right-cut-part-slice-right-start : (t : ℕ) → right-cut-lts.Need-part-slice-r
   slice-right-below t,
   slice-right.Post,
 ) (right-cut-at t) right-cut.Post
-right-cut-part-slice-right-start t c = let w = inner-places (c .before .before .before .before .before .before .before .before .before .before .before .before .before .args .store .now) (c .before .before .before .before .before .before .before .before .before .before .before .before .before .args .node .now) (c .before .before .before .before .before .before .before .before .before .before .before .before .before .args .hi .now) (c .before .before .before .before .before .before .before .before .before .before .before .before .before .args .k .now) (c .before .before .before .before .before .before .before .before .before .before .before .before .before .args .level) (c .before .before .before .before .before .before .before .before .before .before .before .before .before .args .at) (c .before .before .before .before .before .before .before .before .before .before .before .before .before .args .free .now) (c .before .before .before .before .before .before .before .before .before .before .before .before .before .args .cut) _ _ _ _ (c .before .before .before .before .before .cut .given .1) (c .before .before .before .before .before .before .before .before .before .before .before .before .before .pre .1 .0) in let la = cut-length (c .before .before .before .before .before .before .before .before .before .before .before .before .before .args .node .now) ((c .before .before .before .before .before .cut .given .0 .1 .1 .0) .start) ((c .before .before .before .before .before .cut .given .0 .1 .1 .0) .stop) (w .0 .rises) (w .0 .high) in let lb = cut-length (c .before .before .before .before .before .before .before .before .before .before .before .before .before .args .node .now) ((c .before .before .before .before .before .cut .given .0 .1 .1 .1 .0) .start) ((c .before .before .before .before .before .cut .given .0 .1 .1 .1 .0) .stop) (w .1 .rises) (w .1 .high) in omega arith
+right-cut-part-slice-right-start t c = let w = inner-places (c .before .before .before .before .before .before .before .before .before .before .before .before .before .args .store .now) (c .before .before .before .before .before .before .before .before .before .before .before .before .before .args .node .now) (c .before .before .before .before .before .before .before .before .before .before .before .before .before .args .hi .now) (c .before .before .before .before .before .before .before .before .before .before .before .before .before .args .k .now) (c .before .before .before .before .before .before .before .before .before .before .before .before .before .args .split .level) (c .before .before .before .before .before .before .before .before .before .before .before .before .before .args .split .at) (c .before .before .before .before .before .before .before .before .before .before .before .before .before .args .free .now) (c .before .before .before .before .before .before .before .before .before .before .before .before .before .args .split .cut) _ _ _ _ (c .before .before .before .before .before .cut .given .1) (c .before .before .before .before .before .before .before .before .before .before .before .before .before .pre .1 .0) in let la = cut-length (c .before .before .before .before .before .before .before .before .before .before .before .before .before .args .node .now) ((c .before .before .before .before .before .cut .given .0 .1 .1 .0) .start) ((c .before .before .before .before .before .cut .given .0 .1 .1 .0) .stop) (w .0 .rises) (w .0 .high) in let lb = cut-length (c .before .before .before .before .before .before .before .before .before .before .before .before .before .args .node .now) ((c .before .before .before .before .before .cut .given .0 .1 .1 .1 .0) .start) ((c .before .before .before .before .before .cut .given .0 .1 .1 .1 .0) .stop) (w .1 .rises) (w .1 .high) in omega arith
 
 right-cut-part-slice-right-end : (t : ℕ) → right-cut-lts.Need-part-slice-right-end (
   common-length-reads.Asked,
@@ -152,7 +148,7 @@ right-cut-part-slice-right-end : (t : ℕ) → right-cut-lts.Need-part-slice-rig
   slice-right-below t,
   slice-right.Post,
 ) (right-cut-at t) right-cut.Post
-right-cut-part-slice-right-end t c = let w = inner-places (c .before .before .before .before .before .before .before .before .before .before .before .before .before .args .store .now) (c .before .before .before .before .before .before .before .before .before .before .before .before .before .args .node .now) (c .before .before .before .before .before .before .before .before .before .before .before .before .before .args .hi .now) (c .before .before .before .before .before .before .before .before .before .before .before .before .before .args .k .now) (c .before .before .before .before .before .before .before .before .before .before .before .before .before .args .level) (c .before .before .before .before .before .before .before .before .before .before .before .before .before .args .at) (c .before .before .before .before .before .before .before .before .before .before .before .before .before .args .free .now) (c .before .before .before .before .before .before .before .before .before .before .before .before .before .args .cut) _ _ _ _ (c .before .before .before .before .before .cut .given .1) (c .before .before .before .before .before .before .before .before .before .before .before .before .before .pre .1 .0) in let la = cut-length (c .before .before .before .before .before .before .before .before .before .before .before .before .before .args .node .now) ((c .before .before .before .before .before .cut .given .0 .1 .1 .0) .start) ((c .before .before .before .before .before .cut .given .0 .1 .1 .0) .stop) (w .0 .rises) (w .0 .high) in let lb = cut-length (c .before .before .before .before .before .before .before .before .before .before .before .before .before .args .node .now) ((c .before .before .before .before .before .cut .given .0 .1 .1 .1 .0) .start) ((c .before .before .before .before .before .cut .given .0 .1 .1 .1 .0) .stop) (w .1 .rises) (w .1 .high) in omega arith
+right-cut-part-slice-right-end t c = let w = inner-places (c .before .before .before .before .before .before .before .before .before .before .before .before .before .args .store .now) (c .before .before .before .before .before .before .before .before .before .before .before .before .before .args .node .now) (c .before .before .before .before .before .before .before .before .before .before .before .before .before .args .hi .now) (c .before .before .before .before .before .before .before .before .before .before .before .before .before .args .k .now) (c .before .before .before .before .before .before .before .before .before .before .before .before .before .args .split .level) (c .before .before .before .before .before .before .before .before .before .before .before .before .before .args .split .at) (c .before .before .before .before .before .before .before .before .before .before .before .before .before .args .free .now) (c .before .before .before .before .before .before .before .before .before .before .before .before .before .args .split .cut) _ _ _ _ (c .before .before .before .before .before .cut .given .1) (c .before .before .before .before .before .before .before .before .before .before .before .before .before .pre .1 .0) in let la = cut-length (c .before .before .before .before .before .before .before .before .before .before .before .before .before .args .node .now) ((c .before .before .before .before .before .cut .given .0 .1 .1 .0) .start) ((c .before .before .before .before .before .cut .given .0 .1 .1 .0) .stop) (w .0 .rises) (w .0 .high) in let lb = cut-length (c .before .before .before .before .before .before .before .before .before .before .before .before .before .args .node .now) ((c .before .before .before .before .before .cut .given .0 .1 .1 .1 .0) .start) ((c .before .before .before .before .before .cut .given .0 .1 .1 .1 .0) .stop) (w .1 .rises) (w .1 .high) in omega arith
 
 right-cut-sub-slice-right-2 : (t : ℕ) → right-cut-lts.Need-sub-slice-right-2 (
   common-length-reads.Asked,
@@ -160,7 +156,7 @@ right-cut-sub-slice-right-2 : (t : ℕ) → right-cut-lts.Need-sub-slice-right-2
   slice-right-below t,
   slice-right.Post,
 ) (right-cut-at t) right-cut.Post
-right-cut-sub-slice-right-2 t c = let w = inner-places (c .before .before .before .before .before .before .before .before .before .before .before .before .before .before .args .store .now) (c .before .before .before .before .before .before .before .before .before .before .before .before .before .before .args .node .now) (c .before .before .before .before .before .before .before .before .before .before .before .before .before .before .args .hi .now) (c .before .before .before .before .before .before .before .before .before .before .before .before .before .before .args .k .now) (c .before .before .before .before .before .before .before .before .before .before .before .before .before .before .args .level) (c .before .before .before .before .before .before .before .before .before .before .before .before .before .before .args .at) (c .before .before .before .before .before .before .before .before .before .before .before .before .before .before .args .free .now) (c .before .before .before .before .before .before .before .before .before .before .before .before .before .before .args .cut) _ _ _ _ (c .before .before .before .before .before .before .cut .given .1) (c .before .before .before .before .before .before .before .before .before .before .before .before .before .before .pre .1 .0) in let la = cut-length (c .before .before .before .before .before .before .before .before .before .before .before .before .before .before .args .node .now) ((c .before .before .before .before .before .before .cut .given .0 .1 .1 .0) .start) ((c .before .before .before .before .before .before .cut .given .0 .1 .1 .0) .stop) (w .0 .rises) (w .0 .high) in let lb = cut-length (c .before .before .before .before .before .before .before .before .before .before .before .before .before .before .args .node .now) ((c .before .before .before .before .before .before .cut .given .0 .1 .1 .1 .0) .start) ((c .before .before .before .before .before .before .cut .given .0 .1 .1 .1 .0) .stop) (w .1 .rises) (w .1 .high) in omega arith
+right-cut-sub-slice-right-2 t c = let q = strip-short (c .before .before .before .before .before .before .before .before .before .before .before .before .before .before .args .split .wide) (c .before .before .before .before .before .before .before .before .before .before .before .before .before .before .args .store .now) (c .before .before .before .before .before .before .cut .given .0 .1 .0) (c .before .before .before .before .before .before .before .before .before .before .before .before .before .before .args .split .level) (part (c .before .before .before .before .before .before .before .before .before .before .before .before .before .before .args .node .now) (c .before .before .before .before .before .before .cut .given .0 .1 .1 .0)) (part (c .before .before .before .before .before .before .before .before .before .before .before .before .before .before .args .node .now) (c .before .before .before .before .before .before .cut .given .0 .1 .1 .1 .0)) (c .before .before .before .before .before .before .before .before .before .before .before .before .before .before .args .k .now) (c .before .before .before .before .before .before .before .before .before .before .before .before .before .before .args .split .at) (c .before .before .before .before .before .before .before .before .before .before .before .before .before .before .args .free .now) (inner-asks (c .before .before .before .before .before .before .before .before .before .before .before .before .before .before .args .split .wide) (c .before .before .before .before .before .before .before .before .before .before .before .before .before .before .args .store .now) (c .before .before .before .before .before .before .before .before .before .before .before .before .before .before .args .node .now) (c .before .before .before .before .before .before .before .before .before .before .before .before .before .before .args .hi .now) (c .before .before .before .before .before .before .before .before .before .before .before .before .before .before .args .k .now) (c .before .before .before .before .before .before .before .before .before .before .before .before .before .before .args .split .level) (c .before .before .before .before .before .before .before .before .before .before .before .before .before .before .args .split .at) (c .before .before .before .before .before .before .before .before .before .before .before .before .before .before .args .free .now) (c .before .before .before .before .before .before .before .before .before .before .before .before .before .before .args .split .cut) _ _ _ _ (c .before .before .before .before .before .before .cut .given .1) (c .before .before .before .before .before .before .before .before .before .before .before .before .before .before .pre .1 .1)) (c .before .before .common-length .result) (c .before .before .common-length .ensures .0) in omega arith
 
 right-cut-part-slice-right-start-2 : (t : ℕ) → right-cut-lts.Need-part-slice-right-start-2 (
   common-length-reads.Asked,
@@ -168,7 +164,7 @@ right-cut-part-slice-right-start-2 : (t : ℕ) → right-cut-lts.Need-part-slice
   slice-right-below t,
   slice-right.Post,
 ) (right-cut-at t) right-cut.Post
-right-cut-part-slice-right-start-2 t c = let w = inner-places (c .before .before .before .before .before .before .before .before .before .before .before .before .before .before .args .store .now) (c .before .before .before .before .before .before .before .before .before .before .before .before .before .before .args .node .now) (c .before .before .before .before .before .before .before .before .before .before .before .before .before .before .args .hi .now) (c .before .before .before .before .before .before .before .before .before .before .before .before .before .before .args .k .now) (c .before .before .before .before .before .before .before .before .before .before .before .before .before .before .args .level) (c .before .before .before .before .before .before .before .before .before .before .before .before .before .before .args .at) (c .before .before .before .before .before .before .before .before .before .before .before .before .before .before .args .free .now) (c .before .before .before .before .before .before .before .before .before .before .before .before .before .before .args .cut) _ _ _ _ (c .before .before .before .before .before .before .cut .given .1) (c .before .before .before .before .before .before .before .before .before .before .before .before .before .before .pre .1 .0) in let la = cut-length (c .before .before .before .before .before .before .before .before .before .before .before .before .before .before .args .node .now) ((c .before .before .before .before .before .before .cut .given .0 .1 .1 .0) .start) ((c .before .before .before .before .before .before .cut .given .0 .1 .1 .0) .stop) (w .0 .rises) (w .0 .high) in let lb = cut-length (c .before .before .before .before .before .before .before .before .before .before .before .before .before .before .args .node .now) ((c .before .before .before .before .before .before .cut .given .0 .1 .1 .1 .0) .start) ((c .before .before .before .before .before .before .cut .given .0 .1 .1 .1 .0) .stop) (w .1 .rises) (w .1 .high) in omega arith
+right-cut-part-slice-right-start-2 t c = let q = strip-short (c .before .before .before .before .before .before .before .before .before .before .before .before .before .before .args .split .wide) (c .before .before .before .before .before .before .before .before .before .before .before .before .before .before .args .store .now) (c .before .before .before .before .before .before .cut .given .0 .1 .0) (c .before .before .before .before .before .before .before .before .before .before .before .before .before .before .args .split .level) (part (c .before .before .before .before .before .before .before .before .before .before .before .before .before .before .args .node .now) (c .before .before .before .before .before .before .cut .given .0 .1 .1 .0)) (part (c .before .before .before .before .before .before .before .before .before .before .before .before .before .before .args .node .now) (c .before .before .before .before .before .before .cut .given .0 .1 .1 .1 .0)) (c .before .before .before .before .before .before .before .before .before .before .before .before .before .before .args .k .now) (c .before .before .before .before .before .before .before .before .before .before .before .before .before .before .args .split .at) (c .before .before .before .before .before .before .before .before .before .before .before .before .before .before .args .free .now) (inner-asks (c .before .before .before .before .before .before .before .before .before .before .before .before .before .before .args .split .wide) (c .before .before .before .before .before .before .before .before .before .before .before .before .before .before .args .store .now) (c .before .before .before .before .before .before .before .before .before .before .before .before .before .before .args .node .now) (c .before .before .before .before .before .before .before .before .before .before .before .before .before .before .args .hi .now) (c .before .before .before .before .before .before .before .before .before .before .before .before .before .before .args .k .now) (c .before .before .before .before .before .before .before .before .before .before .before .before .before .before .args .split .level) (c .before .before .before .before .before .before .before .before .before .before .before .before .before .before .args .split .at) (c .before .before .before .before .before .before .before .before .before .before .before .before .before .before .args .free .now) (c .before .before .before .before .before .before .before .before .before .before .before .before .before .before .args .split .cut) _ _ _ _ (c .before .before .before .before .before .before .cut .given .1) (c .before .before .before .before .before .before .before .before .before .before .before .before .before .before .pre .1 .1)) (c .before .before .common-length .result) (c .before .before .common-length .ensures .0) in omega arith
 
 right-cut-part-slice-right-end-2 : (t : ℕ) → right-cut-lts.Need-part-slice-right-end-2 (
   common-length-reads.Asked,
@@ -176,7 +172,7 @@ right-cut-part-slice-right-end-2 : (t : ℕ) → right-cut-lts.Need-part-slice-r
   slice-right-below t,
   slice-right.Post,
 ) (right-cut-at t) right-cut.Post
-right-cut-part-slice-right-end-2 t c = let w = inner-places (c .before .before .before .before .before .before .before .before .before .before .before .before .before .before .args .store .now) (c .before .before .before .before .before .before .before .before .before .before .before .before .before .before .args .node .now) (c .before .before .before .before .before .before .before .before .before .before .before .before .before .before .args .hi .now) (c .before .before .before .before .before .before .before .before .before .before .before .before .before .before .args .k .now) (c .before .before .before .before .before .before .before .before .before .before .before .before .before .before .args .level) (c .before .before .before .before .before .before .before .before .before .before .before .before .before .before .args .at) (c .before .before .before .before .before .before .before .before .before .before .before .before .before .before .args .free .now) (c .before .before .before .before .before .before .before .before .before .before .before .before .before .before .args .cut) _ _ _ _ (c .before .before .before .before .before .before .cut .given .1) (c .before .before .before .before .before .before .before .before .before .before .before .before .before .before .pre .1 .0) in let la = cut-length (c .before .before .before .before .before .before .before .before .before .before .before .before .before .before .args .node .now) ((c .before .before .before .before .before .before .cut .given .0 .1 .1 .0) .start) ((c .before .before .before .before .before .before .cut .given .0 .1 .1 .0) .stop) (w .0 .rises) (w .0 .high) in let lb = cut-length (c .before .before .before .before .before .before .before .before .before .before .before .before .before .before .args .node .now) ((c .before .before .before .before .before .before .cut .given .0 .1 .1 .1 .0) .start) ((c .before .before .before .before .before .before .cut .given .0 .1 .1 .1 .0) .stop) (w .1 .rises) (w .1 .high) in omega arith
+right-cut-part-slice-right-end-2 t c = let q = strip-short (c .before .before .before .before .before .before .before .before .before .before .before .before .before .before .args .split .wide) (c .before .before .before .before .before .before .before .before .before .before .before .before .before .before .args .store .now) (c .before .before .before .before .before .before .cut .given .0 .1 .0) (c .before .before .before .before .before .before .before .before .before .before .before .before .before .before .args .split .level) (part (c .before .before .before .before .before .before .before .before .before .before .before .before .before .before .args .node .now) (c .before .before .before .before .before .before .cut .given .0 .1 .1 .0)) (part (c .before .before .before .before .before .before .before .before .before .before .before .before .before .before .args .node .now) (c .before .before .before .before .before .before .cut .given .0 .1 .1 .1 .0)) (c .before .before .before .before .before .before .before .before .before .before .before .before .before .before .args .k .now) (c .before .before .before .before .before .before .before .before .before .before .before .before .before .before .args .split .at) (c .before .before .before .before .before .before .before .before .before .before .before .before .before .before .args .free .now) (inner-asks (c .before .before .before .before .before .before .before .before .before .before .before .before .before .before .args .split .wide) (c .before .before .before .before .before .before .before .before .before .before .before .before .before .before .args .store .now) (c .before .before .before .before .before .before .before .before .before .before .before .before .before .before .args .node .now) (c .before .before .before .before .before .before .before .before .before .before .before .before .before .before .args .hi .now) (c .before .before .before .before .before .before .before .before .before .before .before .before .before .before .args .k .now) (c .before .before .before .before .before .before .before .before .before .before .before .before .before .before .args .split .level) (c .before .before .before .before .before .before .before .before .before .before .before .before .before .before .args .split .at) (c .before .before .before .before .before .before .before .before .before .before .before .before .before .before .args .free .now) (c .before .before .before .before .before .before .before .before .before .before .before .before .before .before .args .split .cut) _ _ _ _ (c .before .before .before .before .before .before .cut .given .1) (c .before .before .before .before .before .before .before .before .before .before .before .before .before .before .pre .1 .1)) (c .before .before .common-length .result) (c .before .before .common-length .ensures .0) in omega arith
 
 right-cut-sub-slice-right-3 : (t : ℕ) → right-cut-lts.Need-sub-slice-right-3 (
   common-length-reads.Asked,
@@ -184,7 +180,7 @@ right-cut-sub-slice-right-3 : (t : ℕ) → right-cut-lts.Need-sub-slice-right-3
   slice-right-below t,
   slice-right.Post,
 ) (right-cut-at t) right-cut.Post
-right-cut-sub-slice-right-3 t c = let q = strip-short (c .before .before .before .before .before .before .before .before .before .before .before .before .before .before .before .args .wide) (c .before .before .before .before .before .before .before .before .before .before .before .before .before .before .before .args .store .now) (c .before .before .before .before .before .before .before .cut .given .0 .1 .0) (c .before .before .before .before .before .before .before .before .before .before .before .before .before .before .before .args .level) (part (c .before .before .before .before .before .before .before .before .before .before .before .before .before .before .before .args .node .now) (c .before .before .before .before .before .before .before .cut .given .0 .1 .1 .0)) (part (c .before .before .before .before .before .before .before .before .before .before .before .before .before .before .before .args .node .now) (c .before .before .before .before .before .before .before .cut .given .0 .1 .1 .1 .0)) (c .before .before .before .before .before .before .before .before .before .before .before .before .before .before .before .args .k .now) (c .before .before .before .before .before .before .before .before .before .before .before .before .before .before .before .args .at) (c .before .before .before .before .before .before .before .before .before .before .before .before .before .before .before .args .free .now) (inner-asks (c .before .before .before .before .before .before .before .before .before .before .before .before .before .before .before .args .wide) (c .before .before .before .before .before .before .before .before .before .before .before .before .before .before .before .args .store .now) (c .before .before .before .before .before .before .before .before .before .before .before .before .before .before .before .args .node .now) (c .before .before .before .before .before .before .before .before .before .before .before .before .before .before .before .args .hi .now) (c .before .before .before .before .before .before .before .before .before .before .before .before .before .before .before .args .k .now) (c .before .before .before .before .before .before .before .before .before .before .before .before .before .before .before .args .level) (c .before .before .before .before .before .before .before .before .before .before .before .before .before .before .before .args .at) (c .before .before .before .before .before .before .before .before .before .before .before .before .before .before .before .args .free .now) (c .before .before .before .before .before .before .before .before .before .before .before .before .before .before .before .args .cut) _ _ _ _ (c .before .before .before .before .before .before .before .cut .given .1) (c .before .before .before .before .before .before .before .before .before .before .before .before .before .before .before .pre .1 .1)) (c .before .before .before .common-length .result) (c .before .before .before .common-length .ensures .0) in omega arith
+right-cut-sub-slice-right-3 t c = let q = strip-short (c .before .before .before .before .before .before .before .before .before .before .before .before .before .before .before .args .split .wide) (c .before .before .before .before .before .before .before .before .before .before .before .before .before .before .before .args .store .now) (c .before .before .before .before .before .before .before .cut .given .0 .1 .0) (c .before .before .before .before .before .before .before .before .before .before .before .before .before .before .before .args .split .level) (part (c .before .before .before .before .before .before .before .before .before .before .before .before .before .before .before .args .node .now) (c .before .before .before .before .before .before .before .cut .given .0 .1 .1 .0)) (part (c .before .before .before .before .before .before .before .before .before .before .before .before .before .before .before .args .node .now) (c .before .before .before .before .before .before .before .cut .given .0 .1 .1 .1 .0)) (c .before .before .before .before .before .before .before .before .before .before .before .before .before .before .before .args .k .now) (c .before .before .before .before .before .before .before .before .before .before .before .before .before .before .before .args .split .at) (c .before .before .before .before .before .before .before .before .before .before .before .before .before .before .before .args .free .now) (inner-asks (c .before .before .before .before .before .before .before .before .before .before .before .before .before .before .before .args .split .wide) (c .before .before .before .before .before .before .before .before .before .before .before .before .before .before .before .args .store .now) (c .before .before .before .before .before .before .before .before .before .before .before .before .before .before .before .args .node .now) (c .before .before .before .before .before .before .before .before .before .before .before .before .before .before .before .args .hi .now) (c .before .before .before .before .before .before .before .before .before .before .before .before .before .before .before .args .k .now) (c .before .before .before .before .before .before .before .before .before .before .before .before .before .before .before .args .split .level) (c .before .before .before .before .before .before .before .before .before .before .before .before .before .before .before .args .split .at) (c .before .before .before .before .before .before .before .before .before .before .before .before .before .before .before .args .free .now) (c .before .before .before .before .before .before .before .before .before .before .before .before .before .before .before .args .split .cut) _ _ _ _ (c .before .before .before .before .before .before .before .cut .given .1) (c .before .before .before .before .before .before .before .before .before .before .before .before .before .before .before .pre .1 .1)) (c .before .before .before .common-length .result) (c .before .before .before .common-length .ensures .0) in omega arith
 
 right-cut-part-slice-right-start-3 : (t : ℕ) → right-cut-lts.Need-part-slice-right-start-3 (
   common-length-reads.Asked,
@@ -192,7 +188,7 @@ right-cut-part-slice-right-start-3 : (t : ℕ) → right-cut-lts.Need-part-slice
   slice-right-below t,
   slice-right.Post,
 ) (right-cut-at t) right-cut.Post
-right-cut-part-slice-right-start-3 t c = let q = strip-short (c .before .before .before .before .before .before .before .before .before .before .before .before .before .before .before .args .wide) (c .before .before .before .before .before .before .before .before .before .before .before .before .before .before .before .args .store .now) (c .before .before .before .before .before .before .before .cut .given .0 .1 .0) (c .before .before .before .before .before .before .before .before .before .before .before .before .before .before .before .args .level) (part (c .before .before .before .before .before .before .before .before .before .before .before .before .before .before .before .args .node .now) (c .before .before .before .before .before .before .before .cut .given .0 .1 .1 .0)) (part (c .before .before .before .before .before .before .before .before .before .before .before .before .before .before .before .args .node .now) (c .before .before .before .before .before .before .before .cut .given .0 .1 .1 .1 .0)) (c .before .before .before .before .before .before .before .before .before .before .before .before .before .before .before .args .k .now) (c .before .before .before .before .before .before .before .before .before .before .before .before .before .before .before .args .at) (c .before .before .before .before .before .before .before .before .before .before .before .before .before .before .before .args .free .now) (inner-asks (c .before .before .before .before .before .before .before .before .before .before .before .before .before .before .before .args .wide) (c .before .before .before .before .before .before .before .before .before .before .before .before .before .before .before .args .store .now) (c .before .before .before .before .before .before .before .before .before .before .before .before .before .before .before .args .node .now) (c .before .before .before .before .before .before .before .before .before .before .before .before .before .before .before .args .hi .now) (c .before .before .before .before .before .before .before .before .before .before .before .before .before .before .before .args .k .now) (c .before .before .before .before .before .before .before .before .before .before .before .before .before .before .before .args .level) (c .before .before .before .before .before .before .before .before .before .before .before .before .before .before .before .args .at) (c .before .before .before .before .before .before .before .before .before .before .before .before .before .before .before .args .free .now) (c .before .before .before .before .before .before .before .before .before .before .before .before .before .before .before .args .cut) _ _ _ _ (c .before .before .before .before .before .before .before .cut .given .1) (c .before .before .before .before .before .before .before .before .before .before .before .before .before .before .before .pre .1 .1)) (c .before .before .before .common-length .result) (c .before .before .before .common-length .ensures .0) in omega arith
+right-cut-part-slice-right-start-3 t c = let q = strip-short (c .before .before .before .before .before .before .before .before .before .before .before .before .before .before .before .args .split .wide) (c .before .before .before .before .before .before .before .before .before .before .before .before .before .before .before .args .store .now) (c .before .before .before .before .before .before .before .cut .given .0 .1 .0) (c .before .before .before .before .before .before .before .before .before .before .before .before .before .before .before .args .split .level) (part (c .before .before .before .before .before .before .before .before .before .before .before .before .before .before .before .args .node .now) (c .before .before .before .before .before .before .before .cut .given .0 .1 .1 .0)) (part (c .before .before .before .before .before .before .before .before .before .before .before .before .before .before .before .args .node .now) (c .before .before .before .before .before .before .before .cut .given .0 .1 .1 .1 .0)) (c .before .before .before .before .before .before .before .before .before .before .before .before .before .before .before .args .k .now) (c .before .before .before .before .before .before .before .before .before .before .before .before .before .before .before .args .split .at) (c .before .before .before .before .before .before .before .before .before .before .before .before .before .before .before .args .free .now) (inner-asks (c .before .before .before .before .before .before .before .before .before .before .before .before .before .before .before .args .split .wide) (c .before .before .before .before .before .before .before .before .before .before .before .before .before .before .before .args .store .now) (c .before .before .before .before .before .before .before .before .before .before .before .before .before .before .before .args .node .now) (c .before .before .before .before .before .before .before .before .before .before .before .before .before .before .before .args .hi .now) (c .before .before .before .before .before .before .before .before .before .before .before .before .before .before .before .args .k .now) (c .before .before .before .before .before .before .before .before .before .before .before .before .before .before .before .args .split .level) (c .before .before .before .before .before .before .before .before .before .before .before .before .before .before .before .args .split .at) (c .before .before .before .before .before .before .before .before .before .before .before .before .before .before .before .args .free .now) (c .before .before .before .before .before .before .before .before .before .before .before .before .before .before .before .args .split .cut) _ _ _ _ (c .before .before .before .before .before .before .before .cut .given .1) (c .before .before .before .before .before .before .before .before .before .before .before .before .before .before .before .pre .1 .1)) (c .before .before .before .common-length .result) (c .before .before .before .common-length .ensures .0) in omega arith
 
 right-cut-part-slice-right-end-3 : (t : ℕ) → right-cut-lts.Need-part-slice-right-end-3 (
   common-length-reads.Asked,
@@ -200,31 +196,7 @@ right-cut-part-slice-right-end-3 : (t : ℕ) → right-cut-lts.Need-part-slice-r
   slice-right-below t,
   slice-right.Post,
 ) (right-cut-at t) right-cut.Post
-right-cut-part-slice-right-end-3 t c = let q = strip-short (c .before .before .before .before .before .before .before .before .before .before .before .before .before .before .before .args .wide) (c .before .before .before .before .before .before .before .before .before .before .before .before .before .before .before .args .store .now) (c .before .before .before .before .before .before .before .cut .given .0 .1 .0) (c .before .before .before .before .before .before .before .before .before .before .before .before .before .before .before .args .level) (part (c .before .before .before .before .before .before .before .before .before .before .before .before .before .before .before .args .node .now) (c .before .before .before .before .before .before .before .cut .given .0 .1 .1 .0)) (part (c .before .before .before .before .before .before .before .before .before .before .before .before .before .before .before .args .node .now) (c .before .before .before .before .before .before .before .cut .given .0 .1 .1 .1 .0)) (c .before .before .before .before .before .before .before .before .before .before .before .before .before .before .before .args .k .now) (c .before .before .before .before .before .before .before .before .before .before .before .before .before .before .before .args .at) (c .before .before .before .before .before .before .before .before .before .before .before .before .before .before .before .args .free .now) (inner-asks (c .before .before .before .before .before .before .before .before .before .before .before .before .before .before .before .args .wide) (c .before .before .before .before .before .before .before .before .before .before .before .before .before .before .before .args .store .now) (c .before .before .before .before .before .before .before .before .before .before .before .before .before .before .before .args .node .now) (c .before .before .before .before .before .before .before .before .before .before .before .before .before .before .before .args .hi .now) (c .before .before .before .before .before .before .before .before .before .before .before .before .before .before .before .args .k .now) (c .before .before .before .before .before .before .before .before .before .before .before .before .before .before .before .args .level) (c .before .before .before .before .before .before .before .before .before .before .before .before .before .before .before .args .at) (c .before .before .before .before .before .before .before .before .before .before .before .before .before .before .before .args .free .now) (c .before .before .before .before .before .before .before .before .before .before .before .before .before .before .before .args .cut) _ _ _ _ (c .before .before .before .before .before .before .before .cut .given .1) (c .before .before .before .before .before .before .before .before .before .before .before .before .before .before .before .pre .1 .1)) (c .before .before .before .common-length .result) (c .before .before .before .common-length .ensures .0) in omega arith
-
-right-cut-sub-slice-right-4 : (t : ℕ) → right-cut-lts.Need-sub-slice-right-4 (
-  common-length-reads.Asked,
-  common-length-reads.Learnt,
-  slice-right-below t,
-  slice-right.Post,
-) (right-cut-at t) right-cut.Post
-right-cut-sub-slice-right-4 t c = let q = strip-short (c .before .before .before .before .before .before .before .before .before .before .before .before .before .before .before .before .args .wide) (c .before .before .before .before .before .before .before .before .before .before .before .before .before .before .before .before .args .store .now) (c .before .before .before .before .before .before .before .before .cut .given .0 .1 .0) (c .before .before .before .before .before .before .before .before .before .before .before .before .before .before .before .before .args .level) (part (c .before .before .before .before .before .before .before .before .before .before .before .before .before .before .before .before .args .node .now) (c .before .before .before .before .before .before .before .before .cut .given .0 .1 .1 .0)) (part (c .before .before .before .before .before .before .before .before .before .before .before .before .before .before .before .before .args .node .now) (c .before .before .before .before .before .before .before .before .cut .given .0 .1 .1 .1 .0)) (c .before .before .before .before .before .before .before .before .before .before .before .before .before .before .before .before .args .k .now) (c .before .before .before .before .before .before .before .before .before .before .before .before .before .before .before .before .args .at) (c .before .before .before .before .before .before .before .before .before .before .before .before .before .before .before .before .args .free .now) (inner-asks (c .before .before .before .before .before .before .before .before .before .before .before .before .before .before .before .before .args .wide) (c .before .before .before .before .before .before .before .before .before .before .before .before .before .before .before .before .args .store .now) (c .before .before .before .before .before .before .before .before .before .before .before .before .before .before .before .before .args .node .now) (c .before .before .before .before .before .before .before .before .before .before .before .before .before .before .before .before .args .hi .now) (c .before .before .before .before .before .before .before .before .before .before .before .before .before .before .before .before .args .k .now) (c .before .before .before .before .before .before .before .before .before .before .before .before .before .before .before .before .args .level) (c .before .before .before .before .before .before .before .before .before .before .before .before .before .before .before .before .args .at) (c .before .before .before .before .before .before .before .before .before .before .before .before .before .before .before .before .args .free .now) (c .before .before .before .before .before .before .before .before .before .before .before .before .before .before .before .before .args .cut) _ _ _ _ (c .before .before .before .before .before .before .before .before .cut .given .1) (c .before .before .before .before .before .before .before .before .before .before .before .before .before .before .before .before .pre .1 .1)) (c .before .before .before .before .common-length .result) (c .before .before .before .before .common-length .ensures .0) in omega arith
-
-right-cut-part-slice-right-start-4 : (t : ℕ) → right-cut-lts.Need-part-slice-right-start-4 (
-  common-length-reads.Asked,
-  common-length-reads.Learnt,
-  slice-right-below t,
-  slice-right.Post,
-) (right-cut-at t) right-cut.Post
-right-cut-part-slice-right-start-4 t c = let q = strip-short (c .before .before .before .before .before .before .before .before .before .before .before .before .before .before .before .before .args .wide) (c .before .before .before .before .before .before .before .before .before .before .before .before .before .before .before .before .args .store .now) (c .before .before .before .before .before .before .before .before .cut .given .0 .1 .0) (c .before .before .before .before .before .before .before .before .before .before .before .before .before .before .before .before .args .level) (part (c .before .before .before .before .before .before .before .before .before .before .before .before .before .before .before .before .args .node .now) (c .before .before .before .before .before .before .before .before .cut .given .0 .1 .1 .0)) (part (c .before .before .before .before .before .before .before .before .before .before .before .before .before .before .before .before .args .node .now) (c .before .before .before .before .before .before .before .before .cut .given .0 .1 .1 .1 .0)) (c .before .before .before .before .before .before .before .before .before .before .before .before .before .before .before .before .args .k .now) (c .before .before .before .before .before .before .before .before .before .before .before .before .before .before .before .before .args .at) (c .before .before .before .before .before .before .before .before .before .before .before .before .before .before .before .before .args .free .now) (inner-asks (c .before .before .before .before .before .before .before .before .before .before .before .before .before .before .before .before .args .wide) (c .before .before .before .before .before .before .before .before .before .before .before .before .before .before .before .before .args .store .now) (c .before .before .before .before .before .before .before .before .before .before .before .before .before .before .before .before .args .node .now) (c .before .before .before .before .before .before .before .before .before .before .before .before .before .before .before .before .args .hi .now) (c .before .before .before .before .before .before .before .before .before .before .before .before .before .before .before .before .args .k .now) (c .before .before .before .before .before .before .before .before .before .before .before .before .before .before .before .before .args .level) (c .before .before .before .before .before .before .before .before .before .before .before .before .before .before .before .before .args .at) (c .before .before .before .before .before .before .before .before .before .before .before .before .before .before .before .before .args .free .now) (c .before .before .before .before .before .before .before .before .before .before .before .before .before .before .before .before .args .cut) _ _ _ _ (c .before .before .before .before .before .before .before .before .cut .given .1) (c .before .before .before .before .before .before .before .before .before .before .before .before .before .before .before .before .pre .1 .1)) (c .before .before .before .before .common-length .result) (c .before .before .before .before .common-length .ensures .0) in omega arith
-
-right-cut-part-slice-right-end-4 : (t : ℕ) → right-cut-lts.Need-part-slice-right-end-4 (
-  common-length-reads.Asked,
-  common-length-reads.Learnt,
-  slice-right-below t,
-  slice-right.Post,
-) (right-cut-at t) right-cut.Post
-right-cut-part-slice-right-end-4 t c = let q = strip-short (c .before .before .before .before .before .before .before .before .before .before .before .before .before .before .before .before .args .wide) (c .before .before .before .before .before .before .before .before .before .before .before .before .before .before .before .before .args .store .now) (c .before .before .before .before .before .before .before .before .cut .given .0 .1 .0) (c .before .before .before .before .before .before .before .before .before .before .before .before .before .before .before .before .args .level) (part (c .before .before .before .before .before .before .before .before .before .before .before .before .before .before .before .before .args .node .now) (c .before .before .before .before .before .before .before .before .cut .given .0 .1 .1 .0)) (part (c .before .before .before .before .before .before .before .before .before .before .before .before .before .before .before .before .args .node .now) (c .before .before .before .before .before .before .before .before .cut .given .0 .1 .1 .1 .0)) (c .before .before .before .before .before .before .before .before .before .before .before .before .before .before .before .before .args .k .now) (c .before .before .before .before .before .before .before .before .before .before .before .before .before .before .before .before .args .at) (c .before .before .before .before .before .before .before .before .before .before .before .before .before .before .before .before .args .free .now) (inner-asks (c .before .before .before .before .before .before .before .before .before .before .before .before .before .before .before .before .args .wide) (c .before .before .before .before .before .before .before .before .before .before .before .before .before .before .before .before .args .store .now) (c .before .before .before .before .before .before .before .before .before .before .before .before .before .before .before .before .args .node .now) (c .before .before .before .before .before .before .before .before .before .before .before .before .before .before .before .before .args .hi .now) (c .before .before .before .before .before .before .before .before .before .before .before .before .before .before .before .before .args .k .now) (c .before .before .before .before .before .before .before .before .before .before .before .before .before .before .before .before .args .level) (c .before .before .before .before .before .before .before .before .before .before .before .before .before .before .before .before .args .at) (c .before .before .before .before .before .before .before .before .before .before .before .before .before .before .before .before .args .free .now) (c .before .before .before .before .before .before .before .before .before .before .before .before .before .before .before .before .args .cut) _ _ _ _ (c .before .before .before .before .before .before .before .before .cut .given .1) (c .before .before .before .before .before .before .before .before .before .before .before .before .before .before .before .before .pre .1 .1)) (c .before .before .before .before .common-length .result) (c .before .before .before .before .common-length .ensures .0) in omega arith
+right-cut-part-slice-right-end-3 t c = let q = strip-short (c .before .before .before .before .before .before .before .before .before .before .before .before .before .before .before .args .split .wide) (c .before .before .before .before .before .before .before .before .before .before .before .before .before .before .before .args .store .now) (c .before .before .before .before .before .before .before .cut .given .0 .1 .0) (c .before .before .before .before .before .before .before .before .before .before .before .before .before .before .before .args .split .level) (part (c .before .before .before .before .before .before .before .before .before .before .before .before .before .before .before .args .node .now) (c .before .before .before .before .before .before .before .cut .given .0 .1 .1 .0)) (part (c .before .before .before .before .before .before .before .before .before .before .before .before .before .before .before .args .node .now) (c .before .before .before .before .before .before .before .cut .given .0 .1 .1 .1 .0)) (c .before .before .before .before .before .before .before .before .before .before .before .before .before .before .before .args .k .now) (c .before .before .before .before .before .before .before .before .before .before .before .before .before .before .before .args .split .at) (c .before .before .before .before .before .before .before .before .before .before .before .before .before .before .before .args .free .now) (inner-asks (c .before .before .before .before .before .before .before .before .before .before .before .before .before .before .before .args .split .wide) (c .before .before .before .before .before .before .before .before .before .before .before .before .before .before .before .args .store .now) (c .before .before .before .before .before .before .before .before .before .before .before .before .before .before .before .args .node .now) (c .before .before .before .before .before .before .before .before .before .before .before .before .before .before .before .args .hi .now) (c .before .before .before .before .before .before .before .before .before .before .before .before .before .before .before .args .k .now) (c .before .before .before .before .before .before .before .before .before .before .before .before .before .before .before .args .split .level) (c .before .before .before .before .before .before .before .before .before .before .before .before .before .before .before .args .split .at) (c .before .before .before .before .before .before .before .before .before .before .before .before .before .before .before .args .free .now) (c .before .before .before .before .before .before .before .before .before .before .before .before .before .before .before .args .split .cut) _ _ _ _ (c .before .before .before .before .before .before .before .cut .given .1) (c .before .before .before .before .before .before .before .before .before .before .before .before .before .before .before .pre .1 .1)) (c .before .before .before .common-length .result) (c .before .before .before .common-length .ensures .0) in omega arith
 
 right-cut-slice-right-requires : (t : ℕ) → right-cut-lts.Need-slice-right-requires (
   common-length-reads.Asked,
@@ -232,7 +204,7 @@ right-cut-slice-right-requires : (t : ℕ) → right-cut-lts.Need-slice-right-re
   slice-right-below t,
   slice-right.Post,
 ) (right-cut-at t) right-cut.Post
-right-cut-slice-right-requires t c κs = let w = inner-places (c .before .before .before .before .before .before .before .before .before .before .before .before .before .before .before .before .before .before .args .store .now) (c .before .before .before .before .before .before .before .before .before .before .before .before .before .before .before .before .before .before .args .node .now) (c .before .before .before .before .before .before .before .before .before .before .before .before .before .before .before .before .before .before .args .hi .now) (c .before .before .before .before .before .before .before .before .before .before .before .before .before .before .before .before .before .before .args .k .now) (c .before .before .before .before .before .before .before .before .before .before .before .before .before .before .before .before .before .before .args .level) (c .before .before .before .before .before .before .before .before .before .before .before .before .before .before .before .before .before .before .args .at) (c .before .before .before .before .before .before .before .before .before .before .before .before .before .before .before .before .before .before .args .free .now) (c .before .before .before .before .before .before .before .before .before .before .before .before .before .before .before .before .before .before .args .cut) _ _ _ _ (c .before .before .before .before .before .before .before .before .before .before .cut .given .1) (c .before .before .before .before .before .before .before .before .before .before .before .before .before .before .before .before .before .before .pre .1 .0) in let la = cut-length (c .before .before .before .before .before .before .before .before .before .before .before .before .before .before .before .before .before .before .args .node .now) ((c .before .before .before .before .before .before .before .before .before .before .cut .given .0 .1 .1 .0) .start) ((c .before .before .before .before .before .before .before .before .before .before .cut .given .0 .1 .1 .0) .stop) (w .0 .rises) (w .0 .high) in let lb = cut-length (c .before .before .before .before .before .before .before .before .before .before .before .before .before .before .before .before .before .before .args .node .now) ((c .before .before .before .before .before .before .before .before .before .before .cut .given .0 .1 .1 .1 .0) .start) ((c .before .before .before .before .before .before .before .before .before .before .cut .given .0 .1 .1 .1 .0) .stop) (w .1 .rises) (w .1 .high) in let lx = ap length (lift-is (c .before .before .before .before .before .before .before .before .before .before .before .before .before .before .before .before .before .before .args .wide) (c .before .before .before .before .before .before .before .before .before .before .before .before .before .before .before .before .before .before .args .store .now) (c .before .before .before .before .before .before .before .before .before .before .cut .given .0 .1 .0) (c .before .before .before .before .before .before .before .before .before .before .before .before .before .before .before .before .before .before .args .level) (part (c .before .before .before .before .before .before .before .before .before .before .before .before .before .before .before .before .before .before .args .node .now) (c .before .before .before .before .before .before .before .before .before .before .cut .given .0 .1 .1 .0)) (part (c .before .before .before .before .before .before .before .before .before .before .before .before .before .before .before .before .before .before .args .node .now) (c .before .before .before .before .before .before .before .before .before .before .cut .given .0 .1 .1 .1 .0)) (c .before .before .before .before .before .before .before .before .before .before .before .before .before .before .before .before .before .before .args .k .now) (c .before .before .before .before .before .before .before .before .before .before .before .before .before .before .before .before .before .before .args .at) (c .before .before .before .before .before .before .before .before .before .before .before .before .before .before .before .before .before .before .args .free .now) (inner-asks (c .before .before .before .before .before .before .before .before .before .before .before .before .before .before .before .before .before .before .args .wide) (c .before .before .before .before .before .before .before .before .before .before .before .before .before .before .before .before .before .before .args .store .now) (c .before .before .before .before .before .before .before .before .before .before .before .before .before .before .before .before .before .before .args .node .now) (c .before .before .before .before .before .before .before .before .before .before .before .before .before .before .before .before .before .before .args .hi .now) (c .before .before .before .before .before .before .before .before .before .before .before .before .before .before .before .before .before .before .args .k .now) (c .before .before .before .before .before .before .before .before .before .before .before .before .before .before .before .before .before .before .args .level) (c .before .before .before .before .before .before .before .before .before .before .before .before .before .before .before .before .before .before .args .at) (c .before .before .before .before .before .before .before .before .before .before .before .before .before .before .before .before .before .before .args .free .now) (c .before .before .before .before .before .before .before .before .before .before .before .before .before .before .before .before .before .before .args .cut) _ _ _ _ (c .before .before .before .before .before .before .before .before .before .before .cut .given .1) (c .before .before .before .before .before .before .before .before .before .before .before .before .before .before .before .before .before .before .pre .1 .1)) (c .before .before .before .before .before .before .common-length .result) (c .before .before .before .before .before .before .common-length .ensures .0)) in let lk = ap length (part-rest (c .before .before .before .before .before .before .common-length .result) (c .before .before .before .before .before .before .before .before .before .before .before .before .before .before .before .before .before .before .args .k .now)) in let ld = length-drop (c .before .before .before .before .before .before .common-length .result) (c .before .before .before .before .before .before .before .before .before .before .before .before .before .before .before .before .before .before .args .k .now) in let q = strip-short (c .before .before .before .before .before .before .before .before .before .before .before .before .before .before .before .before .before .before .args .wide) (c .before .before .before .before .before .before .before .before .before .before .before .before .before .before .before .before .before .before .args .store .now) (c .before .before .before .before .before .before .before .before .before .before .cut .given .0 .1 .0) (c .before .before .before .before .before .before .before .before .before .before .before .before .before .before .before .before .before .before .args .level) (part (c .before .before .before .before .before .before .before .before .before .before .before .before .before .before .before .before .before .before .args .node .now) (c .before .before .before .before .before .before .before .before .before .before .cut .given .0 .1 .1 .0)) (part (c .before .before .before .before .before .before .before .before .before .before .before .before .before .before .before .before .before .before .args .node .now) (c .before .before .before .before .before .before .before .before .before .before .cut .given .0 .1 .1 .1 .0)) (c .before .before .before .before .before .before .before .before .before .before .before .before .before .before .before .before .before .before .args .k .now) (c .before .before .before .before .before .before .before .before .before .before .before .before .before .before .before .before .before .before .args .at) (c .before .before .before .before .before .before .before .before .before .before .before .before .before .before .before .before .before .before .args .free .now) (inner-asks (c .before .before .before .before .before .before .before .before .before .before .before .before .before .before .before .before .before .before .args .wide) (c .before .before .before .before .before .before .before .before .before .before .before .before .before .before .before .before .before .before .args .store .now) (c .before .before .before .before .before .before .before .before .before .before .before .before .before .before .before .before .before .before .args .node .now) (c .before .before .before .before .before .before .before .before .before .before .before .before .before .before .before .before .before .before .args .hi .now) (c .before .before .before .before .before .before .before .before .before .before .before .before .before .before .before .before .before .before .args .k .now) (c .before .before .before .before .before .before .before .before .before .before .before .before .before .before .before .before .before .before .args .level) (c .before .before .before .before .before .before .before .before .before .before .before .before .before .before .before .before .before .before .args .at) (c .before .before .before .before .before .before .before .before .before .before .before .before .before .before .before .before .before .before .args .free .now) (c .before .before .before .before .before .before .before .before .before .before .before .before .before .before .before .before .before .before .args .cut) _ _ _ _ (c .before .before .before .before .before .before .before .before .before .before .cut .given .1) (c .before .before .before .before .before .before .before .before .before .before .before .before .before .before .before .before .before .before .pre .1 .1)) (c .before .before .before .before .before .before .common-length .result) (c .before .before .before .before .before .before .common-length .ensures .0) in let o = c .before .before .before .before .before .before .before .before .before .before .before .before .before .before .before .before .before .before .pre .1 .2 in let ej = (c .before .before .before .before .before .before .common-length .ensures .0) in (omega arith, (strip-asks (c .before .before .before .before .before .before .before .before .before .before .before .before .before .before .before .before .before .before .args .wide) (c .before .before .before .before .before .before .before .before .before .before .before .before .before .before .before .before .before .before .args .store .now) (c .before .before .before .before .before .before .before .before .before .before .cut .given .0 .1 .0) (c .before .before .before .before .before .before .before .before .before .before .before .before .before .before .before .before .before .before .args .level) (part (c .before .before .before .before .before .before .before .before .before .before .before .before .before .before .before .before .before .before .args .node .now) (c .before .before .before .before .before .before .before .before .before .before .cut .given .0 .1 .1 .0)) (part (c .before .before .before .before .before .before .before .before .before .before .before .before .before .before .before .before .before .before .args .node .now) (c .before .before .before .before .before .before .before .before .before .before .cut .given .0 .1 .1 .1 .0)) (c .before .before .before .before .before .before .before .before .before .before .before .before .before .before .before .before .before .before .args .k .now) (c .before .before .before .before .before .before .before .before .before .before .before .before .before .before .before .before .before .before .args .at) (c .before .before .before .before .before .before .before .before .before .before .before .before .before .before .before .before .before .before .args .free .now) (inner-asks (c .before .before .before .before .before .before .before .before .before .before .before .before .before .before .before .before .before .before .args .wide) (c .before .before .before .before .before .before .before .before .before .before .before .before .before .before .before .before .before .before .args .store .now) (c .before .before .before .before .before .before .before .before .before .before .before .before .before .before .before .before .before .before .args .node .now) (c .before .before .before .before .before .before .before .before .before .before .before .before .before .before .before .before .before .before .args .hi .now) (c .before .before .before .before .before .before .before .before .before .before .before .before .before .before .before .before .before .before .args .k .now) (c .before .before .before .before .before .before .before .before .before .before .before .before .before .before .before .before .before .before .args .level) (c .before .before .before .before .before .before .before .before .before .before .before .before .before .before .before .before .before .before .args .at) (c .before .before .before .before .before .before .before .before .before .before .before .before .before .before .before .before .before .before .args .free .now) (c .before .before .before .before .before .before .before .before .before .before .before .before .before .before .before .before .before .before .args .cut) _ _ _ _ (c .before .before .before .before .before .before .before .before .before .before .cut .given .1) (c .before .before .before .before .before .before .before .before .before .before .before .before .before .before .before .before .before .before .pre .1 .1)) (c .before .before .before .before .before .before .common-length .result) (c .before .before .before .before .before .before .common-length .ensures .0) _ _ _ (take ((c .before .before .before .before .before .before .common-length .result) - 0) (drop 0 (c .before .before .before .before .before .before .before .before .before .before .before .before .before .before .before .before .before .before .args .k .now))) (sym (cut-drop (c .before .before .before .before .before .before .before .before .before .before .before .before .before .before .before .before .before .before .args .node .now) ((c .before .before .before .before .before .before .before .before .before .before .cut .given .0 .1 .1 .0) .start) ((c .before .before .before .before .before .before .before .before .before .before .cut .given .0 .1 .1 .0) .stop) (c .before .before .before .before .before .before .common-length .result) (omega arith))) (sym (cut-drop (c .before .before .before .before .before .before .before .before .before .before .before .before .before .before .before .before .before .before .args .node .now) ((c .before .before .before .before .before .before .before .before .before .before .cut .given .0 .1 .1 .1 .0) .start) ((c .before .before .before .before .before .before .before .before .before .before .cut .given .0 .1 .1 .1 .0) .stop) (c .before .before .before .before .before .before .common-length .result) (omega arith))) (part-rest (c .before .before .before .before .before .before .common-length .result) (c .before .before .before .before .before .before .before .before .before .before .before .before .before .before .before .before .before .before .args .k .now)) refl, strip-bare (c .before .before .before .before .before .before .before .before .before .before .before .before .before .before .before .before .before .before .args .wide) (c .before .before .before .before .before .before .before .before .before .before .before .before .before .before .before .before .before .before .args .store .now) (c .before .before .before .before .before .before .before .before .before .before .cut .given .0 .1 .0) (c .before .before .before .before .before .before .before .before .before .before .before .before .before .before .before .before .before .before .args .level) (part (c .before .before .before .before .before .before .before .before .before .before .before .before .before .before .before .before .before .before .args .node .now) (c .before .before .before .before .before .before .before .before .before .before .cut .given .0 .1 .1 .0)) (part (c .before .before .before .before .before .before .before .before .before .before .before .before .before .before .before .before .before .before .args .node .now) (c .before .before .before .before .before .before .before .before .before .before .cut .given .0 .1 .1 .1 .0)) (c .before .before .before .before .before .before .before .before .before .before .before .before .before .before .before .before .before .before .args .k .now) (c .before .before .before .before .before .before .before .before .before .before .before .before .before .before .before .before .before .before .args .at) (c .before .before .before .before .before .before .before .before .before .before .before .before .before .before .before .before .before .before .args .free .now) (inner-asks (c .before .before .before .before .before .before .before .before .before .before .before .before .before .before .before .before .before .before .args .wide) (c .before .before .before .before .before .before .before .before .before .before .before .before .before .before .before .before .before .before .args .store .now) (c .before .before .before .before .before .before .before .before .before .before .before .before .before .before .before .before .before .before .args .node .now) (c .before .before .before .before .before .before .before .before .before .before .before .before .before .before .before .before .before .before .args .hi .now) (c .before .before .before .before .before .before .before .before .before .before .before .before .before .before .before .before .before .before .args .k .now) (c .before .before .before .before .before .before .before .before .before .before .before .before .before .before .before .before .before .before .args .level) (c .before .before .before .before .before .before .before .before .before .before .before .before .before .before .before .before .before .before .args .at) (c .before .before .before .before .before .before .before .before .before .before .before .before .before .before .before .before .before .before .args .free .now) (c .before .before .before .before .before .before .before .before .before .before .before .before .before .before .before .before .before .before .args .cut) _ _ _ _ (c .before .before .before .before .before .before .before .before .before .before .cut .given .1) (c .before .before .before .before .before .before .before .before .before .before .before .before .before .before .before .before .before .before .pre .1 .1)) (c .before .before .before .before .before .before .common-length .result) (c .before .before .before .before .before .before .common-length .ensures .0) _ _ _ (take ((c .before .before .before .before .before .before .common-length .result) - 0) (drop 0 (c .before .before .before .before .before .before .before .before .before .before .before .before .before .before .before .before .before .before .args .k .now))) (sym (cut-drop (c .before .before .before .before .before .before .before .before .before .before .before .before .before .before .before .before .before .before .args .node .now) ((c .before .before .before .before .before .before .before .before .before .before .cut .given .0 .1 .1 .0) .start) ((c .before .before .before .before .before .before .before .before .before .before .cut .given .0 .1 .1 .0) .stop) (c .before .before .before .before .before .before .common-length .result) (omega arith))) (sym (cut-drop (c .before .before .before .before .before .before .before .before .before .before .before .before .before .before .before .before .before .before .args .node .now) ((c .before .before .before .before .before .before .before .before .before .before .cut .given .0 .1 .1 .1 .0) .start) ((c .before .before .before .before .before .before .before .before .before .before .cut .given .0 .1 .1 .1 .0) .stop) (c .before .before .before .before .before .before .common-length .result) (omega arith))) (part-rest (c .before .before .before .before .before .before .common-length .result) (c .before .before .before .before .before .before .before .before .before .before .before .before .before .before .before .before .before .before .args .k .now)) refl, omega arith, omega arith))
+right-cut-slice-right-requires t c κs = let w = inner-places (c .before .before .before .before .before .before .before .before .before .before .before .before .before .before .before .before .before .args .store .now) (c .before .before .before .before .before .before .before .before .before .before .before .before .before .before .before .before .before .args .node .now) (c .before .before .before .before .before .before .before .before .before .before .before .before .before .before .before .before .before .args .hi .now) (c .before .before .before .before .before .before .before .before .before .before .before .before .before .before .before .before .before .args .k .now) (c .before .before .before .before .before .before .before .before .before .before .before .before .before .before .before .before .before .args .split .level) (c .before .before .before .before .before .before .before .before .before .before .before .before .before .before .before .before .before .args .split .at) (c .before .before .before .before .before .before .before .before .before .before .before .before .before .before .before .before .before .args .free .now) (c .before .before .before .before .before .before .before .before .before .before .before .before .before .before .before .before .before .args .split .cut) _ _ _ _ (c .before .before .before .before .before .before .before .before .before .cut .given .1) (c .before .before .before .before .before .before .before .before .before .before .before .before .before .before .before .before .before .pre .1 .0) in let la = cut-length (c .before .before .before .before .before .before .before .before .before .before .before .before .before .before .before .before .before .args .node .now) ((c .before .before .before .before .before .before .before .before .before .cut .given .0 .1 .1 .0) .start) ((c .before .before .before .before .before .before .before .before .before .cut .given .0 .1 .1 .0) .stop) (w .0 .rises) (w .0 .high) in let lb = cut-length (c .before .before .before .before .before .before .before .before .before .before .before .before .before .before .before .before .before .args .node .now) ((c .before .before .before .before .before .before .before .before .before .cut .given .0 .1 .1 .1 .0) .start) ((c .before .before .before .before .before .before .before .before .before .cut .given .0 .1 .1 .1 .0) .stop) (w .1 .rises) (w .1 .high) in let lx = ap length (lift-is (c .before .before .before .before .before .before .before .before .before .before .before .before .before .before .before .before .before .args .split .wide) (c .before .before .before .before .before .before .before .before .before .before .before .before .before .before .before .before .before .args .store .now) (c .before .before .before .before .before .before .before .before .before .cut .given .0 .1 .0) (c .before .before .before .before .before .before .before .before .before .before .before .before .before .before .before .before .before .args .split .level) (part (c .before .before .before .before .before .before .before .before .before .before .before .before .before .before .before .before .before .args .node .now) (c .before .before .before .before .before .before .before .before .before .cut .given .0 .1 .1 .0)) (part (c .before .before .before .before .before .before .before .before .before .before .before .before .before .before .before .before .before .args .node .now) (c .before .before .before .before .before .before .before .before .before .cut .given .0 .1 .1 .1 .0)) (c .before .before .before .before .before .before .before .before .before .before .before .before .before .before .before .before .before .args .k .now) (c .before .before .before .before .before .before .before .before .before .before .before .before .before .before .before .before .before .args .split .at) (c .before .before .before .before .before .before .before .before .before .before .before .before .before .before .before .before .before .args .free .now) (inner-asks (c .before .before .before .before .before .before .before .before .before .before .before .before .before .before .before .before .before .args .split .wide) (c .before .before .before .before .before .before .before .before .before .before .before .before .before .before .before .before .before .args .store .now) (c .before .before .before .before .before .before .before .before .before .before .before .before .before .before .before .before .before .args .node .now) (c .before .before .before .before .before .before .before .before .before .before .before .before .before .before .before .before .before .args .hi .now) (c .before .before .before .before .before .before .before .before .before .before .before .before .before .before .before .before .before .args .k .now) (c .before .before .before .before .before .before .before .before .before .before .before .before .before .before .before .before .before .args .split .level) (c .before .before .before .before .before .before .before .before .before .before .before .before .before .before .before .before .before .args .split .at) (c .before .before .before .before .before .before .before .before .before .before .before .before .before .before .before .before .before .args .free .now) (c .before .before .before .before .before .before .before .before .before .before .before .before .before .before .before .before .before .args .split .cut) _ _ _ _ (c .before .before .before .before .before .before .before .before .before .cut .given .1) (c .before .before .before .before .before .before .before .before .before .before .before .before .before .before .before .before .before .pre .1 .1)) (c .before .before .before .before .before .common-length .result) (c .before .before .before .before .before .common-length .ensures .0)) in let lk = ap length (part-rest (c .before .before .before .before .before .common-length .result) (c .before .before .before .before .before .before .before .before .before .before .before .before .before .before .before .before .before .args .k .now)) in let ld = length-drop (c .before .before .before .before .before .common-length .result) (c .before .before .before .before .before .before .before .before .before .before .before .before .before .before .before .before .before .args .k .now) in let q = strip-short (c .before .before .before .before .before .before .before .before .before .before .before .before .before .before .before .before .before .args .split .wide) (c .before .before .before .before .before .before .before .before .before .before .before .before .before .before .before .before .before .args .store .now) (c .before .before .before .before .before .before .before .before .before .cut .given .0 .1 .0) (c .before .before .before .before .before .before .before .before .before .before .before .before .before .before .before .before .before .args .split .level) (part (c .before .before .before .before .before .before .before .before .before .before .before .before .before .before .before .before .before .args .node .now) (c .before .before .before .before .before .before .before .before .before .cut .given .0 .1 .1 .0)) (part (c .before .before .before .before .before .before .before .before .before .before .before .before .before .before .before .before .before .args .node .now) (c .before .before .before .before .before .before .before .before .before .cut .given .0 .1 .1 .1 .0)) (c .before .before .before .before .before .before .before .before .before .before .before .before .before .before .before .before .before .args .k .now) (c .before .before .before .before .before .before .before .before .before .before .before .before .before .before .before .before .before .args .split .at) (c .before .before .before .before .before .before .before .before .before .before .before .before .before .before .before .before .before .args .free .now) (inner-asks (c .before .before .before .before .before .before .before .before .before .before .before .before .before .before .before .before .before .args .split .wide) (c .before .before .before .before .before .before .before .before .before .before .before .before .before .before .before .before .before .args .store .now) (c .before .before .before .before .before .before .before .before .before .before .before .before .before .before .before .before .before .args .node .now) (c .before .before .before .before .before .before .before .before .before .before .before .before .before .before .before .before .before .args .hi .now) (c .before .before .before .before .before .before .before .before .before .before .before .before .before .before .before .before .before .args .k .now) (c .before .before .before .before .before .before .before .before .before .before .before .before .before .before .before .before .before .args .split .level) (c .before .before .before .before .before .before .before .before .before .before .before .before .before .before .before .before .before .args .split .at) (c .before .before .before .before .before .before .before .before .before .before .before .before .before .before .before .before .before .args .free .now) (c .before .before .before .before .before .before .before .before .before .before .before .before .before .before .before .before .before .args .split .cut) _ _ _ _ (c .before .before .before .before .before .before .before .before .before .cut .given .1) (c .before .before .before .before .before .before .before .before .before .before .before .before .before .before .before .before .before .pre .1 .1)) (c .before .before .before .before .before .common-length .result) (c .before .before .before .before .before .common-length .ensures .0) in let o = c .before .before .before .before .before .before .before .before .before .before .before .before .before .before .before .before .before .pre .1 .2 in let ej = (c .before .before .before .before .before .common-length .ensures .0) in (omega arith, (strip-asks (c .before .before .before .before .before .before .before .before .before .before .before .before .before .before .before .before .before .args .split .wide) (c .before .before .before .before .before .before .before .before .before .before .before .before .before .before .before .before .before .args .store .now) (c .before .before .before .before .before .before .before .before .before .cut .given .0 .1 .0) (c .before .before .before .before .before .before .before .before .before .before .before .before .before .before .before .before .before .args .split .level) (part (c .before .before .before .before .before .before .before .before .before .before .before .before .before .before .before .before .before .args .node .now) (c .before .before .before .before .before .before .before .before .before .cut .given .0 .1 .1 .0)) (part (c .before .before .before .before .before .before .before .before .before .before .before .before .before .before .before .before .before .args .node .now) (c .before .before .before .before .before .before .before .before .before .cut .given .0 .1 .1 .1 .0)) (c .before .before .before .before .before .before .before .before .before .before .before .before .before .before .before .before .before .args .k .now) (c .before .before .before .before .before .before .before .before .before .before .before .before .before .before .before .before .before .args .split .at) (c .before .before .before .before .before .before .before .before .before .before .before .before .before .before .before .before .before .args .free .now) (inner-asks (c .before .before .before .before .before .before .before .before .before .before .before .before .before .before .before .before .before .args .split .wide) (c .before .before .before .before .before .before .before .before .before .before .before .before .before .before .before .before .before .args .store .now) (c .before .before .before .before .before .before .before .before .before .before .before .before .before .before .before .before .before .args .node .now) (c .before .before .before .before .before .before .before .before .before .before .before .before .before .before .before .before .before .args .hi .now) (c .before .before .before .before .before .before .before .before .before .before .before .before .before .before .before .before .before .args .k .now) (c .before .before .before .before .before .before .before .before .before .before .before .before .before .before .before .before .before .args .split .level) (c .before .before .before .before .before .before .before .before .before .before .before .before .before .before .before .before .before .args .split .at) (c .before .before .before .before .before .before .before .before .before .before .before .before .before .before .before .before .before .args .free .now) (c .before .before .before .before .before .before .before .before .before .before .before .before .before .before .before .before .before .args .split .cut) _ _ _ _ (c .before .before .before .before .before .before .before .before .before .cut .given .1) (c .before .before .before .before .before .before .before .before .before .before .before .before .before .before .before .before .before .pre .1 .1)) (c .before .before .before .before .before .common-length .result) (c .before .before .before .before .before .common-length .ensures .0) _ _ (take ((c .before .before .before .before .before .common-length .result) - 0) (drop 0 (c .before .before .before .before .before .before .before .before .before .before .before .before .before .before .before .before .before .args .k .now))) (sym (cut-drop (c .before .before .before .before .before .before .before .before .before .before .before .before .before .before .before .before .before .args .node .now) ((c .before .before .before .before .before .before .before .before .before .cut .given .0 .1 .1 .1 .0) .start) ((c .before .before .before .before .before .before .before .before .before .cut .given .0 .1 .1 .1 .0) .stop) (c .before .before .before .before .before .common-length .result) (omega arith))) (part-rest (c .before .before .before .before .before .common-length .result) (c .before .before .before .before .before .before .before .before .before .before .before .before .before .before .before .before .before .args .k .now)) refl, omega arith, omega arith))
 
 right-cut-enum-known-cut-2 : (t : ℕ) → right-cut-lts.Need-enum-known-cut-2 (
   common-length-reads.Asked,
@@ -248,7 +220,7 @@ right-cut-sub-common-length-3 : (t : ℕ) → right-cut-lts.Need-sub-common-leng
   slice-right-below t,
   slice-right.Post,
 ) (right-cut-at t) right-cut.Post
-right-cut-sub-common-length-3 t c = let w = last-places (c .before .before .before .before .before .before .before .before .before .args .store .now) (c .before .before .before .before .before .before .before .before .before .args .node .now) (c .before .before .before .before .before .before .before .before .before .args .hi .now) (c .before .before .before .before .before .before .before .before .before .args .k .now) (c .before .before .before .before .before .before .before .before .before .args .level) (c .before .before .before .before .before .before .before .before .before .args .at) (c .before .before .before .before .before .before .before .before .before .args .free .now) (c .before .before .before .before .before .before .before .before .before .args .cut) _ _ _ (c .before .cut2 .given .1) (c .before .before .before .before .before .before .before .before .before .pre .1 .0) in let la = cut-length (c .before .before .before .before .before .before .before .before .before .args .node .now) ((c .before .cut2 .given .0 .1 .1 .0) .start) ((c .before .cut2 .given .0 .1 .1 .0) .stop) (w .rises) (w .high) in omega arith
+right-cut-sub-common-length-3 t c = let w = last-places (c .before .before .before .before .before .before .before .before .before .args .store .now) (c .before .before .before .before .before .before .before .before .before .args .node .now) (c .before .before .before .before .before .before .before .before .before .args .hi .now) (c .before .before .before .before .before .before .before .before .before .args .k .now) (c .before .before .before .before .before .before .before .before .before .args .split .level) (c .before .before .before .before .before .before .before .before .before .args .split .at) (c .before .before .before .before .before .before .before .before .before .args .free .now) (c .before .before .before .before .before .before .before .before .before .args .split .cut) _ _ _ (c .before .cut2 .given .1) (c .before .before .before .before .before .before .before .before .before .pre .1 .0) in let la = cut-length (c .before .before .before .before .before .before .before .before .before .args .node .now) ((c .before .cut2 .given .0 .1 .1 .0) .start) ((c .before .cut2 .given .0 .1 .1 .0) .stop) (w .rises) (w .high) in omega arith
 
 right-cut-part-common-length-start-3 : (t : ℕ) → right-cut-lts.Need-part-common-length-start-3 (
   common-length-reads.Asked,
@@ -256,7 +228,7 @@ right-cut-part-common-length-start-3 : (t : ℕ) → right-cut-lts.Need-part-com
   slice-right-below t,
   slice-right.Post,
 ) (right-cut-at t) right-cut.Post
-right-cut-part-common-length-start-3 t c = let w = last-places (c .before .before .before .before .before .before .before .before .before .args .store .now) (c .before .before .before .before .before .before .before .before .before .args .node .now) (c .before .before .before .before .before .before .before .before .before .args .hi .now) (c .before .before .before .before .before .before .before .before .before .args .k .now) (c .before .before .before .before .before .before .before .before .before .args .level) (c .before .before .before .before .before .before .before .before .before .args .at) (c .before .before .before .before .before .before .before .before .before .args .free .now) (c .before .before .before .before .before .before .before .before .before .args .cut) _ _ _ (c .before .cut2 .given .1) (c .before .before .before .before .before .before .before .before .before .pre .1 .0) in let la = cut-length (c .before .before .before .before .before .before .before .before .before .args .node .now) ((c .before .cut2 .given .0 .1 .1 .0) .start) ((c .before .cut2 .given .0 .1 .1 .0) .stop) (w .rises) (w .high) in omega arith
+right-cut-part-common-length-start-3 t c = let w = last-places (c .before .before .before .before .before .before .before .before .before .args .store .now) (c .before .before .before .before .before .before .before .before .before .args .node .now) (c .before .before .before .before .before .before .before .before .before .args .hi .now) (c .before .before .before .before .before .before .before .before .before .args .k .now) (c .before .before .before .before .before .before .before .before .before .args .split .level) (c .before .before .before .before .before .before .before .before .before .args .split .at) (c .before .before .before .before .before .before .before .before .before .args .free .now) (c .before .before .before .before .before .before .before .before .before .args .split .cut) _ _ _ (c .before .cut2 .given .1) (c .before .before .before .before .before .before .before .before .before .pre .1 .0) in let la = cut-length (c .before .before .before .before .before .before .before .before .before .args .node .now) ((c .before .cut2 .given .0 .1 .1 .0) .start) ((c .before .cut2 .given .0 .1 .1 .0) .stop) (w .rises) (w .high) in omega arith
 
 right-cut-part-common-length-end-3 : (t : ℕ) → right-cut-lts.Need-part-common-length-end-3 (
   common-length-reads.Asked,
@@ -264,7 +236,7 @@ right-cut-part-common-length-end-3 : (t : ℕ) → right-cut-lts.Need-part-commo
   slice-right-below t,
   slice-right.Post,
 ) (right-cut-at t) right-cut.Post
-right-cut-part-common-length-end-3 t c = let w = last-places (c .before .before .before .before .before .before .before .before .before .args .store .now) (c .before .before .before .before .before .before .before .before .before .args .node .now) (c .before .before .before .before .before .before .before .before .before .args .hi .now) (c .before .before .before .before .before .before .before .before .before .args .k .now) (c .before .before .before .before .before .before .before .before .before .args .level) (c .before .before .before .before .before .before .before .before .before .args .at) (c .before .before .before .before .before .before .before .before .before .args .free .now) (c .before .before .before .before .before .before .before .before .before .args .cut) _ _ _ (c .before .cut2 .given .1) (c .before .before .before .before .before .before .before .before .before .pre .1 .0) in let la = cut-length (c .before .before .before .before .before .before .before .before .before .args .node .now) ((c .before .cut2 .given .0 .1 .1 .0) .start) ((c .before .cut2 .given .0 .1 .1 .0) .stop) (w .rises) (w .high) in omega arith
+right-cut-part-common-length-end-3 t c = let w = last-places (c .before .before .before .before .before .before .before .before .before .args .store .now) (c .before .before .before .before .before .before .before .before .before .args .node .now) (c .before .before .before .before .before .before .before .before .before .args .hi .now) (c .before .before .before .before .before .before .before .before .before .args .k .now) (c .before .before .before .before .before .before .before .before .before .args .split .level) (c .before .before .before .before .before .before .before .before .before .args .split .at) (c .before .before .before .before .before .before .before .before .before .args .free .now) (c .before .before .before .before .before .before .before .before .before .args .split .cut) _ _ _ (c .before .cut2 .given .1) (c .before .before .before .before .before .before .before .before .before .pre .1 .0) in let la = cut-length (c .before .before .before .before .before .before .before .before .before .args .node .now) ((c .before .cut2 .given .0 .1 .1 .0) .start) ((c .before .cut2 .given .0 .1 .1 .0) .stop) (w .rises) (w .high) in omega arith
 
 right-cut-common-length-requires-2 : (t : ℕ) → right-cut-lts.Need-common-length-requires-2 (
   common-length-reads.Asked,
@@ -274,13 +246,29 @@ right-cut-common-length-requires-2 : (t : ℕ) → right-cut-lts.Need-common-len
 ) (right-cut-at t) right-cut.Post
 right-cut-common-length-requires-2 t c κs = search needs
 
-right-cut-add-f-2 : (t : ℕ) → right-cut-lts.Need-add-f-2 (
+right-cut-sub-slice-right-4 : (t : ℕ) → right-cut-lts.Need-sub-slice-right-4 (
   common-length-reads.Asked,
   common-length-reads.Learnt,
   slice-right-below t,
   slice-right.Post,
 ) (right-cut-at t) right-cut.Post
-right-cut-add-f-2 t c = let w = last-places (c .before .before .before .before .before .before .before .before .before .before .before .args .store .now) (c .before .before .before .before .before .before .before .before .before .before .before .args .node .now) (c .before .before .before .before .before .before .before .before .before .before .before .args .hi .now) (c .before .before .before .before .before .before .before .before .before .before .before .args .k .now) (c .before .before .before .before .before .before .before .before .before .before .before .args .level) (c .before .before .before .before .before .before .before .before .before .before .before .args .at) (c .before .before .before .before .before .before .before .before .before .before .before .args .free .now) (c .before .before .before .before .before .before .before .before .before .before .before .args .cut) _ _ _ (c .before .before .before .cut2 .given .1) (c .before .before .before .before .before .before .before .before .before .before .before .pre .1 .0) in let la = cut-length (c .before .before .before .before .before .before .before .before .before .before .before .args .node .now) ((c .before .before .before .cut2 .given .0 .1 .1 .0) .start) ((c .before .before .before .cut2 .given .0 .1 .1 .0) .stop) (w .rises) (w .high) in omega arith
+right-cut-sub-slice-right-4 t c = let q = strip-short (c .before .before .before .before .before .before .before .before .before .before .before .before .args .split .wide) (c .before .before .before .before .before .before .before .before .before .before .before .before .args .store .now) (c .before .before .before .before .cut2 .given .0 .1 .0) (c .before .before .before .before .before .before .before .before .before .before .before .before .args .split .level) (part (c .before .before .before .before .before .before .before .before .before .before .before .before .args .node .now) (c .before .before .before .before .cut2 .given .0 .1 .1 .0)) (c .before .before .before .before .before .before .before .before .before .before .before .before .args .hi .now) (c .before .before .before .before .before .before .before .before .before .before .before .before .args .k .now) (c .before .before .before .before .before .before .before .before .before .before .before .before .args .split .at) (c .before .before .before .before .before .before .before .before .before .before .before .before .args .free .now) (last-asks (c .before .before .before .before .before .before .before .before .before .before .before .before .args .split .wide) (c .before .before .before .before .before .before .before .before .before .before .before .before .args .store .now) (c .before .before .before .before .before .before .before .before .before .before .before .before .args .node .now) (c .before .before .before .before .before .before .before .before .before .before .before .before .args .hi .now) (c .before .before .before .before .before .before .before .before .before .before .before .before .args .k .now) (c .before .before .before .before .before .before .before .before .before .before .before .before .args .split .level) (c .before .before .before .before .before .before .before .before .before .before .before .before .args .split .at) (c .before .before .before .before .before .before .before .before .before .before .before .before .args .free .now) (c .before .before .before .before .before .before .before .before .before .before .before .before .args .split .cut) _ _ _ (c .before .before .before .before .cut2 .given .1) (c .before .before .before .before .before .before .before .before .before .before .before .before .pre .1 .1)) (c .before .common-length2 .result) (c .before .common-length2 .ensures .0) in let r = strip-high (c .before .before .before .before .before .before .before .before .before .before .before .before .args .split .wide) (c .before .before .before .before .before .before .before .before .before .before .before .before .args .store .now) (c .before .before .before .before .cut2 .given .0 .1 .0) (c .before .before .before .before .before .before .before .before .before .before .before .before .args .split .level) (part (c .before .before .before .before .before .before .before .before .before .before .before .before .args .node .now) (c .before .before .before .before .cut2 .given .0 .1 .1 .0)) (c .before .before .before .before .before .before .before .before .before .before .before .before .args .hi .now) (c .before .before .before .before .before .before .before .before .before .before .before .before .args .k .now) (c .before .before .before .before .before .before .before .before .before .before .before .before .args .split .at) (c .before .before .before .before .before .before .before .before .before .before .before .before .args .free .now) (last-asks (c .before .before .before .before .before .before .before .before .before .before .before .before .args .split .wide) (c .before .before .before .before .before .before .before .before .before .before .before .before .args .store .now) (c .before .before .before .before .before .before .before .before .before .before .before .before .args .node .now) (c .before .before .before .before .before .before .before .before .before .before .before .before .args .hi .now) (c .before .before .before .before .before .before .before .before .before .before .before .before .args .k .now) (c .before .before .before .before .before .before .before .before .before .before .before .before .args .split .level) (c .before .before .before .before .before .before .before .before .before .before .before .before .args .split .at) (c .before .before .before .before .before .before .before .before .before .before .before .before .args .free .now) (c .before .before .before .before .before .before .before .before .before .before .before .before .args .split .cut) _ _ _ (c .before .before .before .before .cut2 .given .1) (c .before .before .before .before .before .before .before .before .before .before .before .before .pre .1 .1)) (c .before .common-length2 .result) (c .before .common-length2 .ensures .0) in omega arith
+
+right-cut-part-slice-right-start-4 : (t : ℕ) → right-cut-lts.Need-part-slice-right-start-4 (
+  common-length-reads.Asked,
+  common-length-reads.Learnt,
+  slice-right-below t,
+  slice-right.Post,
+) (right-cut-at t) right-cut.Post
+right-cut-part-slice-right-start-4 t c = let q = strip-short (c .before .before .before .before .before .before .before .before .before .before .before .before .args .split .wide) (c .before .before .before .before .before .before .before .before .before .before .before .before .args .store .now) (c .before .before .before .before .cut2 .given .0 .1 .0) (c .before .before .before .before .before .before .before .before .before .before .before .before .args .split .level) (part (c .before .before .before .before .before .before .before .before .before .before .before .before .args .node .now) (c .before .before .before .before .cut2 .given .0 .1 .1 .0)) (c .before .before .before .before .before .before .before .before .before .before .before .before .args .hi .now) (c .before .before .before .before .before .before .before .before .before .before .before .before .args .k .now) (c .before .before .before .before .before .before .before .before .before .before .before .before .args .split .at) (c .before .before .before .before .before .before .before .before .before .before .before .before .args .free .now) (last-asks (c .before .before .before .before .before .before .before .before .before .before .before .before .args .split .wide) (c .before .before .before .before .before .before .before .before .before .before .before .before .args .store .now) (c .before .before .before .before .before .before .before .before .before .before .before .before .args .node .now) (c .before .before .before .before .before .before .before .before .before .before .before .before .args .hi .now) (c .before .before .before .before .before .before .before .before .before .before .before .before .args .k .now) (c .before .before .before .before .before .before .before .before .before .before .before .before .args .split .level) (c .before .before .before .before .before .before .before .before .before .before .before .before .args .split .at) (c .before .before .before .before .before .before .before .before .before .before .before .before .args .free .now) (c .before .before .before .before .before .before .before .before .before .before .before .before .args .split .cut) _ _ _ (c .before .before .before .before .cut2 .given .1) (c .before .before .before .before .before .before .before .before .before .before .before .before .pre .1 .1)) (c .before .common-length2 .result) (c .before .common-length2 .ensures .0) in let r = strip-high (c .before .before .before .before .before .before .before .before .before .before .before .before .args .split .wide) (c .before .before .before .before .before .before .before .before .before .before .before .before .args .store .now) (c .before .before .before .before .cut2 .given .0 .1 .0) (c .before .before .before .before .before .before .before .before .before .before .before .before .args .split .level) (part (c .before .before .before .before .before .before .before .before .before .before .before .before .args .node .now) (c .before .before .before .before .cut2 .given .0 .1 .1 .0)) (c .before .before .before .before .before .before .before .before .before .before .before .before .args .hi .now) (c .before .before .before .before .before .before .before .before .before .before .before .before .args .k .now) (c .before .before .before .before .before .before .before .before .before .before .before .before .args .split .at) (c .before .before .before .before .before .before .before .before .before .before .before .before .args .free .now) (last-asks (c .before .before .before .before .before .before .before .before .before .before .before .before .args .split .wide) (c .before .before .before .before .before .before .before .before .before .before .before .before .args .store .now) (c .before .before .before .before .before .before .before .before .before .before .before .before .args .node .now) (c .before .before .before .before .before .before .before .before .before .before .before .before .args .hi .now) (c .before .before .before .before .before .before .before .before .before .before .before .before .args .k .now) (c .before .before .before .before .before .before .before .before .before .before .before .before .args .split .level) (c .before .before .before .before .before .before .before .before .before .before .before .before .args .split .at) (c .before .before .before .before .before .before .before .before .before .before .before .before .args .free .now) (c .before .before .before .before .before .before .before .before .before .before .before .before .args .split .cut) _ _ _ (c .before .before .before .before .cut2 .given .1) (c .before .before .before .before .before .before .before .before .before .before .before .before .pre .1 .1)) (c .before .common-length2 .result) (c .before .common-length2 .ensures .0) in omega arith
+
+right-cut-part-slice-right-end-4 : (t : ℕ) → right-cut-lts.Need-part-slice-right-end-4 (
+  common-length-reads.Asked,
+  common-length-reads.Learnt,
+  slice-right-below t,
+  slice-right.Post,
+) (right-cut-at t) right-cut.Post
+right-cut-part-slice-right-end-4 t c = let q = strip-short (c .before .before .before .before .before .before .before .before .before .before .before .before .args .split .wide) (c .before .before .before .before .before .before .before .before .before .before .before .before .args .store .now) (c .before .before .before .before .cut2 .given .0 .1 .0) (c .before .before .before .before .before .before .before .before .before .before .before .before .args .split .level) (part (c .before .before .before .before .before .before .before .before .before .before .before .before .args .node .now) (c .before .before .before .before .cut2 .given .0 .1 .1 .0)) (c .before .before .before .before .before .before .before .before .before .before .before .before .args .hi .now) (c .before .before .before .before .before .before .before .before .before .before .before .before .args .k .now) (c .before .before .before .before .before .before .before .before .before .before .before .before .args .split .at) (c .before .before .before .before .before .before .before .before .before .before .before .before .args .free .now) (last-asks (c .before .before .before .before .before .before .before .before .before .before .before .before .args .split .wide) (c .before .before .before .before .before .before .before .before .before .before .before .before .args .store .now) (c .before .before .before .before .before .before .before .before .before .before .before .before .args .node .now) (c .before .before .before .before .before .before .before .before .before .before .before .before .args .hi .now) (c .before .before .before .before .before .before .before .before .before .before .before .before .args .k .now) (c .before .before .before .before .before .before .before .before .before .before .before .before .args .split .level) (c .before .before .before .before .before .before .before .before .before .before .before .before .args .split .at) (c .before .before .before .before .before .before .before .before .before .before .before .before .args .free .now) (c .before .before .before .before .before .before .before .before .before .before .before .before .args .split .cut) _ _ _ (c .before .before .before .before .cut2 .given .1) (c .before .before .before .before .before .before .before .before .before .before .before .before .pre .1 .1)) (c .before .common-length2 .result) (c .before .common-length2 .ensures .0) in let r = strip-high (c .before .before .before .before .before .before .before .before .before .before .before .before .args .split .wide) (c .before .before .before .before .before .before .before .before .before .before .before .before .args .store .now) (c .before .before .before .before .cut2 .given .0 .1 .0) (c .before .before .before .before .before .before .before .before .before .before .before .before .args .split .level) (part (c .before .before .before .before .before .before .before .before .before .before .before .before .args .node .now) (c .before .before .before .before .cut2 .given .0 .1 .1 .0)) (c .before .before .before .before .before .before .before .before .before .before .before .before .args .hi .now) (c .before .before .before .before .before .before .before .before .before .before .before .before .args .k .now) (c .before .before .before .before .before .before .before .before .before .before .before .before .args .split .at) (c .before .before .before .before .before .before .before .before .before .before .before .before .args .free .now) (last-asks (c .before .before .before .before .before .before .before .before .before .before .before .before .args .split .wide) (c .before .before .before .before .before .before .before .before .before .before .before .before .args .store .now) (c .before .before .before .before .before .before .before .before .before .before .before .before .args .node .now) (c .before .before .before .before .before .before .before .before .before .before .before .before .args .hi .now) (c .before .before .before .before .before .before .before .before .before .before .before .before .args .k .now) (c .before .before .before .before .before .before .before .before .before .before .before .before .args .split .level) (c .before .before .before .before .before .before .before .before .before .before .before .before .args .split .at) (c .before .before .before .before .before .before .before .before .before .before .before .before .args .free .now) (c .before .before .before .before .before .before .before .before .before .before .before .before .args .split .cut) _ _ _ (c .before .before .before .before .cut2 .given .1) (c .before .before .before .before .before .before .before .before .before .before .before .before .pre .1 .1)) (c .before .common-length2 .result) (c .before .common-length2 .ensures .0) in omega arith
 
 right-cut-sub-slice-right-5 : (t : ℕ) → right-cut-lts.Need-sub-slice-right-5 (
   common-length-reads.Asked,
@@ -288,7 +276,7 @@ right-cut-sub-slice-right-5 : (t : ℕ) → right-cut-lts.Need-sub-slice-right-5
   slice-right-below t,
   slice-right.Post,
 ) (right-cut-at t) right-cut.Post
-right-cut-sub-slice-right-5 t c = let w = last-places (c .before .before .before .before .before .before .before .before .before .before .before .before .args .store .now) (c .before .before .before .before .before .before .before .before .before .before .before .before .args .node .now) (c .before .before .before .before .before .before .before .before .before .before .before .before .args .hi .now) (c .before .before .before .before .before .before .before .before .before .before .before .before .args .k .now) (c .before .before .before .before .before .before .before .before .before .before .before .before .args .level) (c .before .before .before .before .before .before .before .before .before .before .before .before .args .at) (c .before .before .before .before .before .before .before .before .before .before .before .before .args .free .now) (c .before .before .before .before .before .before .before .before .before .before .before .before .args .cut) _ _ _ (c .before .before .before .before .cut2 .given .1) (c .before .before .before .before .before .before .before .before .before .before .before .before .pre .1 .0) in let la = cut-length (c .before .before .before .before .before .before .before .before .before .before .before .before .args .node .now) ((c .before .before .before .before .cut2 .given .0 .1 .1 .0) .start) ((c .before .before .before .before .cut2 .given .0 .1 .1 .0) .stop) (w .rises) (w .high) in omega arith
+right-cut-sub-slice-right-5 t c = let q = strip-short (c .before .before .before .before .before .before .before .before .before .before .before .before .before .args .split .wide) (c .before .before .before .before .before .before .before .before .before .before .before .before .before .args .store .now) (c .before .before .before .before .before .cut2 .given .0 .1 .0) (c .before .before .before .before .before .before .before .before .before .before .before .before .before .args .split .level) (part (c .before .before .before .before .before .before .before .before .before .before .before .before .before .args .node .now) (c .before .before .before .before .before .cut2 .given .0 .1 .1 .0)) (c .before .before .before .before .before .before .before .before .before .before .before .before .before .args .hi .now) (c .before .before .before .before .before .before .before .before .before .before .before .before .before .args .k .now) (c .before .before .before .before .before .before .before .before .before .before .before .before .before .args .split .at) (c .before .before .before .before .before .before .before .before .before .before .before .before .before .args .free .now) (last-asks (c .before .before .before .before .before .before .before .before .before .before .before .before .before .args .split .wide) (c .before .before .before .before .before .before .before .before .before .before .before .before .before .args .store .now) (c .before .before .before .before .before .before .before .before .before .before .before .before .before .args .node .now) (c .before .before .before .before .before .before .before .before .before .before .before .before .before .args .hi .now) (c .before .before .before .before .before .before .before .before .before .before .before .before .before .args .k .now) (c .before .before .before .before .before .before .before .before .before .before .before .before .before .args .split .level) (c .before .before .before .before .before .before .before .before .before .before .before .before .before .args .split .at) (c .before .before .before .before .before .before .before .before .before .before .before .before .before .args .free .now) (c .before .before .before .before .before .before .before .before .before .before .before .before .before .args .split .cut) _ _ _ (c .before .before .before .before .before .cut2 .given .1) (c .before .before .before .before .before .before .before .before .before .before .before .before .before .pre .1 .1)) (c .before .before .common-length2 .result) (c .before .before .common-length2 .ensures .0) in let r = strip-high (c .before .before .before .before .before .before .before .before .before .before .before .before .before .args .split .wide) (c .before .before .before .before .before .before .before .before .before .before .before .before .before .args .store .now) (c .before .before .before .before .before .cut2 .given .0 .1 .0) (c .before .before .before .before .before .before .before .before .before .before .before .before .before .args .split .level) (part (c .before .before .before .before .before .before .before .before .before .before .before .before .before .args .node .now) (c .before .before .before .before .before .cut2 .given .0 .1 .1 .0)) (c .before .before .before .before .before .before .before .before .before .before .before .before .before .args .hi .now) (c .before .before .before .before .before .before .before .before .before .before .before .before .before .args .k .now) (c .before .before .before .before .before .before .before .before .before .before .before .before .before .args .split .at) (c .before .before .before .before .before .before .before .before .before .before .before .before .before .args .free .now) (last-asks (c .before .before .before .before .before .before .before .before .before .before .before .before .before .args .split .wide) (c .before .before .before .before .before .before .before .before .before .before .before .before .before .args .store .now) (c .before .before .before .before .before .before .before .before .before .before .before .before .before .args .node .now) (c .before .before .before .before .before .before .before .before .before .before .before .before .before .args .hi .now) (c .before .before .before .before .before .before .before .before .before .before .before .before .before .args .k .now) (c .before .before .before .before .before .before .before .before .before .before .before .before .before .args .split .level) (c .before .before .before .before .before .before .before .before .before .before .before .before .before .args .split .at) (c .before .before .before .before .before .before .before .before .before .before .before .before .before .args .free .now) (c .before .before .before .before .before .before .before .before .before .before .before .before .before .args .split .cut) _ _ _ (c .before .before .before .before .before .cut2 .given .1) (c .before .before .before .before .before .before .before .before .before .before .before .before .before .pre .1 .1)) (c .before .before .common-length2 .result) (c .before .before .common-length2 .ensures .0) in omega arith
 
 right-cut-part-slice-right-start-5 : (t : ℕ) → right-cut-lts.Need-part-slice-right-start-5 (
   common-length-reads.Asked,
@@ -296,7 +284,7 @@ right-cut-part-slice-right-start-5 : (t : ℕ) → right-cut-lts.Need-part-slice
   slice-right-below t,
   slice-right.Post,
 ) (right-cut-at t) right-cut.Post
-right-cut-part-slice-right-start-5 t c = let w = last-places (c .before .before .before .before .before .before .before .before .before .before .before .before .args .store .now) (c .before .before .before .before .before .before .before .before .before .before .before .before .args .node .now) (c .before .before .before .before .before .before .before .before .before .before .before .before .args .hi .now) (c .before .before .before .before .before .before .before .before .before .before .before .before .args .k .now) (c .before .before .before .before .before .before .before .before .before .before .before .before .args .level) (c .before .before .before .before .before .before .before .before .before .before .before .before .args .at) (c .before .before .before .before .before .before .before .before .before .before .before .before .args .free .now) (c .before .before .before .before .before .before .before .before .before .before .before .before .args .cut) _ _ _ (c .before .before .before .before .cut2 .given .1) (c .before .before .before .before .before .before .before .before .before .before .before .before .pre .1 .0) in let la = cut-length (c .before .before .before .before .before .before .before .before .before .before .before .before .args .node .now) ((c .before .before .before .before .cut2 .given .0 .1 .1 .0) .start) ((c .before .before .before .before .cut2 .given .0 .1 .1 .0) .stop) (w .rises) (w .high) in omega arith
+right-cut-part-slice-right-start-5 t c = let q = strip-short (c .before .before .before .before .before .before .before .before .before .before .before .before .before .args .split .wide) (c .before .before .before .before .before .before .before .before .before .before .before .before .before .args .store .now) (c .before .before .before .before .before .cut2 .given .0 .1 .0) (c .before .before .before .before .before .before .before .before .before .before .before .before .before .args .split .level) (part (c .before .before .before .before .before .before .before .before .before .before .before .before .before .args .node .now) (c .before .before .before .before .before .cut2 .given .0 .1 .1 .0)) (c .before .before .before .before .before .before .before .before .before .before .before .before .before .args .hi .now) (c .before .before .before .before .before .before .before .before .before .before .before .before .before .args .k .now) (c .before .before .before .before .before .before .before .before .before .before .before .before .before .args .split .at) (c .before .before .before .before .before .before .before .before .before .before .before .before .before .args .free .now) (last-asks (c .before .before .before .before .before .before .before .before .before .before .before .before .before .args .split .wide) (c .before .before .before .before .before .before .before .before .before .before .before .before .before .args .store .now) (c .before .before .before .before .before .before .before .before .before .before .before .before .before .args .node .now) (c .before .before .before .before .before .before .before .before .before .before .before .before .before .args .hi .now) (c .before .before .before .before .before .before .before .before .before .before .before .before .before .args .k .now) (c .before .before .before .before .before .before .before .before .before .before .before .before .before .args .split .level) (c .before .before .before .before .before .before .before .before .before .before .before .before .before .args .split .at) (c .before .before .before .before .before .before .before .before .before .before .before .before .before .args .free .now) (c .before .before .before .before .before .before .before .before .before .before .before .before .before .args .split .cut) _ _ _ (c .before .before .before .before .before .cut2 .given .1) (c .before .before .before .before .before .before .before .before .before .before .before .before .before .pre .1 .1)) (c .before .before .common-length2 .result) (c .before .before .common-length2 .ensures .0) in let r = strip-high (c .before .before .before .before .before .before .before .before .before .before .before .before .before .args .split .wide) (c .before .before .before .before .before .before .before .before .before .before .before .before .before .args .store .now) (c .before .before .before .before .before .cut2 .given .0 .1 .0) (c .before .before .before .before .before .before .before .before .before .before .before .before .before .args .split .level) (part (c .before .before .before .before .before .before .before .before .before .before .before .before .before .args .node .now) (c .before .before .before .before .before .cut2 .given .0 .1 .1 .0)) (c .before .before .before .before .before .before .before .before .before .before .before .before .before .args .hi .now) (c .before .before .before .before .before .before .before .before .before .before .before .before .before .args .k .now) (c .before .before .before .before .before .before .before .before .before .before .before .before .before .args .split .at) (c .before .before .before .before .before .before .before .before .before .before .before .before .before .args .free .now) (last-asks (c .before .before .before .before .before .before .before .before .before .before .before .before .before .args .split .wide) (c .before .before .before .before .before .before .before .before .before .before .before .before .before .args .store .now) (c .before .before .before .before .before .before .before .before .before .before .before .before .before .args .node .now) (c .before .before .before .before .before .before .before .before .before .before .before .before .before .args .hi .now) (c .before .before .before .before .before .before .before .before .before .before .before .before .before .args .k .now) (c .before .before .before .before .before .before .before .before .before .before .before .before .before .args .split .level) (c .before .before .before .before .before .before .before .before .before .before .before .before .before .args .split .at) (c .before .before .before .before .before .before .before .before .before .before .before .before .before .args .free .now) (c .before .before .before .before .before .before .before .before .before .before .before .before .before .args .split .cut) _ _ _ (c .before .before .before .before .before .cut2 .given .1) (c .before .before .before .before .before .before .before .before .before .before .before .before .before .pre .1 .1)) (c .before .before .common-length2 .result) (c .before .before .common-length2 .ensures .0) in omega arith
 
 right-cut-part-slice-right-end-5 : (t : ℕ) → right-cut-lts.Need-part-slice-right-end-5 (
   common-length-reads.Asked,
@@ -304,7 +292,7 @@ right-cut-part-slice-right-end-5 : (t : ℕ) → right-cut-lts.Need-part-slice-r
   slice-right-below t,
   slice-right.Post,
 ) (right-cut-at t) right-cut.Post
-right-cut-part-slice-right-end-5 t c = let w = last-places (c .before .before .before .before .before .before .before .before .before .before .before .before .args .store .now) (c .before .before .before .before .before .before .before .before .before .before .before .before .args .node .now) (c .before .before .before .before .before .before .before .before .before .before .before .before .args .hi .now) (c .before .before .before .before .before .before .before .before .before .before .before .before .args .k .now) (c .before .before .before .before .before .before .before .before .before .before .before .before .args .level) (c .before .before .before .before .before .before .before .before .before .before .before .before .args .at) (c .before .before .before .before .before .before .before .before .before .before .before .before .args .free .now) (c .before .before .before .before .before .before .before .before .before .before .before .before .args .cut) _ _ _ (c .before .before .before .before .cut2 .given .1) (c .before .before .before .before .before .before .before .before .before .before .before .before .pre .1 .0) in let la = cut-length (c .before .before .before .before .before .before .before .before .before .before .before .before .args .node .now) ((c .before .before .before .before .cut2 .given .0 .1 .1 .0) .start) ((c .before .before .before .before .cut2 .given .0 .1 .1 .0) .stop) (w .rises) (w .high) in omega arith
+right-cut-part-slice-right-end-5 t c = let q = strip-short (c .before .before .before .before .before .before .before .before .before .before .before .before .before .args .split .wide) (c .before .before .before .before .before .before .before .before .before .before .before .before .before .args .store .now) (c .before .before .before .before .before .cut2 .given .0 .1 .0) (c .before .before .before .before .before .before .before .before .before .before .before .before .before .args .split .level) (part (c .before .before .before .before .before .before .before .before .before .before .before .before .before .args .node .now) (c .before .before .before .before .before .cut2 .given .0 .1 .1 .0)) (c .before .before .before .before .before .before .before .before .before .before .before .before .before .args .hi .now) (c .before .before .before .before .before .before .before .before .before .before .before .before .before .args .k .now) (c .before .before .before .before .before .before .before .before .before .before .before .before .before .args .split .at) (c .before .before .before .before .before .before .before .before .before .before .before .before .before .args .free .now) (last-asks (c .before .before .before .before .before .before .before .before .before .before .before .before .before .args .split .wide) (c .before .before .before .before .before .before .before .before .before .before .before .before .before .args .store .now) (c .before .before .before .before .before .before .before .before .before .before .before .before .before .args .node .now) (c .before .before .before .before .before .before .before .before .before .before .before .before .before .args .hi .now) (c .before .before .before .before .before .before .before .before .before .before .before .before .before .args .k .now) (c .before .before .before .before .before .before .before .before .before .before .before .before .before .args .split .level) (c .before .before .before .before .before .before .before .before .before .before .before .before .before .args .split .at) (c .before .before .before .before .before .before .before .before .before .before .before .before .before .args .free .now) (c .before .before .before .before .before .before .before .before .before .before .before .before .before .args .split .cut) _ _ _ (c .before .before .before .before .before .cut2 .given .1) (c .before .before .before .before .before .before .before .before .before .before .before .before .before .pre .1 .1)) (c .before .before .common-length2 .result) (c .before .before .common-length2 .ensures .0) in let r = strip-high (c .before .before .before .before .before .before .before .before .before .before .before .before .before .args .split .wide) (c .before .before .before .before .before .before .before .before .before .before .before .before .before .args .store .now) (c .before .before .before .before .before .cut2 .given .0 .1 .0) (c .before .before .before .before .before .before .before .before .before .before .before .before .before .args .split .level) (part (c .before .before .before .before .before .before .before .before .before .before .before .before .before .args .node .now) (c .before .before .before .before .before .cut2 .given .0 .1 .1 .0)) (c .before .before .before .before .before .before .before .before .before .before .before .before .before .args .hi .now) (c .before .before .before .before .before .before .before .before .before .before .before .before .before .args .k .now) (c .before .before .before .before .before .before .before .before .before .before .before .before .before .args .split .at) (c .before .before .before .before .before .before .before .before .before .before .before .before .before .args .free .now) (last-asks (c .before .before .before .before .before .before .before .before .before .before .before .before .before .args .split .wide) (c .before .before .before .before .before .before .before .before .before .before .before .before .before .args .store .now) (c .before .before .before .before .before .before .before .before .before .before .before .before .before .args .node .now) (c .before .before .before .before .before .before .before .before .before .before .before .before .before .args .hi .now) (c .before .before .before .before .before .before .before .before .before .before .before .before .before .args .k .now) (c .before .before .before .before .before .before .before .before .before .before .before .before .before .args .split .level) (c .before .before .before .before .before .before .before .before .before .before .before .before .before .args .split .at) (c .before .before .before .before .before .before .before .before .before .before .before .before .before .args .free .now) (c .before .before .before .before .before .before .before .before .before .before .before .before .before .args .split .cut) _ _ _ (c .before .before .before .before .before .cut2 .given .1) (c .before .before .before .before .before .before .before .before .before .before .before .before .before .pre .1 .1)) (c .before .before .common-length2 .result) (c .before .before .common-length2 .ensures .0) in omega arith
 
 right-cut-sub-slice-right-6 : (t : ℕ) → right-cut-lts.Need-sub-slice-right-6 (
   common-length-reads.Asked,
@@ -312,7 +300,7 @@ right-cut-sub-slice-right-6 : (t : ℕ) → right-cut-lts.Need-sub-slice-right-6
   slice-right-below t,
   slice-right.Post,
 ) (right-cut-at t) right-cut.Post
-right-cut-sub-slice-right-6 t c = let q = strip-short (c .before .before .before .before .before .before .before .before .before .before .before .before .before .args .wide) (c .before .before .before .before .before .before .before .before .before .before .before .before .before .args .store .now) (c .before .before .before .before .before .cut2 .given .0 .1 .0) (c .before .before .before .before .before .before .before .before .before .before .before .before .before .args .level) (part (c .before .before .before .before .before .before .before .before .before .before .before .before .before .args .node .now) (c .before .before .before .before .before .cut2 .given .0 .1 .1 .0)) (c .before .before .before .before .before .before .before .before .before .before .before .before .before .args .hi .now) (c .before .before .before .before .before .before .before .before .before .before .before .before .before .args .k .now) (c .before .before .before .before .before .before .before .before .before .before .before .before .before .args .at) (c .before .before .before .before .before .before .before .before .before .before .before .before .before .args .free .now) (last-asks (c .before .before .before .before .before .before .before .before .before .before .before .before .before .args .wide) (c .before .before .before .before .before .before .before .before .before .before .before .before .before .args .store .now) (c .before .before .before .before .before .before .before .before .before .before .before .before .before .args .node .now) (c .before .before .before .before .before .before .before .before .before .before .before .before .before .args .hi .now) (c .before .before .before .before .before .before .before .before .before .before .before .before .before .args .k .now) (c .before .before .before .before .before .before .before .before .before .before .before .before .before .args .level) (c .before .before .before .before .before .before .before .before .before .before .before .before .before .args .at) (c .before .before .before .before .before .before .before .before .before .before .before .before .before .args .free .now) (c .before .before .before .before .before .before .before .before .before .before .before .before .before .args .cut) _ _ _ (c .before .before .before .before .before .cut2 .given .1) (c .before .before .before .before .before .before .before .before .before .before .before .before .before .pre .1 .1)) (c .before .before .common-length2 .result) (c .before .before .common-length2 .ensures .0) in let r = strip-high (c .before .before .before .before .before .before .before .before .before .before .before .before .before .args .wide) (c .before .before .before .before .before .before .before .before .before .before .before .before .before .args .store .now) (c .before .before .before .before .before .cut2 .given .0 .1 .0) (c .before .before .before .before .before .before .before .before .before .before .before .before .before .args .level) (part (c .before .before .before .before .before .before .before .before .before .before .before .before .before .args .node .now) (c .before .before .before .before .before .cut2 .given .0 .1 .1 .0)) (c .before .before .before .before .before .before .before .before .before .before .before .before .before .args .hi .now) (c .before .before .before .before .before .before .before .before .before .before .before .before .before .args .k .now) (c .before .before .before .before .before .before .before .before .before .before .before .before .before .args .at) (c .before .before .before .before .before .before .before .before .before .before .before .before .before .args .free .now) (last-asks (c .before .before .before .before .before .before .before .before .before .before .before .before .before .args .wide) (c .before .before .before .before .before .before .before .before .before .before .before .before .before .args .store .now) (c .before .before .before .before .before .before .before .before .before .before .before .before .before .args .node .now) (c .before .before .before .before .before .before .before .before .before .before .before .before .before .args .hi .now) (c .before .before .before .before .before .before .before .before .before .before .before .before .before .args .k .now) (c .before .before .before .before .before .before .before .before .before .before .before .before .before .args .level) (c .before .before .before .before .before .before .before .before .before .before .before .before .before .args .at) (c .before .before .before .before .before .before .before .before .before .before .before .before .before .args .free .now) (c .before .before .before .before .before .before .before .before .before .before .before .before .before .args .cut) _ _ _ (c .before .before .before .before .before .cut2 .given .1) (c .before .before .before .before .before .before .before .before .before .before .before .before .before .pre .1 .1)) (c .before .before .common-length2 .result) (c .before .before .common-length2 .ensures .0) in omega arith
+right-cut-sub-slice-right-6 t c = let q = strip-short (c .before .before .before .before .before .before .before .before .before .before .before .before .before .before .args .split .wide) (c .before .before .before .before .before .before .before .before .before .before .before .before .before .before .args .store .now) (c .before .before .before .before .before .before .cut2 .given .0 .1 .0) (c .before .before .before .before .before .before .before .before .before .before .before .before .before .before .args .split .level) (part (c .before .before .before .before .before .before .before .before .before .before .before .before .before .before .args .node .now) (c .before .before .before .before .before .before .cut2 .given .0 .1 .1 .0)) (c .before .before .before .before .before .before .before .before .before .before .before .before .before .before .args .hi .now) (c .before .before .before .before .before .before .before .before .before .before .before .before .before .before .args .k .now) (c .before .before .before .before .before .before .before .before .before .before .before .before .before .before .args .split .at) (c .before .before .before .before .before .before .before .before .before .before .before .before .before .before .args .free .now) (last-asks (c .before .before .before .before .before .before .before .before .before .before .before .before .before .before .args .split .wide) (c .before .before .before .before .before .before .before .before .before .before .before .before .before .before .args .store .now) (c .before .before .before .before .before .before .before .before .before .before .before .before .before .before .args .node .now) (c .before .before .before .before .before .before .before .before .before .before .before .before .before .before .args .hi .now) (c .before .before .before .before .before .before .before .before .before .before .before .before .before .before .args .k .now) (c .before .before .before .before .before .before .before .before .before .before .before .before .before .before .args .split .level) (c .before .before .before .before .before .before .before .before .before .before .before .before .before .before .args .split .at) (c .before .before .before .before .before .before .before .before .before .before .before .before .before .before .args .free .now) (c .before .before .before .before .before .before .before .before .before .before .before .before .before .before .args .split .cut) _ _ _ (c .before .before .before .before .before .before .cut2 .given .1) (c .before .before .before .before .before .before .before .before .before .before .before .before .before .before .pre .1 .1)) (c .before .before .before .common-length2 .result) (c .before .before .before .common-length2 .ensures .0) in let r = strip-high (c .before .before .before .before .before .before .before .before .before .before .before .before .before .before .args .split .wide) (c .before .before .before .before .before .before .before .before .before .before .before .before .before .before .args .store .now) (c .before .before .before .before .before .before .cut2 .given .0 .1 .0) (c .before .before .before .before .before .before .before .before .before .before .before .before .before .before .args .split .level) (part (c .before .before .before .before .before .before .before .before .before .before .before .before .before .before .args .node .now) (c .before .before .before .before .before .before .cut2 .given .0 .1 .1 .0)) (c .before .before .before .before .before .before .before .before .before .before .before .before .before .before .args .hi .now) (c .before .before .before .before .before .before .before .before .before .before .before .before .before .before .args .k .now) (c .before .before .before .before .before .before .before .before .before .before .before .before .before .before .args .split .at) (c .before .before .before .before .before .before .before .before .before .before .before .before .before .before .args .free .now) (last-asks (c .before .before .before .before .before .before .before .before .before .before .before .before .before .before .args .split .wide) (c .before .before .before .before .before .before .before .before .before .before .before .before .before .before .args .store .now) (c .before .before .before .before .before .before .before .before .before .before .before .before .before .before .args .node .now) (c .before .before .before .before .before .before .before .before .before .before .before .before .before .before .args .hi .now) (c .before .before .before .before .before .before .before .before .before .before .before .before .before .before .args .k .now) (c .before .before .before .before .before .before .before .before .before .before .before .before .before .before .args .split .level) (c .before .before .before .before .before .before .before .before .before .before .before .before .before .before .args .split .at) (c .before .before .before .before .before .before .before .before .before .before .before .before .before .before .args .free .now) (c .before .before .before .before .before .before .before .before .before .before .before .before .before .before .args .split .cut) _ _ _ (c .before .before .before .before .before .before .cut2 .given .1) (c .before .before .before .before .before .before .before .before .before .before .before .before .before .before .pre .1 .1)) (c .before .before .before .common-length2 .result) (c .before .before .before .common-length2 .ensures .0) in omega arith
 
 right-cut-part-slice-right-start-6 : (t : ℕ) → right-cut-lts.Need-part-slice-right-start-6 (
   common-length-reads.Asked,
@@ -320,7 +308,7 @@ right-cut-part-slice-right-start-6 : (t : ℕ) → right-cut-lts.Need-part-slice
   slice-right-below t,
   slice-right.Post,
 ) (right-cut-at t) right-cut.Post
-right-cut-part-slice-right-start-6 t c = let q = strip-short (c .before .before .before .before .before .before .before .before .before .before .before .before .before .args .wide) (c .before .before .before .before .before .before .before .before .before .before .before .before .before .args .store .now) (c .before .before .before .before .before .cut2 .given .0 .1 .0) (c .before .before .before .before .before .before .before .before .before .before .before .before .before .args .level) (part (c .before .before .before .before .before .before .before .before .before .before .before .before .before .args .node .now) (c .before .before .before .before .before .cut2 .given .0 .1 .1 .0)) (c .before .before .before .before .before .before .before .before .before .before .before .before .before .args .hi .now) (c .before .before .before .before .before .before .before .before .before .before .before .before .before .args .k .now) (c .before .before .before .before .before .before .before .before .before .before .before .before .before .args .at) (c .before .before .before .before .before .before .before .before .before .before .before .before .before .args .free .now) (last-asks (c .before .before .before .before .before .before .before .before .before .before .before .before .before .args .wide) (c .before .before .before .before .before .before .before .before .before .before .before .before .before .args .store .now) (c .before .before .before .before .before .before .before .before .before .before .before .before .before .args .node .now) (c .before .before .before .before .before .before .before .before .before .before .before .before .before .args .hi .now) (c .before .before .before .before .before .before .before .before .before .before .before .before .before .args .k .now) (c .before .before .before .before .before .before .before .before .before .before .before .before .before .args .level) (c .before .before .before .before .before .before .before .before .before .before .before .before .before .args .at) (c .before .before .before .before .before .before .before .before .before .before .before .before .before .args .free .now) (c .before .before .before .before .before .before .before .before .before .before .before .before .before .args .cut) _ _ _ (c .before .before .before .before .before .cut2 .given .1) (c .before .before .before .before .before .before .before .before .before .before .before .before .before .pre .1 .1)) (c .before .before .common-length2 .result) (c .before .before .common-length2 .ensures .0) in let r = strip-high (c .before .before .before .before .before .before .before .before .before .before .before .before .before .args .wide) (c .before .before .before .before .before .before .before .before .before .before .before .before .before .args .store .now) (c .before .before .before .before .before .cut2 .given .0 .1 .0) (c .before .before .before .before .before .before .before .before .before .before .before .before .before .args .level) (part (c .before .before .before .before .before .before .before .before .before .before .before .before .before .args .node .now) (c .before .before .before .before .before .cut2 .given .0 .1 .1 .0)) (c .before .before .before .before .before .before .before .before .before .before .before .before .before .args .hi .now) (c .before .before .before .before .before .before .before .before .before .before .before .before .before .args .k .now) (c .before .before .before .before .before .before .before .before .before .before .before .before .before .args .at) (c .before .before .before .before .before .before .before .before .before .before .before .before .before .args .free .now) (last-asks (c .before .before .before .before .before .before .before .before .before .before .before .before .before .args .wide) (c .before .before .before .before .before .before .before .before .before .before .before .before .before .args .store .now) (c .before .before .before .before .before .before .before .before .before .before .before .before .before .args .node .now) (c .before .before .before .before .before .before .before .before .before .before .before .before .before .args .hi .now) (c .before .before .before .before .before .before .before .before .before .before .before .before .before .args .k .now) (c .before .before .before .before .before .before .before .before .before .before .before .before .before .args .level) (c .before .before .before .before .before .before .before .before .before .before .before .before .before .args .at) (c .before .before .before .before .before .before .before .before .before .before .before .before .before .args .free .now) (c .before .before .before .before .before .before .before .before .before .before .before .before .before .args .cut) _ _ _ (c .before .before .before .before .before .cut2 .given .1) (c .before .before .before .before .before .before .before .before .before .before .before .before .before .pre .1 .1)) (c .before .before .common-length2 .result) (c .before .before .common-length2 .ensures .0) in omega arith
+right-cut-part-slice-right-start-6 t c = let q = strip-short (c .before .before .before .before .before .before .before .before .before .before .before .before .before .before .args .split .wide) (c .before .before .before .before .before .before .before .before .before .before .before .before .before .before .args .store .now) (c .before .before .before .before .before .before .cut2 .given .0 .1 .0) (c .before .before .before .before .before .before .before .before .before .before .before .before .before .before .args .split .level) (part (c .before .before .before .before .before .before .before .before .before .before .before .before .before .before .args .node .now) (c .before .before .before .before .before .before .cut2 .given .0 .1 .1 .0)) (c .before .before .before .before .before .before .before .before .before .before .before .before .before .before .args .hi .now) (c .before .before .before .before .before .before .before .before .before .before .before .before .before .before .args .k .now) (c .before .before .before .before .before .before .before .before .before .before .before .before .before .before .args .split .at) (c .before .before .before .before .before .before .before .before .before .before .before .before .before .before .args .free .now) (last-asks (c .before .before .before .before .before .before .before .before .before .before .before .before .before .before .args .split .wide) (c .before .before .before .before .before .before .before .before .before .before .before .before .before .before .args .store .now) (c .before .before .before .before .before .before .before .before .before .before .before .before .before .before .args .node .now) (c .before .before .before .before .before .before .before .before .before .before .before .before .before .before .args .hi .now) (c .before .before .before .before .before .before .before .before .before .before .before .before .before .before .args .k .now) (c .before .before .before .before .before .before .before .before .before .before .before .before .before .before .args .split .level) (c .before .before .before .before .before .before .before .before .before .before .before .before .before .before .args .split .at) (c .before .before .before .before .before .before .before .before .before .before .before .before .before .before .args .free .now) (c .before .before .before .before .before .before .before .before .before .before .before .before .before .before .args .split .cut) _ _ _ (c .before .before .before .before .before .before .cut2 .given .1) (c .before .before .before .before .before .before .before .before .before .before .before .before .before .before .pre .1 .1)) (c .before .before .before .common-length2 .result) (c .before .before .before .common-length2 .ensures .0) in let r = strip-high (c .before .before .before .before .before .before .before .before .before .before .before .before .before .before .args .split .wide) (c .before .before .before .before .before .before .before .before .before .before .before .before .before .before .args .store .now) (c .before .before .before .before .before .before .cut2 .given .0 .1 .0) (c .before .before .before .before .before .before .before .before .before .before .before .before .before .before .args .split .level) (part (c .before .before .before .before .before .before .before .before .before .before .before .before .before .before .args .node .now) (c .before .before .before .before .before .before .cut2 .given .0 .1 .1 .0)) (c .before .before .before .before .before .before .before .before .before .before .before .before .before .before .args .hi .now) (c .before .before .before .before .before .before .before .before .before .before .before .before .before .before .args .k .now) (c .before .before .before .before .before .before .before .before .before .before .before .before .before .before .args .split .at) (c .before .before .before .before .before .before .before .before .before .before .before .before .before .before .args .free .now) (last-asks (c .before .before .before .before .before .before .before .before .before .before .before .before .before .before .args .split .wide) (c .before .before .before .before .before .before .before .before .before .before .before .before .before .before .args .store .now) (c .before .before .before .before .before .before .before .before .before .before .before .before .before .before .args .node .now) (c .before .before .before .before .before .before .before .before .before .before .before .before .before .before .args .hi .now) (c .before .before .before .before .before .before .before .before .before .before .before .before .before .before .args .k .now) (c .before .before .before .before .before .before .before .before .before .before .before .before .before .before .args .split .level) (c .before .before .before .before .before .before .before .before .before .before .before .before .before .before .args .split .at) (c .before .before .before .before .before .before .before .before .before .before .before .before .before .before .args .free .now) (c .before .before .before .before .before .before .before .before .before .before .before .before .before .before .args .split .cut) _ _ _ (c .before .before .before .before .before .before .cut2 .given .1) (c .before .before .before .before .before .before .before .before .before .before .before .before .before .before .pre .1 .1)) (c .before .before .before .common-length2 .result) (c .before .before .before .common-length2 .ensures .0) in omega arith
 
 right-cut-part-slice-right-end-6 : (t : ℕ) → right-cut-lts.Need-part-slice-right-end-6 (
   common-length-reads.Asked,
@@ -328,55 +316,7 @@ right-cut-part-slice-right-end-6 : (t : ℕ) → right-cut-lts.Need-part-slice-r
   slice-right-below t,
   slice-right.Post,
 ) (right-cut-at t) right-cut.Post
-right-cut-part-slice-right-end-6 t c = let q = strip-short (c .before .before .before .before .before .before .before .before .before .before .before .before .before .args .wide) (c .before .before .before .before .before .before .before .before .before .before .before .before .before .args .store .now) (c .before .before .before .before .before .cut2 .given .0 .1 .0) (c .before .before .before .before .before .before .before .before .before .before .before .before .before .args .level) (part (c .before .before .before .before .before .before .before .before .before .before .before .before .before .args .node .now) (c .before .before .before .before .before .cut2 .given .0 .1 .1 .0)) (c .before .before .before .before .before .before .before .before .before .before .before .before .before .args .hi .now) (c .before .before .before .before .before .before .before .before .before .before .before .before .before .args .k .now) (c .before .before .before .before .before .before .before .before .before .before .before .before .before .args .at) (c .before .before .before .before .before .before .before .before .before .before .before .before .before .args .free .now) (last-asks (c .before .before .before .before .before .before .before .before .before .before .before .before .before .args .wide) (c .before .before .before .before .before .before .before .before .before .before .before .before .before .args .store .now) (c .before .before .before .before .before .before .before .before .before .before .before .before .before .args .node .now) (c .before .before .before .before .before .before .before .before .before .before .before .before .before .args .hi .now) (c .before .before .before .before .before .before .before .before .before .before .before .before .before .args .k .now) (c .before .before .before .before .before .before .before .before .before .before .before .before .before .args .level) (c .before .before .before .before .before .before .before .before .before .before .before .before .before .args .at) (c .before .before .before .before .before .before .before .before .before .before .before .before .before .args .free .now) (c .before .before .before .before .before .before .before .before .before .before .before .before .before .args .cut) _ _ _ (c .before .before .before .before .before .cut2 .given .1) (c .before .before .before .before .before .before .before .before .before .before .before .before .before .pre .1 .1)) (c .before .before .common-length2 .result) (c .before .before .common-length2 .ensures .0) in let r = strip-high (c .before .before .before .before .before .before .before .before .before .before .before .before .before .args .wide) (c .before .before .before .before .before .before .before .before .before .before .before .before .before .args .store .now) (c .before .before .before .before .before .cut2 .given .0 .1 .0) (c .before .before .before .before .before .before .before .before .before .before .before .before .before .args .level) (part (c .before .before .before .before .before .before .before .before .before .before .before .before .before .args .node .now) (c .before .before .before .before .before .cut2 .given .0 .1 .1 .0)) (c .before .before .before .before .before .before .before .before .before .before .before .before .before .args .hi .now) (c .before .before .before .before .before .before .before .before .before .before .before .before .before .args .k .now) (c .before .before .before .before .before .before .before .before .before .before .before .before .before .args .at) (c .before .before .before .before .before .before .before .before .before .before .before .before .before .args .free .now) (last-asks (c .before .before .before .before .before .before .before .before .before .before .before .before .before .args .wide) (c .before .before .before .before .before .before .before .before .before .before .before .before .before .args .store .now) (c .before .before .before .before .before .before .before .before .before .before .before .before .before .args .node .now) (c .before .before .before .before .before .before .before .before .before .before .before .before .before .args .hi .now) (c .before .before .before .before .before .before .before .before .before .before .before .before .before .args .k .now) (c .before .before .before .before .before .before .before .before .before .before .before .before .before .args .level) (c .before .before .before .before .before .before .before .before .before .before .before .before .before .args .at) (c .before .before .before .before .before .before .before .before .before .before .before .before .before .args .free .now) (c .before .before .before .before .before .before .before .before .before .before .before .before .before .args .cut) _ _ _ (c .before .before .before .before .before .cut2 .given .1) (c .before .before .before .before .before .before .before .before .before .before .before .before .before .pre .1 .1)) (c .before .before .common-length2 .result) (c .before .before .common-length2 .ensures .0) in omega arith
-
-right-cut-sub-slice-right-7 : (t : ℕ) → right-cut-lts.Need-sub-slice-right-7 (
-  common-length-reads.Asked,
-  common-length-reads.Learnt,
-  slice-right-below t,
-  slice-right.Post,
-) (right-cut-at t) right-cut.Post
-right-cut-sub-slice-right-7 t c = let q = strip-short (c .before .before .before .before .before .before .before .before .before .before .before .before .before .before .args .wide) (c .before .before .before .before .before .before .before .before .before .before .before .before .before .before .args .store .now) (c .before .before .before .before .before .before .cut2 .given .0 .1 .0) (c .before .before .before .before .before .before .before .before .before .before .before .before .before .before .args .level) (part (c .before .before .before .before .before .before .before .before .before .before .before .before .before .before .args .node .now) (c .before .before .before .before .before .before .cut2 .given .0 .1 .1 .0)) (c .before .before .before .before .before .before .before .before .before .before .before .before .before .before .args .hi .now) (c .before .before .before .before .before .before .before .before .before .before .before .before .before .before .args .k .now) (c .before .before .before .before .before .before .before .before .before .before .before .before .before .before .args .at) (c .before .before .before .before .before .before .before .before .before .before .before .before .before .before .args .free .now) (last-asks (c .before .before .before .before .before .before .before .before .before .before .before .before .before .before .args .wide) (c .before .before .before .before .before .before .before .before .before .before .before .before .before .before .args .store .now) (c .before .before .before .before .before .before .before .before .before .before .before .before .before .before .args .node .now) (c .before .before .before .before .before .before .before .before .before .before .before .before .before .before .args .hi .now) (c .before .before .before .before .before .before .before .before .before .before .before .before .before .before .args .k .now) (c .before .before .before .before .before .before .before .before .before .before .before .before .before .before .args .level) (c .before .before .before .before .before .before .before .before .before .before .before .before .before .before .args .at) (c .before .before .before .before .before .before .before .before .before .before .before .before .before .before .args .free .now) (c .before .before .before .before .before .before .before .before .before .before .before .before .before .before .args .cut) _ _ _ (c .before .before .before .before .before .before .cut2 .given .1) (c .before .before .before .before .before .before .before .before .before .before .before .before .before .before .pre .1 .1)) (c .before .before .before .common-length2 .result) (c .before .before .before .common-length2 .ensures .0) in let r = strip-high (c .before .before .before .before .before .before .before .before .before .before .before .before .before .before .args .wide) (c .before .before .before .before .before .before .before .before .before .before .before .before .before .before .args .store .now) (c .before .before .before .before .before .before .cut2 .given .0 .1 .0) (c .before .before .before .before .before .before .before .before .before .before .before .before .before .before .args .level) (part (c .before .before .before .before .before .before .before .before .before .before .before .before .before .before .args .node .now) (c .before .before .before .before .before .before .cut2 .given .0 .1 .1 .0)) (c .before .before .before .before .before .before .before .before .before .before .before .before .before .before .args .hi .now) (c .before .before .before .before .before .before .before .before .before .before .before .before .before .before .args .k .now) (c .before .before .before .before .before .before .before .before .before .before .before .before .before .before .args .at) (c .before .before .before .before .before .before .before .before .before .before .before .before .before .before .args .free .now) (last-asks (c .before .before .before .before .before .before .before .before .before .before .before .before .before .before .args .wide) (c .before .before .before .before .before .before .before .before .before .before .before .before .before .before .args .store .now) (c .before .before .before .before .before .before .before .before .before .before .before .before .before .before .args .node .now) (c .before .before .before .before .before .before .before .before .before .before .before .before .before .before .args .hi .now) (c .before .before .before .before .before .before .before .before .before .before .before .before .before .before .args .k .now) (c .before .before .before .before .before .before .before .before .before .before .before .before .before .before .args .level) (c .before .before .before .before .before .before .before .before .before .before .before .before .before .before .args .at) (c .before .before .before .before .before .before .before .before .before .before .before .before .before .before .args .free .now) (c .before .before .before .before .before .before .before .before .before .before .before .before .before .before .args .cut) _ _ _ (c .before .before .before .before .before .before .cut2 .given .1) (c .before .before .before .before .before .before .before .before .before .before .before .before .before .before .pre .1 .1)) (c .before .before .before .common-length2 .result) (c .before .before .before .common-length2 .ensures .0) in omega arith
-
-right-cut-part-slice-right-start-7 : (t : ℕ) → right-cut-lts.Need-part-slice-right-start-7 (
-  common-length-reads.Asked,
-  common-length-reads.Learnt,
-  slice-right-below t,
-  slice-right.Post,
-) (right-cut-at t) right-cut.Post
-right-cut-part-slice-right-start-7 t c = let q = strip-short (c .before .before .before .before .before .before .before .before .before .before .before .before .before .before .args .wide) (c .before .before .before .before .before .before .before .before .before .before .before .before .before .before .args .store .now) (c .before .before .before .before .before .before .cut2 .given .0 .1 .0) (c .before .before .before .before .before .before .before .before .before .before .before .before .before .before .args .level) (part (c .before .before .before .before .before .before .before .before .before .before .before .before .before .before .args .node .now) (c .before .before .before .before .before .before .cut2 .given .0 .1 .1 .0)) (c .before .before .before .before .before .before .before .before .before .before .before .before .before .before .args .hi .now) (c .before .before .before .before .before .before .before .before .before .before .before .before .before .before .args .k .now) (c .before .before .before .before .before .before .before .before .before .before .before .before .before .before .args .at) (c .before .before .before .before .before .before .before .before .before .before .before .before .before .before .args .free .now) (last-asks (c .before .before .before .before .before .before .before .before .before .before .before .before .before .before .args .wide) (c .before .before .before .before .before .before .before .before .before .before .before .before .before .before .args .store .now) (c .before .before .before .before .before .before .before .before .before .before .before .before .before .before .args .node .now) (c .before .before .before .before .before .before .before .before .before .before .before .before .before .before .args .hi .now) (c .before .before .before .before .before .before .before .before .before .before .before .before .before .before .args .k .now) (c .before .before .before .before .before .before .before .before .before .before .before .before .before .before .args .level) (c .before .before .before .before .before .before .before .before .before .before .before .before .before .before .args .at) (c .before .before .before .before .before .before .before .before .before .before .before .before .before .before .args .free .now) (c .before .before .before .before .before .before .before .before .before .before .before .before .before .before .args .cut) _ _ _ (c .before .before .before .before .before .before .cut2 .given .1) (c .before .before .before .before .before .before .before .before .before .before .before .before .before .before .pre .1 .1)) (c .before .before .before .common-length2 .result) (c .before .before .before .common-length2 .ensures .0) in let r = strip-high (c .before .before .before .before .before .before .before .before .before .before .before .before .before .before .args .wide) (c .before .before .before .before .before .before .before .before .before .before .before .before .before .before .args .store .now) (c .before .before .before .before .before .before .cut2 .given .0 .1 .0) (c .before .before .before .before .before .before .before .before .before .before .before .before .before .before .args .level) (part (c .before .before .before .before .before .before .before .before .before .before .before .before .before .before .args .node .now) (c .before .before .before .before .before .before .cut2 .given .0 .1 .1 .0)) (c .before .before .before .before .before .before .before .before .before .before .before .before .before .before .args .hi .now) (c .before .before .before .before .before .before .before .before .before .before .before .before .before .before .args .k .now) (c .before .before .before .before .before .before .before .before .before .before .before .before .before .before .args .at) (c .before .before .before .before .before .before .before .before .before .before .before .before .before .before .args .free .now) (last-asks (c .before .before .before .before .before .before .before .before .before .before .before .before .before .before .args .wide) (c .before .before .before .before .before .before .before .before .before .before .before .before .before .before .args .store .now) (c .before .before .before .before .before .before .before .before .before .before .before .before .before .before .args .node .now) (c .before .before .before .before .before .before .before .before .before .before .before .before .before .before .args .hi .now) (c .before .before .before .before .before .before .before .before .before .before .before .before .before .before .args .k .now) (c .before .before .before .before .before .before .before .before .before .before .before .before .before .before .args .level) (c .before .before .before .before .before .before .before .before .before .before .before .before .before .before .args .at) (c .before .before .before .before .before .before .before .before .before .before .before .before .before .before .args .free .now) (c .before .before .before .before .before .before .before .before .before .before .before .before .before .before .args .cut) _ _ _ (c .before .before .before .before .before .before .cut2 .given .1) (c .before .before .before .before .before .before .before .before .before .before .before .before .before .before .pre .1 .1)) (c .before .before .before .common-length2 .result) (c .before .before .before .common-length2 .ensures .0) in omega arith
-
-right-cut-part-slice-right-end-7 : (t : ℕ) → right-cut-lts.Need-part-slice-right-end-7 (
-  common-length-reads.Asked,
-  common-length-reads.Learnt,
-  slice-right-below t,
-  slice-right.Post,
-) (right-cut-at t) right-cut.Post
-right-cut-part-slice-right-end-7 t c = let q = strip-short (c .before .before .before .before .before .before .before .before .before .before .before .before .before .before .args .wide) (c .before .before .before .before .before .before .before .before .before .before .before .before .before .before .args .store .now) (c .before .before .before .before .before .before .cut2 .given .0 .1 .0) (c .before .before .before .before .before .before .before .before .before .before .before .before .before .before .args .level) (part (c .before .before .before .before .before .before .before .before .before .before .before .before .before .before .args .node .now) (c .before .before .before .before .before .before .cut2 .given .0 .1 .1 .0)) (c .before .before .before .before .before .before .before .before .before .before .before .before .before .before .args .hi .now) (c .before .before .before .before .before .before .before .before .before .before .before .before .before .before .args .k .now) (c .before .before .before .before .before .before .before .before .before .before .before .before .before .before .args .at) (c .before .before .before .before .before .before .before .before .before .before .before .before .before .before .args .free .now) (last-asks (c .before .before .before .before .before .before .before .before .before .before .before .before .before .before .args .wide) (c .before .before .before .before .before .before .before .before .before .before .before .before .before .before .args .store .now) (c .before .before .before .before .before .before .before .before .before .before .before .before .before .before .args .node .now) (c .before .before .before .before .before .before .before .before .before .before .before .before .before .before .args .hi .now) (c .before .before .before .before .before .before .before .before .before .before .before .before .before .before .args .k .now) (c .before .before .before .before .before .before .before .before .before .before .before .before .before .before .args .level) (c .before .before .before .before .before .before .before .before .before .before .before .before .before .before .args .at) (c .before .before .before .before .before .before .before .before .before .before .before .before .before .before .args .free .now) (c .before .before .before .before .before .before .before .before .before .before .before .before .before .before .args .cut) _ _ _ (c .before .before .before .before .before .before .cut2 .given .1) (c .before .before .before .before .before .before .before .before .before .before .before .before .before .before .pre .1 .1)) (c .before .before .before .common-length2 .result) (c .before .before .before .common-length2 .ensures .0) in let r = strip-high (c .before .before .before .before .before .before .before .before .before .before .before .before .before .before .args .wide) (c .before .before .before .before .before .before .before .before .before .before .before .before .before .before .args .store .now) (c .before .before .before .before .before .before .cut2 .given .0 .1 .0) (c .before .before .before .before .before .before .before .before .before .before .before .before .before .before .args .level) (part (c .before .before .before .before .before .before .before .before .before .before .before .before .before .before .args .node .now) (c .before .before .before .before .before .before .cut2 .given .0 .1 .1 .0)) (c .before .before .before .before .before .before .before .before .before .before .before .before .before .before .args .hi .now) (c .before .before .before .before .before .before .before .before .before .before .before .before .before .before .args .k .now) (c .before .before .before .before .before .before .before .before .before .before .before .before .before .before .args .at) (c .before .before .before .before .before .before .before .before .before .before .before .before .before .before .args .free .now) (last-asks (c .before .before .before .before .before .before .before .before .before .before .before .before .before .before .args .wide) (c .before .before .before .before .before .before .before .before .before .before .before .before .before .before .args .store .now) (c .before .before .before .before .before .before .before .before .before .before .before .before .before .before .args .node .now) (c .before .before .before .before .before .before .before .before .before .before .before .before .before .before .args .hi .now) (c .before .before .before .before .before .before .before .before .before .before .before .before .before .before .args .k .now) (c .before .before .before .before .before .before .before .before .before .before .before .before .before .before .args .level) (c .before .before .before .before .before .before .before .before .before .before .before .before .before .before .args .at) (c .before .before .before .before .before .before .before .before .before .before .before .before .before .before .args .free .now) (c .before .before .before .before .before .before .before .before .before .before .before .before .before .before .args .cut) _ _ _ (c .before .before .before .before .before .before .cut2 .given .1) (c .before .before .before .before .before .before .before .before .before .before .before .before .before .before .pre .1 .1)) (c .before .before .before .common-length2 .result) (c .before .before .before .common-length2 .ensures .0) in omega arith
-
-right-cut-sub-slice-right-8 : (t : ℕ) → right-cut-lts.Need-sub-slice-right-8 (
-  common-length-reads.Asked,
-  common-length-reads.Learnt,
-  slice-right-below t,
-  slice-right.Post,
-) (right-cut-at t) right-cut.Post
-right-cut-sub-slice-right-8 t c = let q = strip-short (c .before .before .before .before .before .before .before .before .before .before .before .before .before .before .before .args .wide) (c .before .before .before .before .before .before .before .before .before .before .before .before .before .before .before .args .store .now) (c .before .before .before .before .before .before .before .cut2 .given .0 .1 .0) (c .before .before .before .before .before .before .before .before .before .before .before .before .before .before .before .args .level) (part (c .before .before .before .before .before .before .before .before .before .before .before .before .before .before .before .args .node .now) (c .before .before .before .before .before .before .before .cut2 .given .0 .1 .1 .0)) (c .before .before .before .before .before .before .before .before .before .before .before .before .before .before .before .args .hi .now) (c .before .before .before .before .before .before .before .before .before .before .before .before .before .before .before .args .k .now) (c .before .before .before .before .before .before .before .before .before .before .before .before .before .before .before .args .at) (c .before .before .before .before .before .before .before .before .before .before .before .before .before .before .before .args .free .now) (last-asks (c .before .before .before .before .before .before .before .before .before .before .before .before .before .before .before .args .wide) (c .before .before .before .before .before .before .before .before .before .before .before .before .before .before .before .args .store .now) (c .before .before .before .before .before .before .before .before .before .before .before .before .before .before .before .args .node .now) (c .before .before .before .before .before .before .before .before .before .before .before .before .before .before .before .args .hi .now) (c .before .before .before .before .before .before .before .before .before .before .before .before .before .before .before .args .k .now) (c .before .before .before .before .before .before .before .before .before .before .before .before .before .before .before .args .level) (c .before .before .before .before .before .before .before .before .before .before .before .before .before .before .before .args .at) (c .before .before .before .before .before .before .before .before .before .before .before .before .before .before .before .args .free .now) (c .before .before .before .before .before .before .before .before .before .before .before .before .before .before .before .args .cut) _ _ _ (c .before .before .before .before .before .before .before .cut2 .given .1) (c .before .before .before .before .before .before .before .before .before .before .before .before .before .before .before .pre .1 .1)) (c .before .before .before .before .common-length2 .result) (c .before .before .before .before .common-length2 .ensures .0) in let r = strip-high (c .before .before .before .before .before .before .before .before .before .before .before .before .before .before .before .args .wide) (c .before .before .before .before .before .before .before .before .before .before .before .before .before .before .before .args .store .now) (c .before .before .before .before .before .before .before .cut2 .given .0 .1 .0) (c .before .before .before .before .before .before .before .before .before .before .before .before .before .before .before .args .level) (part (c .before .before .before .before .before .before .before .before .before .before .before .before .before .before .before .args .node .now) (c .before .before .before .before .before .before .before .cut2 .given .0 .1 .1 .0)) (c .before .before .before .before .before .before .before .before .before .before .before .before .before .before .before .args .hi .now) (c .before .before .before .before .before .before .before .before .before .before .before .before .before .before .before .args .k .now) (c .before .before .before .before .before .before .before .before .before .before .before .before .before .before .before .args .at) (c .before .before .before .before .before .before .before .before .before .before .before .before .before .before .before .args .free .now) (last-asks (c .before .before .before .before .before .before .before .before .before .before .before .before .before .before .before .args .wide) (c .before .before .before .before .before .before .before .before .before .before .before .before .before .before .before .args .store .now) (c .before .before .before .before .before .before .before .before .before .before .before .before .before .before .before .args .node .now) (c .before .before .before .before .before .before .before .before .before .before .before .before .before .before .before .args .hi .now) (c .before .before .before .before .before .before .before .before .before .before .before .before .before .before .before .args .k .now) (c .before .before .before .before .before .before .before .before .before .before .before .before .before .before .before .args .level) (c .before .before .before .before .before .before .before .before .before .before .before .before .before .before .before .args .at) (c .before .before .before .before .before .before .before .before .before .before .before .before .before .before .before .args .free .now) (c .before .before .before .before .before .before .before .before .before .before .before .before .before .before .before .args .cut) _ _ _ (c .before .before .before .before .before .before .before .cut2 .given .1) (c .before .before .before .before .before .before .before .before .before .before .before .before .before .before .before .pre .1 .1)) (c .before .before .before .before .common-length2 .result) (c .before .before .before .before .common-length2 .ensures .0) in omega arith
-
-right-cut-part-slice-right-start-8 : (t : ℕ) → right-cut-lts.Need-part-slice-right-start-8 (
-  common-length-reads.Asked,
-  common-length-reads.Learnt,
-  slice-right-below t,
-  slice-right.Post,
-) (right-cut-at t) right-cut.Post
-right-cut-part-slice-right-start-8 t c = let q = strip-short (c .before .before .before .before .before .before .before .before .before .before .before .before .before .before .before .args .wide) (c .before .before .before .before .before .before .before .before .before .before .before .before .before .before .before .args .store .now) (c .before .before .before .before .before .before .before .cut2 .given .0 .1 .0) (c .before .before .before .before .before .before .before .before .before .before .before .before .before .before .before .args .level) (part (c .before .before .before .before .before .before .before .before .before .before .before .before .before .before .before .args .node .now) (c .before .before .before .before .before .before .before .cut2 .given .0 .1 .1 .0)) (c .before .before .before .before .before .before .before .before .before .before .before .before .before .before .before .args .hi .now) (c .before .before .before .before .before .before .before .before .before .before .before .before .before .before .before .args .k .now) (c .before .before .before .before .before .before .before .before .before .before .before .before .before .before .before .args .at) (c .before .before .before .before .before .before .before .before .before .before .before .before .before .before .before .args .free .now) (last-asks (c .before .before .before .before .before .before .before .before .before .before .before .before .before .before .before .args .wide) (c .before .before .before .before .before .before .before .before .before .before .before .before .before .before .before .args .store .now) (c .before .before .before .before .before .before .before .before .before .before .before .before .before .before .before .args .node .now) (c .before .before .before .before .before .before .before .before .before .before .before .before .before .before .before .args .hi .now) (c .before .before .before .before .before .before .before .before .before .before .before .before .before .before .before .args .k .now) (c .before .before .before .before .before .before .before .before .before .before .before .before .before .before .before .args .level) (c .before .before .before .before .before .before .before .before .before .before .before .before .before .before .before .args .at) (c .before .before .before .before .before .before .before .before .before .before .before .before .before .before .before .args .free .now) (c .before .before .before .before .before .before .before .before .before .before .before .before .before .before .before .args .cut) _ _ _ (c .before .before .before .before .before .before .before .cut2 .given .1) (c .before .before .before .before .before .before .before .before .before .before .before .before .before .before .before .pre .1 .1)) (c .before .before .before .before .common-length2 .result) (c .before .before .before .before .common-length2 .ensures .0) in let r = strip-high (c .before .before .before .before .before .before .before .before .before .before .before .before .before .before .before .args .wide) (c .before .before .before .before .before .before .before .before .before .before .before .before .before .before .before .args .store .now) (c .before .before .before .before .before .before .before .cut2 .given .0 .1 .0) (c .before .before .before .before .before .before .before .before .before .before .before .before .before .before .before .args .level) (part (c .before .before .before .before .before .before .before .before .before .before .before .before .before .before .before .args .node .now) (c .before .before .before .before .before .before .before .cut2 .given .0 .1 .1 .0)) (c .before .before .before .before .before .before .before .before .before .before .before .before .before .before .before .args .hi .now) (c .before .before .before .before .before .before .before .before .before .before .before .before .before .before .before .args .k .now) (c .before .before .before .before .before .before .before .before .before .before .before .before .before .before .before .args .at) (c .before .before .before .before .before .before .before .before .before .before .before .before .before .before .before .args .free .now) (last-asks (c .before .before .before .before .before .before .before .before .before .before .before .before .before .before .before .args .wide) (c .before .before .before .before .before .before .before .before .before .before .before .before .before .before .before .args .store .now) (c .before .before .before .before .before .before .before .before .before .before .before .before .before .before .before .args .node .now) (c .before .before .before .before .before .before .before .before .before .before .before .before .before .before .before .args .hi .now) (c .before .before .before .before .before .before .before .before .before .before .before .before .before .before .before .args .k .now) (c .before .before .before .before .before .before .before .before .before .before .before .before .before .before .before .args .level) (c .before .before .before .before .before .before .before .before .before .before .before .before .before .before .before .args .at) (c .before .before .before .before .before .before .before .before .before .before .before .before .before .before .before .args .free .now) (c .before .before .before .before .before .before .before .before .before .before .before .before .before .before .before .args .cut) _ _ _ (c .before .before .before .before .before .before .before .cut2 .given .1) (c .before .before .before .before .before .before .before .before .before .before .before .before .before .before .before .pre .1 .1)) (c .before .before .before .before .common-length2 .result) (c .before .before .before .before .common-length2 .ensures .0) in omega arith
-
-right-cut-part-slice-right-end-8 : (t : ℕ) → right-cut-lts.Need-part-slice-right-end-8 (
-  common-length-reads.Asked,
-  common-length-reads.Learnt,
-  slice-right-below t,
-  slice-right.Post,
-) (right-cut-at t) right-cut.Post
-right-cut-part-slice-right-end-8 t c = let q = strip-short (c .before .before .before .before .before .before .before .before .before .before .before .before .before .before .before .args .wide) (c .before .before .before .before .before .before .before .before .before .before .before .before .before .before .before .args .store .now) (c .before .before .before .before .before .before .before .cut2 .given .0 .1 .0) (c .before .before .before .before .before .before .before .before .before .before .before .before .before .before .before .args .level) (part (c .before .before .before .before .before .before .before .before .before .before .before .before .before .before .before .args .node .now) (c .before .before .before .before .before .before .before .cut2 .given .0 .1 .1 .0)) (c .before .before .before .before .before .before .before .before .before .before .before .before .before .before .before .args .hi .now) (c .before .before .before .before .before .before .before .before .before .before .before .before .before .before .before .args .k .now) (c .before .before .before .before .before .before .before .before .before .before .before .before .before .before .before .args .at) (c .before .before .before .before .before .before .before .before .before .before .before .before .before .before .before .args .free .now) (last-asks (c .before .before .before .before .before .before .before .before .before .before .before .before .before .before .before .args .wide) (c .before .before .before .before .before .before .before .before .before .before .before .before .before .before .before .args .store .now) (c .before .before .before .before .before .before .before .before .before .before .before .before .before .before .before .args .node .now) (c .before .before .before .before .before .before .before .before .before .before .before .before .before .before .before .args .hi .now) (c .before .before .before .before .before .before .before .before .before .before .before .before .before .before .before .args .k .now) (c .before .before .before .before .before .before .before .before .before .before .before .before .before .before .before .args .level) (c .before .before .before .before .before .before .before .before .before .before .before .before .before .before .before .args .at) (c .before .before .before .before .before .before .before .before .before .before .before .before .before .before .before .args .free .now) (c .before .before .before .before .before .before .before .before .before .before .before .before .before .before .before .args .cut) _ _ _ (c .before .before .before .before .before .before .before .cut2 .given .1) (c .before .before .before .before .before .before .before .before .before .before .before .before .before .before .before .pre .1 .1)) (c .before .before .before .before .common-length2 .result) (c .before .before .before .before .common-length2 .ensures .0) in let r = strip-high (c .before .before .before .before .before .before .before .before .before .before .before .before .before .before .before .args .wide) (c .before .before .before .before .before .before .before .before .before .before .before .before .before .before .before .args .store .now) (c .before .before .before .before .before .before .before .cut2 .given .0 .1 .0) (c .before .before .before .before .before .before .before .before .before .before .before .before .before .before .before .args .level) (part (c .before .before .before .before .before .before .before .before .before .before .before .before .before .before .before .args .node .now) (c .before .before .before .before .before .before .before .cut2 .given .0 .1 .1 .0)) (c .before .before .before .before .before .before .before .before .before .before .before .before .before .before .before .args .hi .now) (c .before .before .before .before .before .before .before .before .before .before .before .before .before .before .before .args .k .now) (c .before .before .before .before .before .before .before .before .before .before .before .before .before .before .before .args .at) (c .before .before .before .before .before .before .before .before .before .before .before .before .before .before .before .args .free .now) (last-asks (c .before .before .before .before .before .before .before .before .before .before .before .before .before .before .before .args .wide) (c .before .before .before .before .before .before .before .before .before .before .before .before .before .before .before .args .store .now) (c .before .before .before .before .before .before .before .before .before .before .before .before .before .before .before .args .node .now) (c .before .before .before .before .before .before .before .before .before .before .before .before .before .before .before .args .hi .now) (c .before .before .before .before .before .before .before .before .before .before .before .before .before .before .before .args .k .now) (c .before .before .before .before .before .before .before .before .before .before .before .before .before .before .before .args .level) (c .before .before .before .before .before .before .before .before .before .before .before .before .before .before .before .args .at) (c .before .before .before .before .before .before .before .before .before .before .before .before .before .before .before .args .free .now) (c .before .before .before .before .before .before .before .before .before .before .before .before .before .before .before .args .cut) _ _ _ (c .before .before .before .before .before .before .before .cut2 .given .1) (c .before .before .before .before .before .before .before .before .before .before .before .before .before .before .before .pre .1 .1)) (c .before .before .before .before .common-length2 .result) (c .before .before .before .before .common-length2 .ensures .0) in omega arith
+right-cut-part-slice-right-end-6 t c = let q = strip-short (c .before .before .before .before .before .before .before .before .before .before .before .before .before .before .args .split .wide) (c .before .before .before .before .before .before .before .before .before .before .before .before .before .before .args .store .now) (c .before .before .before .before .before .before .cut2 .given .0 .1 .0) (c .before .before .before .before .before .before .before .before .before .before .before .before .before .before .args .split .level) (part (c .before .before .before .before .before .before .before .before .before .before .before .before .before .before .args .node .now) (c .before .before .before .before .before .before .cut2 .given .0 .1 .1 .0)) (c .before .before .before .before .before .before .before .before .before .before .before .before .before .before .args .hi .now) (c .before .before .before .before .before .before .before .before .before .before .before .before .before .before .args .k .now) (c .before .before .before .before .before .before .before .before .before .before .before .before .before .before .args .split .at) (c .before .before .before .before .before .before .before .before .before .before .before .before .before .before .args .free .now) (last-asks (c .before .before .before .before .before .before .before .before .before .before .before .before .before .before .args .split .wide) (c .before .before .before .before .before .before .before .before .before .before .before .before .before .before .args .store .now) (c .before .before .before .before .before .before .before .before .before .before .before .before .before .before .args .node .now) (c .before .before .before .before .before .before .before .before .before .before .before .before .before .before .args .hi .now) (c .before .before .before .before .before .before .before .before .before .before .before .before .before .before .args .k .now) (c .before .before .before .before .before .before .before .before .before .before .before .before .before .before .args .split .level) (c .before .before .before .before .before .before .before .before .before .before .before .before .before .before .args .split .at) (c .before .before .before .before .before .before .before .before .before .before .before .before .before .before .args .free .now) (c .before .before .before .before .before .before .before .before .before .before .before .before .before .before .args .split .cut) _ _ _ (c .before .before .before .before .before .before .cut2 .given .1) (c .before .before .before .before .before .before .before .before .before .before .before .before .before .before .pre .1 .1)) (c .before .before .before .common-length2 .result) (c .before .before .before .common-length2 .ensures .0) in let r = strip-high (c .before .before .before .before .before .before .before .before .before .before .before .before .before .before .args .split .wide) (c .before .before .before .before .before .before .before .before .before .before .before .before .before .before .args .store .now) (c .before .before .before .before .before .before .cut2 .given .0 .1 .0) (c .before .before .before .before .before .before .before .before .before .before .before .before .before .before .args .split .level) (part (c .before .before .before .before .before .before .before .before .before .before .before .before .before .before .args .node .now) (c .before .before .before .before .before .before .cut2 .given .0 .1 .1 .0)) (c .before .before .before .before .before .before .before .before .before .before .before .before .before .before .args .hi .now) (c .before .before .before .before .before .before .before .before .before .before .before .before .before .before .args .k .now) (c .before .before .before .before .before .before .before .before .before .before .before .before .before .before .args .split .at) (c .before .before .before .before .before .before .before .before .before .before .before .before .before .before .args .free .now) (last-asks (c .before .before .before .before .before .before .before .before .before .before .before .before .before .before .args .split .wide) (c .before .before .before .before .before .before .before .before .before .before .before .before .before .before .args .store .now) (c .before .before .before .before .before .before .before .before .before .before .before .before .before .before .args .node .now) (c .before .before .before .before .before .before .before .before .before .before .before .before .before .before .args .hi .now) (c .before .before .before .before .before .before .before .before .before .before .before .before .before .before .args .k .now) (c .before .before .before .before .before .before .before .before .before .before .before .before .before .before .args .split .level) (c .before .before .before .before .before .before .before .before .before .before .before .before .before .before .args .split .at) (c .before .before .before .before .before .before .before .before .before .before .before .before .before .before .args .free .now) (c .before .before .before .before .before .before .before .before .before .before .before .before .before .before .args .split .cut) _ _ _ (c .before .before .before .before .before .before .cut2 .given .1) (c .before .before .before .before .before .before .before .before .before .before .before .before .before .before .pre .1 .1)) (c .before .before .before .common-length2 .result) (c .before .before .before .common-length2 .ensures .0) in omega arith
 
 right-cut-slice-right-requires-2 : (t : ℕ) → right-cut-lts.Need-slice-right-requires-2 (
   common-length-reads.Asked,
@@ -384,7 +324,7 @@ right-cut-slice-right-requires-2 : (t : ℕ) → right-cut-lts.Need-slice-right-
   slice-right-below t,
   slice-right.Post,
 ) (right-cut-at t) right-cut.Post
-right-cut-slice-right-requires-2 t c κs = let w = last-places (c .before .before .before .before .before .before .before .before .before .before .before .before .before .before .before .before .before .args .store .now) (c .before .before .before .before .before .before .before .before .before .before .before .before .before .before .before .before .before .args .node .now) (c .before .before .before .before .before .before .before .before .before .before .before .before .before .before .before .before .before .args .hi .now) (c .before .before .before .before .before .before .before .before .before .before .before .before .before .before .before .before .before .args .k .now) (c .before .before .before .before .before .before .before .before .before .before .before .before .before .before .before .before .before .args .level) (c .before .before .before .before .before .before .before .before .before .before .before .before .before .before .before .before .before .args .at) (c .before .before .before .before .before .before .before .before .before .before .before .before .before .before .before .before .before .args .free .now) (c .before .before .before .before .before .before .before .before .before .before .before .before .before .before .before .before .before .args .cut) _ _ _ (c .before .before .before .before .before .before .before .before .before .cut2 .given .1) (c .before .before .before .before .before .before .before .before .before .before .before .before .before .before .before .before .before .pre .1 .0) in let la = cut-length (c .before .before .before .before .before .before .before .before .before .before .before .before .before .before .before .before .before .args .node .now) ((c .before .before .before .before .before .before .before .before .before .cut2 .given .0 .1 .1 .0) .start) ((c .before .before .before .before .before .before .before .before .before .cut2 .given .0 .1 .1 .0) .stop) (w .rises) (w .high) in let lx = ap length (lift-is (c .before .before .before .before .before .before .before .before .before .before .before .before .before .before .before .before .before .args .wide) (c .before .before .before .before .before .before .before .before .before .before .before .before .before .before .before .before .before .args .store .now) (c .before .before .before .before .before .before .before .before .before .cut2 .given .0 .1 .0) (c .before .before .before .before .before .before .before .before .before .before .before .before .before .before .before .before .before .args .level) (part (c .before .before .before .before .before .before .before .before .before .before .before .before .before .before .before .before .before .args .node .now) (c .before .before .before .before .before .before .before .before .before .cut2 .given .0 .1 .1 .0)) (c .before .before .before .before .before .before .before .before .before .before .before .before .before .before .before .before .before .args .hi .now) (c .before .before .before .before .before .before .before .before .before .before .before .before .before .before .before .before .before .args .k .now) (c .before .before .before .before .before .before .before .before .before .before .before .before .before .before .before .before .before .args .at) (c .before .before .before .before .before .before .before .before .before .before .before .before .before .before .before .before .before .args .free .now) (last-asks (c .before .before .before .before .before .before .before .before .before .before .before .before .before .before .before .before .before .args .wide) (c .before .before .before .before .before .before .before .before .before .before .before .before .before .before .before .before .before .args .store .now) (c .before .before .before .before .before .before .before .before .before .before .before .before .before .before .before .before .before .args .node .now) (c .before .before .before .before .before .before .before .before .before .before .before .before .before .before .before .before .before .args .hi .now) (c .before .before .before .before .before .before .before .before .before .before .before .before .before .before .before .before .before .args .k .now) (c .before .before .before .before .before .before .before .before .before .before .before .before .before .before .before .before .before .args .level) (c .before .before .before .before .before .before .before .before .before .before .before .before .before .before .before .before .before .args .at) (c .before .before .before .before .before .before .before .before .before .before .before .before .before .before .before .before .before .args .free .now) (c .before .before .before .before .before .before .before .before .before .before .before .before .before .before .before .before .before .args .cut) _ _ _ (c .before .before .before .before .before .before .before .before .before .cut2 .given .1) (c .before .before .before .before .before .before .before .before .before .before .before .before .before .before .before .before .before .pre .1 .1)) (c .before .before .before .before .before .before .common-length2 .result) (c .before .before .before .before .before .before .common-length2 .ensures .0)) in let lk = ap length (part-rest (c .before .before .before .before .before .before .common-length2 .result) (c .before .before .before .before .before .before .before .before .before .before .before .before .before .before .before .before .before .args .k .now)) in let ld = length-drop (c .before .before .before .before .before .before .common-length2 .result) (c .before .before .before .before .before .before .before .before .before .before .before .before .before .before .before .before .before .args .k .now) in let q = strip-short (c .before .before .before .before .before .before .before .before .before .before .before .before .before .before .before .before .before .args .wide) (c .before .before .before .before .before .before .before .before .before .before .before .before .before .before .before .before .before .args .store .now) (c .before .before .before .before .before .before .before .before .before .cut2 .given .0 .1 .0) (c .before .before .before .before .before .before .before .before .before .before .before .before .before .before .before .before .before .args .level) (part (c .before .before .before .before .before .before .before .before .before .before .before .before .before .before .before .before .before .args .node .now) (c .before .before .before .before .before .before .before .before .before .cut2 .given .0 .1 .1 .0)) (c .before .before .before .before .before .before .before .before .before .before .before .before .before .before .before .before .before .args .hi .now) (c .before .before .before .before .before .before .before .before .before .before .before .before .before .before .before .before .before .args .k .now) (c .before .before .before .before .before .before .before .before .before .before .before .before .before .before .before .before .before .args .at) (c .before .before .before .before .before .before .before .before .before .before .before .before .before .before .before .before .before .args .free .now) (last-asks (c .before .before .before .before .before .before .before .before .before .before .before .before .before .before .before .before .before .args .wide) (c .before .before .before .before .before .before .before .before .before .before .before .before .before .before .before .before .before .args .store .now) (c .before .before .before .before .before .before .before .before .before .before .before .before .before .before .before .before .before .args .node .now) (c .before .before .before .before .before .before .before .before .before .before .before .before .before .before .before .before .before .args .hi .now) (c .before .before .before .before .before .before .before .before .before .before .before .before .before .before .before .before .before .args .k .now) (c .before .before .before .before .before .before .before .before .before .before .before .before .before .before .before .before .before .args .level) (c .before .before .before .before .before .before .before .before .before .before .before .before .before .before .before .before .before .args .at) (c .before .before .before .before .before .before .before .before .before .before .before .before .before .before .before .before .before .args .free .now) (c .before .before .before .before .before .before .before .before .before .before .before .before .before .before .before .before .before .args .cut) _ _ _ (c .before .before .before .before .before .before .before .before .before .cut2 .given .1) (c .before .before .before .before .before .before .before .before .before .before .before .before .before .before .before .before .before .pre .1 .1)) (c .before .before .before .before .before .before .common-length2 .result) (c .before .before .before .before .before .before .common-length2 .ensures .0) in let o = c .before .before .before .before .before .before .before .before .before .before .before .before .before .before .before .before .before .pre .1 .2 in let ej = (c .before .before .before .before .before .before .common-length2 .ensures .0) in (omega arith, (strip-asks (c .before .before .before .before .before .before .before .before .before .before .before .before .before .before .before .before .before .args .wide) (c .before .before .before .before .before .before .before .before .before .before .before .before .before .before .before .before .before .args .store .now) (c .before .before .before .before .before .before .before .before .before .cut2 .given .0 .1 .0) (c .before .before .before .before .before .before .before .before .before .before .before .before .before .before .before .before .before .args .level) (part (c .before .before .before .before .before .before .before .before .before .before .before .before .before .before .before .before .before .args .node .now) (c .before .before .before .before .before .before .before .before .before .cut2 .given .0 .1 .1 .0)) (c .before .before .before .before .before .before .before .before .before .before .before .before .before .before .before .before .before .args .hi .now) (c .before .before .before .before .before .before .before .before .before .before .before .before .before .before .before .before .before .args .k .now) (c .before .before .before .before .before .before .before .before .before .before .before .before .before .before .before .before .before .args .at) (c .before .before .before .before .before .before .before .before .before .before .before .before .before .before .before .before .before .args .free .now) (last-asks (c .before .before .before .before .before .before .before .before .before .before .before .before .before .before .before .before .before .args .wide) (c .before .before .before .before .before .before .before .before .before .before .before .before .before .before .before .before .before .args .store .now) (c .before .before .before .before .before .before .before .before .before .before .before .before .before .before .before .before .before .args .node .now) (c .before .before .before .before .before .before .before .before .before .before .before .before .before .before .before .before .before .args .hi .now) (c .before .before .before .before .before .before .before .before .before .before .before .before .before .before .before .before .before .args .k .now) (c .before .before .before .before .before .before .before .before .before .before .before .before .before .before .before .before .before .args .level) (c .before .before .before .before .before .before .before .before .before .before .before .before .before .before .before .before .before .args .at) (c .before .before .before .before .before .before .before .before .before .before .before .before .before .before .before .before .before .args .free .now) (c .before .before .before .before .before .before .before .before .before .before .before .before .before .before .before .before .before .args .cut) _ _ _ (c .before .before .before .before .before .before .before .before .before .cut2 .given .1) (c .before .before .before .before .before .before .before .before .before .before .before .before .before .before .before .before .before .pre .1 .1)) (c .before .before .before .before .before .before .common-length2 .result) (c .before .before .before .before .before .before .common-length2 .ensures .0) _ _ _ (take ((c .before .before .before .before .before .before .common-length2 .result) - 0) (drop 0 (c .before .before .before .before .before .before .before .before .before .before .before .before .before .before .before .before .before .args .k .now))) (sym (cut-drop (c .before .before .before .before .before .before .before .before .before .before .before .before .before .before .before .before .before .args .node .now) ((c .before .before .before .before .before .before .before .before .before .cut2 .given .0 .1 .1 .0) .start) ((c .before .before .before .before .before .before .before .before .before .cut2 .given .0 .1 .1 .0) .stop) (c .before .before .before .before .before .before .common-length2 .result) (omega arith))) (part-rest (c .before .before .before .before .before .before .common-length2 .result) (c .before .before .before .before .before .before .before .before .before .before .before .before .before .before .before .before .before .args .hi .now)) (part-rest (c .before .before .before .before .before .before .common-length2 .result) (c .before .before .before .before .before .before .before .before .before .before .before .before .before .before .before .before .before .args .k .now)) refl, strip-bare (c .before .before .before .before .before .before .before .before .before .before .before .before .before .before .before .before .before .args .wide) (c .before .before .before .before .before .before .before .before .before .before .before .before .before .before .before .before .before .args .store .now) (c .before .before .before .before .before .before .before .before .before .cut2 .given .0 .1 .0) (c .before .before .before .before .before .before .before .before .before .before .before .before .before .before .before .before .before .args .level) (part (c .before .before .before .before .before .before .before .before .before .before .before .before .before .before .before .before .before .args .node .now) (c .before .before .before .before .before .before .before .before .before .cut2 .given .0 .1 .1 .0)) (c .before .before .before .before .before .before .before .before .before .before .before .before .before .before .before .before .before .args .hi .now) (c .before .before .before .before .before .before .before .before .before .before .before .before .before .before .before .before .before .args .k .now) (c .before .before .before .before .before .before .before .before .before .before .before .before .before .before .before .before .before .args .at) (c .before .before .before .before .before .before .before .before .before .before .before .before .before .before .before .before .before .args .free .now) (last-asks (c .before .before .before .before .before .before .before .before .before .before .before .before .before .before .before .before .before .args .wide) (c .before .before .before .before .before .before .before .before .before .before .before .before .before .before .before .before .before .args .store .now) (c .before .before .before .before .before .before .before .before .before .before .before .before .before .before .before .before .before .args .node .now) (c .before .before .before .before .before .before .before .before .before .before .before .before .before .before .before .before .before .args .hi .now) (c .before .before .before .before .before .before .before .before .before .before .before .before .before .before .before .before .before .args .k .now) (c .before .before .before .before .before .before .before .before .before .before .before .before .before .before .before .before .before .args .level) (c .before .before .before .before .before .before .before .before .before .before .before .before .before .before .before .before .before .args .at) (c .before .before .before .before .before .before .before .before .before .before .before .before .before .before .before .before .before .args .free .now) (c .before .before .before .before .before .before .before .before .before .before .before .before .before .before .before .before .before .args .cut) _ _ _ (c .before .before .before .before .before .before .before .before .before .cut2 .given .1) (c .before .before .before .before .before .before .before .before .before .before .before .before .before .before .before .before .before .pre .1 .1)) (c .before .before .before .before .before .before .common-length2 .result) (c .before .before .before .before .before .before .common-length2 .ensures .0) _ _ _ (take ((c .before .before .before .before .before .before .common-length2 .result) - 0) (drop 0 (c .before .before .before .before .before .before .before .before .before .before .before .before .before .before .before .before .before .args .k .now))) (sym (cut-drop (c .before .before .before .before .before .before .before .before .before .before .before .before .before .before .before .before .before .args .node .now) ((c .before .before .before .before .before .before .before .before .before .cut2 .given .0 .1 .1 .0) .start) ((c .before .before .before .before .before .before .before .before .before .cut2 .given .0 .1 .1 .0) .stop) (c .before .before .before .before .before .before .common-length2 .result) (omega arith))) (part-rest (c .before .before .before .before .before .before .common-length2 .result) (c .before .before .before .before .before .before .before .before .before .before .before .before .before .before .before .before .before .args .hi .now)) (part-rest (c .before .before .before .before .before .before .common-length2 .result) (c .before .before .before .before .before .before .before .before .before .before .before .before .before .before .before .before .before .args .k .now)) refl, omega arith, omega arith))
+right-cut-slice-right-requires-2 t c κs = let w = last-places (c .before .before .before .before .before .before .before .before .before .before .before .before .before .before .before .before .args .store .now) (c .before .before .before .before .before .before .before .before .before .before .before .before .before .before .before .before .args .node .now) (c .before .before .before .before .before .before .before .before .before .before .before .before .before .before .before .before .args .hi .now) (c .before .before .before .before .before .before .before .before .before .before .before .before .before .before .before .before .args .k .now) (c .before .before .before .before .before .before .before .before .before .before .before .before .before .before .before .before .args .split .level) (c .before .before .before .before .before .before .before .before .before .before .before .before .before .before .before .before .args .split .at) (c .before .before .before .before .before .before .before .before .before .before .before .before .before .before .before .before .args .free .now) (c .before .before .before .before .before .before .before .before .before .before .before .before .before .before .before .before .args .split .cut) _ _ _ (c .before .before .before .before .before .before .before .before .cut2 .given .1) (c .before .before .before .before .before .before .before .before .before .before .before .before .before .before .before .before .pre .1 .0) in let la = cut-length (c .before .before .before .before .before .before .before .before .before .before .before .before .before .before .before .before .args .node .now) ((c .before .before .before .before .before .before .before .before .cut2 .given .0 .1 .1 .0) .start) ((c .before .before .before .before .before .before .before .before .cut2 .given .0 .1 .1 .0) .stop) (w .rises) (w .high) in let lx = ap length (lift-is (c .before .before .before .before .before .before .before .before .before .before .before .before .before .before .before .before .args .split .wide) (c .before .before .before .before .before .before .before .before .before .before .before .before .before .before .before .before .args .store .now) (c .before .before .before .before .before .before .before .before .cut2 .given .0 .1 .0) (c .before .before .before .before .before .before .before .before .before .before .before .before .before .before .before .before .args .split .level) (part (c .before .before .before .before .before .before .before .before .before .before .before .before .before .before .before .before .args .node .now) (c .before .before .before .before .before .before .before .before .cut2 .given .0 .1 .1 .0)) (c .before .before .before .before .before .before .before .before .before .before .before .before .before .before .before .before .args .hi .now) (c .before .before .before .before .before .before .before .before .before .before .before .before .before .before .before .before .args .k .now) (c .before .before .before .before .before .before .before .before .before .before .before .before .before .before .before .before .args .split .at) (c .before .before .before .before .before .before .before .before .before .before .before .before .before .before .before .before .args .free .now) (last-asks (c .before .before .before .before .before .before .before .before .before .before .before .before .before .before .before .before .args .split .wide) (c .before .before .before .before .before .before .before .before .before .before .before .before .before .before .before .before .args .store .now) (c .before .before .before .before .before .before .before .before .before .before .before .before .before .before .before .before .args .node .now) (c .before .before .before .before .before .before .before .before .before .before .before .before .before .before .before .before .args .hi .now) (c .before .before .before .before .before .before .before .before .before .before .before .before .before .before .before .before .args .k .now) (c .before .before .before .before .before .before .before .before .before .before .before .before .before .before .before .before .args .split .level) (c .before .before .before .before .before .before .before .before .before .before .before .before .before .before .before .before .args .split .at) (c .before .before .before .before .before .before .before .before .before .before .before .before .before .before .before .before .args .free .now) (c .before .before .before .before .before .before .before .before .before .before .before .before .before .before .before .before .args .split .cut) _ _ _ (c .before .before .before .before .before .before .before .before .cut2 .given .1) (c .before .before .before .before .before .before .before .before .before .before .before .before .before .before .before .before .pre .1 .1)) (c .before .before .before .before .before .common-length2 .result) (c .before .before .before .before .before .common-length2 .ensures .0)) in let lk = ap length (part-rest (c .before .before .before .before .before .common-length2 .result) (c .before .before .before .before .before .before .before .before .before .before .before .before .before .before .before .before .args .k .now)) in let ld = length-drop (c .before .before .before .before .before .common-length2 .result) (c .before .before .before .before .before .before .before .before .before .before .before .before .before .before .before .before .args .k .now) in let q = strip-short (c .before .before .before .before .before .before .before .before .before .before .before .before .before .before .before .before .args .split .wide) (c .before .before .before .before .before .before .before .before .before .before .before .before .before .before .before .before .args .store .now) (c .before .before .before .before .before .before .before .before .cut2 .given .0 .1 .0) (c .before .before .before .before .before .before .before .before .before .before .before .before .before .before .before .before .args .split .level) (part (c .before .before .before .before .before .before .before .before .before .before .before .before .before .before .before .before .args .node .now) (c .before .before .before .before .before .before .before .before .cut2 .given .0 .1 .1 .0)) (c .before .before .before .before .before .before .before .before .before .before .before .before .before .before .before .before .args .hi .now) (c .before .before .before .before .before .before .before .before .before .before .before .before .before .before .before .before .args .k .now) (c .before .before .before .before .before .before .before .before .before .before .before .before .before .before .before .before .args .split .at) (c .before .before .before .before .before .before .before .before .before .before .before .before .before .before .before .before .args .free .now) (last-asks (c .before .before .before .before .before .before .before .before .before .before .before .before .before .before .before .before .args .split .wide) (c .before .before .before .before .before .before .before .before .before .before .before .before .before .before .before .before .args .store .now) (c .before .before .before .before .before .before .before .before .before .before .before .before .before .before .before .before .args .node .now) (c .before .before .before .before .before .before .before .before .before .before .before .before .before .before .before .before .args .hi .now) (c .before .before .before .before .before .before .before .before .before .before .before .before .before .before .before .before .args .k .now) (c .before .before .before .before .before .before .before .before .before .before .before .before .before .before .before .before .args .split .level) (c .before .before .before .before .before .before .before .before .before .before .before .before .before .before .before .before .args .split .at) (c .before .before .before .before .before .before .before .before .before .before .before .before .before .before .before .before .args .free .now) (c .before .before .before .before .before .before .before .before .before .before .before .before .before .before .before .before .args .split .cut) _ _ _ (c .before .before .before .before .before .before .before .before .cut2 .given .1) (c .before .before .before .before .before .before .before .before .before .before .before .before .before .before .before .before .pre .1 .1)) (c .before .before .before .before .before .common-length2 .result) (c .before .before .before .before .before .common-length2 .ensures .0) in let o = c .before .before .before .before .before .before .before .before .before .before .before .before .before .before .before .before .pre .1 .2 in let ej = (c .before .before .before .before .before .common-length2 .ensures .0) in (omega arith, (strip-asks (c .before .before .before .before .before .before .before .before .before .before .before .before .before .before .before .before .args .split .wide) (c .before .before .before .before .before .before .before .before .before .before .before .before .before .before .before .before .args .store .now) (c .before .before .before .before .before .before .before .before .cut2 .given .0 .1 .0) (c .before .before .before .before .before .before .before .before .before .before .before .before .before .before .before .before .args .split .level) (part (c .before .before .before .before .before .before .before .before .before .before .before .before .before .before .before .before .args .node .now) (c .before .before .before .before .before .before .before .before .cut2 .given .0 .1 .1 .0)) (c .before .before .before .before .before .before .before .before .before .before .before .before .before .before .before .before .args .hi .now) (c .before .before .before .before .before .before .before .before .before .before .before .before .before .before .before .before .args .k .now) (c .before .before .before .before .before .before .before .before .before .before .before .before .before .before .before .before .args .split .at) (c .before .before .before .before .before .before .before .before .before .before .before .before .before .before .before .before .args .free .now) (last-asks (c .before .before .before .before .before .before .before .before .before .before .before .before .before .before .before .before .args .split .wide) (c .before .before .before .before .before .before .before .before .before .before .before .before .before .before .before .before .args .store .now) (c .before .before .before .before .before .before .before .before .before .before .before .before .before .before .before .before .args .node .now) (c .before .before .before .before .before .before .before .before .before .before .before .before .before .before .before .before .args .hi .now) (c .before .before .before .before .before .before .before .before .before .before .before .before .before .before .before .before .args .k .now) (c .before .before .before .before .before .before .before .before .before .before .before .before .before .before .before .before .args .split .level) (c .before .before .before .before .before .before .before .before .before .before .before .before .before .before .before .before .args .split .at) (c .before .before .before .before .before .before .before .before .before .before .before .before .before .before .before .before .args .free .now) (c .before .before .before .before .before .before .before .before .before .before .before .before .before .before .before .before .args .split .cut) _ _ _ (c .before .before .before .before .before .before .before .before .cut2 .given .1) (c .before .before .before .before .before .before .before .before .before .before .before .before .before .before .before .before .pre .1 .1)) (c .before .before .before .before .before .common-length2 .result) (c .before .before .before .before .before .common-length2 .ensures .0) _ _ (take ((c .before .before .before .before .before .common-length2 .result) - 0) (drop 0 (c .before .before .before .before .before .before .before .before .before .before .before .before .before .before .before .before .args .k .now))) (part-rest (c .before .before .before .before .before .common-length2 .result) (c .before .before .before .before .before .before .before .before .before .before .before .before .before .before .before .before .args .hi .now)) (part-rest (c .before .before .before .before .before .common-length2 .result) (c .before .before .before .before .before .before .before .before .before .before .before .before .before .before .before .before .args .k .now)) refl, omega arith, omega arith))
 
 right-cut-enum-told : (t : ℕ) → right-cut-lts.Need-enum-told (
   common-length-reads.Asked,
@@ -424,7 +364,7 @@ right-cut-returns : (t : ℕ) → right-cut-lts.Need-returns (
   slice-right-below t,
   slice-right.Post,
 ) (right-cut-at t) right-cut.Post
-right-cut-returns t c = let w = inner-places (c .before .before .before .before .before .before .before .before .before .before .before .before .before .before .before .before .before .before .before .before .before .before .before .args .store .now) (c .before .before .before .before .before .before .before .before .before .before .before .before .before .before .before .before .before .before .before .before .before .before .before .args .node .now) (c .before .before .before .before .before .before .before .before .before .before .before .before .before .before .before .before .before .before .before .before .before .before .before .args .hi .now) (c .before .before .before .before .before .before .before .before .before .before .before .before .before .before .before .before .before .before .before .before .before .before .before .args .k .now) (c .before .before .before .before .before .before .before .before .before .before .before .before .before .before .before .before .before .before .before .before .before .before .before .args .level) (c .before .before .before .before .before .before .before .before .before .before .before .before .before .before .before .before .before .before .before .before .before .before .before .args .at) (c .before .before .before .before .before .before .before .before .before .before .before .before .before .before .before .before .before .before .before .before .before .before .before .args .free .now) (c .before .before .before .before .before .before .before .before .before .before .before .before .before .before .before .before .before .before .before .before .before .before .before .args .cut) _ _ _ _ (c .before .before .before .before .before .before .before .before .before .before .before .before .before .before .before .cut .given .1) (c .before .before .before .before .before .before .before .before .before .before .before .before .before .before .before .before .before .before .before .before .before .before .before .pre .1 .0) in let la = cut-length (c .before .before .before .before .before .before .before .before .before .before .before .before .before .before .before .before .before .before .before .before .before .before .before .args .node .now) ((c .before .before .before .before .before .before .before .before .before .before .before .before .before .before .before .cut .given .0 .1 .1 .0) .start) ((c .before .before .before .before .before .before .before .before .before .before .before .before .before .before .before .cut .given .0 .1 .1 .0) .stop) (w .0 .rises) (w .0 .high) in let lb = cut-length (c .before .before .before .before .before .before .before .before .before .before .before .before .before .before .before .before .before .before .before .before .before .before .before .args .node .now) ((c .before .before .before .before .before .before .before .before .before .before .before .before .before .before .before .cut .given .0 .1 .1 .1 .0) .start) ((c .before .before .before .before .before .before .before .before .before .before .before .before .before .before .before .cut .given .0 .1 .1 .1 .0) .stop) (w .1 .rises) (w .1 .high) in inner-at (c .before .before .before .before .before .before .before .before .before .before .before .before .before .before .before .before .before .before .before .before .before .before .before .args .wide) (c .before .before .before .before .before .before .before .before .before .before .before .before .before .before .before .before .before .before .before .before .before .before .before .args .store .now) (c .before .before .before .before .before .before .before .before .before .before .before .before .before .before .before .before .before .before .before .before .before .before .before .args .node .now) (c .before .before .before .before .before .before .before .before .before .before .before .before .before .before .before .before .before .before .before .before .before .before .before .args .hi .now) (c .before .before .before .before .before .before .before .before .before .before .before .before .before .before .before .before .before .before .before .before .before .before .before .args .k .now) (c .before .before .before .before .before .before .before .before .before .before .before .before .before .before .before .before .before .before .before .before .before .before .before .args .level) (c .before .before .before .before .before .before .before .before .before .before .before .before .before .before .before .before .before .before .before .before .before .before .before .args .at) (c .before .before .before .before .before .before .before .before .before .before .before .before .before .before .before .before .before .before .before .before .before .before .before .args .free .now) (c .before .before .before .before .before .before .before .before .before .before .before .before .before .before .before .before .before .before .before .before .before .before .before .args .cut) _ _ _ _ _ _ _ (c .before .before .before .before .before .before .before .before .before .before .before .before .before .before .before .cut .given .1) (strip-done (c .before .before .before .before .before .before .before .before .before .before .before .before .before .before .before .before .before .before .before .before .before .before .before .args .wide) (c .before .before .before .before .before .before .before .before .before .before .before .before .before .before .before .before .before .before .before .before .before .before .before .args .store .now) (c .before .before .before .before .before .before .before .before .before .before .before .before .before .before .before .cut .given .0 .1 .0) (c .before .before .before .before .before .before .before .before .before .before .before .before .before .before .before .before .before .before .before .before .before .before .before .args .level) (part (c .before .before .before .before .before .before .before .before .before .before .before .before .before .before .before .before .before .before .before .before .before .before .before .args .node .now) (c .before .before .before .before .before .before .before .before .before .before .before .before .before .before .before .cut .given .0 .1 .1 .0)) (part (c .before .before .before .before .before .before .before .before .before .before .before .before .before .before .before .before .before .before .before .before .before .before .before .args .node .now) (c .before .before .before .before .before .before .before .before .before .before .before .before .before .before .before .cut .given .0 .1 .1 .1 .0)) (c .before .before .before .before .before .before .before .before .before .before .before .before .before .before .before .before .before .before .before .before .before .before .before .args .k .now) (c .before .before .before .before .before .before .before .before .before .before .before .before .before .before .before .before .before .before .before .before .before .before .before .args .at) (c .before .before .before .before .before .before .before .before .before .before .before .before .before .before .before .before .before .before .before .before .before .before .before .args .free .now) (inner-asks (c .before .before .before .before .before .before .before .before .before .before .before .before .before .before .before .before .before .before .before .before .before .before .before .args .wide) (c .before .before .before .before .before .before .before .before .before .before .before .before .before .before .before .before .before .before .before .before .before .before .before .args .store .now) (c .before .before .before .before .before .before .before .before .before .before .before .before .before .before .before .before .before .before .before .before .before .before .before .args .node .now) (c .before .before .before .before .before .before .before .before .before .before .before .before .before .before .before .before .before .before .before .before .before .before .before .args .hi .now) (c .before .before .before .before .before .before .before .before .before .before .before .before .before .before .before .before .before .before .before .before .before .before .before .args .k .now) (c .before .before .before .before .before .before .before .before .before .before .before .before .before .before .before .before .before .before .before .before .before .before .before .args .level) (c .before .before .before .before .before .before .before .before .before .before .before .before .before .before .before .before .before .before .before .before .before .before .before .args .at) (c .before .before .before .before .before .before .before .before .before .before .before .before .before .before .before .before .before .before .before .before .before .before .before .args .free .now) (c .before .before .before .before .before .before .before .before .before .before .before .before .before .before .before .before .before .before .before .before .before .before .before .args .cut) _ _ _ _ (c .before .before .before .before .before .before .before .before .before .before .before .before .before .before .before .cut .given .1) (c .before .before .before .before .before .before .before .before .before .before .before .before .before .before .before .before .before .before .before .before .before .before .before .pre .1 .1)) (c .before .before .before .before .before .before .before .before .before .before .before .common-length .result) (c .before .before .before .before .before .before .before .before .before .before .before .common-length .ensures .0) _ _ _ (take ((c .before .before .before .before .before .before .before .before .before .before .before .common-length .result) - 0) (drop 0 (c .before .before .before .before .before .before .before .before .before .before .before .before .before .before .before .before .before .before .before .before .before .before .before .args .k .now))) (sym (cut-drop (c .before .before .before .before .before .before .before .before .before .before .before .before .before .before .before .before .before .before .before .before .before .before .before .args .node .now) ((c .before .before .before .before .before .before .before .before .before .before .before .before .before .before .before .cut .given .0 .1 .1 .0) .start) ((c .before .before .before .before .before .before .before .before .before .before .before .before .before .before .before .cut .given .0 .1 .1 .0) .stop) (c .before .before .before .before .before .before .before .before .before .before .before .common-length .result) (omega arith))) (sym (cut-drop (c .before .before .before .before .before .before .before .before .before .before .before .before .before .before .before .before .before .before .before .before .before .before .before .args .node .now) ((c .before .before .before .before .before .before .before .before .before .before .before .before .before .before .before .cut .given .0 .1 .1 .1 .0) .start) ((c .before .before .before .before .before .before .before .before .before .before .before .before .before .before .before .cut .given .0 .1 .1 .1 .0) .stop) (c .before .before .before .before .before .before .before .before .before .before .before .common-length .result) (omega arith))) (part-rest (c .before .before .before .before .before .before .before .before .before .before .before .common-length .result) (c .before .before .before .before .before .before .before .before .before .before .before .before .before .before .before .before .before .before .before .before .before .before .before .args .k .now)) refl _ _ _ (c .before .before .before .before .slice-right .ensures))
+right-cut-returns t c = let w = inner-places (c .before .before .before .before .before .before .before .before .before .before .before .before .before .before .before .before .before .before .before .before .before .before .args .store .now) (c .before .before .before .before .before .before .before .before .before .before .before .before .before .before .before .before .before .before .before .before .before .before .args .node .now) (c .before .before .before .before .before .before .before .before .before .before .before .before .before .before .before .before .before .before .before .before .before .before .args .hi .now) (c .before .before .before .before .before .before .before .before .before .before .before .before .before .before .before .before .before .before .before .before .before .before .args .k .now) (c .before .before .before .before .before .before .before .before .before .before .before .before .before .before .before .before .before .before .before .before .before .before .args .split .level) (c .before .before .before .before .before .before .before .before .before .before .before .before .before .before .before .before .before .before .before .before .before .before .args .split .at) (c .before .before .before .before .before .before .before .before .before .before .before .before .before .before .before .before .before .before .before .before .before .before .args .free .now) (c .before .before .before .before .before .before .before .before .before .before .before .before .before .before .before .before .before .before .before .before .before .before .args .split .cut) _ _ _ _ (c .before .before .before .before .before .before .before .before .before .before .before .before .before .before .cut .given .1) (c .before .before .before .before .before .before .before .before .before .before .before .before .before .before .before .before .before .before .before .before .before .before .pre .1 .0) in let la = cut-length (c .before .before .before .before .before .before .before .before .before .before .before .before .before .before .before .before .before .before .before .before .before .before .args .node .now) ((c .before .before .before .before .before .before .before .before .before .before .before .before .before .before .cut .given .0 .1 .1 .0) .start) ((c .before .before .before .before .before .before .before .before .before .before .before .before .before .before .cut .given .0 .1 .1 .0) .stop) (w .0 .rises) (w .0 .high) in let lb = cut-length (c .before .before .before .before .before .before .before .before .before .before .before .before .before .before .before .before .before .before .before .before .before .before .args .node .now) ((c .before .before .before .before .before .before .before .before .before .before .before .before .before .before .cut .given .0 .1 .1 .1 .0) .start) ((c .before .before .before .before .before .before .before .before .before .before .before .before .before .before .cut .given .0 .1 .1 .1 .0) .stop) (w .1 .rises) (w .1 .high) in inner-at (c .before .before .before .before .before .before .before .before .before .before .before .before .before .before .before .before .before .before .before .before .before .before .args .split .wide) (c .before .before .before .before .before .before .before .before .before .before .before .before .before .before .before .before .before .before .before .before .before .before .args .store .now) (c .before .before .before .before .before .before .before .before .before .before .before .before .before .before .before .before .before .before .before .before .before .before .args .node .now) (c .before .before .before .before .before .before .before .before .before .before .before .before .before .before .before .before .before .before .before .before .before .before .args .hi .now) (c .before .before .before .before .before .before .before .before .before .before .before .before .before .before .before .before .before .before .before .before .before .before .args .k .now) (c .before .before .before .before .before .before .before .before .before .before .before .before .before .before .before .before .before .before .before .before .before .before .args .split .level) (c .before .before .before .before .before .before .before .before .before .before .before .before .before .before .before .before .before .before .before .before .before .before .args .split .at) (c .before .before .before .before .before .before .before .before .before .before .before .before .before .before .before .before .before .before .before .before .before .before .args .free .now) (c .before .before .before .before .before .before .before .before .before .before .before .before .before .before .before .before .before .before .before .before .before .before .args .split .cut) _ _ _ _ _ _ _ (c .before .before .before .before .before .before .before .before .before .before .before .before .before .before .cut .given .1) (strip-done (c .before .before .before .before .before .before .before .before .before .before .before .before .before .before .before .before .before .before .before .before .before .before .args .split .wide) (c .before .before .before .before .before .before .before .before .before .before .before .before .before .before .before .before .before .before .before .before .before .before .args .store .now) (c .before .before .before .before .before .before .before .before .before .before .before .before .before .before .cut .given .0 .1 .0) (c .before .before .before .before .before .before .before .before .before .before .before .before .before .before .before .before .before .before .before .before .before .before .args .split .level) (part (c .before .before .before .before .before .before .before .before .before .before .before .before .before .before .before .before .before .before .before .before .before .before .args .node .now) (c .before .before .before .before .before .before .before .before .before .before .before .before .before .before .cut .given .0 .1 .1 .0)) (part (c .before .before .before .before .before .before .before .before .before .before .before .before .before .before .before .before .before .before .before .before .before .before .args .node .now) (c .before .before .before .before .before .before .before .before .before .before .before .before .before .before .cut .given .0 .1 .1 .1 .0)) (c .before .before .before .before .before .before .before .before .before .before .before .before .before .before .before .before .before .before .before .before .before .before .args .k .now) (c .before .before .before .before .before .before .before .before .before .before .before .before .before .before .before .before .before .before .before .before .before .before .args .split .at) (c .before .before .before .before .before .before .before .before .before .before .before .before .before .before .before .before .before .before .before .before .before .before .args .free .now) (inner-asks (c .before .before .before .before .before .before .before .before .before .before .before .before .before .before .before .before .before .before .before .before .before .before .args .split .wide) (c .before .before .before .before .before .before .before .before .before .before .before .before .before .before .before .before .before .before .before .before .before .before .args .store .now) (c .before .before .before .before .before .before .before .before .before .before .before .before .before .before .before .before .before .before .before .before .before .before .args .node .now) (c .before .before .before .before .before .before .before .before .before .before .before .before .before .before .before .before .before .before .before .before .before .before .args .hi .now) (c .before .before .before .before .before .before .before .before .before .before .before .before .before .before .before .before .before .before .before .before .before .before .args .k .now) (c .before .before .before .before .before .before .before .before .before .before .before .before .before .before .before .before .before .before .before .before .before .before .args .split .level) (c .before .before .before .before .before .before .before .before .before .before .before .before .before .before .before .before .before .before .before .before .before .before .args .split .at) (c .before .before .before .before .before .before .before .before .before .before .before .before .before .before .before .before .before .before .before .before .before .before .args .free .now) (c .before .before .before .before .before .before .before .before .before .before .before .before .before .before .before .before .before .before .before .before .before .before .args .split .cut) _ _ _ _ (c .before .before .before .before .before .before .before .before .before .before .before .before .before .before .cut .given .1) (c .before .before .before .before .before .before .before .before .before .before .before .before .before .before .before .before .before .before .before .before .before .before .pre .1 .1)) (c .before .before .before .before .before .before .before .before .before .before .common-length .result) (c .before .before .before .before .before .before .before .before .before .before .common-length .ensures .0) _ _ (take ((c .before .before .before .before .before .before .before .before .before .before .common-length .result) - 0) (drop 0 (c .before .before .before .before .before .before .before .before .before .before .before .before .before .before .before .before .before .before .before .before .before .before .args .k .now))) (sym (cut-drop (c .before .before .before .before .before .before .before .before .before .before .before .before .before .before .before .before .before .before .before .before .before .before .args .node .now) ((c .before .before .before .before .before .before .before .before .before .before .before .before .before .before .cut .given .0 .1 .1 .1 .0) .start) ((c .before .before .before .before .before .before .before .before .before .before .before .before .before .before .cut .given .0 .1 .1 .1 .0) .stop) (c .before .before .before .before .before .before .before .before .before .before .common-length .result) (omega arith))) (part-rest (c .before .before .before .before .before .before .before .before .before .before .common-length .result) (c .before .before .before .before .before .before .before .before .before .before .before .before .before .before .before .before .before .before .before .before .before .before .args .k .now)) refl _ _ _ (c .before .before .before .before .slice-right .ensures))
 
 right-cut-same-length-3 : (t : ℕ) → right-cut-lts.Need-same-length-3 (
   common-length-reads.Asked,
@@ -448,7 +388,7 @@ right-cut-returns-2 : (t : ℕ) → right-cut-lts.Need-returns-2 (
   slice-right-below t,
   slice-right.Post,
 ) (right-cut-at t) right-cut.Post
-right-cut-returns-2 t c = let w = last-places (c .before .before .before .before .before .before .before .before .before .before .before .before .before .before .before .before .before .before .before .before .before .before .args .store .now) (c .before .before .before .before .before .before .before .before .before .before .before .before .before .before .before .before .before .before .before .before .before .before .args .node .now) (c .before .before .before .before .before .before .before .before .before .before .before .before .before .before .before .before .before .before .before .before .before .before .args .hi .now) (c .before .before .before .before .before .before .before .before .before .before .before .before .before .before .before .before .before .before .before .before .before .before .args .k .now) (c .before .before .before .before .before .before .before .before .before .before .before .before .before .before .before .before .before .before .before .before .before .before .args .level) (c .before .before .before .before .before .before .before .before .before .before .before .before .before .before .before .before .before .before .before .before .before .before .args .at) (c .before .before .before .before .before .before .before .before .before .before .before .before .before .before .before .before .before .before .before .before .before .before .args .free .now) (c .before .before .before .before .before .before .before .before .before .before .before .before .before .before .before .before .before .before .before .before .before .before .args .cut) _ _ _ (c .before .before .before .before .before .before .before .before .before .before .before .before .before .before .cut2 .given .1) (c .before .before .before .before .before .before .before .before .before .before .before .before .before .before .before .before .before .before .before .before .before .before .pre .1 .0) in let la = cut-length (c .before .before .before .before .before .before .before .before .before .before .before .before .before .before .before .before .before .before .before .before .before .before .args .node .now) ((c .before .before .before .before .before .before .before .before .before .before .before .before .before .before .cut2 .given .0 .1 .1 .0) .start) ((c .before .before .before .before .before .before .before .before .before .before .before .before .before .before .cut2 .given .0 .1 .1 .0) .stop) (w .rises) (w .high) in last-at (c .before .before .before .before .before .before .before .before .before .before .before .before .before .before .before .before .before .before .before .before .before .before .args .wide) (c .before .before .before .before .before .before .before .before .before .before .before .before .before .before .before .before .before .before .before .before .before .before .args .store .now) (c .before .before .before .before .before .before .before .before .before .before .before .before .before .before .before .before .before .before .before .before .before .before .args .node .now) (c .before .before .before .before .before .before .before .before .before .before .before .before .before .before .before .before .before .before .before .before .before .before .args .hi .now) (c .before .before .before .before .before .before .before .before .before .before .before .before .before .before .before .before .before .before .before .before .before .before .args .k .now) (c .before .before .before .before .before .before .before .before .before .before .before .before .before .before .before .before .before .before .before .before .before .before .args .level) (c .before .before .before .before .before .before .before .before .before .before .before .before .before .before .before .before .before .before .before .before .before .before .args .at) (c .before .before .before .before .before .before .before .before .before .before .before .before .before .before .before .before .before .before .before .before .before .before .args .free .now) (c .before .before .before .before .before .before .before .before .before .before .before .before .before .before .before .before .before .before .before .before .before .before .args .cut) _ _ _ _ _ _ (c .before .before .before .before .before .before .before .before .before .before .before .before .before .before .cut2 .given .1) (strip-done (c .before .before .before .before .before .before .before .before .before .before .before .before .before .before .before .before .before .before .before .before .before .before .args .wide) (c .before .before .before .before .before .before .before .before .before .before .before .before .before .before .before .before .before .before .before .before .before .before .args .store .now) (c .before .before .before .before .before .before .before .before .before .before .before .before .before .before .cut2 .given .0 .1 .0) (c .before .before .before .before .before .before .before .before .before .before .before .before .before .before .before .before .before .before .before .before .before .before .args .level) (part (c .before .before .before .before .before .before .before .before .before .before .before .before .before .before .before .before .before .before .before .before .before .before .args .node .now) (c .before .before .before .before .before .before .before .before .before .before .before .before .before .before .cut2 .given .0 .1 .1 .0)) (c .before .before .before .before .before .before .before .before .before .before .before .before .before .before .before .before .before .before .before .before .before .before .args .hi .now) (c .before .before .before .before .before .before .before .before .before .before .before .before .before .before .before .before .before .before .before .before .before .before .args .k .now) (c .before .before .before .before .before .before .before .before .before .before .before .before .before .before .before .before .before .before .before .before .before .before .args .at) (c .before .before .before .before .before .before .before .before .before .before .before .before .before .before .before .before .before .before .before .before .before .before .args .free .now) (last-asks (c .before .before .before .before .before .before .before .before .before .before .before .before .before .before .before .before .before .before .before .before .before .before .args .wide) (c .before .before .before .before .before .before .before .before .before .before .before .before .before .before .before .before .before .before .before .before .before .before .args .store .now) (c .before .before .before .before .before .before .before .before .before .before .before .before .before .before .before .before .before .before .before .before .before .before .args .node .now) (c .before .before .before .before .before .before .before .before .before .before .before .before .before .before .before .before .before .before .before .before .before .before .args .hi .now) (c .before .before .before .before .before .before .before .before .before .before .before .before .before .before .before .before .before .before .before .before .before .before .args .k .now) (c .before .before .before .before .before .before .before .before .before .before .before .before .before .before .before .before .before .before .before .before .before .before .args .level) (c .before .before .before .before .before .before .before .before .before .before .before .before .before .before .before .before .before .before .before .before .before .before .args .at) (c .before .before .before .before .before .before .before .before .before .before .before .before .before .before .before .before .before .before .before .before .before .before .args .free .now) (c .before .before .before .before .before .before .before .before .before .before .before .before .before .before .before .before .before .before .before .before .before .before .args .cut) _ _ _ (c .before .before .before .before .before .before .before .before .before .before .before .before .before .before .cut2 .given .1) (c .before .before .before .before .before .before .before .before .before .before .before .before .before .before .before .before .before .before .before .before .before .before .pre .1 .1)) (c .before .before .before .before .before .before .before .before .before .before .before .common-length2 .result) (c .before .before .before .before .before .before .before .before .before .before .before .common-length2 .ensures .0) _ _ _ (take ((c .before .before .before .before .before .before .before .before .before .before .before .common-length2 .result) - 0) (drop 0 (c .before .before .before .before .before .before .before .before .before .before .before .before .before .before .before .before .before .before .before .before .before .before .args .k .now))) (sym (cut-drop (c .before .before .before .before .before .before .before .before .before .before .before .before .before .before .before .before .before .before .before .before .before .before .args .node .now) ((c .before .before .before .before .before .before .before .before .before .before .before .before .before .before .cut2 .given .0 .1 .1 .0) .start) ((c .before .before .before .before .before .before .before .before .before .before .before .before .before .before .cut2 .given .0 .1 .1 .0) .stop) (c .before .before .before .before .before .before .before .before .before .before .before .common-length2 .result) (omega arith))) (part-rest (c .before .before .before .before .before .before .before .before .before .before .before .common-length2 .result) (c .before .before .before .before .before .before .before .before .before .before .before .before .before .before .before .before .before .before .before .before .before .before .args .hi .now)) (part-rest (c .before .before .before .before .before .before .before .before .before .before .before .common-length2 .result) (c .before .before .before .before .before .before .before .before .before .before .before .before .before .before .before .before .before .before .before .before .before .before .args .k .now)) refl _ _ _ (c .before .before .before .before .slice-right2 .ensures))
+right-cut-returns-2 t c = let w = last-places (c .before .before .before .before .before .before .before .before .before .before .before .before .before .before .before .before .before .before .before .before .before .args .store .now) (c .before .before .before .before .before .before .before .before .before .before .before .before .before .before .before .before .before .before .before .before .before .args .node .now) (c .before .before .before .before .before .before .before .before .before .before .before .before .before .before .before .before .before .before .before .before .before .args .hi .now) (c .before .before .before .before .before .before .before .before .before .before .before .before .before .before .before .before .before .before .before .before .before .args .k .now) (c .before .before .before .before .before .before .before .before .before .before .before .before .before .before .before .before .before .before .before .before .before .args .split .level) (c .before .before .before .before .before .before .before .before .before .before .before .before .before .before .before .before .before .before .before .before .before .args .split .at) (c .before .before .before .before .before .before .before .before .before .before .before .before .before .before .before .before .before .before .before .before .before .args .free .now) (c .before .before .before .before .before .before .before .before .before .before .before .before .before .before .before .before .before .before .before .before .before .args .split .cut) _ _ _ (c .before .before .before .before .before .before .before .before .before .before .before .before .before .cut2 .given .1) (c .before .before .before .before .before .before .before .before .before .before .before .before .before .before .before .before .before .before .before .before .before .pre .1 .0) in let la = cut-length (c .before .before .before .before .before .before .before .before .before .before .before .before .before .before .before .before .before .before .before .before .before .args .node .now) ((c .before .before .before .before .before .before .before .before .before .before .before .before .before .cut2 .given .0 .1 .1 .0) .start) ((c .before .before .before .before .before .before .before .before .before .before .before .before .before .cut2 .given .0 .1 .1 .0) .stop) (w .rises) (w .high) in last-at (c .before .before .before .before .before .before .before .before .before .before .before .before .before .before .before .before .before .before .before .before .before .args .split .wide) (c .before .before .before .before .before .before .before .before .before .before .before .before .before .before .before .before .before .before .before .before .before .args .store .now) (c .before .before .before .before .before .before .before .before .before .before .before .before .before .before .before .before .before .before .before .before .before .args .node .now) (c .before .before .before .before .before .before .before .before .before .before .before .before .before .before .before .before .before .before .before .before .before .args .hi .now) (c .before .before .before .before .before .before .before .before .before .before .before .before .before .before .before .before .before .before .before .before .before .args .k .now) (c .before .before .before .before .before .before .before .before .before .before .before .before .before .before .before .before .before .before .before .before .before .args .split .level) (c .before .before .before .before .before .before .before .before .before .before .before .before .before .before .before .before .before .before .before .before .before .args .split .at) (c .before .before .before .before .before .before .before .before .before .before .before .before .before .before .before .before .before .before .before .before .before .args .free .now) (c .before .before .before .before .before .before .before .before .before .before .before .before .before .before .before .before .before .before .before .before .before .args .split .cut) _ _ _ _ _ _ (c .before .before .before .before .before .before .before .before .before .before .before .before .before .cut2 .given .1) (strip-done (c .before .before .before .before .before .before .before .before .before .before .before .before .before .before .before .before .before .before .before .before .before .args .split .wide) (c .before .before .before .before .before .before .before .before .before .before .before .before .before .before .before .before .before .before .before .before .before .args .store .now) (c .before .before .before .before .before .before .before .before .before .before .before .before .before .cut2 .given .0 .1 .0) (c .before .before .before .before .before .before .before .before .before .before .before .before .before .before .before .before .before .before .before .before .before .args .split .level) (part (c .before .before .before .before .before .before .before .before .before .before .before .before .before .before .before .before .before .before .before .before .before .args .node .now) (c .before .before .before .before .before .before .before .before .before .before .before .before .before .cut2 .given .0 .1 .1 .0)) (c .before .before .before .before .before .before .before .before .before .before .before .before .before .before .before .before .before .before .before .before .before .args .hi .now) (c .before .before .before .before .before .before .before .before .before .before .before .before .before .before .before .before .before .before .before .before .before .args .k .now) (c .before .before .before .before .before .before .before .before .before .before .before .before .before .before .before .before .before .before .before .before .before .args .split .at) (c .before .before .before .before .before .before .before .before .before .before .before .before .before .before .before .before .before .before .before .before .before .args .free .now) (last-asks (c .before .before .before .before .before .before .before .before .before .before .before .before .before .before .before .before .before .before .before .before .before .args .split .wide) (c .before .before .before .before .before .before .before .before .before .before .before .before .before .before .before .before .before .before .before .before .before .args .store .now) (c .before .before .before .before .before .before .before .before .before .before .before .before .before .before .before .before .before .before .before .before .before .args .node .now) (c .before .before .before .before .before .before .before .before .before .before .before .before .before .before .before .before .before .before .before .before .before .args .hi .now) (c .before .before .before .before .before .before .before .before .before .before .before .before .before .before .before .before .before .before .before .before .before .args .k .now) (c .before .before .before .before .before .before .before .before .before .before .before .before .before .before .before .before .before .before .before .before .before .args .split .level) (c .before .before .before .before .before .before .before .before .before .before .before .before .before .before .before .before .before .before .before .before .before .args .split .at) (c .before .before .before .before .before .before .before .before .before .before .before .before .before .before .before .before .before .before .before .before .before .args .free .now) (c .before .before .before .before .before .before .before .before .before .before .before .before .before .before .before .before .before .before .before .before .before .args .split .cut) _ _ _ (c .before .before .before .before .before .before .before .before .before .before .before .before .before .cut2 .given .1) (c .before .before .before .before .before .before .before .before .before .before .before .before .before .before .before .before .before .before .before .before .before .pre .1 .1)) (c .before .before .before .before .before .before .before .before .before .before .common-length2 .result) (c .before .before .before .before .before .before .before .before .before .before .common-length2 .ensures .0) _ _ (take ((c .before .before .before .before .before .before .before .before .before .before .common-length2 .result) - 0) (drop 0 (c .before .before .before .before .before .before .before .before .before .before .before .before .before .before .before .before .before .before .before .before .before .args .k .now))) (part-rest (c .before .before .before .before .before .before .before .before .before .before .common-length2 .result) (c .before .before .before .before .before .before .before .before .before .before .before .before .before .before .before .before .before .before .before .before .before .args .hi .now)) (part-rest (c .before .before .before .before .before .before .before .before .before .before .common-length2 .result) (c .before .before .before .before .before .before .before .before .before .before .before .before .before .before .before .before .before .before .before .before .before .args .k .now)) refl _ _ _ (c .before .before .before .before .slice-right2 .ensures))
 
 right-cut-returns-3 : (t : ℕ) → right-cut-lts.Need-returns-3 (
   common-length-reads.Asked,
@@ -456,7 +396,7 @@ right-cut-returns-3 : (t : ℕ) → right-cut-lts.Need-returns-3 (
   slice-right-below t,
   slice-right.Post,
 ) (right-cut-at t) right-cut.Post
-right-cut-returns-3 t c = between-at (c .before .before .before .before .before .before .before .before .args .wide) (c .before .before .before .before .before .before .before .before .args .store .now) (c .before .before .before .before .before .before .before .before .args .node .now) (c .before .before .before .before .before .before .before .before .args .hi .now) (c .before .before .before .before .before .before .before .before .args .k .now) (c .before .before .before .before .before .before .before .before .args .level) (c .before .before .before .before .before .before .before .before .args .at) (c .before .before .before .before .before .before .before .before .args .free .now) (c .before .before .before .before .before .before .before .before .args .cut) _ _ _ (c .enum-told .given .1)
+right-cut-returns-3 t c = between-at (c .before .before .before .before .before .before .before .before .args .split .wide) (c .before .before .before .before .before .before .before .before .args .store .now) (c .before .before .before .before .before .before .before .before .args .node .now) (c .before .before .before .before .before .before .before .before .args .hi .now) (c .before .before .before .before .before .before .before .before .args .k .now) (c .before .before .before .before .before .before .before .before .args .split .level) (c .before .before .before .before .before .before .before .before .args .split .at) (c .before .before .before .before .before .before .before .before .args .free .now) (c .before .before .before .before .before .before .before .before .args .split .cut) _ _ _ (c .enum-told .given .1)
 
 right-cut-returns-4 : (t : ℕ) → right-cut-lts.Need-returns-4 (
   common-length-reads.Asked,
@@ -464,7 +404,7 @@ right-cut-returns-4 : (t : ℕ) → right-cut-lts.Need-returns-4 (
   slice-right-below t,
   slice-right.Post,
 ) (right-cut-at t) right-cut.Post
-right-cut-returns-4 t c = nowhere-at (c .before .before .before .before .before .before .before .before .args .wide) (c .before .before .before .before .before .before .before .before .args .store .now) (c .before .before .before .before .before .before .before .before .args .node .now) (c .before .before .before .before .before .before .before .before .args .hi .now) (c .before .before .before .before .before .before .before .before .args .k .now) (c .before .before .before .before .before .before .before .before .args .level) (c .before .before .before .before .before .before .before .before .args .at) (c .before .before .before .before .before .before .before .before .args .free .now) (c .before .before .before .before .before .before .before .before .args .cut) _ _ (c .enum-told2 .given .1)
+right-cut-returns-4 t c = nowhere-at (c .before .before .before .before .before .before .before .before .args .split .wide) (c .before .before .before .before .before .before .before .before .args .store .now) (c .before .before .before .before .before .before .before .before .args .node .now) (c .before .before .before .before .before .before .before .before .args .hi .now) (c .before .before .before .before .before .before .before .before .args .k .now) (c .before .before .before .before .before .before .before .before .args .split .level) (c .before .before .before .before .before .before .before .before .args .split .at) (c .before .before .before .before .before .before .before .before .args .free .now) (c .before .before .before .before .before .before .before .before .args .split .cut) _ _ (c .enum-told2 .given .1)
 
 slice-right-add-one : (t : ℕ) → slice-right-lts.Need-add-one (
   read-node-reads.Asked,
@@ -481,12 +421,14 @@ slice-right-add-one : (t : ℕ) → slice-right-lts.Need-add-one (
   rest-start-reads.Learnt,
   right-cut-below t,
   right-cut.Post,
-  finish-wide-reads.Asked,
-  finish-wide-reads.Learnt,
+  write-both-reads.Asked,
+  write-both-reads.Learnt,
+  tell-both-reads.Asked,
+  tell-both-reads.Learnt,
   finish-narrow-reads.Asked,
   finish-narrow-reads.Learnt,
 ) (slice-right-at t) slice-right.Post
-slice-right-add-one t c = let e = c .before .before .before .before .before .before .before .pre .1 .0 .enough in let l = right-level (c .before .before .before .before .before .before .before .args .wide) (c .before .before .before .before .before .before .before .args .store .now) (c .before .before .before .before .before .before .before .args .num) (c .before .before .before .before .before .before .before .args .level) (c .before .before .before .before .before .before .before .args .lo .now) (c .before .before .before .before .before .before .before .args .hi .now) (c .before .before .before .before .before .before .before .args .k .now) (c .before .before .before .before .before .before .before .args .at) (c .before .before .before .before .before .before .before .args .free .now) (c .before .before .before .before .before .before .before .pre .1 .0) in omega arith
+slice-right-add-one t c = let e = c .before .before .before .before .before .before .pre .1 .0 .enough in let l = right-level (c .before .before .before .before .before .before .args .tree .wide) (c .before .before .before .before .before .before .args .store .now) (c .before .before .before .before .before .before .args .tree .num) (c .before .before .before .before .before .before .args .tree .level) [] (c .before .before .before .before .before .before .args .hi .now) (c .before .before .before .before .before .before .args .k .now) (c .before .before .before .before .before .before .args .tree .at) (c .before .before .before .before .before .before .args .free .now) (c .before .before .before .before .before .before .pre .1 .0) in omega arith
 
 slice-right-add-two : (t : ℕ) → slice-right-lts.Need-add-two (
   read-node-reads.Asked,
@@ -503,12 +445,14 @@ slice-right-add-two : (t : ℕ) → slice-right-lts.Need-add-two (
   rest-start-reads.Learnt,
   right-cut-below t,
   right-cut.Post,
-  finish-wide-reads.Asked,
-  finish-wide-reads.Learnt,
+  write-both-reads.Asked,
+  write-both-reads.Learnt,
+  tell-both-reads.Asked,
+  tell-both-reads.Learnt,
   finish-narrow-reads.Asked,
   finish-narrow-reads.Learnt,
 ) (slice-right-at t) slice-right.Post
-slice-right-add-two t c = let e = c .before .before .before .before .before .before .before .pre .1 .0 .enough in let l = right-level (c .before .before .before .before .before .before .before .args .wide) (c .before .before .before .before .before .before .before .args .store .now) (c .before .before .before .before .before .before .before .args .num) (c .before .before .before .before .before .before .before .args .level) (c .before .before .before .before .before .before .before .args .lo .now) (c .before .before .before .before .before .before .before .args .hi .now) (c .before .before .before .before .before .before .before .args .k .now) (c .before .before .before .before .before .before .before .args .at) (c .before .before .before .before .before .before .before .args .free .now) (c .before .before .before .before .before .before .before .pre .1 .0) in omega arith
+slice-right-add-two t c = let e = c .before .before .before .before .before .before .pre .1 .0 .enough in let l = right-level (c .before .before .before .before .before .before .args .tree .wide) (c .before .before .before .before .before .before .args .store .now) (c .before .before .before .before .before .before .args .tree .num) (c .before .before .before .before .before .before .args .tree .level) [] (c .before .before .before .before .before .before .args .hi .now) (c .before .before .before .before .before .before .args .k .now) (c .before .before .before .before .before .before .args .tree .at) (c .before .before .before .before .before .before .args .free .now) (c .before .before .before .before .before .before .pre .1 .0) in omega arith
 
 slice-right-slice-aggregate-read-node : (t : ℕ) → slice-right-lts.Need-slice-aggregate-read-node (
   read-node-reads.Asked,
@@ -525,8 +469,10 @@ slice-right-slice-aggregate-read-node : (t : ℕ) → slice-right-lts.Need-slice
   rest-start-reads.Learnt,
   right-cut-below t,
   right-cut.Post,
-  finish-wide-reads.Asked,
-  finish-wide-reads.Learnt,
+  write-both-reads.Asked,
+  write-both-reads.Learnt,
+  tell-both-reads.Asked,
+  tell-both-reads.Learnt,
   finish-narrow-reads.Asked,
   finish-narrow-reads.Learnt,
 ) (slice-right-at t) slice-right.Post
@@ -547,12 +493,14 @@ slice-right-read-node-requires : (t : ℕ) → slice-right-lts.Need-read-node-re
   rest-start-reads.Learnt,
   right-cut-below t,
   right-cut.Post,
-  finish-wide-reads.Asked,
-  finish-wide-reads.Learnt,
+  write-both-reads.Asked,
+  write-both-reads.Learnt,
+  tell-both-reads.Asked,
+  tell-both-reads.Learnt,
   finish-narrow-reads.Asked,
   finish-narrow-reads.Learnt,
 ) (slice-right-at t) slice-right.Post
-slice-right-read-node-requires t c κs = (right-inside (c .before .before .before .before .before .before .before .before .before .args .wide) (c .before .before .before .before .before .before .before .before .before .args .store .now) (c .before .before .before .before .before .before .before .before .before .args .num) (c .before .before .before .before .before .before .before .before .before .args .level) (c .before .before .before .before .before .before .before .before .before .args .lo .now) (c .before .before .before .before .before .before .before .before .before .args .hi .now) (c .before .before .before .before .before .before .before .before .before .args .k .now) (c .before .before .before .before .before .before .before .before .before .args .at) (c .before .before .before .before .before .before .before .before .before .args .free .now) (c .before .before .before .before .before .before .before .before .before .pre .1 .0), search needs)
+slice-right-read-node-requires t c κs = (right-inside (c .before .before .before .before .before .before .before .before .args .tree .wide) (c .before .before .before .before .before .before .before .before .args .store .now) (c .before .before .before .before .before .before .before .before .args .tree .num) (c .before .before .before .before .before .before .before .before .args .tree .level) [] (c .before .before .before .before .before .before .before .before .args .hi .now) (c .before .before .before .before .before .before .before .before .args .k .now) (c .before .before .before .before .before .before .before .before .args .tree .at) (c .before .before .before .before .before .before .before .before .args .free .now) (c .before .before .before .before .before .before .before .before .pre .1 .0), search needs)
 
 slice-right-slice-aggregate-u16-at : (t : ℕ) → slice-right-lts.Need-slice-aggregate-u16-at (
   read-node-reads.Asked,
@@ -569,8 +517,10 @@ slice-right-slice-aggregate-u16-at : (t : ℕ) → slice-right-lts.Need-slice-ag
   rest-start-reads.Learnt,
   right-cut-below t,
   right-cut.Post,
-  finish-wide-reads.Asked,
-  finish-wide-reads.Learnt,
+  write-both-reads.Asked,
+  write-both-reads.Learnt,
+  tell-both-reads.Asked,
+  tell-both-reads.Learnt,
   finish-narrow-reads.Asked,
   finish-narrow-reads.Learnt,
 ) (slice-right-at t) slice-right.Post
@@ -591,8 +541,10 @@ slice-right-u16-at-requires : (t : ℕ) → slice-right-lts.Need-u16-at-requires
   rest-start-reads.Learnt,
   right-cut-below t,
   right-cut.Post,
-  finish-wide-reads.Asked,
-  finish-wide-reads.Learnt,
+  write-both-reads.Asked,
+  write-both-reads.Learnt,
+  tell-both-reads.Asked,
+  tell-both-reads.Learnt,
   finish-narrow-reads.Asked,
   finish-narrow-reads.Learnt,
 ) (slice-right-at t) slice-right.Post
@@ -613,12 +565,14 @@ slice-right-mul-u16-at : (t : ℕ) → slice-right-lts.Need-mul-u16-at (
   rest-start-reads.Learnt,
   right-cut-below t,
   right-cut.Post,
-  finish-wide-reads.Asked,
-  finish-wide-reads.Learnt,
+  write-both-reads.Asked,
+  write-both-reads.Learnt,
+  tell-both-reads.Asked,
+  tell-both-reads.Learnt,
   finish-narrow-reads.Asked,
   finish-narrow-reads.Learnt,
 ) (slice-right-at t) slice-right.Post
-slice-right-mul-u16-at t c = let e = c .before .before .before .before .before .before .before .before .before .before .before .before .before .before .pre .1 .0 .enough in let l = right-level (c .before .before .before .before .before .before .before .before .before .before .before .before .before .before .args .wide) (c .before .before .before .before .before .before .before .before .before .before .before .before .before .before .args .store .now) (c .before .before .before .before .before .before .before .before .before .before .before .before .before .before .args .num) (c .before .before .before .before .before .before .before .before .before .before .before .before .before .before .args .level) (c .before .before .before .before .before .before .before .before .before .before .before .before .before .before .args .lo .now) (c .before .before .before .before .before .before .before .before .before .before .before .before .before .before .args .hi .now) (c .before .before .before .before .before .before .before .before .before .before .before .before .before .before .args .k .now) (c .before .before .before .before .before .before .before .before .before .before .before .before .before .before .args .at) (c .before .before .before .before .before .before .before .before .before .before .before .before .before .before .args .free .now) (c .before .before .before .before .before .before .before .before .before .before .before .before .before .before .pre .1 .0) in omega arith
+slice-right-mul-u16-at t c = let e = c .before .before .before .before .before .before .before .before .before .before .before .before .before .pre .1 .0 .enough in let l = right-level (c .before .before .before .before .before .before .before .before .before .before .before .before .before .args .tree .wide) (c .before .before .before .before .before .before .before .before .before .before .before .before .before .args .store .now) (c .before .before .before .before .before .before .before .before .before .before .before .before .before .args .tree .num) (c .before .before .before .before .before .before .before .before .before .before .before .before .before .args .tree .level) [] (c .before .before .before .before .before .before .before .before .before .before .before .before .before .args .hi .now) (c .before .before .before .before .before .before .before .before .before .before .before .before .before .args .k .now) (c .before .before .before .before .before .before .before .before .before .before .before .before .before .args .tree .at) (c .before .before .before .before .before .before .before .before .before .before .before .before .before .args .free .now) (c .before .before .before .before .before .before .before .before .before .before .before .before .before .pre .1 .0) in omega arith
 
 slice-right-u16-at-requires-2 : (t : ℕ) → slice-right-lts.Need-u16-at-requires-2 (
   read-node-reads.Asked,
@@ -635,12 +589,14 @@ slice-right-u16-at-requires-2 : (t : ℕ) → slice-right-lts.Need-u16-at-requir
   rest-start-reads.Learnt,
   right-cut-below t,
   right-cut.Post,
-  finish-wide-reads.Asked,
-  finish-wide-reads.Learnt,
+  write-both-reads.Asked,
+  write-both-reads.Learnt,
+  tell-both-reads.Asked,
+  tell-both-reads.Learnt,
   finish-narrow-reads.Asked,
   finish-narrow-reads.Learnt,
 ) (slice-right-at t) slice-right.Post
-slice-right-u16-at-requires-2 t c κs = let e = c .before .before .before .before .before .before .before .before .before .before .before .before .before .before .pre .1 .0 .enough in let l = right-level (c .before .before .before .before .before .before .before .before .before .before .before .before .before .before .args .wide) (c .before .before .before .before .before .before .before .before .before .before .before .before .before .before .args .store .now) (c .before .before .before .before .before .before .before .before .before .before .before .before .before .before .args .num) (c .before .before .before .before .before .before .before .before .before .before .before .before .before .before .args .level) (c .before .before .before .before .before .before .before .before .before .before .before .before .before .before .args .lo .now) (c .before .before .before .before .before .before .before .before .before .before .before .before .before .before .args .hi .now) (c .before .before .before .before .before .before .before .before .before .before .before .before .before .before .args .k .now) (c .before .before .before .before .before .before .before .before .before .before .before .before .before .before .args .at) (c .before .before .before .before .before .before .before .before .before .before .before .before .before .before .args .free .now) (c .before .before .before .before .before .before .before .before .before .before .before .before .before .before .pre .1 .0) in omega arith
+slice-right-u16-at-requires-2 t c κs = let e = c .before .before .before .before .before .before .before .before .before .before .before .before .before .pre .1 .0 .enough in let l = right-level (c .before .before .before .before .before .before .before .before .before .before .before .before .before .args .tree .wide) (c .before .before .before .before .before .before .before .before .before .before .before .before .before .args .store .now) (c .before .before .before .before .before .before .before .before .before .before .before .before .before .args .tree .num) (c .before .before .before .before .before .before .before .before .before .before .before .before .before .args .tree .level) [] (c .before .before .before .before .before .before .before .before .before .before .before .before .before .args .hi .now) (c .before .before .before .before .before .before .before .before .before .before .before .before .before .args .k .now) (c .before .before .before .before .before .before .before .before .before .before .before .before .before .args .tree .at) (c .before .before .before .before .before .before .before .before .before .before .before .before .before .args .free .now) (c .before .before .before .before .before .before .before .before .before .before .before .before .before .pre .1 .0) in omega arith
 
 slice-right-common-length-requires : (t : ℕ) → slice-right-lts.Need-common-length-requires (
   read-node-reads.Asked,
@@ -657,8 +613,10 @@ slice-right-common-length-requires : (t : ℕ) → slice-right-lts.Need-common-l
   rest-start-reads.Learnt,
   right-cut-below t,
   right-cut.Post,
-  finish-wide-reads.Asked,
-  finish-wide-reads.Learnt,
+  write-both-reads.Asked,
+  write-both-reads.Learnt,
+  tell-both-reads.Asked,
+  tell-both-reads.Learnt,
   finish-narrow-reads.Asked,
   finish-narrow-reads.Learnt,
 ) (slice-right-at t) slice-right.Post
@@ -680,8 +638,10 @@ slice-right-slice-aggregate-write-pairs :
       rest-start-reads.Learnt,
       right-cut-below t,
       right-cut.Post,
-      finish-wide-reads.Asked,
-      finish-wide-reads.Learnt,
+      write-both-reads.Asked,
+      write-both-reads.Learnt,
+      tell-both-reads.Asked,
+      tell-both-reads.Learnt,
       finish-narrow-reads.Asked,
       finish-narrow-reads.Learnt,
     ) (slice-right-at t) slice-right.Post
@@ -702,8 +662,10 @@ slice-right-add-write-pairs : (t : ℕ) → slice-right-lts.Need-add-write-pairs
   rest-start-reads.Learnt,
   right-cut-below t,
   right-cut.Post,
-  finish-wide-reads.Asked,
-  finish-wide-reads.Learnt,
+  write-both-reads.Asked,
+  write-both-reads.Learnt,
+  tell-both-reads.Asked,
+  tell-both-reads.Learnt,
   finish-narrow-reads.Asked,
   finish-narrow-reads.Learnt,
 ) (slice-right-at t) slice-right.Post
@@ -724,12 +686,14 @@ slice-right-write-pairs-requires : (t : ℕ) → slice-right-lts.Need-write-pair
   rest-start-reads.Learnt,
   right-cut-below t,
   right-cut.Post,
-  finish-wide-reads.Asked,
-  finish-wide-reads.Learnt,
+  write-both-reads.Asked,
+  write-both-reads.Learnt,
+  tell-both-reads.Asked,
+  tell-both-reads.Learnt,
   finish-narrow-reads.Asked,
   finish-narrow-reads.Learnt,
 ) (slice-right-at t) slice-right.Post
-slice-right-write-pairs-requires t c κs = let sh = right-short (c .before .before .before .before .before .before .before .before .before .before .before .before .before .before .before .before .before .before .args .wide) (c .before .before .before .before .before .before .before .before .before .before .before .before .before .before .before .before .before .before .args .store .now) (c .before .before .before .before .before .before .before .before .before .before .before .before .before .before .before .before .before .before .args .num) (c .before .before .before .before .before .before .before .before .before .before .before .before .before .before .before .before .before .before .args .level) (c .before .before .before .before .before .before .before .before .before .before .before .before .before .before .before .before .before .before .args .lo .now) (c .before .before .before .before .before .before .before .before .before .before .before .before .before .before .before .before .before .before .args .hi .now) (c .before .before .before .before .before .before .before .before .before .before .before .before .before .before .before .before .before .before .args .k .now) (c .before .before .before .before .before .before .before .before .before .before .before .before .before .before .before .before .before .before .args .at) (c .before .before .before .before .before .before .before .before .before .before .before .before .before .before .before .before .before .before .args .free .now) (c .before .before .before .before .before .before .before .before .before .before .before .before .before .before .before .before .before .before .pre .1 .0) (c .before .before .before .before .before .before .before .before .before .before .before .before .before .before .before .before .before .before .pre .1 .1) _ (c .before .before .before .before .before .before .before .before .read-node .ensures) (c .before .before .before .before .before .u16-at .result) (c .before .before .before .before .before .u16-at .ensures .0) in (omega arith, leaf-fits (c .before .before .before .before .before .before .before .before .before .before .before .before .before .before .before .before .before .before .args .wide) (c .before .before .before .before .before .before .before .before .before .before .before .before .before .before .before .before .before .before .args .store .now) (c .before .before .before .before .before .before .before .before .before .before .before .before .before .before .before .before .before .before .args .num) (c .before .before .before .before .before .before .before .before .before .before .before .before .before .before .before .before .before .before .args .level) (c .before .before .before .before .before .before .before .before .before .before .before .before .before .before .before .before .before .before .args .lo .now) (c .before .before .before .before .before .before .before .before .before .before .before .before .before .before .before .before .before .before .args .hi .now) (c .before .before .before .before .before .before .before .before .before .before .before .before .before .before .before .before .before .before .args .k .now) (c .before .before .before .before .before .before .before .before .before .before .before .before .before .before .before .before .before .before .args .at) (c .before .before .before .before .before .before .before .before .before .before .before .before .before .before .before .before .before .before .args .free .now) (c .before .before .before .before .before .before .before .before .before .before .before .before .before .before .before .before .before .before .pre .1 .0) (c .before .before .before .before .before .before .before .before .before .before .before .before .before .before .before .before .before .before .pre .1 .1) _ (c .before .before .before .before .before .before .before .before .read-node .ensures) (c .before .before .before .before .before .u16-at .result) (c .before .before .before .before .before .u16-at .ensures .0) (omega arith) (c .before .before .common-length .result) (c .before .before .common-length .ensures .0), right-new (c .before .before .before .before .before .before .before .before .before .before .before .before .before .before .before .before .before .before .args .wide) (c .before .before .before .before .before .before .before .before .before .before .before .before .before .before .before .before .before .before .args .store .now) (c .before .before .before .before .before .before .before .before .before .before .before .before .before .before .before .before .before .before .args .num) (c .before .before .before .before .before .before .before .before .before .before .before .before .before .before .before .before .before .before .args .level) (c .before .before .before .before .before .before .before .before .before .before .before .before .before .before .before .before .before .before .args .lo .now) (c .before .before .before .before .before .before .before .before .before .before .before .before .before .before .before .before .before .before .args .hi .now) (c .before .before .before .before .before .before .before .before .before .before .before .before .before .before .before .before .before .before .args .k .now) (c .before .before .before .before .before .before .before .before .before .before .before .before .before .before .before .before .before .before .args .at) (c .before .before .before .before .before .before .before .before .before .before .before .before .before .before .before .before .before .before .args .free .now) (c .before .before .before .before .before .before .before .before .before .before .before .before .before .before .before .before .before .before .pre .1 .0) (c .before .before .before .u16-at2 .result) (c .before .before .before .u16-at2 .ensures .0))
+slice-right-write-pairs-requires t c κs = let sh = right-short (c .before .before .before .before .before .before .before .before .before .before .before .before .before .before .before .before .before .args .tree .wide) (c .before .before .before .before .before .before .before .before .before .before .before .before .before .before .before .before .before .args .store .now) (c .before .before .before .before .before .before .before .before .before .before .before .before .before .before .before .before .before .args .tree .num) (c .before .before .before .before .before .before .before .before .before .before .before .before .before .before .before .before .before .args .tree .level) [] (c .before .before .before .before .before .before .before .before .before .before .before .before .before .before .before .before .before .args .hi .now) (c .before .before .before .before .before .before .before .before .before .before .before .before .before .before .before .before .before .args .k .now) (c .before .before .before .before .before .before .before .before .before .before .before .before .before .before .before .before .before .args .tree .at) (c .before .before .before .before .before .before .before .before .before .before .before .before .before .before .before .before .before .args .free .now) (c .before .before .before .before .before .before .before .before .before .before .before .before .before .before .before .before .before .pre .1 .0) (top-bare (c .before .before .before .before .before .before .before .before .before .before .before .before .before .before .before .before .before .args .hi .now)) _ (c .before .before .before .before .before .before .before .before .read-node .ensures) (c .before .before .before .before .before .u16-at .result) (c .before .before .before .before .before .u16-at .ensures .0) in (omega arith, leaf-fits (c .before .before .before .before .before .before .before .before .before .before .before .before .before .before .before .before .before .args .tree .wide) (c .before .before .before .before .before .before .before .before .before .before .before .before .before .before .before .before .before .args .store .now) (c .before .before .before .before .before .before .before .before .before .before .before .before .before .before .before .before .before .args .tree .num) (c .before .before .before .before .before .before .before .before .before .before .before .before .before .before .before .before .before .args .tree .level) [] (c .before .before .before .before .before .before .before .before .before .before .before .before .before .before .before .before .before .args .hi .now) (c .before .before .before .before .before .before .before .before .before .before .before .before .before .before .before .before .before .args .k .now) (c .before .before .before .before .before .before .before .before .before .before .before .before .before .before .before .before .before .args .tree .at) (c .before .before .before .before .before .before .before .before .before .before .before .before .before .before .before .before .before .args .free .now) (c .before .before .before .before .before .before .before .before .before .before .before .before .before .before .before .before .before .pre .1 .0) (top-bare (c .before .before .before .before .before .before .before .before .before .before .before .before .before .before .before .before .before .args .hi .now)) _ (c .before .before .before .before .before .before .before .before .read-node .ensures) (c .before .before .before .before .before .u16-at .result) (c .before .before .before .before .before .u16-at .ensures .0) (omega arith) (c .before .before .common-length .result) (c .before .before .common-length .ensures .0), right-new (c .before .before .before .before .before .before .before .before .before .before .before .before .before .before .before .before .before .args .tree .wide) (c .before .before .before .before .before .before .before .before .before .before .before .before .before .before .before .before .before .args .store .now) (c .before .before .before .before .before .before .before .before .before .before .before .before .before .before .before .before .before .args .tree .num) (c .before .before .before .before .before .before .before .before .before .before .before .before .before .before .before .before .before .args .tree .level) [] (c .before .before .before .before .before .before .before .before .before .before .before .before .before .before .before .before .before .args .hi .now) (c .before .before .before .before .before .before .before .before .before .before .before .before .before .before .before .before .before .args .k .now) (c .before .before .before .before .before .before .before .before .before .before .before .before .before .before .before .before .before .args .tree .at) (c .before .before .before .before .before .before .before .before .before .before .before .before .before .before .before .before .before .args .free .now) (c .before .before .before .before .before .before .before .before .before .before .before .before .before .before .before .before .before .pre .1 .0) (c .before .before .before .u16-at2 .result) (c .before .before .before .u16-at2 .ensures .0))
 
 slice-right-same-length : (t : ℕ) → slice-right-lts.Need-same-length (
   read-node-reads.Asked,
@@ -746,8 +710,10 @@ slice-right-same-length : (t : ℕ) → slice-right-lts.Need-same-length (
   rest-start-reads.Learnt,
   right-cut-below t,
   right-cut.Post,
-  finish-wide-reads.Asked,
-  finish-wide-reads.Learnt,
+  write-both-reads.Asked,
+  write-both-reads.Learnt,
+  tell-both-reads.Asked,
+  tell-both-reads.Learnt,
   finish-narrow-reads.Asked,
   finish-narrow-reads.Learnt,
 ) (slice-right-at t) slice-right.Post
@@ -768,12 +734,14 @@ slice-right-returns : (t : ℕ) → slice-right-lts.Need-returns (
   rest-start-reads.Learnt,
   right-cut-below t,
   right-cut.Post,
-  finish-wide-reads.Asked,
-  finish-wide-reads.Learnt,
+  write-both-reads.Asked,
+  write-both-reads.Learnt,
+  tell-both-reads.Asked,
+  tell-both-reads.Learnt,
   finish-narrow-reads.Asked,
   finish-narrow-reads.Learnt,
 ) (slice-right-at t) slice-right.Post
-slice-right-returns t c = leaf-done (c .before .before .before .before .before .before .before .before .before .before .before .before .before .before .before .before .before .before .before .before .before .args .wide) (c .before .before .before .before .before .before .before .before .before .before .before .before .before .before .before .before .before .before .before .before .before .args .store .now) (c .before .before .before .before .before .before .before .before .before .before .before .before .before .before .before .before .before .before .before .before .before .args .num) (c .before .before .before .before .before .before .before .before .before .before .before .before .before .before .before .before .before .before .before .before .before .args .level) (c .before .before .before .before .before .before .before .before .before .before .before .before .before .before .before .before .before .before .before .before .before .args .lo .now) (c .before .before .before .before .before .before .before .before .before .before .before .before .before .before .before .before .before .before .before .before .before .args .hi .now) (c .before .before .before .before .before .before .before .before .before .before .before .before .before .before .before .before .before .before .before .before .before .args .k .now) (c .before .before .before .before .before .before .before .before .before .before .before .before .before .before .before .before .before .before .before .before .before .args .at) (c .before .before .before .before .before .before .before .before .before .before .before .before .before .before .before .before .before .before .before .before .before .args .free .now) (c .before .before .before .before .before .before .before .before .before .before .before .before .before .before .before .before .before .before .before .before .before .pre .1 .0) (c .before .before .before .before .before .before .before .before .before .before .before .before .before .before .before .before .before .before .before .before .before .pre .1 .1) _ (c .before .before .before .before .before .before .before .before .before .before .before .read-node .ensures) (c .before .before .before .before .before .before .before .before .u16-at .result) (c .before .before .before .before .before .before .before .before .u16-at .ensures .0) (omega arith) (c .before .before .before .before .before .common-length .result) (c .before .before .before .before .before .common-length .ensures .0) (c .before .before .before .before .before .before .before .before .before .before .before .before .before .before .before .before .before .before .before .before .before .args .lift .now) _ _ _ (c .before .before .before .before .before .before .u16-at2 .ensures .0) (c .before .before .write-pairs .ensures)
+slice-right-returns t c = leaf-done (c .before .before .before .before .before .before .before .before .before .before .before .before .before .before .before .before .before .before .before .before .args .tree .wide) (c .before .before .before .before .before .before .before .before .before .before .before .before .before .before .before .before .before .before .before .before .args .store .now) (c .before .before .before .before .before .before .before .before .before .before .before .before .before .before .before .before .before .before .before .before .args .tree .num) (c .before .before .before .before .before .before .before .before .before .before .before .before .before .before .before .before .before .before .before .before .args .tree .level) [] (c .before .before .before .before .before .before .before .before .before .before .before .before .before .before .before .before .before .before .before .before .args .hi .now) (c .before .before .before .before .before .before .before .before .before .before .before .before .before .before .before .before .before .before .before .before .args .k .now) (c .before .before .before .before .before .before .before .before .before .before .before .before .before .before .before .before .before .before .before .before .args .tree .at) (c .before .before .before .before .before .before .before .before .before .before .before .before .before .before .before .before .before .before .before .before .args .free .now) (c .before .before .before .before .before .before .before .before .before .before .before .before .before .before .before .before .before .before .before .before .pre .1 .0) (top-bare (c .before .before .before .before .before .before .before .before .before .before .before .before .before .before .before .before .before .before .before .before .args .hi .now)) _ (c .before .before .before .before .before .before .before .before .before .before .before .read-node .ensures) (c .before .before .before .before .before .before .before .before .u16-at .result) (c .before .before .before .before .before .before .before .before .u16-at .ensures .0) (omega arith) (c .before .before .before .before .before .common-length .result) (c .before .before .before .before .before .common-length .ensures .0) (c .before .before .before .before .before .before .before .before .before .before .before .before .before .before .before .before .before .before .before .before .args .lift .now) _ _ _ (c .before .before .before .before .before .before .u16-at2 .ensures .0) (c .before .before .write-pairs .ensures)
 
 slice-right-slice-aggregate-find-point : (t : ℕ) → slice-right-lts.Need-slice-aggregate-find-point (
   read-node-reads.Asked,
@@ -790,8 +758,10 @@ slice-right-slice-aggregate-find-point : (t : ℕ) → slice-right-lts.Need-slic
   rest-start-reads.Learnt,
   right-cut-below t,
   right-cut.Post,
-  finish-wide-reads.Asked,
-  finish-wide-reads.Learnt,
+  write-both-reads.Asked,
+  write-both-reads.Learnt,
+  tell-both-reads.Asked,
+  tell-both-reads.Learnt,
   finish-narrow-reads.Asked,
   finish-narrow-reads.Learnt,
 ) (slice-right-at t) slice-right.Post
@@ -812,8 +782,10 @@ slice-right-add-find-point : (t : ℕ) → slice-right-lts.Need-add-find-point (
   rest-start-reads.Learnt,
   right-cut-below t,
   right-cut.Post,
-  finish-wide-reads.Asked,
-  finish-wide-reads.Learnt,
+  write-both-reads.Asked,
+  write-both-reads.Learnt,
+  tell-both-reads.Asked,
+  tell-both-reads.Learnt,
   finish-narrow-reads.Asked,
   finish-narrow-reads.Learnt,
 ) (slice-right-at t) slice-right.Post
@@ -834,12 +806,14 @@ slice-right-find-point-requires : (t : ℕ) → slice-right-lts.Need-find-point-
   rest-start-reads.Learnt,
   right-cut-below t,
   right-cut.Post,
-  finish-wide-reads.Asked,
-  finish-wide-reads.Learnt,
+  write-both-reads.Asked,
+  write-both-reads.Learnt,
+  tell-both-reads.Asked,
+  tell-both-reads.Learnt,
   finish-narrow-reads.Asked,
   finish-narrow-reads.Learnt,
 ) (slice-right-at t) slice-right.Post
-slice-right-find-point-requires t c κs = let sh = right-short (c .before .before .before .before .before .before .before .before .before .before .before .before .before .before .before .args .wide) (c .before .before .before .before .before .before .before .before .before .before .before .before .before .before .before .args .store .now) (c .before .before .before .before .before .before .before .before .before .before .before .before .before .before .before .args .num) (c .before .before .before .before .before .before .before .before .before .before .before .before .before .before .before .args .level) (c .before .before .before .before .before .before .before .before .before .before .before .before .before .before .before .args .lo .now) (c .before .before .before .before .before .before .before .before .before .before .before .before .before .before .before .args .hi .now) (c .before .before .before .before .before .before .before .before .before .before .before .before .before .before .before .args .k .now) (c .before .before .before .before .before .before .before .before .before .before .before .before .before .before .before .args .at) (c .before .before .before .before .before .before .before .before .before .before .before .before .before .before .before .args .free .now) (c .before .before .before .before .before .before .before .before .before .before .before .before .before .before .before .pre .1 .0) (c .before .before .before .before .before .before .before .before .before .before .before .before .before .before .before .pre .1 .1) _ (c .before .before .before .before .before .read-node .ensures) (c .before .before .u16-at .result) (c .before .before .u16-at .ensures .0) in (omega arith, omega arith)
+slice-right-find-point-requires t c κs = let sh = right-short (c .before .before .before .before .before .before .before .before .before .before .before .before .before .before .args .tree .wide) (c .before .before .before .before .before .before .before .before .before .before .before .before .before .before .args .store .now) (c .before .before .before .before .before .before .before .before .before .before .before .before .before .before .args .tree .num) (c .before .before .before .before .before .before .before .before .before .before .before .before .before .before .args .tree .level) [] (c .before .before .before .before .before .before .before .before .before .before .before .before .before .before .args .hi .now) (c .before .before .before .before .before .before .before .before .before .before .before .before .before .before .args .k .now) (c .before .before .before .before .before .before .before .before .before .before .before .before .before .before .args .tree .at) (c .before .before .before .before .before .before .before .before .before .before .before .before .before .before .args .free .now) (c .before .before .before .before .before .before .before .before .before .before .before .before .before .before .pre .1 .0) (top-bare (c .before .before .before .before .before .before .before .before .before .before .before .before .before .before .args .hi .now)) _ (c .before .before .before .before .before .read-node .ensures) (c .before .before .u16-at .result) (c .before .before .u16-at .ensures .0) in (omega arith, omega arith)
 
 slice-right-slice-aggregate-rest-start : (t : ℕ) → slice-right-lts.Need-slice-aggregate-rest-start (
   read-node-reads.Asked,
@@ -856,8 +830,10 @@ slice-right-slice-aggregate-rest-start : (t : ℕ) → slice-right-lts.Need-slic
   rest-start-reads.Learnt,
   right-cut-below t,
   right-cut.Post,
-  finish-wide-reads.Asked,
-  finish-wide-reads.Learnt,
+  write-both-reads.Asked,
+  write-both-reads.Learnt,
+  tell-both-reads.Asked,
+  tell-both-reads.Learnt,
   finish-narrow-reads.Asked,
   finish-narrow-reads.Learnt,
 ) (slice-right-at t) slice-right.Post
@@ -878,8 +854,10 @@ slice-right-add-rest-start : (t : ℕ) → slice-right-lts.Need-add-rest-start (
   rest-start-reads.Learnt,
   right-cut-below t,
   right-cut.Post,
-  finish-wide-reads.Asked,
-  finish-wide-reads.Learnt,
+  write-both-reads.Asked,
+  write-both-reads.Learnt,
+  tell-both-reads.Asked,
+  tell-both-reads.Learnt,
   finish-narrow-reads.Asked,
   finish-narrow-reads.Learnt,
 ) (slice-right-at t) slice-right.Post
@@ -900,12 +878,14 @@ slice-right-rest-start-requires : (t : ℕ) → slice-right-lts.Need-rest-start-
   rest-start-reads.Learnt,
   right-cut-below t,
   right-cut.Post,
-  finish-wide-reads.Asked,
-  finish-wide-reads.Learnt,
+  write-both-reads.Asked,
+  write-both-reads.Learnt,
+  tell-both-reads.Asked,
+  tell-both-reads.Learnt,
   finish-narrow-reads.Asked,
   finish-narrow-reads.Learnt,
 ) (slice-right-at t) slice-right.Post
-slice-right-rest-start-requires t c κs = let sh = right-short (c .before .before .before .before .before .before .before .before .before .before .before .before .before .before .before .before .before .args .wide) (c .before .before .before .before .before .before .before .before .before .before .before .before .before .before .before .before .before .args .store .now) (c .before .before .before .before .before .before .before .before .before .before .before .before .before .before .before .before .before .args .num) (c .before .before .before .before .before .before .before .before .before .before .before .before .before .before .before .before .before .args .level) (c .before .before .before .before .before .before .before .before .before .before .before .before .before .before .before .before .before .args .lo .now) (c .before .before .before .before .before .before .before .before .before .before .before .before .before .before .before .before .before .args .hi .now) (c .before .before .before .before .before .before .before .before .before .before .before .before .before .before .before .before .before .args .k .now) (c .before .before .before .before .before .before .before .before .before .before .before .before .before .before .before .before .before .args .at) (c .before .before .before .before .before .before .before .before .before .before .before .before .before .before .before .before .before .args .free .now) (c .before .before .before .before .before .before .before .before .before .before .before .before .before .before .before .before .before .pre .1 .0) (c .before .before .before .before .before .before .before .before .before .before .before .before .before .before .before .before .before .pre .1 .1) _ (c .before .before .before .before .before .before .before .read-node .ensures) (c .before .before .before .before .u16-at .result) (c .before .before .before .before .u16-at .ensures .0) in omega arith
+slice-right-rest-start-requires t c κs = let sh = right-short (c .before .before .before .before .before .before .before .before .before .before .before .before .before .before .before .before .args .tree .wide) (c .before .before .before .before .before .before .before .before .before .before .before .before .before .before .before .before .args .store .now) (c .before .before .before .before .before .before .before .before .before .before .before .before .before .before .before .before .args .tree .num) (c .before .before .before .before .before .before .before .before .before .before .before .before .before .before .before .before .args .tree .level) [] (c .before .before .before .before .before .before .before .before .before .before .before .before .before .before .before .before .args .hi .now) (c .before .before .before .before .before .before .before .before .before .before .before .before .before .before .before .before .args .k .now) (c .before .before .before .before .before .before .before .before .before .before .before .before .before .before .before .before .args .tree .at) (c .before .before .before .before .before .before .before .before .before .before .before .before .before .before .before .before .args .free .now) (c .before .before .before .before .before .before .before .before .before .before .before .before .before .before .before .before .pre .1 .0) (top-bare (c .before .before .before .before .before .before .before .before .before .before .before .before .before .before .before .before .args .hi .now)) _ (c .before .before .before .before .before .before .before .read-node .ensures) (c .before .before .before .before .u16-at .result) (c .before .before .before .before .u16-at .ensures .0) in omega arith
 
 slice-right-slice-aggregate-right-cut : (t : ℕ) → slice-right-lts.Need-slice-aggregate-right-cut (
   read-node-reads.Asked,
@@ -922,14 +902,16 @@ slice-right-slice-aggregate-right-cut : (t : ℕ) → slice-right-lts.Need-slice
   rest-start-reads.Learnt,
   right-cut-below t,
   right-cut.Post,
-  finish-wide-reads.Asked,
-  finish-wide-reads.Learnt,
+  write-both-reads.Asked,
+  write-both-reads.Learnt,
+  tell-both-reads.Asked,
+  tell-both-reads.Learnt,
   finish-narrow-reads.Asked,
   finish-narrow-reads.Learnt,
 ) (slice-right-at t) slice-right.Post
 slice-right-slice-aggregate-right-cut t c = search needs
 
-slice-right-sub-right-cut : (t : ℕ) → slice-right-lts.Need-sub-right-cut (
+slice-right-sub-down : (t : ℕ) → slice-right-lts.Need-sub-down (
   read-node-reads.Asked,
   read-node-reads.Learnt,
   u16-at-reads.Asked,
@@ -944,12 +926,14 @@ slice-right-sub-right-cut : (t : ℕ) → slice-right-lts.Need-sub-right-cut (
   rest-start-reads.Learnt,
   right-cut-below t,
   right-cut.Post,
-  finish-wide-reads.Asked,
-  finish-wide-reads.Learnt,
+  write-both-reads.Asked,
+  write-both-reads.Learnt,
+  tell-both-reads.Asked,
+  tell-both-reads.Learnt,
   finish-narrow-reads.Asked,
   finish-narrow-reads.Learnt,
 ) (slice-right-at t) slice-right.Post
-slice-right-sub-right-cut t c = search needs
+slice-right-sub-down t c = search needs
 
 slice-right-right-cut-requires : (t : ℕ) → slice-right-lts.Need-right-cut-requires (
   read-node-reads.Asked,
@@ -966,15 +950,17 @@ slice-right-right-cut-requires : (t : ℕ) → slice-right-lts.Need-right-cut-re
   rest-start-reads.Learnt,
   right-cut-below t,
   right-cut.Post,
-  finish-wide-reads.Asked,
-  finish-wide-reads.Learnt,
+  write-both-reads.Asked,
+  write-both-reads.Learnt,
+  tell-both-reads.Asked,
+  tell-both-reads.Learnt,
   finish-narrow-reads.Asked,
   finish-narrow-reads.Learnt,
 ) (slice-right-at t) slice-right.Post
-slice-right-right-cut-requires t c κs = (omega arith, (c .before .before .before .before .before .before .find-point .ensures .fits, asks-wide (c .before .before .before .before .before .before .before .before .before .before .before .before .before .before .before .before .before .before .before .before .before .before .args .wide) (c .before .before .before .before .before .before .before .before .before .before .before .before .before .before .before .before .before .before .before .before .before .before .args .store .now) (c .before .before .before .before .before .before .before .before .before .before .before .before .before .before .before .before .before .before .before .before .before .before .args .num) (c .before .before .before .before .before .before .before .before .before .before .before .before .before .before .before .before .before .before .before .before .before .before .args .level) (c .before .before .before .before .before .before .before .before .before .before .before .before .before .before .before .before .before .before .before .before .before .before .args .lo .now) (c .before .before .before .before .before .before .before .before .before .before .before .before .before .before .before .before .before .before .before .before .before .before .args .hi .now) (c .before .before .before .before .before .before .before .before .before .before .before .before .before .before .before .before .before .before .before .before .before .before .args .k .now) (c .before .before .before .before .before .before .before .before .before .before .before .before .before .before .before .before .before .before .before .before .before .before .args .at) (c .before .before .before .before .before .before .before .before .before .before .before .before .before .before .before .before .before .before .before .before .before .before .args .free .now) (c .before .before .before .before .before .before .before .before .before .before .before .before .before .before .before .before .before .before .before .before .before .before .pre .1 .0) (c .before .before .before .before .before .before .before .before .before .before .before .before .before .before .before .before .before .before .before .before .before .before .pre .1 .1) _ (c .before .before .before .before .before .before .before .before .before .before .before .before .read-node .ensures) (c .before .before .before .before .before .before .before .before .before .u16-at .result) (c .before .before .before .before .before .before .before .before .before .u16-at .ensures .0) (omega arith) (c .before .before .before .before .before .before .find-point .result) (c .before .before .before .before .before .before .find-point .ensures) (c .before .before .before .before .rest-start .result) (c .before .before .before .before .rest-start .ensures .1) (c .before .before .before .if2 .taken), c .before .before .before .before .before .before .before .before .before .before .before .before .before .before .before .before .before .before .before .before .before .before .pre .1 .3))
+slice-right-right-cut-requires t c κs = (omega arith, (c .before .before .before .before .before .before .find-point .ensures .fits, asks-wide (c .before .before .before .before .before .before .before .before .before .before .before .before .before .before .before .before .before .before .before .before .before .args .tree .wide) (c .before .before .before .before .before .before .before .before .before .before .before .before .before .before .before .before .before .before .before .before .before .args .store .now) (c .before .before .before .before .before .before .before .before .before .before .before .before .before .before .before .before .before .before .before .before .before .args .tree .num) (c .before .before .before .before .before .before .before .before .before .before .before .before .before .before .before .before .before .before .before .before .before .args .tree .level) [] (c .before .before .before .before .before .before .before .before .before .before .before .before .before .before .before .before .before .before .before .before .before .args .hi .now) (c .before .before .before .before .before .before .before .before .before .before .before .before .before .before .before .before .before .before .before .before .before .args .k .now) (c .before .before .before .before .before .before .before .before .before .before .before .before .before .before .before .before .before .before .before .before .before .args .tree .at) (c .before .before .before .before .before .before .before .before .before .before .before .before .before .before .before .before .before .before .before .before .before .args .free .now) (c .before .before .before .before .before .before .before .before .before .before .before .before .before .before .before .before .before .before .before .before .before .pre .1 .0) (top-bare (c .before .before .before .before .before .before .before .before .before .before .before .before .before .before .before .before .before .before .before .before .before .args .hi .now)) _ (c .before .before .before .before .before .before .before .before .before .before .before .before .read-node .ensures) (c .before .before .before .before .before .before .before .before .before .u16-at .result) (c .before .before .before .before .before .before .before .before .before .u16-at .ensures .0) (omega arith) (c .before .before .before .before .before .before .find-point .result) (c .before .before .before .before .before .before .find-point .ensures) (c .before .before .before .before .rest-start .result) (c .before .before .before .before .rest-start .ensures .1) (c .before .before .before .if2 .taken), c .before .before .before .before .before .before .before .before .before .before .before .before .before .before .before .before .before .before .before .before .before .pre .1 .2))
 
-slice-right-slice-aggregate-finish-wide :
-    (t : ℕ) → slice-right-lts.Need-slice-aggregate-finish-wide (
+slice-right-slice-aggregate-write-both :
+    (t : ℕ) → slice-right-lts.Need-slice-aggregate-write-both (
       read-node-reads.Asked,
       read-node-reads.Learnt,
       u16-at-reads.Asked,
@@ -989,14 +975,41 @@ slice-right-slice-aggregate-finish-wide :
       rest-start-reads.Learnt,
       right-cut-below t,
       right-cut.Post,
-      finish-wide-reads.Asked,
-      finish-wide-reads.Learnt,
+      write-both-reads.Asked,
+      write-both-reads.Learnt,
+      tell-both-reads.Asked,
+      tell-both-reads.Learnt,
       finish-narrow-reads.Asked,
       finish-narrow-reads.Learnt,
     ) (slice-right-at t) slice-right.Post
-slice-right-slice-aggregate-finish-wide t c = search needs
+slice-right-slice-aggregate-write-both t c = search needs
 
-slice-right-finish-wide-requires : (t : ℕ) → slice-right-lts.Need-finish-wide-requires (
+slice-right-slice-aggregate-tell-both :
+    (t : ℕ) → slice-right-lts.Need-slice-aggregate-tell-both (
+      read-node-reads.Asked,
+      read-node-reads.Learnt,
+      u16-at-reads.Asked,
+      u16-at-reads.Learnt,
+      common-length-reads.Asked,
+      common-length-reads.Learnt,
+      write-pairs-reads.Asked,
+      write-pairs-reads.Learnt,
+      find-point-reads.Asked,
+      find-point-reads.Learnt,
+      rest-start-reads.Asked,
+      rest-start-reads.Learnt,
+      right-cut-below t,
+      right-cut.Post,
+      write-both-reads.Asked,
+      write-both-reads.Learnt,
+      tell-both-reads.Asked,
+      tell-both-reads.Learnt,
+      finish-narrow-reads.Asked,
+      finish-narrow-reads.Learnt,
+    ) (slice-right-at t) slice-right.Post
+slice-right-slice-aggregate-tell-both t c = search (needs, c .before .before .before .before .before .before .before .before .before .before .before .before .before .before .before .before .before .before .before .before .before .before .before .before .read-node .kept .1 .1 .0)
+
+slice-right-write-both-requires : (t : ℕ) → slice-right-lts.Need-write-both-requires (
   read-node-reads.Asked,
   read-node-reads.Learnt,
   u16-at-reads.Asked,
@@ -1011,12 +1024,38 @@ slice-right-finish-wide-requires : (t : ℕ) → slice-right-lts.Need-finish-wid
   rest-start-reads.Learnt,
   right-cut-below t,
   right-cut.Post,
-  finish-wide-reads.Asked,
-  finish-wide-reads.Learnt,
+  write-both-reads.Asked,
+  write-both-reads.Learnt,
+  tell-both-reads.Asked,
+  tell-both-reads.Learnt,
   finish-narrow-reads.Asked,
   finish-narrow-reads.Learnt,
 ) (slice-right-at t) slice-right.Post
-slice-right-finish-wide-requires t c κs = let o = c .before .before .before .before .before .before .before .before .before .before .before .before .before .before .before .before .before .before .before .before .before .before .before .before .before .before .before .before .before .before .pre .1 .2 in (wide-ready (c .before .before .before .before .before .before .before .before .before .before .before .before .before .before .before .before .before .before .before .before .before .before .before .before .before .before .before .before .before .before .args .wide) (c .before .before .before .before .before .before .before .before .before .before .before .before .before .before .before .before .before .before .before .before .before .before .before .before .before .before .before .before .before .before .args .store .now) (c .before .before .before .before .before .before .before .before .before .before .before .before .before .before .before .before .before .before .before .before .before .before .before .before .before .before .before .before .before .before .args .num) (c .before .before .before .before .before .before .before .before .before .before .before .before .before .before .before .before .before .before .before .before .before .before .before .before .before .before .before .before .before .before .args .level) (c .before .before .before .before .before .before .before .before .before .before .before .before .before .before .before .before .before .before .before .before .before .before .before .before .before .before .before .before .before .before .args .lo .now) (c .before .before .before .before .before .before .before .before .before .before .before .before .before .before .before .before .before .before .before .before .before .before .before .before .before .before .before .before .before .before .args .hi .now) (c .before .before .before .before .before .before .before .before .before .before .before .before .before .before .before .before .before .before .before .before .before .before .before .before .before .before .before .before .before .before .args .k .now) (c .before .before .before .before .before .before .before .before .before .before .before .before .before .before .before .before .before .before .before .before .before .before .before .before .before .before .before .before .before .before .args .at) (c .before .before .before .before .before .before .before .before .before .before .before .before .before .before .before .before .before .before .before .before .before .before .before .before .before .before .before .before .before .before .args .free .now) (c .before .before .before .before .before .before .before .before .before .before .before .before .before .before .before .before .before .before .before .before .before .before .before .before .before .before .before .before .before .before .pre .1 .0) (c .before .before .before .before .before .before .before .before .before .before .before .before .before .before .before .before .before .before .before .before .before .before .before .before .before .before .before .before .before .before .pre .1 .1) _ (c .before .before .before .before .before .before .before .before .before .before .before .before .before .before .before .before .before .before .before .before .read-node .ensures) (c .before .before .before .before .before .before .before .before .before .before .before .before .before .before .before .before .before .u16-at .result) (c .before .before .before .before .before .before .before .before .before .before .before .before .before .before .before .before .before .u16-at .ensures .0) (omega arith) (c .before .before .before .before .before .before .before .before .before .before .before .before .before .before .find-point .result) (c .before .before .before .before .before .before .before .before .before .before .before .before .before .before .find-point .ensures) (c .before .before .before .before .before .before .before .before .before .before .before .before .rest-start .result) (c .before .before .before .before .before .before .before .before .before .before .before .before .rest-start .ensures .1) (c .before .before .before .before .before .before .before .before .before .before .before .before .before .before .before .before .before .before .before .before .before .before .before .before .before .before .before .before .before .before .args .at + 2) (after-wide (c .before .before .before .before .before .before .before .before .before .before .before .before .before .before .before .before .before .before .before .before .before .before .before .before .before .before .before .before .before .before .args .wide) (c .before .before .before .before .before .before .before .before .before .before .before .before .before .before .before .before .before .before .before .before .before .before .before .before .before .before .before .before .before .before .args .at) (c .before .before .before .before .before .before .before .before .before .before .before .if2 .taken)) _ _ _ (c .before .before .before .before .before .before .before .right-cut .ensures) (c .before .before .before .before .before .before .before .before .before .before .before .if2 .taken) refl _ (omega arith) (c .before .before .before .before .before .before .before .before .before .before .before .before .rest-start .ensures .0), omega arith)
+slice-right-write-both-requires t c κs = wide-ready (c .before .before .before .before .before .before .before .before .before .before .before .before .before .before .before .before .before .before .before .before .before .before .before .before .before .before .before .before .before .args .tree .wide) (c .before .before .before .before .before .before .before .before .before .before .before .before .before .before .before .before .before .before .before .before .before .before .before .before .before .before .before .before .before .args .store .now) (c .before .before .before .before .before .before .before .before .before .before .before .before .before .before .before .before .before .before .before .before .before .before .before .before .before .before .before .before .before .args .tree .num) (c .before .before .before .before .before .before .before .before .before .before .before .before .before .before .before .before .before .before .before .before .before .before .before .before .before .before .before .before .before .args .tree .level) [] (c .before .before .before .before .before .before .before .before .before .before .before .before .before .before .before .before .before .before .before .before .before .before .before .before .before .before .before .before .before .args .hi .now) (c .before .before .before .before .before .before .before .before .before .before .before .before .before .before .before .before .before .before .before .before .before .before .before .before .before .before .before .before .before .args .k .now) (c .before .before .before .before .before .before .before .before .before .before .before .before .before .before .before .before .before .before .before .before .before .before .before .before .before .before .before .before .before .args .tree .at) (c .before .before .before .before .before .before .before .before .before .before .before .before .before .before .before .before .before .before .before .before .before .before .before .before .before .before .before .before .before .args .free .now) (c .before .before .before .before .before .before .before .before .before .before .before .before .before .before .before .before .before .before .before .before .before .before .before .before .before .before .before .before .before .pre .1 .0) (top-bare (c .before .before .before .before .before .before .before .before .before .before .before .before .before .before .before .before .before .before .before .before .before .before .before .before .before .before .before .before .before .args .hi .now)) _ (c .before .before .before .before .before .before .before .before .before .before .before .before .before .before .before .before .before .before .before .before .read-node .ensures) (c .before .before .before .before .before .before .before .before .before .before .before .before .before .before .before .before .before .u16-at .result) (c .before .before .before .before .before .before .before .before .before .before .before .before .before .before .before .before .before .u16-at .ensures .0) (omega arith) (c .before .before .before .before .before .before .before .before .before .before .before .before .before .before .find-point .result) (c .before .before .before .before .before .before .before .before .before .before .before .before .before .before .find-point .ensures) (c .before .before .before .before .before .before .before .before .before .before .before .before .rest-start .result) (c .before .before .before .before .before .before .before .before .before .before .before .before .rest-start .ensures .1) (c .before .before .before .before .before .before .before .before .before .before .before .before .before .before .before .before .before .before .before .before .before .before .before .before .before .before .before .before .before .args .tree .at + 2) (after-wide (c .before .before .before .before .before .before .before .before .before .before .before .before .before .before .before .before .before .before .before .before .before .before .before .before .before .before .before .before .before .args .tree .wide) (c .before .before .before .before .before .before .before .before .before .before .before .before .before .before .before .before .before .before .before .before .before .before .before .before .before .before .before .before .before .args .tree .at) (c .before .before .before .before .before .before .before .before .before .before .before .if2 .taken)) _ _ _ (c .before .before .before .before .before .before .before .right-cut .ensures) (c .before .before .before .before .before .before .before .before .before .before .before .if2 .taken) refl _ (omega arith) (c .before .before .before .before .before .before .before .before .before .before .before .before .rest-start .ensures .0)
+
+slice-right-tell-both-requires : (t : ℕ) → slice-right-lts.Need-tell-both-requires (
+  read-node-reads.Asked,
+  read-node-reads.Learnt,
+  u16-at-reads.Asked,
+  u16-at-reads.Learnt,
+  common-length-reads.Asked,
+  common-length-reads.Learnt,
+  write-pairs-reads.Asked,
+  write-pairs-reads.Learnt,
+  find-point-reads.Asked,
+  find-point-reads.Learnt,
+  rest-start-reads.Asked,
+  rest-start-reads.Learnt,
+  right-cut-below t,
+  right-cut.Post,
+  write-both-reads.Asked,
+  write-both-reads.Learnt,
+  tell-both-reads.Asked,
+  tell-both-reads.Learnt,
+  finish-narrow-reads.Asked,
+  finish-narrow-reads.Learnt,
+) (slice-right-at t) slice-right.Post
+slice-right-tell-both-requires t c κs = (c .before .before .before .before .before .before .before .before .before .before .before .before .before .before .before .before .before .rest-start .ensures .0, omega (arith, c .before .before .before .before .before .before .before .before .before .before .before .before .before .before .before .before .before .before .before .before .before .before .before .before .before .before .before .before .before .before .before .before .before .before .pre .1 .1, c .before .before .before .before .before .before .before .before .before .before .before .before .before .before .before .before .before .before .before .before .before .before .before .before .before .read-node .kept .1 .1 .0, c .before .before .before .before .before .before .before .before .before .before .before .before .right-cut .kept .1 .1 .1 .1 .1 .1 .0))
 
 slice-right-same-length-2 : (t : ℕ) → slice-right-lts.Need-same-length-2 (
   read-node-reads.Asked,
@@ -1033,8 +1072,10 @@ slice-right-same-length-2 : (t : ℕ) → slice-right-lts.Need-same-length-2 (
   rest-start-reads.Learnt,
   right-cut-below t,
   right-cut.Post,
-  finish-wide-reads.Asked,
-  finish-wide-reads.Learnt,
+  write-both-reads.Asked,
+  write-both-reads.Learnt,
+  tell-both-reads.Asked,
+  tell-both-reads.Learnt,
   finish-narrow-reads.Asked,
   finish-narrow-reads.Learnt,
 ) (slice-right-at t) slice-right.Post
@@ -1055,8 +1096,10 @@ slice-right-same-length-3 : (t : ℕ) → slice-right-lts.Need-same-length-3 (
   rest-start-reads.Learnt,
   right-cut-below t,
   right-cut.Post,
-  finish-wide-reads.Asked,
-  finish-wide-reads.Learnt,
+  write-both-reads.Asked,
+  write-both-reads.Learnt,
+  tell-both-reads.Asked,
+  tell-both-reads.Learnt,
   finish-narrow-reads.Asked,
   finish-narrow-reads.Learnt,
 ) (slice-right-at t) slice-right.Post
@@ -1077,12 +1120,14 @@ slice-right-returns-2 : (t : ℕ) → slice-right-lts.Need-returns-2 (
   rest-start-reads.Learnt,
   right-cut-below t,
   right-cut.Post,
-  finish-wide-reads.Asked,
-  finish-wide-reads.Learnt,
+  write-both-reads.Asked,
+  write-both-reads.Learnt,
+  tell-both-reads.Asked,
+  tell-both-reads.Learnt,
   finish-narrow-reads.Asked,
   finish-narrow-reads.Learnt,
 ) (slice-right-at t) slice-right.Post
-slice-right-returns-2 t c = wide-done (c .before .before .before .before .before .before .before .before .before .before .before .before .before .before .before .before .before .before .before .before .before .before .before .before .before .before .before .before .before .before .before .before .before .before .before .args .wide) (c .before .before .before .before .before .before .before .before .before .before .before .before .before .before .before .before .before .before .before .before .before .before .before .before .before .before .before .before .before .before .before .before .before .before .before .args .store .now) (c .before .before .before .before .before .before .before .before .before .before .before .before .before .before .before .before .before .before .before .before .before .before .before .before .before .before .before .before .before .before .before .before .before .before .before .args .num) (c .before .before .before .before .before .before .before .before .before .before .before .before .before .before .before .before .before .before .before .before .before .before .before .before .before .before .before .before .before .before .before .before .before .before .before .args .level) (c .before .before .before .before .before .before .before .before .before .before .before .before .before .before .before .before .before .before .before .before .before .before .before .before .before .before .before .before .before .before .before .before .before .before .before .args .lo .now) (c .before .before .before .before .before .before .before .before .before .before .before .before .before .before .before .before .before .before .before .before .before .before .before .before .before .before .before .before .before .before .before .before .before .before .before .args .hi .now) (c .before .before .before .before .before .before .before .before .before .before .before .before .before .before .before .before .before .before .before .before .before .before .before .before .before .before .before .before .before .before .before .before .before .before .before .args .k .now) (c .before .before .before .before .before .before .before .before .before .before .before .before .before .before .before .before .before .before .before .before .before .before .before .before .before .before .before .before .before .before .before .before .before .before .before .args .at) (c .before .before .before .before .before .before .before .before .before .before .before .before .before .before .before .before .before .before .before .before .before .before .before .before .before .before .before .before .before .before .before .before .before .before .before .args .free .now) (c .before .before .before .before .before .before .before .before .before .before .before .before .before .before .before .before .before .before .before .before .before .before .before .before .before .before .before .before .before .before .before .before .before .before .before .pre .1 .0) (c .before .before .before .before .before .before .before .before .before .before .before .before .before .before .before .before .before .before .before .before .before .before .before .before .before .before .before .before .before .before .before .before .before .before .before .pre .1 .1) _ (c .before .before .before .before .before .before .before .before .before .before .before .before .before .before .before .before .before .before .before .before .before .before .before .before .before .read-node .ensures) (c .before .before .before .before .before .before .before .before .before .before .before .before .before .before .before .before .before .before .before .before .before .before .u16-at .result) (c .before .before .before .before .before .before .before .before .before .before .before .before .before .before .before .before .before .before .before .before .before .before .u16-at .ensures .0) (omega arith) (c .before .before .before .before .before .before .before .before .before .before .before .before .before .before .before .before .before .before .before .find-point .result) (c .before .before .before .before .before .before .before .before .before .before .before .before .before .before .before .before .before .before .before .find-point .ensures) (c .before .before .before .before .before .before .before .before .before .before .before .before .before .before .before .before .before .rest-start .result) (c .before .before .before .before .before .before .before .before .before .before .before .before .before .before .before .before .before .rest-start .ensures .1) (c .before .before .before .before .before .before .before .before .before .before .before .before .before .before .before .before .before .before .before .before .before .before .before .before .before .before .before .before .before .before .before .before .before .before .before .args .at + 2) (after-wide (c .before .before .before .before .before .before .before .before .before .before .before .before .before .before .before .before .before .before .before .before .before .before .before .before .before .before .before .before .before .before .before .before .before .before .before .args .wide) (c .before .before .before .before .before .before .before .before .before .before .before .before .before .before .before .before .before .before .before .before .before .before .before .before .before .before .before .before .before .before .before .before .before .before .before .args .at) (c .before .before .before .before .before .before .before .before .before .before .before .before .before .before .before .before .if2 .taken)) _ _ _ (c .before .before .before .before .before .before .before .before .before .before .before .before .right-cut .ensures) (c .before .before .before .before .before .before .before .before .before .before .before .before .before .before .before .before .if2 .taken) refl (c .before .before .before .before .before .before .before .before .before .before .before .before .before .before .before .before .before .before .before .before .before .before .before .before .before .before .before .before .before .before .before .before .before .before .before .args .lift .now) _ _ _ (c .before .before .before .before .finish-wide .ensures)
+slice-right-returns-2 t c = wide-done (c .before .before .before .before .before .before .before .before .before .before .before .before .before .before .before .before .before .before .before .before .before .before .before .before .before .before .before .before .before .before .before .before .before .before .before .before .before .args .tree .wide) (c .before .before .before .before .before .before .before .before .before .before .before .before .before .before .before .before .before .before .before .before .before .before .before .before .before .before .before .before .before .before .before .before .before .before .before .before .before .args .store .now) (c .before .before .before .before .before .before .before .before .before .before .before .before .before .before .before .before .before .before .before .before .before .before .before .before .before .before .before .before .before .before .before .before .before .before .before .before .before .args .tree .num) (c .before .before .before .before .before .before .before .before .before .before .before .before .before .before .before .before .before .before .before .before .before .before .before .before .before .before .before .before .before .before .before .before .before .before .before .before .before .args .tree .level) [] (c .before .before .before .before .before .before .before .before .before .before .before .before .before .before .before .before .before .before .before .before .before .before .before .before .before .before .before .before .before .before .before .before .before .before .before .before .before .args .hi .now) (c .before .before .before .before .before .before .before .before .before .before .before .before .before .before .before .before .before .before .before .before .before .before .before .before .before .before .before .before .before .before .before .before .before .before .before .before .before .args .k .now) (c .before .before .before .before .before .before .before .before .before .before .before .before .before .before .before .before .before .before .before .before .before .before .before .before .before .before .before .before .before .before .before .before .before .before .before .before .before .args .tree .at) (c .before .before .before .before .before .before .before .before .before .before .before .before .before .before .before .before .before .before .before .before .before .before .before .before .before .before .before .before .before .before .before .before .before .before .before .before .before .args .free .now) (c .before .before .before .before .before .before .before .before .before .before .before .before .before .before .before .before .before .before .before .before .before .before .before .before .before .before .before .before .before .before .before .before .before .before .before .before .before .pre .1 .0) (top-bare (c .before .before .before .before .before .before .before .before .before .before .before .before .before .before .before .before .before .before .before .before .before .before .before .before .before .before .before .before .before .before .before .before .before .before .before .before .before .args .hi .now)) _ (c .before .before .before .before .before .before .before .before .before .before .before .before .before .before .before .before .before .before .before .before .before .before .before .before .before .before .before .before .read-node .ensures) (c .before .before .before .before .before .before .before .before .before .before .before .before .before .before .before .before .before .before .before .before .before .before .before .before .before .u16-at .result) (c .before .before .before .before .before .before .before .before .before .before .before .before .before .before .before .before .before .before .before .before .before .before .before .before .before .u16-at .ensures .0) (omega (arith, c .before .before .before .before .before .before .before .before .before .before .before .before .before .before .before .before .before .before .before .before .before .before .before .before .if1 .left)) (c .before .before .before .before .before .before .before .before .before .before .before .before .before .before .before .before .before .before .before .before .before .before .find-point .result) (c .before .before .before .before .before .before .before .before .before .before .before .before .before .before .before .before .before .before .before .before .before .before .find-point .ensures) (c .before .before .before .before .before .before .before .before .before .before .before .before .before .before .before .before .before .before .before .before .rest-start .result) (c .before .before .before .before .before .before .before .before .before .before .before .before .before .before .before .before .before .before .before .before .rest-start .ensures .1) (c .before .before .before .before .before .before .before .before .before .before .before .before .before .before .before .before .before .before .before .before .before .before .before .before .before .before .before .before .before .before .before .before .before .before .before .before .before .args .tree .at + 2) (after-wide (c .before .before .before .before .before .before .before .before .before .before .before .before .before .before .before .before .before .before .before .before .before .before .before .before .before .before .before .before .before .before .before .before .before .before .before .before .before .args .tree .wide) (c .before .before .before .before .before .before .before .before .before .before .before .before .before .before .before .before .before .before .before .before .before .before .before .before .before .before .before .before .before .before .before .before .before .before .before .before .before .args .tree .at) (c .before .before .before .before .before .before .before .before .before .before .before .before .before .before .before .before .before .before .before .if2 .taken)) _ _ _ (c .before .before .before .before .before .before .before .before .before .before .before .before .before .before .before .right-cut .ensures) (c .before .before .before .before .before .before .before .before .before .before .before .before .before .before .before .before .before .before .before .if2 .taken) refl (c .before .before .before .before .before .before .before .before .before .before .before .before .before .before .before .before .before .before .before .before .before .before .before .before .before .before .before .before .before .before .before .before .before .before .before .before .before .args .lift .now) _ _ _ (wide-both (c .before .before .before .before .before .before .before .before .before .before .before .before .before .before .before .before .before .before .before .before .before .before .before .before .before .before .before .before .before .before .before .before .before .before .before .before .before .args .tree .level) _ (c .before .before .before .before .before .before .before .before .before .before .before .before .before .before .before .before .before .before .before .before .rest-start .result) (c .before .before .before .before .before .before .before .before .before .before .before .before .before .before .before .before .before .before .before .before .before .before .before .before .before .before .before .before .before .before .before .before .before .before .before .before .before .args .hi .now) (c .before .before .before .before .before .before .before .before .before .before .before .before .before .before .before .before .before .before .before .before .before .before .before .before .before .before .before .before .before .before .before .before .before .before .before .before .before .args .k .now) _ _ (c .before .before .before .before .before .before .before .before .before .before .before .before .before .before .before .before .before .before .before .before .before .before .before .before .before .before .before .before .before .before .before .before .before .before .before .before .before .args .tree .at) (c .before .before .before .before .before .before .before .before .before .before .before .before .before .before .before .before .before .before .before .before .before .before .before .before .before .before .before .before .before .before .before .before .before .before .before .before .before .args .free .now) (c .before .before .before .before .before .before .before .before .before .before .before .before .before .before .before .before .before .before .before .before .before .before .before .before .before .before .before .before .before .before .before .before .before .before .before .before .before .args .lift .now) _ _ (c .before .before .before .before .before .before .before .write-both .ensures) _ _ (c .before .before .tell-both .ensures))
 
 slice-right-slice-aggregate-right-cut-2 :
     (t : ℕ) → slice-right-lts.Need-slice-aggregate-right-cut-2 (
@@ -1100,34 +1145,14 @@ slice-right-slice-aggregate-right-cut-2 :
       rest-start-reads.Learnt,
       right-cut-below t,
       right-cut.Post,
-      finish-wide-reads.Asked,
-      finish-wide-reads.Learnt,
+      write-both-reads.Asked,
+      write-both-reads.Learnt,
+      tell-both-reads.Asked,
+      tell-both-reads.Learnt,
       finish-narrow-reads.Asked,
       finish-narrow-reads.Learnt,
     ) (slice-right-at t) slice-right.Post
 slice-right-slice-aggregate-right-cut-2 t c = search needs
-
-slice-right-sub-right-cut-2 : (t : ℕ) → slice-right-lts.Need-sub-right-cut-2 (
-  read-node-reads.Asked,
-  read-node-reads.Learnt,
-  u16-at-reads.Asked,
-  u16-at-reads.Learnt,
-  common-length-reads.Asked,
-  common-length-reads.Learnt,
-  write-pairs-reads.Asked,
-  write-pairs-reads.Learnt,
-  find-point-reads.Asked,
-  find-point-reads.Learnt,
-  rest-start-reads.Asked,
-  rest-start-reads.Learnt,
-  right-cut-below t,
-  right-cut.Post,
-  finish-wide-reads.Asked,
-  finish-wide-reads.Learnt,
-  finish-narrow-reads.Asked,
-  finish-narrow-reads.Learnt,
-) (slice-right-at t) slice-right.Post
-slice-right-sub-right-cut-2 t c = search needs
 
 slice-right-right-cut-requires-2 : (t : ℕ) → slice-right-lts.Need-right-cut-requires-2 (
   read-node-reads.Asked,
@@ -1144,12 +1169,14 @@ slice-right-right-cut-requires-2 : (t : ℕ) → slice-right-lts.Need-right-cut-
   rest-start-reads.Learnt,
   right-cut-below t,
   right-cut.Post,
-  finish-wide-reads.Asked,
-  finish-wide-reads.Learnt,
+  write-both-reads.Asked,
+  write-both-reads.Learnt,
+  tell-both-reads.Asked,
+  tell-both-reads.Learnt,
   finish-narrow-reads.Asked,
   finish-narrow-reads.Learnt,
 ) (slice-right-at t) slice-right.Post
-slice-right-right-cut-requires-2 t c κs = (omega arith, (c .before .before .before .before .before .before .find-point .ensures .fits, asks-narrow (c .before .before .before .before .before .before .before .before .before .before .before .before .before .before .before .before .before .before .before .before .before .before .args .wide) (c .before .before .before .before .before .before .before .before .before .before .before .before .before .before .before .before .before .before .before .before .before .before .args .store .now) (c .before .before .before .before .before .before .before .before .before .before .before .before .before .before .before .before .before .before .before .before .before .before .args .num) (c .before .before .before .before .before .before .before .before .before .before .before .before .before .before .before .before .before .before .before .before .before .before .args .level) (c .before .before .before .before .before .before .before .before .before .before .before .before .before .before .before .before .before .before .before .before .before .before .args .lo .now) (c .before .before .before .before .before .before .before .before .before .before .before .before .before .before .before .before .before .before .before .before .before .before .args .hi .now) (c .before .before .before .before .before .before .before .before .before .before .before .before .before .before .before .before .before .before .before .before .before .before .args .k .now) (c .before .before .before .before .before .before .before .before .before .before .before .before .before .before .before .before .before .before .before .before .before .before .args .at) (c .before .before .before .before .before .before .before .before .before .before .before .before .before .before .before .before .before .before .before .before .before .before .args .free .now) (c .before .before .before .before .before .before .before .before .before .before .before .before .before .before .before .before .before .before .before .before .before .before .pre .1 .0) (c .before .before .before .before .before .before .before .before .before .before .before .before .before .before .before .before .before .before .before .before .before .before .pre .1 .1) _ (c .before .before .before .before .before .before .before .before .before .before .before .before .read-node .ensures) (c .before .before .before .before .before .before .before .before .before .u16-at .result) (c .before .before .before .before .before .before .before .before .before .u16-at .ensures .0) (omega arith) (c .before .before .before .before .before .before .find-point .result) (c .before .before .before .before .before .before .find-point .ensures) (c .before .before .before .before .rest-start .result) (c .before .before .before .before .rest-start .ensures .1) (c .before .before .before .if2 .left), c .before .before .before .before .before .before .before .before .before .before .before .before .before .before .before .before .before .before .before .before .before .before .pre .1 .3))
+slice-right-right-cut-requires-2 t c κs = (omega arith, (c .before .before .before .before .before .before .find-point .ensures .fits, asks-narrow (c .before .before .before .before .before .before .before .before .before .before .before .before .before .before .before .before .before .before .before .before .before .args .tree .wide) (c .before .before .before .before .before .before .before .before .before .before .before .before .before .before .before .before .before .before .before .before .before .args .store .now) (c .before .before .before .before .before .before .before .before .before .before .before .before .before .before .before .before .before .before .before .before .before .args .tree .num) (c .before .before .before .before .before .before .before .before .before .before .before .before .before .before .before .before .before .before .before .before .before .args .tree .level) [] (c .before .before .before .before .before .before .before .before .before .before .before .before .before .before .before .before .before .before .before .before .before .args .hi .now) (c .before .before .before .before .before .before .before .before .before .before .before .before .before .before .before .before .before .before .before .before .before .args .k .now) (c .before .before .before .before .before .before .before .before .before .before .before .before .before .before .before .before .before .before .before .before .before .args .tree .at) (c .before .before .before .before .before .before .before .before .before .before .before .before .before .before .before .before .before .before .before .before .before .args .free .now) (c .before .before .before .before .before .before .before .before .before .before .before .before .before .before .before .before .before .before .before .before .before .pre .1 .0) (top-bare (c .before .before .before .before .before .before .before .before .before .before .before .before .before .before .before .before .before .before .before .before .before .args .hi .now)) _ (c .before .before .before .before .before .before .before .before .before .before .before .before .read-node .ensures) (c .before .before .before .before .before .before .before .before .before .u16-at .result) (c .before .before .before .before .before .before .before .before .before .u16-at .ensures .0) (omega arith) (c .before .before .before .before .before .before .find-point .result) (c .before .before .before .before .before .before .find-point .ensures) (c .before .before .before .before .rest-start .result) (c .before .before .before .before .rest-start .ensures .1) (c .before .before .before .if2 .left), c .before .before .before .before .before .before .before .before .before .before .before .before .before .before .before .before .before .before .before .before .before .pre .1 .2))
 
 slice-right-slice-aggregate-finish-narrow :
     (t : ℕ) → slice-right-lts.Need-slice-aggregate-finish-narrow (
@@ -1167,8 +1194,10 @@ slice-right-slice-aggregate-finish-narrow :
       rest-start-reads.Learnt,
       right-cut-below t,
       right-cut.Post,
-      finish-wide-reads.Asked,
-      finish-wide-reads.Learnt,
+      write-both-reads.Asked,
+      write-both-reads.Learnt,
+      tell-both-reads.Asked,
+      tell-both-reads.Learnt,
       finish-narrow-reads.Asked,
       finish-narrow-reads.Learnt,
     ) (slice-right-at t) slice-right.Post
@@ -1189,12 +1218,14 @@ slice-right-finish-narrow-requires : (t : ℕ) → slice-right-lts.Need-finish-n
   rest-start-reads.Learnt,
   right-cut-below t,
   right-cut.Post,
-  finish-wide-reads.Asked,
-  finish-wide-reads.Learnt,
+  write-both-reads.Asked,
+  write-both-reads.Learnt,
+  tell-both-reads.Asked,
+  tell-both-reads.Learnt,
   finish-narrow-reads.Asked,
   finish-narrow-reads.Learnt,
 ) (slice-right-at t) slice-right.Post
-slice-right-finish-narrow-requires t c κs = narrow-ready (c .before .before .before .before .before .before .before .before .before .before .before .before .before .before .before .before .before .before .before .before .before .before .before .before .before .before .before .before .before .before .args .wide) (c .before .before .before .before .before .before .before .before .before .before .before .before .before .before .before .before .before .before .before .before .before .before .before .before .before .before .before .before .before .before .args .store .now) (c .before .before .before .before .before .before .before .before .before .before .before .before .before .before .before .before .before .before .before .before .before .before .before .before .before .before .before .before .before .before .args .num) (c .before .before .before .before .before .before .before .before .before .before .before .before .before .before .before .before .before .before .before .before .before .before .before .before .before .before .before .before .before .before .args .level) (c .before .before .before .before .before .before .before .before .before .before .before .before .before .before .before .before .before .before .before .before .before .before .before .before .before .before .before .before .before .before .args .lo .now) (c .before .before .before .before .before .before .before .before .before .before .before .before .before .before .before .before .before .before .before .before .before .before .before .before .before .before .before .before .before .before .args .hi .now) (c .before .before .before .before .before .before .before .before .before .before .before .before .before .before .before .before .before .before .before .before .before .before .before .before .before .before .before .before .before .before .args .k .now) (c .before .before .before .before .before .before .before .before .before .before .before .before .before .before .before .before .before .before .before .before .before .before .before .before .before .before .before .before .before .before .args .at) (c .before .before .before .before .before .before .before .before .before .before .before .before .before .before .before .before .before .before .before .before .before .before .before .before .before .before .before .before .before .before .args .free .now) (c .before .before .before .before .before .before .before .before .before .before .before .before .before .before .before .before .before .before .before .before .before .before .before .before .before .before .before .before .before .before .pre .1 .0) (c .before .before .before .before .before .before .before .before .before .before .before .before .before .before .before .before .before .before .before .before .before .before .before .before .before .before .before .before .before .before .pre .1 .1) _ (c .before .before .before .before .before .before .before .before .before .before .before .before .before .before .before .before .before .before .before .before .read-node .ensures) (c .before .before .before .before .before .before .before .before .before .before .before .before .before .before .before .before .before .u16-at .result) (c .before .before .before .before .before .before .before .before .before .before .before .before .before .before .before .before .before .u16-at .ensures .0) (omega arith) (c .before .before .before .before .before .before .before .before .before .before .before .before .before .before .find-point .result) (c .before .before .before .before .before .before .before .before .before .before .before .before .before .before .find-point .ensures) (c .before .before .before .before .before .before .before .before .before .before .before .before .rest-start .result) (c .before .before .before .before .before .before .before .before .before .before .before .before .rest-start .ensures .1) (c .before .before .before .before .before .before .before .before .before .before .before .before .before .before .before .before .before .before .before .before .before .before .before .before .before .before .before .before .before .before .args .at + 1) (after-narrow (c .before .before .before .before .before .before .before .before .before .before .before .before .before .before .before .before .before .before .before .before .before .before .before .before .before .before .before .before .before .before .args .wide) (c .before .before .before .before .before .before .before .before .before .before .before .before .before .before .before .before .before .before .before .before .before .before .before .before .before .before .before .before .before .before .args .at) (c .before .before .before .before .before .before .before .before .before .before .before .if2 .left)) _ _ _ (c .before .before .before .before .before .before .before .right-cut2 .ensures) (c .before .before .before .before .before .before .before .before .before .before .before .if2 .left) refl _ (omega arith) (c .before .before .before .before .before .before .before .before .before .before .before .before .rest-start .ensures .0)
+slice-right-finish-narrow-requires t c κs = narrow-ready (c .before .before .before .before .before .before .before .before .before .before .before .before .before .before .before .before .before .before .before .before .before .before .before .before .before .before .before .before .before .args .tree .wide) (c .before .before .before .before .before .before .before .before .before .before .before .before .before .before .before .before .before .before .before .before .before .before .before .before .before .before .before .before .before .args .store .now) (c .before .before .before .before .before .before .before .before .before .before .before .before .before .before .before .before .before .before .before .before .before .before .before .before .before .before .before .before .before .args .tree .num) (c .before .before .before .before .before .before .before .before .before .before .before .before .before .before .before .before .before .before .before .before .before .before .before .before .before .before .before .before .before .args .tree .level) [] (c .before .before .before .before .before .before .before .before .before .before .before .before .before .before .before .before .before .before .before .before .before .before .before .before .before .before .before .before .before .args .hi .now) (c .before .before .before .before .before .before .before .before .before .before .before .before .before .before .before .before .before .before .before .before .before .before .before .before .before .before .before .before .before .args .k .now) (c .before .before .before .before .before .before .before .before .before .before .before .before .before .before .before .before .before .before .before .before .before .before .before .before .before .before .before .before .before .args .tree .at) (c .before .before .before .before .before .before .before .before .before .before .before .before .before .before .before .before .before .before .before .before .before .before .before .before .before .before .before .before .before .args .free .now) (c .before .before .before .before .before .before .before .before .before .before .before .before .before .before .before .before .before .before .before .before .before .before .before .before .before .before .before .before .before .pre .1 .0) (top-bare (c .before .before .before .before .before .before .before .before .before .before .before .before .before .before .before .before .before .before .before .before .before .before .before .before .before .before .before .before .before .args .hi .now)) _ (c .before .before .before .before .before .before .before .before .before .before .before .before .before .before .before .before .before .before .before .before .read-node .ensures) (c .before .before .before .before .before .before .before .before .before .before .before .before .before .before .before .before .before .u16-at .result) (c .before .before .before .before .before .before .before .before .before .before .before .before .before .before .before .before .before .u16-at .ensures .0) (omega arith) (c .before .before .before .before .before .before .before .before .before .before .before .before .before .before .find-point .result) (c .before .before .before .before .before .before .before .before .before .before .before .before .before .before .find-point .ensures) (c .before .before .before .before .before .before .before .before .before .before .before .before .rest-start .result) (c .before .before .before .before .before .before .before .before .before .before .before .before .rest-start .ensures .1) (c .before .before .before .before .before .before .before .before .before .before .before .before .before .before .before .before .before .before .before .before .before .before .before .before .before .before .before .before .before .args .tree .at + 1) (after-narrow (c .before .before .before .before .before .before .before .before .before .before .before .before .before .before .before .before .before .before .before .before .before .before .before .before .before .before .before .before .before .args .tree .wide) (c .before .before .before .before .before .before .before .before .before .before .before .before .before .before .before .before .before .before .before .before .before .before .before .before .before .before .before .before .before .args .tree .at) (c .before .before .before .before .before .before .before .before .before .before .before .if2 .left)) _ _ _ (c .before .before .before .before .before .before .before .right-cut2 .ensures) (c .before .before .before .before .before .before .before .before .before .before .before .if2 .left) refl _ (omega arith) (c .before .before .before .before .before .before .before .before .before .before .before .before .rest-start .ensures .0)
 
 slice-right-same-length-4 : (t : ℕ) → slice-right-lts.Need-same-length-4 (
   read-node-reads.Asked,
@@ -1211,8 +1242,10 @@ slice-right-same-length-4 : (t : ℕ) → slice-right-lts.Need-same-length-4 (
   rest-start-reads.Learnt,
   right-cut-below t,
   right-cut.Post,
-  finish-wide-reads.Asked,
-  finish-wide-reads.Learnt,
+  write-both-reads.Asked,
+  write-both-reads.Learnt,
+  tell-both-reads.Asked,
+  tell-both-reads.Learnt,
   finish-narrow-reads.Asked,
   finish-narrow-reads.Learnt,
 ) (slice-right-at t) slice-right.Post
@@ -1233,8 +1266,10 @@ slice-right-same-length-5 : (t : ℕ) → slice-right-lts.Need-same-length-5 (
   rest-start-reads.Learnt,
   right-cut-below t,
   right-cut.Post,
-  finish-wide-reads.Asked,
-  finish-wide-reads.Learnt,
+  write-both-reads.Asked,
+  write-both-reads.Learnt,
+  tell-both-reads.Asked,
+  tell-both-reads.Learnt,
   finish-narrow-reads.Asked,
   finish-narrow-reads.Learnt,
 ) (slice-right-at t) slice-right.Post
@@ -1255,12 +1290,14 @@ slice-right-returns-3 : (t : ℕ) → slice-right-lts.Need-returns-3 (
   rest-start-reads.Learnt,
   right-cut-below t,
   right-cut.Post,
-  finish-wide-reads.Asked,
-  finish-wide-reads.Learnt,
+  write-both-reads.Asked,
+  write-both-reads.Learnt,
+  tell-both-reads.Asked,
+  tell-both-reads.Learnt,
   finish-narrow-reads.Asked,
   finish-narrow-reads.Learnt,
 ) (slice-right-at t) slice-right.Post
-slice-right-returns-3 t c = narrow-done (c .before .before .before .before .before .before .before .before .before .before .before .before .before .before .before .before .before .before .before .before .before .before .before .before .before .before .before .before .before .before .before .before .before .args .wide) (c .before .before .before .before .before .before .before .before .before .before .before .before .before .before .before .before .before .before .before .before .before .before .before .before .before .before .before .before .before .before .before .before .before .args .store .now) (c .before .before .before .before .before .before .before .before .before .before .before .before .before .before .before .before .before .before .before .before .before .before .before .before .before .before .before .before .before .before .before .before .before .args .num) (c .before .before .before .before .before .before .before .before .before .before .before .before .before .before .before .before .before .before .before .before .before .before .before .before .before .before .before .before .before .before .before .before .before .args .level) (c .before .before .before .before .before .before .before .before .before .before .before .before .before .before .before .before .before .before .before .before .before .before .before .before .before .before .before .before .before .before .before .before .before .args .lo .now) (c .before .before .before .before .before .before .before .before .before .before .before .before .before .before .before .before .before .before .before .before .before .before .before .before .before .before .before .before .before .before .before .before .before .args .hi .now) (c .before .before .before .before .before .before .before .before .before .before .before .before .before .before .before .before .before .before .before .before .before .before .before .before .before .before .before .before .before .before .before .before .before .args .k .now) (c .before .before .before .before .before .before .before .before .before .before .before .before .before .before .before .before .before .before .before .before .before .before .before .before .before .before .before .before .before .before .before .before .before .args .at) (c .before .before .before .before .before .before .before .before .before .before .before .before .before .before .before .before .before .before .before .before .before .before .before .before .before .before .before .before .before .before .before .before .before .args .free .now) (c .before .before .before .before .before .before .before .before .before .before .before .before .before .before .before .before .before .before .before .before .before .before .before .before .before .before .before .before .before .before .before .before .before .pre .1 .0) (c .before .before .before .before .before .before .before .before .before .before .before .before .before .before .before .before .before .before .before .before .before .before .before .before .before .before .before .before .before .before .before .before .before .pre .1 .1) _ (c .before .before .before .before .before .before .before .before .before .before .before .before .before .before .before .before .before .before .before .before .before .before .before .read-node .ensures) (c .before .before .before .before .before .before .before .before .before .before .before .before .before .before .before .before .before .before .before .before .u16-at .result) (c .before .before .before .before .before .before .before .before .before .before .before .before .before .before .before .before .before .before .before .before .u16-at .ensures .0) (omega arith) (c .before .before .before .before .before .before .before .before .before .before .before .before .before .before .before .before .before .find-point .result) (c .before .before .before .before .before .before .before .before .before .before .before .before .before .before .before .before .before .find-point .ensures) (c .before .before .before .before .before .before .before .before .before .before .before .before .before .before .before .rest-start .result) (c .before .before .before .before .before .before .before .before .before .before .before .before .before .before .before .rest-start .ensures .1) (c .before .before .before .before .before .before .before .before .before .before .before .before .before .before .before .before .before .before .before .before .before .before .before .before .before .before .before .before .before .before .before .before .before .args .at + 1) (after-narrow (c .before .before .before .before .before .before .before .before .before .before .before .before .before .before .before .before .before .before .before .before .before .before .before .before .before .before .before .before .before .before .before .before .before .args .wide) (c .before .before .before .before .before .before .before .before .before .before .before .before .before .before .before .before .before .before .before .before .before .before .before .before .before .before .before .before .before .before .before .before .before .args .at) (c .before .before .before .before .before .before .before .before .before .before .before .before .before .before .if2 .left)) _ _ _ (c .before .before .before .before .before .before .before .before .before .before .right-cut2 .ensures) (c .before .before .before .before .before .before .before .before .before .before .before .before .before .before .if2 .left) refl (c .before .before .before .before .before .before .before .before .before .before .before .before .before .before .before .before .before .before .before .before .before .before .before .before .before .before .before .before .before .before .before .before .before .args .lift .now) _ _ (c .before .before .finish-narrow .ensures .0) (c .before .before .finish-narrow .ensures .1)
+slice-right-returns-3 t c = narrow-done (c .before .before .before .before .before .before .before .before .before .before .before .before .before .before .before .before .before .before .before .before .before .before .before .before .before .before .before .before .before .before .before .before .args .tree .wide) (c .before .before .before .before .before .before .before .before .before .before .before .before .before .before .before .before .before .before .before .before .before .before .before .before .before .before .before .before .before .before .before .before .args .store .now) (c .before .before .before .before .before .before .before .before .before .before .before .before .before .before .before .before .before .before .before .before .before .before .before .before .before .before .before .before .before .before .before .before .args .tree .num) (c .before .before .before .before .before .before .before .before .before .before .before .before .before .before .before .before .before .before .before .before .before .before .before .before .before .before .before .before .before .before .before .before .args .tree .level) [] (c .before .before .before .before .before .before .before .before .before .before .before .before .before .before .before .before .before .before .before .before .before .before .before .before .before .before .before .before .before .before .before .before .args .hi .now) (c .before .before .before .before .before .before .before .before .before .before .before .before .before .before .before .before .before .before .before .before .before .before .before .before .before .before .before .before .before .before .before .before .args .k .now) (c .before .before .before .before .before .before .before .before .before .before .before .before .before .before .before .before .before .before .before .before .before .before .before .before .before .before .before .before .before .before .before .before .args .tree .at) (c .before .before .before .before .before .before .before .before .before .before .before .before .before .before .before .before .before .before .before .before .before .before .before .before .before .before .before .before .before .before .before .before .args .free .now) (c .before .before .before .before .before .before .before .before .before .before .before .before .before .before .before .before .before .before .before .before .before .before .before .before .before .before .before .before .before .before .before .before .pre .1 .0) (top-bare (c .before .before .before .before .before .before .before .before .before .before .before .before .before .before .before .before .before .before .before .before .before .before .before .before .before .before .before .before .before .before .before .before .args .hi .now)) _ (c .before .before .before .before .before .before .before .before .before .before .before .before .before .before .before .before .before .before .before .before .before .before .before .read-node .ensures) (c .before .before .before .before .before .before .before .before .before .before .before .before .before .before .before .before .before .before .before .before .u16-at .result) (c .before .before .before .before .before .before .before .before .before .before .before .before .before .before .before .before .before .before .before .before .u16-at .ensures .0) (omega arith) (c .before .before .before .before .before .before .before .before .before .before .before .before .before .before .before .before .before .find-point .result) (c .before .before .before .before .before .before .before .before .before .before .before .before .before .before .before .before .before .find-point .ensures) (c .before .before .before .before .before .before .before .before .before .before .before .before .before .before .before .rest-start .result) (c .before .before .before .before .before .before .before .before .before .before .before .before .before .before .before .rest-start .ensures .1) (c .before .before .before .before .before .before .before .before .before .before .before .before .before .before .before .before .before .before .before .before .before .before .before .before .before .before .before .before .before .before .before .before .args .tree .at + 1) (after-narrow (c .before .before .before .before .before .before .before .before .before .before .before .before .before .before .before .before .before .before .before .before .before .before .before .before .before .before .before .before .before .before .before .before .args .tree .wide) (c .before .before .before .before .before .before .before .before .before .before .before .before .before .before .before .before .before .before .before .before .before .before .before .before .before .before .before .before .before .before .before .before .args .tree .at) (c .before .before .before .before .before .before .before .before .before .before .before .before .before .before .if2 .left)) _ _ _ (c .before .before .before .before .before .before .before .before .before .before .right-cut2 .ensures) (c .before .before .before .before .before .before .before .before .before .before .before .before .before .before .if2 .left) refl (c .before .before .before .before .before .before .before .before .before .before .before .before .before .before .before .before .before .before .before .before .before .before .before .before .before .before .before .before .before .before .before .before .args .lift .now) _ _ (c .before .before .finish-narrow .ensures .0) (c .before .before .finish-narrow .ensures .1)
 
 pub +right-cut+slice-right-spec : {M : Type 1} → statement M
 +right-cut+slice-right-spec = close μ-right-cut μ-slice-right (λ t. right-cut-lts.spec (
@@ -1279,7 +1316,6 @@ pub +right-cut+slice-right-spec : {M : Type 1} → statement M
     (right-cut-part-common-length-start-2 t)
     (right-cut-part-common-length-end-2 t)
     (right-cut-common-length-requires t)
-    (right-cut-add-f t)
     (right-cut-add-g t)
     (right-cut-sub-slice-right t)
     (right-cut-part-slice-right-start t)
@@ -1290,28 +1326,21 @@ pub +right-cut+slice-right-spec : {M : Type 1} → statement M
     (right-cut-sub-slice-right-3 t)
     (right-cut-part-slice-right-start-3 t)
     (right-cut-part-slice-right-end-3 t)
-    (right-cut-sub-slice-right-4 t)
-    (right-cut-part-slice-right-start-4 t)
-    (right-cut-part-slice-right-end-4 t)
     (right-cut-slice-right-requires t)
     (right-cut-enum-known-cut-2 t)
     (right-cut-sub-common-length-3 t)
     (right-cut-part-common-length-start-3 t)
     (right-cut-part-common-length-end-3 t)
     (right-cut-common-length-requires-2 t)
-    (right-cut-add-f-2 t)
+    (right-cut-sub-slice-right-4 t)
+    (right-cut-part-slice-right-start-4 t)
+    (right-cut-part-slice-right-end-4 t)
     (right-cut-sub-slice-right-5 t)
     (right-cut-part-slice-right-start-5 t)
     (right-cut-part-slice-right-end-5 t)
     (right-cut-sub-slice-right-6 t)
     (right-cut-part-slice-right-start-6 t)
     (right-cut-part-slice-right-end-6 t)
-    (right-cut-sub-slice-right-7 t)
-    (right-cut-part-slice-right-start-7 t)
-    (right-cut-part-slice-right-end-7 t)
-    (right-cut-sub-slice-right-8 t)
-    (right-cut-part-slice-right-start-8 t)
-    (right-cut-part-slice-right-end-8 t)
     (right-cut-slice-right-requires-2 t)
     (right-cut-enum-told t)
     (right-cut-enum-told-2 t)
@@ -1338,8 +1367,10 @@ pub +right-cut+slice-right-spec : {M : Type 1} → statement M
       rest-start-reads.Learnt,
       right-cut-below t,
       right-cut.Post,
-      finish-wide-reads.Asked,
-      finish-wide-reads.Learnt,
+      write-both-reads.Asked,
+      write-both-reads.Learnt,
+      tell-both-reads.Asked,
+      tell-both-reads.Learnt,
       finish-narrow-reads.Asked,
       finish-narrow-reads.Learnt,
     )
@@ -1365,16 +1396,17 @@ pub +right-cut+slice-right-spec : {M : Type 1} → statement M
     (slice-right-slice-aggregate-rest-start t)
     (slice-right-add-rest-start t)
     (slice-right-rest-start-requires t)
+    (slice-right-sub-down t)
     (slice-right-slice-aggregate-right-cut t)
-    (slice-right-sub-right-cut t)
     (slice-right-right-cut-requires t)
-    (slice-right-slice-aggregate-finish-wide t)
-    (slice-right-finish-wide-requires t)
+    (slice-right-slice-aggregate-write-both t)
+    (slice-right-write-both-requires t)
+    (slice-right-slice-aggregate-tell-both t)
+    (slice-right-tell-both-requires t)
     (slice-right-same-length-2 t)
     (slice-right-same-length-3 t)
     (slice-right-returns-2 t)
     (slice-right-slice-aggregate-right-cut-2 t)
-    (slice-right-sub-right-cut-2 t)
     (slice-right-right-cut-requires-2 t)
     (slice-right-slice-aggregate-finish-narrow t)
     (slice-right-finish-narrow-requires t)

@@ -44,14 +44,14 @@ slice-aggregate-emit-half c = search needs
 
 emit-half-requires : tie.Need-emit-half-requires
 unfolding zerosOf
-emit-half-requires c κs = (c .before .before .before .before .before .before .before .before .before .before .before .before .before .pre .lower, low-room _ _ _ _ _ _ _ _ _ (c .before .before .before .before .before .before .before .before .before .before .before .before .before .pre) _ _ (c .before .before .before .before .before .u16-at2 .ensures .0) (c .before .before .before .before .before .before .u16-at .ensures .0) _ _ (c .before .before .write-child .ensures .0) (c .before .before .write-child .ensures .1) (search needs), search needs)
+emit-half-requires c κs = (c .before .before .before .before .before .before .before .before .before .before .before .before .before .before .before .pre .lower, low-room _ _ _ _ _ _ _ _ _ (c .before .before .before .before .before .before .before .before .before .before .before .before .before .before .before .pre) _ _ (c .before .before .before .before .before .u16-at2 .ensures .0) (c .before .before .before .before .before .before .u16-at .ensures .0) _ _ (c .before .before .write-child .ensures .0) (c .before .before .write-child .ensures .1) (search needs), search needs)
 
 slice-aggregate-emit-half-2 : tie.Need-slice-aggregate-emit-half-2
 slice-aggregate-emit-half-2 c = search needs
 
 emit-half-requires-2 : tie.Need-emit-half-requires-2
 unfolding zerosOf
-emit-half-requires-2 c κs = (c .before .before .before .before .before .before .before .before .before .before .before .before .before .before .before .before .pre .higher, high-room _ _ _ _ _ _ _ _ _ (c .before .before .before .before .before .before .before .before .before .before .before .before .before .before .before .before .pre) _ _ (c .before .before .before .before .before .before .before .before .u16-at2 .ensures .0) (c .before .before .before .before .before .before .before .before .before .u16-at .ensures .0) _ _ (c .before .before .before .before .before .write-child .ensures .0) (c .before .before .before .before .before .write-child .ensures .1) (search needs) _ _ (c .before .before .emit-half .ensures .0) (c .before .before .emit-half .ensures .1) (search needs), search needs)
+emit-half-requires-2 c κs = (c .before .before .before .before .before .before .before .before .before .before .before .before .before .before .before .before .before .before .pre .higher, high-room _ _ _ _ _ _ _ _ _ (c .before .before .before .before .before .before .before .before .before .before .before .before .before .before .before .before .before .before .pre) _ _ (c .before .before .before .before .before .before .before .before .u16-at2 .ensures .0) (c .before .before .before .before .before .before .before .before .before .u16-at .ensures .0) _ _ (c .before .before .before .before .before .write-child .ensures .0) (c .before .before .before .before .before .write-child .ensures .1) (search needs) _ _ (c .before .before .emit-half .ensures .0) (c .before .before .emit-half .ensures .1) (search needs), search needs)
 
 slice-aggregate-write-page : tie.Need-slice-aggregate-write-page
 slice-aggregate-write-page c = search needs
@@ -64,14 +64,14 @@ sub-write-page c = search needs
 
 write-page-requires : tie.Need-write-page-requires
 unfolding zerosOf
-write-page-requires c κs = let f = end-fits _ _ _ _ _ _ _ _ _ (c .before .before .before .before .before .before .before .before .before .before .before .before .before .before .before .before .before .before .before .before .pre) _ _ (c .before .before .before .before .before .before .before .before .before .before .before .before .u16-at2 .ensures .0) (c .before .before .before .before .before .before .before .before .before .before .before .before .before .u16-at .ensures .0) _ _ (c .before .before .before .before .before .before .before .before .before .write-child .ensures .0) (c .before .before .before .before .before .before .before .before .before .write-child .ensures .1) (search needs) _ _ (c .before .before .before .before .before .before .emit-half .ensures .0) (c .before .before .before .before .before .before .emit-half .ensures .1) (search needs) _ _ (c .before .before .before .emit-half2 .ensures .0) (c .before .before .before .emit-half2 .ensures .1) in (num-room _ _ _ _ _ _ _ _ _ (c .before .before .before .before .before .before .before .before .before .before .before .before .before .before .before .before .before .before .before .before .pre) _ _ (c .before .before .before .before .before .before .before .before .before .before .before .before .u16-at2 .ensures .0) (c .before .before .before .before .before .before .before .before .before .before .before .before .before .u16-at .ensures .0) _ _ (c .before .before .before .before .before .before .before .before .before .write-child .ensures .0) (c .before .before .before .before .before .before .before .before .before .write-child .ensures .1) (search needs) _ _ (c .before .before .before .before .before .before .emit-half .ensures .0) (c .before .before .before .before .before .before .emit-half .ensures .1) (search needs) _ _ (c .before .before .before .emit-half2 .ensures .0) (c .before .before .before .emit-half2 .ensures .1), search needs, search needs, omega (arith, c .before .before .before .before .before .before .before .before .before .before .before .before .before .before .before .before .before .before .before .before .pre .levels), omega arith)
+write-page-requires c κs = let f = end-fits _ _ _ _ _ _ _ _ _ (c .before .before .before .before .before .before .before .before .before .before .before .before .before .before .before .before .before .before .before .before .before .before .pre) _ _ (c .before .before .before .before .before .before .before .before .before .before .before .before .u16-at2 .ensures .0) (c .before .before .before .before .before .before .before .before .before .before .before .before .before .u16-at .ensures .0) _ _ (c .before .before .before .before .before .before .before .before .before .write-child .ensures .0) (c .before .before .before .before .before .before .before .before .before .write-child .ensures .1) (search needs) _ _ (c .before .before .before .before .before .before .emit-half .ensures .0) (c .before .before .before .before .before .before .emit-half .ensures .1) (search needs) _ _ (c .before .before .before .emit-half2 .ensures .0) (c .before .before .before .emit-half2 .ensures .1) in (num-room _ _ _ _ _ _ _ _ _ (c .before .before .before .before .before .before .before .before .before .before .before .before .before .before .before .before .before .before .before .before .before .before .pre) _ _ (c .before .before .before .before .before .before .before .before .before .before .before .before .u16-at2 .ensures .0) (c .before .before .before .before .before .before .before .before .before .before .before .before .before .u16-at .ensures .0) _ _ (c .before .before .before .before .before .before .before .before .before .write-child .ensures .0) (c .before .before .before .before .before .before .before .before .before .write-child .ensures .1) (search needs) _ _ (c .before .before .before .before .before .before .emit-half .ensures .0) (c .before .before .before .before .before .before .emit-half .ensures .1) (search needs) _ _ (c .before .before .before .emit-half2 .ensures .0) (c .before .before .before .emit-half2 .ensures .1), search needs, search needs, omega (arith, c .before .before .before .before .before .before .before .before .before .before .before .before .before .before .before .before .before .before .before .before .before .before .pre .levels), omega arith)
 
 same-length : tie.Need-same-length
 same-length c = search needs
 
 returns : tie.Need-returns
 unfolding zerosOf
-returns c = root-done _ _ _ _ _ _ _ _ _ (c .before .before .before .before .before .before .before .before .before .before .before .before .before .before .before .before .before .before .before .before .before .before .before .before .pre) _ _ (c .before .before .before .before .before .before .before .before .before .before .before .before .before .before .before .before .u16-at2 .ensures .0) (c .before .before .before .before .before .before .before .before .before .before .before .before .before .before .before .before .before .u16-at .ensures .0) _ _ (c .before .before .before .before .before .before .before .before .before .before .before .before .before .write-child .ensures .0) (c .before .before .before .before .before .before .before .before .before .before .before .before .before .write-child .ensures .1) (search needs) _ _ (c .before .before .before .before .before .before .before .before .before .before .emit-half .ensures .0) (c .before .before .before .before .before .before .before .before .before .before .emit-half .ensures .1) (search needs) _ _ (c .before .before .before .before .before .before .before .emit-half2 .ensures .0) (c .before .before .before .before .before .before .before .emit-half2 .ensures .1) _ (c .before .before .before .write-page .ensures)
+returns c = root-done _ _ _ _ _ _ _ _ _ (c .before .before .before .before .before .before .before .before .before .before .before .before .before .before .before .before .before .before .before .before .before .before .before .before .before .before .pre) _ _ (c .before .before .before .before .before .before .before .before .before .before .before .before .before .before .before .before .u16-at2 .ensures .0) (c .before .before .before .before .before .before .before .before .before .before .before .before .before .before .before .before .before .u16-at .ensures .0) _ _ (c .before .before .before .before .before .before .before .before .before .before .before .before .before .write-child .ensures .0) (c .before .before .before .before .before .before .before .before .before .before .before .before .before .write-child .ensures .1) (search needs) _ _ (c .before .before .before .before .before .before .before .before .before .before .emit-half .ensures .0) (c .before .before .before .before .before .before .before .before .before .before .emit-half .ensures .1) (search needs) _ _ (c .before .before .before .before .before .before .before .emit-half2 .ensures .0) (c .before .before .before .before .before .before .before .emit-half2 .ensures .1) _ (c .before .before .before .write-page .ensures)
 
 pub write-root-spec : {M : Type 1} → statement M
 write-root-spec =

@@ -1,5 +1,5 @@
 use Rattle.tree_check.specs.Node.Messages.{put-long, put-out, put-shape, drop-out, drop-shape, clear-all, clear-shape}
-use Rattle.node.specs.Search.Hear.{put-places, drop-places, clear-places}
+use Rattle.node.specs.Search.Latest.{put-places, drop-places, clear-places}
 use Rattle.node.specs.Places.{Within}
 use lib.ListN.{length}
 use native.Mathlib.Omega.{arith}

@@ -76,8 +76,8 @@ fn free_above(store: &[u8]) -> usize
 }
 
 // Makes room for a message of this size, with a reserve left at the root, and tells where. After a rebuild a new root goes above the packed one
-// even where that has room, so that a whole node's worth of messages comes before the next rebuild; a packed tree takes no node from a quarter
-// of them on.
+// even where that has room: it holds one branch, so that all its room but the reserve is taken before the next rebuild. A packed tree takes no
+// node from a quarter of them on.
 fn make_room(store: &mut [u8], work: &mut [u8], size: usize, reserve: usize) -> Spot
     requires { ⌜ Passed (now store) (now work) × (size + reserve ≤ 1016) ⌝ }
     ensures { λ r. ⌜ Roomy (now (store .entry)) (now (store .exit)) (now (work .entry)) (now (work .exit)) size r ⌝ }

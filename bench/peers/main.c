@@ -28,7 +28,7 @@ static const size_t sizes[] = {64, 256, 1024};
 enum { SIZES = sizeof sizes / sizeof *sizes };
 
 /* The least ratio to a judging SQLite at each size and state, and the call that has it; and the ratio of puts in a row. */
-enum { SETTLED, WAITING, FULL_ROOT, STATES };
+enum { SETTLED, WAITING, CUT_SHORT, FULL_ROOT, STATES };
 static struct worst {
     double ratio;
     enum call call;
@@ -121,7 +121,11 @@ static void print_peers(size_t size) {
     title("%zu nodes, %zu records, %zu puts waiting, the most that calls leave, in µs", content.nodes, content.nodes, content.waiting);
     print_calls(&worst[size][WAITING]);
     load_all(sizes[size], WAITING_MOST, BY_BATCHES);
-    title("%zu nodes, %zu records, %zu puts waiting in a full root, as a batch may leave it, in µs", content.nodes, content.nodes, content.waiting);
+    title("%zu nodes, %zu records, %zu puts waiting, the most that a batch leaves whose last change is refused, in µs", content.nodes,
+          content.nodes, content.waiting);
+    print_calls(&worst[size][CUT_SHORT]);
+    load_all(sizes[size], WAITING_MOST, BY_HAND);
+    title("%zu nodes, %zu records, %zu puts waiting in a full root, which no call leaves, in µs", content.nodes, content.nodes, content.waiting);
     print_calls(&worst[size][FULL_ROOT]);
 }
 
@@ -138,19 +142,22 @@ static void print_in_a_row(void) {
 }
 
 static void print_worst(void) {
-    static const char *const head[] = {"nodes", "settled", "call", "most waiting", "call", "full root", "call", "puts in a row", "wanted"};
+    static const char *const head[] = {"nodes", "settled", "call", "most waiting", "call", "after a batch", "call", "full root", "call",
+                                       "puts in a row", "wanted"};
     static const char *const wanted[SIZES] = {"4", "-", "1.5"};
     if (!columns[JUDGED])
         return;
     title("The least ratios to a judging SQLite");
-    table_head(head, 9);
+    table_head(head, 11);
     for (size_t size = 0; size < SIZES; size++) {
-        const struct worst *settled = &worst[size][SETTLED], *most = &worst[size][WAITING], *full = &worst[size][FULL_ROOT];
+        const struct worst *settled = &worst[size][SETTLED], *most = &worst[size][WAITING], *cut = &worst[size][CUT_SHORT],
+                           *full = &worst[size][FULL_ROOT];
         char nodes[16];
         snprintf(nodes, sizeof nodes, "%zu", sizes[size]);
         const char *cells[] = {nodes, figure(settled->ratio), call_names[settled->call], figure(most->ratio), call_names[most->call],
-                               figure(full->ratio), call_names[full->call], figure(ratio_in_a_row[size]), wanted[size]};
-        table_row(cells, 9);
+                               figure(cut->ratio), call_names[cut->call], figure(full->ratio), call_names[full->call],
+                               figure(ratio_in_a_row[size]), wanted[size]};
+        table_row(cells, 11);
     }
 }
 
@@ -189,7 +196,7 @@ static void print_waiting(void) {
     for (size_t i = 0; i < sizeof wanted / sizeof *wanted; i++) {
         char count[32];
         content_make(&content, NODES_MOST);
-        ours_build(&content, wanted[i], BY_BATCHES);
+        ours_build(&content, wanted[i], BY_HAND);
         const double pass = pass_us(ours_pristine()), get = measure_ours(GET);
         snprintf(count, sizeof count, wanted[i] == WAITING_MOST ? "%zu (as many as fit)" : "%zu", content.waiting);
         const char *cells[] = {count, figure(pass), figure(get), figure(get / pass)};

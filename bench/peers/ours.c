@@ -14,24 +14,33 @@ static uint32_t put(uint8_t *to, const struct record *record) {
     return splicelog_put(to, store_len, work, work_len, record->path.at, record->path.len, record->value.at, record->value.len);
 }
 
+/* A put with a refused change behind it, a drop of no path: only the last change of a batch leaves a reserve in the root. */
 static uint32_t put_in_batch(uint8_t *to, const struct record *record) {
-    uint8_t bytes[256], answer[4];
+    uint8_t bytes[256], answers[8];
     struct splicelog_calls calls = {.bytes = bytes, .room = sizeof bytes};
-    if (!splicelog_add(&calls, SPLICELOG_PUT, record->path.at, record->path.len, record->value.at, record->value.len))
+    if (!splicelog_add(&calls, SPLICELOG_PUT, record->path.at, record->path.len, record->value.at, record->value.len) ||
+        !splicelog_add(&calls, SPLICELOG_DROP, record->path.at, 0, NULL, 0))
         fail("a put does not fit a batch");
-    const uint64_t done = splicelog_batch(to, store_len, work, work_len, bytes, calls.length, answer, sizeof answer);
-    return splicelog_batch_done(done) == 1 ? (uint32_t)(answer[2] | answer[3] << 8) : 1;
+    const uint64_t done = splicelog_batch(to, store_len, work, work_len, bytes, calls.length, answers, sizeof answers);
+    return splicelog_batch_done(done) == 2 ? (uint32_t)(answers[2] | answers[3] << 8) : 1;
 }
 
-/* Puts until so many wait in the root; where one more would send them down, the image before it stays. */
+/* One more put in the root of the store; false where there is no room for it, or it has sent the others down. */
+static bool wait_one_more(const struct record *next, enum way way, size_t waiting) {
+    if (way == BY_HAND)
+        return image_put(store, next);
+    if ((way == BY_CALLS ? put(store, next) : put_in_batch(store, next)) != 0)
+        fail("a put to a sound store was refused");
+    return image_waiting(store) == waiting + 1;
+}
+
+/* Puts until so many wait in the root; where there is no room for one more, the image before it stays. */
 static void wait_for(struct content *content, size_t wanted, enum way way) {
     image_raise(pristine);
     while (content->waiting < wanted && content->waiting < WAITING_MOST) {
         const struct record next = content_later(content, content->waiting);
         memcpy(store, pristine, store_len);
-        if ((way == BY_CALLS ? put(store, &next) : put_in_batch(store, &next)) != 0)
-            fail("a put to a sound store was refused");
-        if (image_waiting(store) != content->waiting + 1)
+        if (!wait_one_more(&next, way, content->waiting))
             return;
         memcpy(pristine, store, store_len);
         content->later[content->waiting++] = next;

@@ -87,10 +87,11 @@ uint64_t fnv_record(uint64_t hash, const void *path, size_t path_len, const void
 size_t image_reachable(const uint8_t *image, uint16_t nodes[NODES_MOST]);
 size_t image_waiting(const uint8_t *image);
 void image_raise(uint8_t *image);
+bool image_put(uint8_t *image, const struct record *record);
 
 /* ours.c; wanted is how many puts shall wait in the root, WAITING_MOST for as many as there can be: made one by one, which leaves a reserve in
- * the root, or by batches, which fill it. */
-enum way { BY_CALLS, BY_BATCHES };
+ * the root, by batches whose last change is refused, which leave less, or by hand, until no more fit. */
+enum way { BY_CALLS, BY_BATCHES, BY_HAND };
 void ours_build(struct content *content, size_t wanted, enum way way);
 const uint8_t *ours_pristine(void);
 

@@ -1,4 +1,4 @@
-// Prints how long get, next and a whole listing take on full stores, beside the second program on the same images, how deep a stack the
+// Prints how long get, next, a whole listing and same take on full stores, beside the second program on the same images, how deep a stack the
 // calls use, and what writing, moving and lists of calls cost. Times are in passes: one pass is a 64-bit FNV-1a, byte by byte, over the reachable nodes of
 // the same image.
 #![deny(warnings)]
@@ -25,10 +25,10 @@ fn main() {
     cases.push(Case::of("waiting, 8 levels".into(), images::waiting()));
     cases.push(Case::of("deepest, 8 levels".into(), images::deepest()));
     println!(
-        "                             the library, in passes       | the second program, in passes"
+        "                             the library, in passes               | the second program, in passes"
     );
     println!(
-        "image                 pass us     get    next   whole list | soundness     get    next"
+        "image                 pass us     get    next   whole list    same | soundness     get    next"
     );
     for case in &mut cases {
         case.print_times();
@@ -100,19 +100,21 @@ impl Case {
     fn print_times(&mut self) {
         let pass = timed(|| fnv(&self.store, &self.used));
         let passes = |took: Duration| took.as_secs_f64() / pass.as_secs_f64();
+        let mut twin = self.store.clone();
         let library = [
             passes(timed(|| self.get())),
             passes(timed(|| self.next())),
             passes(timed(|| self.list())),
+            passes(timed(|| self.same(&mut twin))),
         ];
         let second = [
             passes(timed(|| sound::judge(&self.store).is_ok())),
             passes(timed(|| self.second_get())),
             passes(timed(|| self.second_next())),
         ];
-        let [get, next, list] = library;
+        let [get, next, list, same] = library;
         print!("{:<20}{:9.1}", self.name, pass.as_secs_f64() * 1e6);
-        print!("{get:8.2}{next:8.2}{list:13.0} | ");
+        print!("{get:8.2}{next:8.2}{list:13.0}{same:8.1} | ");
         let [judged, get, next] = second;
         println!("{judged:9.2}{get:8.2}{next:8.2}");
     }
@@ -151,6 +153,12 @@ impl Case {
             }
         }
         assert_eq!(listed, self.table.len(), "every path is listed");
+    }
+
+    /// The store beside its twin: the longest way, since every path is in both.
+    fn same(&mut self, twin: &mut [u8]) {
+        let (number, verdict) = Library.same(&mut self.store, twin);
+        assert_eq!((number, verdict), (0, 1), "the paths are the same");
     }
 
     /// What get does, by the second program: is the image sound, and a lookup down the tree.

@@ -1,4 +1,4 @@
--- The steps of the search for a message among a node's entries, and what it says of the root of a sound image.
+-- What the search for a message among a node's entries says of the root of a sound image.
 -- Relies on lookup's account of a node that a reader finds.
 use Prim.Native.Nat.{ℕ, _+_, _-_, _*_, _<_, _≤_}
 use mathlib.Core.Path.{_≡_, refl, sym, ap, subst, _∙_}
@@ -14,47 +14,10 @@ use Rattle.image.specs.Upkeep.{noMessage}
 use Rattle.laws.specs.Reading.Relative.{usable, sound-usable}
 use Rattle.image.specs.Sound.{lowest, highest}
 use Rattle.node.specs.Entries.{listed}
-use Rattle.node.specs.Places.{entryIn}
-use Rattle.node.specs.declared.Entry.{Entry}
-use Rattle.node.specs.declared.Place.{Place}
-use Rattle.node.specs.declared.Message.{Message}
+use Rattle.node.specs.Search.Messages.{isMessage, hasMessage}
 use Rattle.lookup.specs.Look.{InteriorAt, leaf-at, interior-at}
 use Rattle.laws.specs.ButLive.{soundButLive, SoundParts, parts-of}
 use Rattle.append.specs.Laws.Append.{rootAt, header-root, header-levels}
-use Rattle.append.specs.Held.{isMessage, anyMessage}
-
--- THE LOOP
-pub held-end : (es : List defined.Entry) (X : Bool) → es ≡ [] → anyMessage es ≡ X → false ≡ X
-unfolding anyMessage
-held-end es X e inv = sym (ap anyMessage e) ∙ inv
-
-pub held-here : (e : Entry) (s : List ℕ) (es ts : List defined.Entry) (X b : Bool) → es ≡ entryIn s e ∷ ts → b ≡ isMessage e → b ≡ true → anyMessage es ≡ X → true ≡ X
-held-here e s es ts X b q f g inv = sym (there e s ts (sym f ∙ g)) ∙ ap anyMessage (sym q) ∙ inv
-  where
-    there : (e : Entry) (s : List ℕ) (ts : List defined.Entry) → isMessage e ≡ true → anyMessage (entryIn s e ∷ ts) ≡ true
-    there (Entry.Pair p v) s ts h = unfold isMessage in (let z : _≡_ {A = ℕ} 0 1 = cc in absurd (omega arith))
-    there (Entry.Child i p) s ts h = unfold isMessage in (let z : _≡_ {A = ℕ} 0 1 = cc in absurd (omega arith))
-    there (Entry.Message m) s ts h = unfold anyMessage in refl
-
-pub held-on : (e : Entry) (s : List ℕ) (es ts : List defined.Entry) (X b : Bool) → es ≡ entryIn s e ∷ ts → b ≡ isMessage e → b ≡ false → anyMessage es ≡ X → anyMessage ts ≡ X
-held-on e s es ts X b q f g inv = sym (past e s ts (sym f ∙ g)) ∙ ap anyMessage (sym q) ∙ inv
-  where
-    past : (e : Entry) (s : List ℕ) (ts : List defined.Entry) → isMessage e ≡ false → anyMessage (entryIn s e ∷ ts) ≡ anyMessage ts
-    past (Entry.Pair p v) s ts h = unfold anyMessage in refl
-    past (Entry.Child i p) s ts h = unfold anyMessage in refl
-    past (Entry.Message m) s ts h = unfold isMessage in (let z : _≡_ {A = ℕ} 0 1 = cc in absurd (omega arith))
-
-pub pair-is-none : (e : Entry) (p v : Place) → e ≡ Entry.Pair p v → false ≡ isMessage e
-unfolding isMessage
-pair-is-none e p v h = rw h
-
-pub child-is-none : (e : Entry) (i : ℕ) (p : Place) → e ≡ Entry.Child i p → false ≡ isMessage e
-unfolding isMessage
-child-is-none e i p h = rw h
-
-pub message-is-one : (e : Entry) (m : Message) → e ≡ Entry.Message m → true ≡ isMessage e
-unfolding isMessage
-message-is-one e m h = rw h
 
 -- THE ENTRIES OF AN INTERIOR NODE
 unfoldable some-left : List defined.Message → Bool
@@ -71,13 +34,13 @@ only-messages m es x p = go (messagesOf es) refl
         let is : some (record { branches = []; messages = m ∷ ns }) ≡ some x = rw q at p in
         ap (λ y. some-left (y .messages)) (Option·some-injective (record { branches = []; messages = m ∷ ns }) x is)
 
-inside-held : (es : List defined.Entry) (x : Inside) → insideOf es ≡ some x → anyMessage es ≡ some-left (x .messages)
-unfolding insideOf anyMessage branchThen some-left
+inside-held : (es : List defined.Entry) (x : Inside) → insideOf es ≡ some x → hasMessage es ≡ some-left (x .messages)
+unfolding insideOf hasMessage isMessage branchThen some-left
 inside-held [] x p = ap (λ y. some-left (y .messages)) (Option·some-injective (record { branches = []; messages = [] }) x p)
 inside-held (defined.pair s v ∷ es) x p = absurd (Option·none-ne-some x p)
 inside-held (defined.child i s ∷ es) x p = go (insideOf es) refl (λ y q. inside-held es y q)
   where
-    go : (o : Option Inside) → insideOf es ≡ o → ((y : Inside) → insideOf es ≡ some y → anyMessage es ≡ some-left (y .messages)) → anyMessage es ≡ some-left (x .messages)
+    go : (o : Option Inside) → insideOf es ≡ o → ((y : Inside) → insideOf es ≡ some y → hasMessage es ≡ some-left (y .messages)) → hasMessage es ≡ some-left (x .messages)
     go none q ih = let is : none ≡ some x = rw q at p in absurd (Option·none-ne-some x is)
     go (some y) q ih =
         let is : some (record { branches = record { number = i; pivot = s } ∷ y .branches; messages = y .messages }) ≡ some x = rw q at p in
@@ -116,7 +79,7 @@ module _ (s : List ℕ) (e : soundButLive s ≡ true) where
       let y : len ≡ u16 s (u16 s 6 * 1024) = l ∙ ap (u16 s) a in
       omega arith
 
-  pub root-held : (levels at len : ℕ) (b : Bool) → levels ≡ u16 s 8 → 2 ≤ levels → at ≡ rootAt s → len ≡ u16 s at → b ≡ anyMessage (listed s (at + 8) (at + 8 + len))
+  pub root-held : (levels at len : ℕ) (b : Bool) → levels ≡ u16 s 8 → 2 ≤ levels → at ≡ rootAt s → len ≡ u16 s at → b ≡ hasMessage (listed s (at + 8) (at + 8 + len))
       → b ≡ not (noMessage (treeOf s))
   unfolding rootAt treeOf
   root-held levels at len b q h a l f =
@@ -124,6 +87,6 @@ module _ (s : List ℕ) (e : soundButLive s ≡ true) where
       let r : at ≡ headerOf s .root * 1024 = a ∙ ap (λ k. k * 1024) (sym (header-root s)) in
       let lists : listed s (at + 8) (at + 8 + len) ≡ x .es =
       ap (λ k. listed s (at + 8) (at + 8 + k)) l ∙ ap (λ k. listed s (k + 8) (k + 8 + u16 s k)) r ∙ x .node .lists in
-      f ∙ ap anyMessage lists ∙ inside-held (x .es) (x .x) (x .splits)
+      f ∙ ap hasMessage lists ∙ inside-held (x .es) (x .x) (x .splits)
       ∙ left-held (headerOf s .root) (forestOf (λ j. treeAt (headerOf s .levels - 1) s j) (x .x .branches)) (x .x .messages)
       ∙ ap (λ t. not (noMessage t)) (sym (x .tree))

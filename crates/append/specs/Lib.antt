@@ -1,5 +1,4 @@
 pub mod Laws
-pub mod Held
 pub mod WriteSteps
 pub mod HeldSteps
 pub mod Callers

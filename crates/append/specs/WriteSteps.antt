@@ -13,9 +13,8 @@ use Rattle.image.specs.Entry.{Message, child, message}
 use Rattle.image.specs.Image.{wholeNodes}
 use Rattle.octets.specs.Put.{put, put-put}
 use Rattle.laws.specs.Encode.{bytesOf, bytesOfAll, child-size}
-use Rattle.laws.specs.Page.{page}
-use Rattle.packed.specs.Form.Tidy.{zerosOf}
-use Rattle.packed.specs.Pages.Nodes.{page-is}
+use Rattle.laws.specs.Page.{page, zerosOf}
+use Rattle.node.specs.Pages.{page-is}
 use Rattle.laws.specs.Upkeep.Page.{pageOf}
 use Rattle.node.specs.Whole.{Whole, whole-parts}
 use Rattle.laws.specs.ButLive.{soundButLive, SoundParts, parts-of}

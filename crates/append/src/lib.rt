@@ -1,8 +1,5 @@
 // put, drop and clear as one message at the root: appended where it has room, or held by a new root above the old one.
 // The root lifts nothing, so a message there has the full path as its suffix. The laws of what is written are in specs/Laws.
-use node::Cursor;
-use node::Entry;
-use node::Step;
 use node::writer;
 ghost use mathlib.Core.Path.{_≡_};
 ghost use mathlib.Core.Bool.{true, not};
@@ -13,13 +10,11 @@ ghost use Rattle.image.specs.Entry.{puts, drops, clears};
 ghost use Rattle.image.specs.Image.{wholeNodes, nodesOf, treeOf};
 ghost use Rattle.image.specs.Upkeep.{noMessage};
 ghost use Rattle.octets.specs.Put.{put};
-ghost use Rattle.node.specs.Entries.{listed};
 ghost use Rattle.laws.specs.ButLive.{soundButLive};
 ghost use Rattle.node.specs.Whole.{HasNode};
 ghost use Rattle.append.specs.Laws.Append.{rootAt, roomAtRoot, appended};
 ghost use Rattle.append.specs.Laws.Raise.{rootRaised};
 ghost use Rattle.append.specs.Laws.SetLive.{withLive};
-ghost use Rattle.append.specs.Held.{isMessage, anyMessage};
 
 // Where the root's node begins.
 pub fn root_at(store: &[u8]) -> usize
@@ -143,34 +138,6 @@ pub fn set_live(store: &mut [u8], live: usize)
     octets::put_u16(store, image::LIVE_AT, live);
 }
 
-fn is_message(e: Entry) -> bool
-    ensures { λ r. ⌜ r ≡ isMessage e ⌝ }
-{
-    match e {
-        Entry::Pair(_, _) => false,
-        Entry::Child(_, _) => false,
-        Entry::Message(_) => true,
-    }
-}
-
-// Whether any of the entries from a place up to another is a message.
-fn holds_message(s: &[u8], from: usize, end: usize) -> bool
-    requires { ⌜ end ≤ length (now s) ⌝ }
-    ensures { λ r. ⌜ r ≡ anyMessage (listed (now (s .entry)) from end) ⌝ }
-{
-    let mut c = Cursor { at: from, end };
-    while c.at < end {
-        let Step::Read(e, next) = c.step(s) else {
-            return false;
-        };
-        if is_message(e) {
-            return true;
-        }
-        c = next;
-    }
-    false
-}
-
 // Whether the root holds any message.
 pub fn has_messages_at_root(store: &[u8]) -> bool
     requires { ⌜ soundButLive (now store) ≡ true ⌝ }
@@ -183,5 +150,5 @@ pub fn has_messages_at_root(store: &[u8]) -> bool
     let at = root_at(store);
     let len = octets::u16_at(store, at);
     let from = at + image::ENTRIES_AT;
-    holds_message(store, from, from + len)
+    node::search::has_messages(store, from, from + len)
 }

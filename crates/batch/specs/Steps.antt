@@ -182,6 +182,13 @@ module _ (b : List ℕ) (at : ℕ) (r : Reading) (reads : Reads b at r) where
   behind-is : (x : Piece) (q : Request) → r .piece ≡ x → requestIn b x ≡ some q → (behind (drop at b) ≡ drop (r .end) b) × (at < r .end)
   behind-is x q e f = reads .later q (ap (requestIn b) e ∙ f)
 
+  -- a piece that reads ends behind its place
+  pub change-moves : (c : Change) → r .piece ≡ Piece.Change c → (at < r .end) × (r .end ≤ length b)
+  change-moves c e = (behind-is (Piece.Change c) (changeIn b c) e (unfold requestIn in refl) .1, reads .high)
+
+  pub query-moves : (q : Query) → r .piece ≡ Piece.Query q → (at < r .end) × (r .end ≤ length b)
+  query-moves q e = (behind-is (Piece.Query q) (queryIn b q) e (unfold requestIn in refl) .1, reads .high)
+
   module _ (s w out : List ℕ) (written : ℕ) where
     pub turn-none : r .piece ≡ Piece.None → Turned s w b at out written s w out Turn.Stop
     unfolding Turned

@@ -15,7 +15,7 @@ use Rattle.image.specs.Batch.{Request, firstRequest, requestsOf, callOf, callsO
 use Rattle.image.specs.declared.Refusal.{Refusal}
 use Rattle.octets.specs.Put.{put, put-put, put-size, put-nil}
 use Rattle.demands.specs.Contracts.{stays-sound}
-use Rattle.packed.specs.Form.Tidy.{zerosOf}
+use Rattle.laws.specs.Page.{zerosOf}
 use Rattle.rebuild.specs.Rebuild.{cleared}
 use Rattle.questions.specs.Callers.{to-act, plain-settle, plain-number}
 use Rattle.finish.specs.Finished.{cleared-size, cleared-later, cleared-again}

@@ -1,6 +1,7 @@
 // A batch: a list of calls as one call. Questions 1 and 2 are asked once; then call after call by the parts of the calls that follow these
 // questions, each on the store as the last one left it, with no second judgement: after each the store is sound again, which is proved.
 // Relies on questions, tree_check (the marks), requests (the requests read, the answers written), query, edit, maintain and rename.
+use edit::Terms;
 use image::Outcome;
 use node::Place;
 use questions::Admission;
@@ -33,33 +34,75 @@ pub enum Turn {
     Goes(usize, usize),
 }
 
-fn put_piece(store: &mut [u8], work: &mut [u8], calls: &[u8], path: Place, value: Place) -> Outcome
-    requires { ⌜ Fresh (now store) (now work) × Within 0 (length (now calls)) path × Within 0 (length (now calls)) value ⌝ }
+// put, drop and clear are lent no marks: those of the judgement are stale after the first change, and edit makes its own where it needs some.
+fn put_piece(
+    store: &mut [u8],
+    work: &mut [u8],
+    calls: &[u8],
+    path: Place,
+    value: Place,
+    reserve: usize,
+) -> Outcome
+    requires { ⌜ Fresh (now store) (now work) × Within 0 (length (now calls)) path × Within 0 (length (now calls)) value × (reserve ≤ 900) ⌝ }
     ensures { λ r. ⌜ Served (now (store .entry)) (now (work .entry)) (acting (put (part (now (calls .entry)) path) (part (now (calls .entry)) value))) r (now (store .exit)) (now (work .exit)) ⌝ }
 {
     let start = path.start;
     let middle = path.stop;
     let from = value.start;
     let stop = value.stop;
-    edit::put_fit(store, work, &calls[start..middle], &calls[from..stop], 0)
+    let seen = [0u8; 1024];
+    let terms = Terms {
+        reserve,
+        marked: false,
+    };
+    edit::put_fit(
+        store,
+        work,
+        &seen,
+        &calls[start..middle],
+        &calls[from..stop],
+        terms,
+    )
 }
 
-fn drop_piece(store: &mut [u8], work: &mut [u8], calls: &[u8], path: Place) -> Outcome
-    requires { ⌜ Fresh (now store) (now work) × Within 0 (length (now calls)) path ⌝ }
+fn drop_piece(
+    store: &mut [u8],
+    work: &mut [u8],
+    calls: &[u8],
+    path: Place,
+    reserve: usize,
+) -> Outcome
+    requires { ⌜ Fresh (now store) (now work) × Within 0 (length (now calls)) path × (reserve ≤ 900) ⌝ }
     ensures { λ r. ⌜ Served (now (store .entry)) (now (work .entry)) (acting (drops (part (now (calls .entry)) path))) r (now (store .exit)) (now (work .exit)) ⌝ }
 {
     let start = path.start;
     let stop = path.stop;
-    edit::drop_fit(store, work, &calls[start..stop], 0)
+    let seen = [0u8; 1024];
+    let terms = Terms {
+        reserve,
+        marked: false,
+    };
+    edit::drop_fit(store, work, &seen, &calls[start..stop], terms)
 }
 
-fn clear_piece(store: &mut [u8], work: &mut [u8], calls: &[u8], path: Place) -> Outcome
-    requires { ⌜ Fresh (now store) (now work) × Within 0 (length (now calls)) path ⌝ }
+fn clear_piece(
+    store: &mut [u8],
+    work: &mut [u8],
+    calls: &[u8],
+    path: Place,
+    reserve: usize,
+) -> Outcome
+    requires { ⌜ Fresh (now store) (now work) × Within 0 (length (now calls)) path × (reserve ≤ 900) ⌝ }
     ensures { λ r. ⌜ Served (now (store .entry)) (now (work .entry)) (acting (clear (part (now (calls .entry)) path))) r (now (store .exit)) (now (work .exit)) ⌝ }
 {
     let start = path.start;
     let stop = path.stop;
-    edit::clear_fit(store, work, &calls[start..stop], 0)
+    let seen = [0u8; 1024];
+    let terms = Terms {
+        reserve,
+        marked: false,
+    };
+    edit::clear_fit(store, work, &seen, &calls[start..stop], terms)
 }
 
 fn move_piece(store: &mut [u8], work: &mut [u8], calls: &[u8], from: Place, to: Place) -> Outcome
@@ -117,14 +160,20 @@ fn heal_piece(store: &mut [u8], work: &mut [u8], node: usize) -> Outcome
 }
 
 // The call of a request that changes the store or keeps it up.
-fn make_change(store: &mut [u8], work: &mut [u8], calls: &[u8], change: Change) -> Outcome
-    requires { ⌜ Fresh (now store) (now work) × ChangeWithin (length (now calls)) change ⌝ }
+fn make_change(
+    store: &mut [u8],
+    work: &mut [u8],
+    calls: &[u8],
+    change: Change,
+    reserve: usize,
+) -> Outcome
+    requires { ⌜ Fresh (now store) (now work) × ChangeWithin (length (now calls)) change × (reserve ≤ 900) ⌝ }
     ensures { λ r. ⌜ Served (now (store .entry)) (now (work .entry)) (changeIn (now (calls .entry)) change) r (now (store .exit)) (now (work .exit)) ⌝ }
 {
     match change {
-        Change::Put(path, value) => put_piece(store, work, calls, path, value),
-        Change::Drop(path) => drop_piece(store, work, calls, path),
-        Change::Clear(path) => clear_piece(store, work, calls, path),
+        Change::Put(path, value) => put_piece(store, work, calls, path, value, reserve),
+        Change::Drop(path) => drop_piece(store, work, calls, path, reserve),
+        Change::Clear(path) => clear_piece(store, work, calls, path, reserve),
         Change::Move(from, to) => move_piece(store, work, calls, from, to),
         Change::Settle => settle_piece(store, work),
         Change::Tidy => tidy_piece(store, work),
@@ -162,6 +211,66 @@ fn answer_query(store: &[u8], calls: &[u8], query: Query, answers: &mut [u8], at
     }
 }
 
+// Whether a change fills or empties the root itself, so that none before it need leave room there. A flush or a heal may do neither.
+fn changes_root(change: Change) -> bool {
+    match change {
+        Change::Put(_, _) => true,
+        Change::Drop(_) => true,
+        Change::Clear(_) => true,
+        Change::Move(_, _) => true,
+        Change::Settle => true,
+        Change::Tidy => true,
+        Change::Flush(_) => false,
+        Change::Heal(_) => false,
+    }
+}
+
+// Whether such a change follows from a place on, in front of the first piece that does not read.
+fn changes_later(calls: &[u8], at: usize) -> bool
+    requires { ⌜ at ≤ length (now calls) ⌝ }
+{
+    let mut next = at;
+    loop {
+        let reading = requests::read_piece(calls, next);
+        let piece = reading.piece;
+        let end = reading.end;
+        match piece {
+            Piece::None => {
+                return false;
+            }
+            Piece::Change(change) => {
+                if changes_root(change) {
+                    return true;
+                }
+                next = end;
+            }
+            Piece::Query(_) => {
+                next = end;
+            }
+        }
+    }
+}
+
+// Of the root's bytes a change that others follow leaves so many free: fewer than a single call, as nothing is judged between them; but where the
+// last one is refused, or has no room for its answer, this is what the next call finds.
+const RESERVE_BETWEEN: usize = 200;
+
+// How many bytes of the root a change leaves free whose piece ends at a place: the last one of a list what a single call leaves, for the next
+// call's judgement. Only speed depends on it: nothing is promised but the bound that edit asks for. It looks ahead from such a change
+// up to the next one and no further, so that each piece is read twice at most.
+fn reserve_of(change: Change, calls: &[u8], end: usize) -> usize
+    requires { ⌜ end ≤ length (now calls) ⌝ }
+    ensures { λ r. ⌜ r ≤ 900 ⌝ }
+{
+    if !changes_root(change) {
+        return 0;
+    }
+    if changes_later(calls, end) {
+        return RESERVE_BETWEEN;
+    }
+    edit::RESERVE
+}
+
 // The piece at a place carried out, and its answer written at another, where it is certain to fit.
 fn take_turn(
     store: &mut [u8],
@@ -183,7 +292,8 @@ fn take_turn(
             if answers.len() - written < 4 {
                 return Turn::Stop;
             }
-            let outcome = make_change(store, work, calls, change);
+            let reserve = reserve_of(change, calls, end);
+            let outcome = make_change(store, work, calls, change, reserve);
             let behind = requests::write_outcome(answers, written, outcome);
             Turn::Goes(end, behind)
         }

@@ -4,16 +4,16 @@ use Prim.Native.Nat.{ℕ}
 use mathlib.Core.Path.{_≡_, refl, sym, ap, _∙_}
 use mathlib.Core.List.{List, [], _∷_, _++_}
 use mathlib.Core.Bool.{Bool, true, false}
-use mathlib.Core.Option.{none, Option·none-ne-some}
+use mathlib.Core.Option.{none}
 use lib.ListN.{length, drop}
 use Rattle.image.specs.Bytes.{same, begins}
 use Rattle.image.specs.Path.{below}
 use Rattle.image.specs.Table.{Row, find, rowsBelow, withoutBelow, withRow, renamed, putAll, moved}
 use Rattle.octets.specs.Order.{not-so, same-eq, same-false, same-append, begins-split}
-use Rattle.laws.specs.Tables.{find-nil, find-yes, find-no, find-with, find-with-other, find-cleared, find-spared}
+use Rattle.laws.specs.Tables.{find-nil, find-yes, find-no, find-with, find-with-other, find-cleared, find-spared, find-put-other}
 use Rattle.octets.specs.Beginnings.{begins-append as begins-front}
 
--- rows put into a table that lacks the path decide, and rows that lack it do not
+-- rows put into a table that lacks the path decide
 put-all-decides : (q : List ℕ) (rs t : List Row) → find q t ≡ none → find q (putAll rs t) ≡ find q rs
 unfolding putAll
 put-all-decides q [] t h = h ∙ sym (find-nil q)
@@ -25,16 +25,6 @@ put-all-decides q (r ∷ rs) t h = by-key (same q (r .key)) refl (put-all-decide
         ap (λ k. find k (withRow (r .key) (r .value) (putAll rs t))) (same-eq q (r .key) e)
         ∙ find-with (r .key) (r .value) (putAll rs t) ∙ sym (find-yes q r rs e)
     by-key false e ih = find-with-other q (r .key) (r .value) (putAll rs t) e ∙ ih ∙ sym (find-no q r rs e)
-
-put-all-spares : (q : List ℕ) (rs t : List Row) → find q rs ≡ none → find q (putAll rs t) ≡ find q t
-unfolding putAll
-put-all-spares q [] t h = refl
-put-all-spares q (r ∷ rs) t h = by-key (same q (r .key)) refl (put-all-spares q rs t)
-  where
-    by-key : (x : Bool) → same q (r .key) ≡ x → (find q rs ≡ none → find q (putAll rs t) ≡ find q t)
-        → find q (withRow (r .key) (r .value) (putAll rs t)) ≡ find q t
-    by-key true e ih = absurd (Option·none-ne-some (r .value) (sym h ∙ find-yes q r rs e))
-    by-key false e ih = find-with-other q (r .key) (r .value) (putAll rs t) e ∙ ih (sym (find-no q r rs e) ∙ h)
 
 -- the rows set aside, with to in place of from
 renamed-found : (from to rest : List ℕ) (t : List Row) → find (to ++ rest) (renamed from to (rowsBelow from t)) ≡ find (from ++ rest) t
@@ -84,12 +74,12 @@ find-moved-to from to rest t =
 pub find-moved-from : (from to q : List ℕ) (t : List Row) → begins to q ≡ false → begins from q ≡ true → find q (moved from to t) ≡ none
 unfolding moved
 find-moved-from from to q t h g =
-    put-all-spares q (renamed from to (rowsBelow from t)) (withoutBelow to (withoutBelow from t)) (renamed-lacks from to q (rowsBelow from t) h)
+    find-put-other q (renamed from to (rowsBelow from t)) (withoutBelow to (withoutBelow from t)) (renamed-lacks from to q (rowsBelow from t) h)
     ∙ find-spared q to (withoutBelow from t) h ∙ find-cleared q from t g
 
 -- elsewhere, what was there
 pub find-moved-other : (from to q : List ℕ) (t : List Row) → begins to q ≡ false → begins from q ≡ false → find q (moved from to t) ≡ find q t
 unfolding moved
 find-moved-other from to q t h g =
-    put-all-spares q (renamed from to (rowsBelow from t)) (withoutBelow to (withoutBelow from t)) (renamed-lacks from to q (rowsBelow from t) h)
+    find-put-other q (renamed from to (rowsBelow from t)) (withoutBelow to (withoutBelow from t)) (renamed-lacks from to q (rowsBelow from t) h)
     ∙ find-spared q to (withoutBelow from t) h ∙ find-spared q from t g

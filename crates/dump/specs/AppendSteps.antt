@@ -29,8 +29,8 @@ use Rattle.live.specs.Notes.Notes.{quiet}
 use Rattle.live.specs.Live.{Shortens, short}
 use Rattle.live.specs.PathBuffers.{pathIn}
 use Rattle.live.specs.PathSteps.{path-length}
-use Rattle.live.specs.declared.path_buffer.PathBuffer.{PathBuffer}
-use Rattle.live.specs.declared.Trail.{Trail}
+use Rattle.node.specs.declared.PathBuffer.{PathBuffer}
+use Rattle.live.specs.declared.visibility.Trail.{Trail}
 use Rattle.live.specs.Noted.{keyed, LeafTold}
 use Rattle.live.specs.Walk.{passing}
 use Rattle.live.specs.Steps.{passes-short, as-path}
@@ -137,51 +137,51 @@ pub value-short : (v : List ℕ) → valueFits v ≡ true → length v ≤ 60
 value-short v e = let m = value-length v e in omega arith
 
 -- THE KEYS OF A LEAF AND THEIR NOTES
-module _ (s : List ℕ) (t : Trail) (X ns : List ℕ) (n : ℕ) where
-  keyed-first : (lo hi : List ℕ) (e : defined.Entry) (es : List defined.Entry) → keyed X lo hi (e ∷ es) ≡ true → keyed X lo hi (e ∷ []) ≡ true
+module _ (s : List ℕ) (t : Trail) (prefix ns : List ℕ) (n : ℕ) where
+  keyed-first : (lo hi : List ℕ) (e : defined.Entry) (es : List defined.Entry) → keyed prefix lo hi (e ∷ es) ≡ true → keyed prefix lo hi (e ∷ []) ≡ true
   unfolding keyed
-  keyed-first lo hi (defined.pair k v) es h = both {a = owns lo hi k && short (X ++ k)} (and-left (owns lo hi k && short (X ++ k)) (keyed X lo hi es) h) refl
+  keyed-first lo hi (defined.pair k v) es h = both {a = owns lo hi k && short (prefix ++ k)} (and-left (owns lo hi k && short (prefix ++ k)) (keyed prefix lo hi es) h) refl
   keyed-first lo hi (defined.child i k) es h = h
   keyed-first lo hi (defined.message m) es h = h
 
-  keyed-later : (lo hi : List ℕ) (e : defined.Entry) (es : List defined.Entry) → keyed X lo hi (e ∷ es) ≡ true → keyed X lo hi es ≡ true
+  keyed-later : (lo hi : List ℕ) (e : defined.Entry) (es : List defined.Entry) → keyed prefix lo hi (e ∷ es) ≡ true → keyed prefix lo hi es ≡ true
   unfolding keyed
-  keyed-later lo hi (defined.pair k v) es h = and-right (owns lo hi k && short (X ++ k)) _ h
+  keyed-later lo hi (defined.pair k v) es h = and-right (owns lo hi k && short (prefix ++ k)) _ h
   keyed-later lo hi (defined.child i k) es h = absurd (true≢false (sym h))
   keyed-later lo hi (defined.message m) es h = absurd (true≢false (sym h))
 
-  module _ (e : defined.Entry) (es ts : List defined.Entry) (q : es ≡ e ∷ ts) (h : LeafTold s t X es ns n) where
-    keys : keyed X (h .lo) (h .hi) (e ∷ ts) ≡ true
-    keys = ap (λ l. keyed X (h .lo) (h .hi) l) (sym q) ∙ h .keys
+  module _ (e : defined.Entry) (es ts : List defined.Entry) (q : es ≡ e ∷ ts) (h : LeafTold s t prefix es ns n) where
+    keys : keyed prefix (h .lo) (h .hi) (e ∷ ts) ≡ true
+    keys = ap (λ l. keyed prefix (h .lo) (h .hi) l) (sym q) ∙ h .keys
 
-    pub told-first : LeafTold s t X (e ∷ []) ns n
+    pub told-first : LeafTold s t prefix (e ∷ []) ns n
     told-first = record { lo = h .lo; hi = h .hi; keys = keyed-first (h .lo) (h .hi) e ts keys; tells = h .tells }
 
-    pub told-later : LeafTold s t X ts ns n
+    pub told-later : LeafTold s t prefix ts ns n
     told-later = record { lo = h .lo; hi = h .hi; keys = keyed-later (h .lo) (h .hi) e ts keys; tells = h .tells }
 
-  pub told-key : (k v : List ℕ) → LeafTold s t X (defined.pair k v ∷ []) ns n → KeyTold s t X k ns n
+  pub told-key : (k v : List ℕ) → LeafTold s t prefix (defined.pair k v ∷ []) ns n → KeyTold s t prefix k ns n
   unfolding keyed
   told-key k v h =
-      let a : owns (h .lo) (h .hi) k && short (X ++ k) ≡ true = and-left (owns (h .lo) (h .hi) k && short (X ++ k)) true (h .keys) in
+      let a : owns (h .lo) (h .hi) k && short (prefix ++ k) ≡ true = and-left (owns (h .lo) (h .hi) k && short (prefix ++ k)) true (h .keys) in
       record {
         fits = h .tells .fits;
         told = λ l.
-            h .tells .told l k (and-left (owns (h .lo) (h .hi) k) (short (X ++ k)) a)
-            ∙ ap (λ b. b && quiet s ns n k) (and-right (owns (h .lo) (h .hi) k) (short (X ++ k)) a);
+            h .tells .told l k (and-left (owns (h .lo) (h .hi) k) (short (prefix ++ k)) a)
+            ∙ ap (λ b. b && quiet s ns n k) (and-right (owns (h .lo) (h .hi) k) (short (prefix ++ k)) a);
       }
 
 -- a leaf has no other entries
-module _ (s : List ℕ) (t : Trail) (X ns : List ℕ) (n : ℕ) where
-  only-pairs : (e : Entry) (ts : List defined.Entry) → pairIs e ≡ Pair.Other → LeafTold s t X (entryIn s e ∷ ts) ns n → ⊥
+module _ (s : List ℕ) (t : Trail) (prefix ns : List ℕ) (n : ℕ) where
+  only-pairs : (e : Entry) (ts : List defined.Entry) → pairIs e ≡ Pair.Other → LeafTold s t prefix (entryIn s e ∷ ts) ns n → ⊥
   unfolding pairIs keyed
   only-pairs (Entry.Pair k v) ts q h = let z : _≡_ {A = ℕ} 0 1 = cc in omega arith
   only-pairs (Entry.Child i k) ts q h = true≢false (sym (h .keys))
   only-pairs (Entry.Message m) ts q h = true≢false (sym (h .keys))
 
-  pub leaf-ends : (at end : ℕ) → Unpaired s at end → LeafTold s t X (listed s at end) ns n → listed s at end ≡ []
+  pub leaf-ends : (at end : ℕ) → Unpaired s at end → LeafTold s t prefix (listed s at end) ns n → listed s at end ≡ []
   leaf-ends at end (unread f g) h = g
-  leaf-ends at end (unlike e c x o) h = absurd (only-pairs e (listed s (c .at) (c .end)) o (subst (λ es. LeafTold s t X es ns n) (x .lists) h))
+  leaf-ends at end (unlike e c x o) h = absurd (only-pairs e (listed s (c .at) (c .end)) o (subst (λ es. LeafTold s t prefix es ns n) (x .lists) h))
 
 -- a pair as it is read
 module _ (s : List ℕ) (p : PathBuffer) (t : Trail) (k v : Place) where
@@ -200,16 +200,16 @@ pairs-cons (defined.pair k v) es = refl
 pairs-cons (defined.child i k) es = refl
 pairs-cons (defined.message m) es = refl
 
-module _ (ok : List ℕ → Bool) (X : List ℕ) where
+module _ (ok : List ℕ → Bool) (prefix : List ℕ) where
   pub rows-cons : (e : defined.Entry) (es ts : List defined.Entry) → es ≡ e ∷ ts
-      → keep ok (underPrefix X (pairsAmong es)) ≡ keep ok (underPrefix X (pairsAmong (e ∷ []))) ++ keep ok (underPrefix X (pairsAmong ts))
+      → keep ok (underPrefix prefix (pairsAmong es)) ≡ keep ok (underPrefix prefix (pairsAmong (e ∷ []))) ++ keep ok (underPrefix prefix (pairsAmong ts))
   rows-cons e es ts q =
-      ap (λ l. keep ok (underPrefix X (pairsAmong l))) q
-      ∙ ap (λ l. keep ok (underPrefix X l)) (pairs-cons e ts)
-      ∙ ap (keep ok) (sym (under-append X (pairsAmong (e ∷ [])) (pairsAmong ts)))
-      ∙ keep-append ok (underPrefix X (pairsAmong (e ∷ []))) (underPrefix X (pairsAmong ts))
+      ap (λ l. keep ok (underPrefix prefix (pairsAmong l))) q
+      ∙ ap (λ l. keep ok (underPrefix prefix l)) (pairs-cons e ts)
+      ∙ ap (keep ok) (sym (under-append prefix (pairsAmong (e ∷ [])) (pairsAmong ts)))
+      ∙ keep-append ok (underPrefix prefix (pairsAmong (e ∷ []))) (underPrefix prefix (pairsAmong ts))
 
-  pub rows-none : (es : List defined.Entry) → es ≡ [] → keep ok (underPrefix X (pairsAmong es)) ≡ []
+  pub rows-none : (es : List defined.Entry) → es ≡ [] → keep ok (underPrefix prefix (pairsAmong es)) ≡ []
   unfolding keep underPrefix pairsAmong
   rows-none es q = rw q
 
@@ -222,36 +222,36 @@ unfolding valuesFitAmong
 values-later e es ts q h = let z : entryValueFits e && valuesFitAmong ts ≡ true = rw q at h in and-right (entryValueFits e) (valuesFitAmong ts) z
 
 -- the rows so far, t of all, and those of the entries to come, make all
-pub record Appending (first : ℕ) (area₀ area : List ℕ) (m : ℕ) (ok : List ℕ → Bool) (X : List ℕ) (es : List defined.Entry) (all : List Row) : Type 0 where
+pub record Appending (first : ℕ) (area₀ area : List ℕ) (m : ℕ) (ok : List ℕ → Bool) (prefix : List ℕ) (es : List defined.Entry) (all : List Row) : Type 0 where
   pub done : List Row
   pub so-far : Added first area₀ area m done
-  pub room : Room area m (keep ok (underPrefix X (pairsAmong es)))
-  pub whole : all ≡ done ++ keep ok (underPrefix X (pairsAmong es))
+  pub room : Room area m (keep ok (underPrefix prefix (pairsAmong es)))
+  pub whole : all ≡ done ++ keep ok (underPrefix prefix (pairsAmong es))
   pub values : valuesFitAmong es ≡ true
 
-pub append-first : (first : ℕ) (area : List ℕ) (ok : List ℕ → Bool) (X : List ℕ) (es : List defined.Entry) → valuesFitAmong es ≡ true
-    → Room area first (keep ok (underPrefix X (pairsAmong es))) → Appending first area area first ok X es (keep ok (underPrefix X (pairsAmong es)))
-append-first first area ok X es v r = record { done = []; so-far = added-none first area [] refl (r .fit); room = r; whole = refl; values = v }
+pub append-first : (first : ℕ) (area : List ℕ) (ok : List ℕ → Bool) (prefix : List ℕ) (es : List defined.Entry) → valuesFitAmong es ≡ true
+    → Room area first (keep ok (underPrefix prefix (pairsAmong es))) → Appending first area area first ok prefix es (keep ok (underPrefix prefix (pairsAmong es)))
+append-first first area ok prefix es v r = record { done = []; so-far = added-none first area [] refl (r .fit); room = r; whole = refl; values = v }
 
-module _ (first : ℕ) (area₀ area : List ℕ) (m : ℕ) (ok : List ℕ → Bool) (X : List ℕ) (es : List defined.Entry) (all : List Row)
-    (a : Appending first area₀ area m ok X es all) where
+module _ (first : ℕ) (area₀ area : List ℕ) (m : ℕ) (ok : List ℕ → Bool) (prefix : List ℕ) (es : List defined.Entry) (all : List Row)
+    (a : Appending first area₀ area m ok prefix es all) where
   pub append-end : es ≡ [] → Added first area₀ area m all
   append-end q =
-      let e : all ≡ a .done = a .whole ∙ ap (λ l. a .done ++ l) (rows-none ok X es q) ∙ append-nil (a .done) in
+      let e : all ≡ a .done = a .whole ∙ ap (λ l. a .done ++ l) (rows-none ok prefix es q) ∙ append-nil (a .done) in
       subst (λ t. Added first area₀ area m t) (sym e) (a .so-far)
 
   module _ (e : defined.Entry) (ts : List defined.Entry) (q : es ≡ e ∷ ts) where
-    pub append-room : Room area m (keep ok (underPrefix X (pairsAmong (e ∷ []))))
-    append-room = room-first area m (keep ok (underPrefix X (pairsAmong (e ∷ [])))) (keep ok (underPrefix X (pairsAmong ts))) _ (rows-cons ok X e es ts q) (a .room)
+    pub append-room : Room area m (keep ok (underPrefix prefix (pairsAmong (e ∷ []))))
+    append-room = room-first area m (keep ok (underPrefix prefix (pairsAmong (e ∷ [])))) (keep ok (underPrefix prefix (pairsAmong ts))) _ (rows-cons ok prefix e es ts q) (a .room)
 
-    pub append-next : (area′ : List ℕ) (r : ℕ) → Added m area area′ r (keep ok (underPrefix X (pairsAmong (e ∷ [])))) → Appending first area₀ area′ r ok X ts all
+    pub append-next : (area′ : List ℕ) (r : ℕ) → Added m area area′ r (keep ok (underPrefix prefix (pairsAmong (e ∷ [])))) → Appending first area₀ area′ r ok prefix ts all
     append-next area′ r x =
-        let one : List Row = keep ok (underPrefix X (pairsAmong (e ∷ []))) in
-        let rest : List Row = keep ok (underPrefix X (pairsAmong ts)) in
+        let one : List Row = keep ok (underPrefix prefix (pairsAmong (e ∷ []))) in
+        let rest : List Row = keep ok (underPrefix prefix (pairsAmong ts)) in
         record {
           done = a .done ++ one;
           so-far = added-more first m r area₀ area area′ (a .done) one (a .done ++ one) refl (a .so-far) x;
-          room = room-rest area area′ m r one rest (keep ok (underPrefix X (pairsAmong es))) (rows-cons ok X e es ts q) (a .room) x;
-          whole = a .whole ∙ ap (λ l. a .done ++ l) (rows-cons ok X e es ts q) ∙ sym (append-assoc (a .done) one rest);
+          room = room-rest area area′ m r one rest (keep ok (underPrefix prefix (pairsAmong es))) (rows-cons ok prefix e es ts q) (a .room) x;
+          whole = a .whole ∙ ap (λ l. a .done ++ l) (rows-cons ok prefix e es ts q) ∙ sym (append-assoc (a .done) one rest);
           values = values-later e es ts q (a .values);
         }

@@ -19,8 +19,8 @@ use Rattle.live.specs.Notes.Notes.{NotesFit, quiet}
 use Rattle.live.specs.Live.{holdsNoMessage}
 use Rattle.live.specs.Noted as noted
 use Rattle.live.specs.PathBuffers.{pathIn}
-use Rattle.live.specs.declared.path_buffer.PathBuffer.{PathBuffer}
-use Rattle.live.specs.declared.Trail.{Trail}
+use Rattle.node.specs.declared.PathBuffer.{PathBuffer}
+use Rattle.live.specs.declared.visibility.Trail.{Trail}
 use Rattle.live.specs.Walk.{passing, decides}
 
 -- the row of a key and a value at places of the store, under a prefix
@@ -48,21 +48,21 @@ valuesFitAmong (e ∷ es) = entryValueFits e && valuesFitAmong es
 
 -- a table after an entry: a put that decides its path comes in
 unfoldable pub withEntry : Bool → List ℕ → Entry → List Row → List Row
-withEntry b X (pair k v) t = t
-withEntry b X (child i k) t = t
-withEntry b X (message (puts k v)) t = cond b (withRow (X ++ k) v t) t
-withEntry b X (message (drops k)) t = t
-withEntry b X (message (clears k)) t = t
+withEntry b lead (pair k v) t = t
+withEntry b lead (child i k) t = t
+withEntry b lead (message (puts k v)) t = cond b (withRow (lead ++ k) v t) t
+withEntry b lead (message (drops k)) t = t
+withEntry b lead (message (clears k)) t = t
 
 -- a table after all entries of an interior node
 unfoldable pub insertAmong : (List ℕ → Bool) → List ℕ → List Entry → List Row → List Row
-insertAmong ok X [] t = t
-insertAmong ok X (e ∷ es) t = insertAmong ok X es (withEntry (decides ok X e es) X e t)
+insertAmong ok lead [] t = t
+insertAmong ok lead (e ∷ es) t = insertAmong ok lead es (withEntry (decides ok lead e es) lead e t)
 
 -- the rows rise, and no message among the entries says anything of them
-pub record Untold (X : List ℕ) (es : List Entry) (t : List Row) : Type 0 where
+pub record Untold (lead : List ℕ) (es : List Entry) (t : List Row) : Type 0 where
   pub rises : rising t ≡ true
-  pub quiet : everyKey (λ q. holdsNoMessage (newestAmong es (drop (length X) q))) t ≡ true
+  pub quiet : everyKey (λ q. holdsNoMessage (newestAmong es (drop (length lead) q))) t ≡ true
 
 -- m rows stand in the area, and there is room for those of t
 pub record Room (area : List ℕ) (m : ℕ) (t : List Row) : Type 0 where
@@ -76,13 +76,13 @@ pub record Added (m : ℕ) (area area′ : List ℕ) (r : ℕ) (t : List Row) : 
   pub count : r ≡ m + length t
   pub size : length area′ ≡ length area
 
--- the entries es of a node with prefix X are to come in among the rows from `first` up to m
-pub record Open (area : List ℕ) (first m : ℕ) (ok : List ℕ → Bool) (X : List ℕ) (es : List Entry) : Type 0 where
+-- the entries es of a node with prefix `lead` are to come in among the rows from `first` up to m
+pub record Open (area : List ℕ) (first m : ℕ) (ok : List ℕ → Bool) (lead : List ℕ) (es : List Entry) : Type 0 where
   pub fit : RowsFit m area
   pub ahead : first ≤ m
-  pub untold : Untold X es (rowsOf (m - first) area first)
+  pub untold : Untold lead es (rowsOf (m - first) area first)
   pub values : valuesFitAmong es ≡ true
-  pub room : 128 * (first + length (insertAmong ok X es (rowsOf (m - first) area first))) ≤ length area
+  pub room : 128 * (first + length (insertAmong ok lead es (rowsOf (m - first) area first))) ≤ length area
 
 -- the rows from `first` on are the table t, those before it are as they were
 pub record Placed (first : ℕ) (area area′ : List ℕ) (r : ℕ) (t : List Row) : Type 0 where
@@ -93,14 +93,14 @@ pub record Placed (first : ℕ) (area area′ : List ℕ) (r : ℕ) (t : List Ro
   pub size : length area′ ≡ length area
 
 -- notes tell whether the path of a key of a leaf passes the trail; more than 64 notes tell nothing
-pub record KeyTold (s : List ℕ) (t : Trail) (X k ns : List ℕ) (n : ℕ) : Type 0 where
+pub record KeyTold (s : List ℕ) (t : Trail) (lead k ns : List ℕ) (n : ℕ) : Type 0 where
   pub fits : n ≤ 64 → NotesFit s ns n
-  pub told : n ≤ 64 → passing s t (X ++ k) ≡ quiet s ns n k
+  pub told : n ≤ 64 → passing s t (lead ++ k) ≡ quiet s ns n k
 
--- children, from the one in hand on, of a sound node that lifts X; hi is its high pivot without X, low its low one
-pub record SoundBranches (s : List ℕ) (level : ℕ) (X hi : List ℕ) (ks : List Branch) : Type 0 where
+-- children, from the one in hand on, of a sound node that lifts `lead`; hi is its high pivot without `lead`, low its low one
+pub record SoundBranches (s : List ℕ) (level : ℕ) (lead hi : List ℕ) (ks : List Branch) : Type 0 where
   pub low : List ℕ
-  pub branches : soundForest (forestOf (λ j. treeAt level s j) ks) X low (X ++ hi) ≡ true
+  pub branches : soundForest (forestOf (λ j. treeAt level s j) ks) lead low (lead ++ hi) ≡ true
 
 -- notes tell of all that the node of the children owns, from the child in hand on
 abbrev pub BranchesTold : List ℕ → ℕ → ℕ → Place → Cursor → PathBuffer → List ℕ → Trail → List ℕ → ℕ → Type 0

@@ -7,7 +7,7 @@ use mathlib.Core.Bool.{Bool, true, false, _&&_, not, cond, true≢false}
 use mathlib.Core.Option.{none}
 use native.Mathlib.Omega.{arith}
 use lib.ListN.{length, take, drop}
-use lib.Seq.{take-append-seam, drop-append-seam}
+use lib.Seq.{drop-append-seam}
 use borrow.Author.Tests.{not-true, not-false}
 use Rattle.image.specs.Path.{valueFits}
 use Rattle.image.specs.Entry as defined
@@ -26,12 +26,12 @@ use Rattle.packed.specs.Rows.Area.{rowsOf, RowsFit}
 use Rattle.packed.specs.Rows.Steps.{rows-length}
 use Rattle.dump.specs.Insertion.Insertion.{Inserted}
 use Rattle.dump.specs.Insertion.Merge.{put-among}
-use Rattle.dump.specs.Insertion.Slots.{rows-split}
+use Rattle.dump.specs.Insertion.Slots.{rows-parts}
 use Rattle.live.specs.Live.{holdsNoMessage}
 use Rattle.laws.specs.Filter.{every-with}
 use Rattle.live.specs.KeepLaws.{with-length, quiet-put}
 use Rattle.live.specs.PathBuffers.{pathIn}
-use Rattle.live.specs.declared.path_buffer.PathBuffer.{PathBuffer}
+use Rattle.node.specs.declared.PathBuffer.{PathBuffer}
 use Rattle.live.specs.Walk.{decides}
 use Rattle.live.specs.Steps.{as-path}
 use Rattle.dump.specs.Dump.{entryValueFits, withEntry, insertAmong, Untold, Open, Placed}
@@ -48,148 +48,127 @@ unfolding newer holdsNoMessage
 quiet-both a nothing e = e
 quiet-both a (says v) e = absurd (true≢false (sym e))
 
-module _ (X : List ℕ) (e : defined.Entry) (es : List defined.Entry) (t : List Row) (u : Untold X (e ∷ es) t) where
-  quiet-later : everyKey (λ q. holdsNoMessage (newestAmong es (drop (length X) q))) t ≡ true
+module _ (prefix : List ℕ) (e : defined.Entry) (es : List defined.Entry) (t : List Row) (u : Untold prefix (e ∷ es) t) where
+  quiet-later : everyKey (λ q. holdsNoMessage (newestAmong es (drop (length prefix) q))) t ≡ true
   unfolding newestAmong
   quiet-later =
-      every-imp (λ q. holdsNoMessage (newestAmong (e ∷ es) (drop (length X) q))) (λ q. holdsNoMessage (newestAmong es (drop (length X) q))) t
-      (λ q h. quiet-rest (entrySays e (drop (length X) q)) (newestAmong es (drop (length X) q)) h) (u .quiet)
+      every-imp (λ q. holdsNoMessage (newestAmong (e ∷ es) (drop (length prefix) q))) (λ q. holdsNoMessage (newestAmong es (drop (length prefix) q))) t
+      (λ q h. quiet-rest (entrySays e (drop (length prefix) q)) (newestAmong es (drop (length prefix) q)) h) (u .quiet)
 
-  untold-skip : Untold X es t
+  untold-skip : Untold prefix es t
   untold-skip = record { rises = u .rises; quiet = quiet-later }
 
 -- the path of a put that is to come is not among them
-pub untold-absent : (X k v : List ℕ) (es : List defined.Entry) (t : List Row) → Untold X (defined.message (defined.puts k v) ∷ es) t → find (X ++ k) t ≡ none
+pub untold-absent : (prefix k v : List ℕ) (es : List defined.Entry) (t : List Row) → Untold prefix (defined.message (defined.puts k v) ∷ es) t → find (prefix ++ k) t ≡ none
 unfolding newestAmong entrySays
-untold-absent X k v es t u =
-    find-fails (λ q. holdsNoMessage (newestAmong (defined.message (defined.puts k v) ∷ es) (drop (length X) q))) (X ++ k) t (u .quiet) (told (holdsNoMessage (newestAmong (defined.message (defined.puts k v) ∷ es) (drop (length X) (X ++ k)))) refl)
+untold-absent prefix k v es t u =
+    find-fails (λ q. holdsNoMessage (newestAmong (defined.message (defined.puts k v) ∷ es) (drop (length prefix) q))) (prefix ++ k) t (u .quiet) (told (holdsNoMessage (newestAmong (defined.message (defined.puts k v) ∷ es) (drop (length prefix) (prefix ++ k)))) refl)
   where
-    says-it : holdsNoMessage (entrySays (defined.message (defined.puts k v)) (drop (length X) (X ++ k))) ≡ false
-    says-it = unfold entrySays in (quiet-put k v (drop (length X) (X ++ k)) ∙ rw (drop-append-seam X k, same-refl k))
+    says-it : holdsNoMessage (entrySays (defined.message (defined.puts k v)) (drop (length prefix) (prefix ++ k))) ≡ false
+    says-it = unfold entrySays in (quiet-put k v (drop (length prefix) (prefix ++ k)) ∙ rw (drop-append-seam prefix k, same-refl k))
 
-    told : (x : Bool) → holdsNoMessage (newestAmong (defined.message (defined.puts k v) ∷ es) (drop (length X) (X ++ k))) ≡ x
-        → holdsNoMessage (newestAmong (defined.message (defined.puts k v) ∷ es) (drop (length X) (X ++ k))) ≡ false
+    told : (x : Bool) → holdsNoMessage (newestAmong (defined.message (defined.puts k v) ∷ es) (drop (length prefix) (prefix ++ k))) ≡ x
+        → holdsNoMessage (newestAmong (defined.message (defined.puts k v) ∷ es) (drop (length prefix) (prefix ++ k))) ≡ false
     told false h = h
     told true h =
-        absurd (true≢false (sym (quiet-both (entrySays (defined.message (defined.puts k v)) (drop (length X) (X ++ k))) (newestAmong es (drop (length X) (X ++ k))) h) ∙ says-it))
+        absurd (true≢false (sym (quiet-both (entrySays (defined.message (defined.puts k v)) (drop (length prefix) (prefix ++ k))) (newestAmong es (drop (length prefix) (prefix ++ k))) h) ∙ says-it))
 
-untold-with : (X k v : List ℕ) (es : List defined.Entry) (t : List Row) → holdsNoMessage (newestAmong es k) ≡ true → Untold X es t → Untold X es (withRow (X ++ k) v t)
-untold-with X k v es t h u =
+untold-with : (prefix k v : List ℕ) (es : List defined.Entry) (t : List Row) → holdsNoMessage (newestAmong es k) ≡ true → Untold prefix es t → Untold prefix es (withRow (prefix ++ k) v t)
+untold-with prefix k v es t h u =
     record {
-      rises = rising-with (X ++ k) v t (u .rises);
-      quiet = every-with (λ q. holdsNoMessage (newestAmong es (drop (length X) q))) (X ++ k) v t (rw (drop-append-seam X k) h) (u .quiet);
+      rises = rising-with (prefix ++ k) v t (u .rises);
+      quiet = every-with (λ q. holdsNoMessage (newestAmong es (drop (length prefix) q))) (prefix ++ k) v t (rw (drop-append-seam prefix k) h) (u .quiet);
     }
 
 -- one entry done: the rows are untold by those that follow
-pub untold-next : (ok : List ℕ → Bool) (X : List ℕ) (e : defined.Entry) (es : List defined.Entry) (t : List Row) → Untold X (e ∷ es) t
-    → Untold X es (withEntry (decides ok X e es) X e t)
+pub untold-next : (ok : List ℕ → Bool) (prefix : List ℕ) (e : defined.Entry) (es : List defined.Entry) (t : List Row) → Untold prefix (e ∷ es) t
+    → Untold prefix es (withEntry (decides ok prefix e es) prefix e t)
 unfolding withEntry decides
-untold-next ok X (defined.pair k v) es t u = untold-skip X (defined.pair k v) es t u
-untold-next ok X (defined.child i k) es t u = untold-skip X (defined.child i k) es t u
-untold-next ok X (defined.message (defined.puts k v)) es t u = go (holdsNoMessage (newestAmong es k) && ok (X ++ k)) refl
+untold-next ok prefix (defined.pair k v) es t u = untold-skip prefix (defined.pair k v) es t u
+untold-next ok prefix (defined.child i k) es t u = untold-skip prefix (defined.child i k) es t u
+untold-next ok prefix (defined.message (defined.puts k v)) es t u = go (holdsNoMessage (newestAmong es k) && ok (prefix ++ k)) refl
   where
-    go : (x : Bool) → holdsNoMessage (newestAmong es k) && ok (X ++ k) ≡ x → Untold X es (cond x (withRow (X ++ k) v t) t)
-    go true h = untold-with X k v es t (and-left (holdsNoMessage (newestAmong es k)) (ok (X ++ k)) h) (untold-skip X (defined.message (defined.puts k v)) es t u)
-    go false h = untold-skip X (defined.message (defined.puts k v)) es t u
-untold-next ok X (defined.message (defined.drops k)) es t u = untold-skip X (defined.message (defined.drops k)) es t u
-untold-next ok X (defined.message (defined.clears k)) es t u = untold-skip X (defined.message (defined.clears k)) es t u
+    go : (x : Bool) → holdsNoMessage (newestAmong es k) && ok (prefix ++ k) ≡ x → Untold prefix es (cond x (withRow (prefix ++ k) v t) t)
+    go true h = untold-with prefix k v es t (and-left (holdsNoMessage (newestAmong es k)) (ok (prefix ++ k)) h) (untold-skip prefix (defined.message (defined.puts k v)) es t u)
+    go false h = untold-skip prefix (defined.message (defined.puts k v)) es t u
+untold-next ok prefix (defined.message (defined.drops k)) es t u = untold-skip prefix (defined.message (defined.drops k)) es t u
+untold-next ok prefix (defined.message (defined.clears k)) es t u = untold-skip prefix (defined.message (defined.clears k)) es t u
 
 -- the rows become no fewer
-entry-grows : (ok : List ℕ → Bool) (X : List ℕ) (e : defined.Entry) (es : List defined.Entry) (t : List Row) → Untold X (e ∷ es) t
-    → length t ≤ length (withEntry (decides ok X e es) X e t)
+entry-grows : (ok : List ℕ → Bool) (prefix : List ℕ) (e : defined.Entry) (es : List defined.Entry) (t : List Row) → Untold prefix (e ∷ es) t
+    → length t ≤ length (withEntry (decides ok prefix e es) prefix e t)
 unfolding withEntry
-entry-grows ok X (defined.pair k v) es t u = omega arith
-entry-grows ok X (defined.child i k) es t u = omega arith
-entry-grows ok X (defined.message (defined.puts k v)) es t u = go (decides ok X (defined.message (defined.puts k v)) es)
+entry-grows ok prefix (defined.pair k v) es t u = omega arith
+entry-grows ok prefix (defined.child i k) es t u = omega arith
+entry-grows ok prefix (defined.message (defined.puts k v)) es t u = go (decides ok prefix (defined.message (defined.puts k v)) es)
   where
-    go : (x : Bool) → length t ≤ length (cond x (withRow (X ++ k) v t) t)
-    go true = let l = with-length (X ++ k) v t (untold-absent X k v es t u) in omega arith
+    go : (x : Bool) → length t ≤ length (cond x (withRow (prefix ++ k) v t) t)
+    go true = let l = with-length (prefix ++ k) v t (untold-absent prefix k v es t u) in omega arith
     go false = omega arith
-entry-grows ok X (defined.message (defined.drops k)) es t u = omega arith
-entry-grows ok X (defined.message (defined.clears k)) es t u = omega arith
+entry-grows ok prefix (defined.message (defined.drops k)) es t u = omega arith
+entry-grows ok prefix (defined.message (defined.clears k)) es t u = omega arith
 
-pub insert-grows : (ok : List ℕ → Bool) (X : List ℕ) (es : List defined.Entry) (t : List Row) → Untold X es t → length t ≤ length (insertAmong ok X es t)
+pub insert-grows : (ok : List ℕ → Bool) (prefix : List ℕ) (es : List defined.Entry) (t : List Row) → Untold prefix es t → length t ≤ length (insertAmong ok prefix es t)
 unfolding insertAmong
-insert-grows ok X [] t u = omega arith
-insert-grows ok X (e ∷ es) t u =
-    let a = entry-grows ok X e es t u in
-    let b = insert-grows ok X es (withEntry (decides ok X e es) X e t) (untold-next ok X e es t u) in
+insert-grows ok prefix [] t u = omega arith
+insert-grows ok prefix (e ∷ es) t u =
+    let a = entry-grows ok prefix e es t u in
+    let b = insert-grows ok prefix es (withEntry (decides ok prefix e es) prefix e t) (untold-next ok prefix e es t u) in
     omega arith
 
 -- PUTS INTO ROWS OF OTHERS: the entries' puts into the empty table, and its rows into the others, are the puts into the others
-pub untold-none : (X : List ℕ) (es : List defined.Entry) → Untold X es []
+pub untold-none : (prefix : List ℕ) (es : List defined.Entry) → Untold prefix es []
 unfolding rising everyKey
-untold-none X es = record { rises = refl; quiet = refl }
+untold-none prefix es = record { rises = refl; quiet = refl }
 
-entry-put : (ok : List ℕ → Bool) (X : List ℕ) (e : defined.Entry) (es : List defined.Entry) (u t : List Row) → Untold X (e ∷ es) u → rising t ≡ true
-    → withEntry (decides ok X e es) X e (putAll u t) ≡ putAll (withEntry (decides ok X e es) X e u) t
+entry-put : (b : Bool) (prefix : List ℕ) (e : defined.Entry) (u t : List Row) → rising t ≡ true → withEntry b prefix e (putAll u t) ≡ putAll (withEntry b prefix e u) t
 unfolding withEntry
-entry-put ok X (defined.pair k v) es u t un h = refl
-entry-put ok X (defined.child i k) es u t un h = refl
-entry-put ok X (defined.message (defined.puts k v)) es u t un h = go (decides ok X (defined.message (defined.puts k v)) es)
-  where
-    go : (x : Bool) → cond x (withRow (X ++ k) v (putAll u t)) (putAll u t) ≡ putAll (cond x (withRow (X ++ k) v u) u) t
-    go true = put-among (X ++ k) v u t (untold-absent X k v es u un) h
-    go false = refl
-entry-put ok X (defined.message (defined.drops k)) es u t un h = refl
-entry-put ok X (defined.message (defined.clears k)) es u t un h = refl
+entry-put b prefix (defined.pair k v) u t h = refl
+entry-put b prefix (defined.child i k) u t h = refl
+entry-put true prefix (defined.message (defined.puts k v)) u t h = put-among (prefix ++ k) v u t h
+entry-put false prefix (defined.message (defined.puts k v)) u t h = refl
+entry-put b prefix (defined.message (defined.drops k)) u t h = refl
+entry-put b prefix (defined.message (defined.clears k)) u t h = refl
 
-pub insert-put : (ok : List ℕ → Bool) (X : List ℕ) (es : List defined.Entry) (u t : List Row) → Untold X es u → rising t ≡ true
-    → insertAmong ok X es (putAll u t) ≡ putAll (insertAmong ok X es u) t
+pub insert-put : (ok : List ℕ → Bool) (prefix : List ℕ) (es : List defined.Entry) (u t : List Row) → rising t ≡ true
+    → insertAmong ok prefix es (putAll u t) ≡ putAll (insertAmong ok prefix es u) t
 unfolding insertAmong
-insert-put ok X [] u t un h = refl
-insert-put ok X (e ∷ es) u t un h =
-    ap (insertAmong ok X es) (entry-put ok X e es u t un h) ∙ insert-put ok X es (withEntry (decides ok X e es) X e u) t (untold-next ok X e es u un) h
+insert-put ok prefix [] u t h = refl
+insert-put ok prefix (e ∷ es) u t h =
+    ap (insertAmong ok prefix es) (entry-put (decides ok prefix e es) prefix e u t h) ∙ insert-put ok prefix es (withEntry (decides ok prefix e es) prefix e u) t h
 
-pub insert-rises : (ok : List ℕ → Bool) (X : List ℕ) (es : List defined.Entry) (t : List Row) → Untold X es t → rising (insertAmong ok X es t) ≡ true
+pub insert-rises : (ok : List ℕ → Bool) (prefix : List ℕ) (es : List defined.Entry) (t : List Row) → Untold prefix es t → rising (insertAmong ok prefix es t) ≡ true
 unfolding insertAmong
-insert-rises ok X [] t u = u .rises
-insert-rises ok X (e ∷ es) t u = insert-rises ok X es (withEntry (decides ok X e es) X e t) (untold-next ok X e es t u)
+insert-rises ok prefix [] t u = u .rises
+insert-rises ok prefix (e ∷ es) t u = insert-rises ok prefix es (withEntry (decides ok prefix e es) prefix e t) (untold-next ok prefix e es t u)
 
 -- two tables grow by the same puts
-entry-counts : (ok : List ℕ → Bool) (X : List ℕ) (e : defined.Entry) (es : List defined.Entry) (u t : List Row) → Untold X (e ∷ es) u → Untold X (e ∷ es) t
-    → length (withEntry (decides ok X e es) X e t) + length u ≡ length t + length (withEntry (decides ok X e es) X e u)
+entry-counts : (ok : List ℕ → Bool) (prefix : List ℕ) (e : defined.Entry) (es : List defined.Entry) (u t : List Row) → Untold prefix (e ∷ es) u → Untold prefix (e ∷ es) t
+    → length (withEntry (decides ok prefix e es) prefix e t) + length u ≡ length t + length (withEntry (decides ok prefix e es) prefix e u)
 unfolding withEntry
-entry-counts ok X (defined.pair k v) es u t a b = refl
-entry-counts ok X (defined.child i k) es u t a b = refl
-entry-counts ok X (defined.message (defined.puts k v)) es u t a b = go (decides ok X (defined.message (defined.puts k v)) es)
+entry-counts ok prefix (defined.pair k v) es u t a b = refl
+entry-counts ok prefix (defined.child i k) es u t a b = refl
+entry-counts ok prefix (defined.message (defined.puts k v)) es u t a b = go (decides ok prefix (defined.message (defined.puts k v)) es)
   where
-    go : (x : Bool) → length (cond x (withRow (X ++ k) v t) t) + length u ≡ length t + length (cond x (withRow (X ++ k) v u) u)
+    go : (x : Bool) → length (cond x (withRow (prefix ++ k) v t) t) + length u ≡ length t + length (cond x (withRow (prefix ++ k) v u) u)
     go true =
-        let l = with-length (X ++ k) v t (untold-absent X k v es t b) in
-        let m = with-length (X ++ k) v u (untold-absent X k v es u a) in
+        let l = with-length (prefix ++ k) v t (untold-absent prefix k v es t b) in
+        let m = with-length (prefix ++ k) v u (untold-absent prefix k v es u a) in
         omega arith
     go false = refl
-entry-counts ok X (defined.message (defined.drops k)) es u t a b = refl
-entry-counts ok X (defined.message (defined.clears k)) es u t a b = refl
+entry-counts ok prefix (defined.message (defined.drops k)) es u t a b = refl
+entry-counts ok prefix (defined.message (defined.clears k)) es u t a b = refl
 
-pub insert-counts : (ok : List ℕ → Bool) (X : List ℕ) (es : List defined.Entry) (u t : List Row) → Untold X es u → Untold X es t
-    → length (insertAmong ok X es t) + length u ≡ length t + length (insertAmong ok X es u)
+pub insert-counts : (ok : List ℕ → Bool) (prefix : List ℕ) (es : List defined.Entry) (u t : List Row) → Untold prefix es u → Untold prefix es t
+    → length (insertAmong ok prefix es t) + length u ≡ length t + length (insertAmong ok prefix es u)
 unfolding insertAmong
-insert-counts ok X [] u t a b = refl
-insert-counts ok X (e ∷ es) u t a b =
-    let l = entry-counts ok X e es u t a b in
-    let m = insert-counts ok X es (withEntry (decides ok X e es) X e u) (withEntry (decides ok X e es) X e t) (untold-next ok X e es u a) (untold-next ok X e es t b) in
+insert-counts ok prefix [] u t a b = refl
+insert-counts ok prefix (e ∷ es) u t a b =
+    let l = entry-counts ok prefix e es u t a b in
+    let m = insert-counts ok prefix es (withEntry (decides ok prefix e es) prefix e u) (withEntry (decides ok prefix e es) prefix e t) (untold-next ok prefix e es u a) (untold-next ok prefix e es t b) in
     omega arith
 
 -- ROWS PLACED
--- equal lists whose first parts are of one length
-fronts : {A : Type 0} (a b c d : List A) → a ++ b ≡ c ++ d → length a ≡ length c → (a ≡ c) × (b ≡ d)
-fronts a b c d e l = (
-  sym (take-append-seam a b) ∙ ap (take (length a)) e ∙ ap (λ n. take n (c ++ d)) l ∙ take-append-seam c d,
-  sym (drop-append-seam a b) ∙ ap (drop (length a)) e ∙ ap (λ n. drop n (c ++ d)) l ∙ drop-append-seam c d,
-)
-
--- r rows whose first ones are those of another area: so they stand, and the rest follows
-pub rows-parts : (first r : ℕ) (a b : List ℕ) (t : List Row) → first ≤ r → rowsOf r b 0 ≡ rowsOf first a 0 ++ t
-    → (rowsOf first b 0 ≡ rowsOf first a 0) × (rowsOf (r - first) b first ≡ t)
-rows-parts first r a b t h e =
-    let z : r ≡ first + (r - first) = omega arith in
-    let o : 0 + first ≡ first = omega arith in
-    let w : rowsOf first b 0 ++ rowsOf (r - first) b first ≡ rowsOf first a 0 ++ t
-    = ap (λ j. rowsOf first b 0 ++ rowsOf (r - first) b j) (sym o) ∙ sym (rows-split first (r - first) b 0) ∙ ap (λ n. rowsOf n b 0) (sym z) ∙ e in
-    fronts (rowsOf first b 0) (rowsOf (r - first) b first) (rowsOf first a 0) t w (rows-length first b 0 ∙ sym (rows-length first a 0))
-
 pub placed-same : (area : List ℕ) (first m : ℕ) (t : List Row) → RowsFit m area → first ≤ m → t ≡ rowsOf (m - first) area first → Placed first area area m t
 placed-same area first m t f h e = record { fit = f; ahead = h; front = refl; rows = sym e; size = refl }
 
@@ -258,48 +237,45 @@ module _ (s : List ℕ) (p : PathBuffer) (k v : Place) (es : List defined.Entry)
           (placed-row area area′ first m (pathIn p ++ part s k) (part s v) (opened .ahead) l (subst (λ y. Inserted first m area area′ y (part s v)) full-is x))
 
 -- ONE ENTRY, BY ITS KIND
-module _ (s : List ℕ) (ok : List ℕ → Bool) (X : List ℕ) (es : List defined.Entry) (t : List Row) where
-  abbrev After : defined.Entry → List Row
-  After e = withEntry (decides ok X e es) X e t
-
-  pub after-drop : (m : Message) (k : Place) → m ≡ Message.Drop k → After (defined.message (messageIn s m)) ≡ t
+module _ (s : List ℕ) (b : Bool) (prefix : List ℕ) (t : List Row) where
+  pub after-drop : (m : Message) (k : Place) → m ≡ Message.Drop k → withEntry b prefix (defined.message (messageIn s m)) t ≡ t
   unfolding withEntry
   after-drop m k q = rw q
 
-  pub after-clear : (m : Message) (k : Place) → m ≡ Message.Clear k → After (defined.message (messageIn s m)) ≡ t
+  pub after-clear : (m : Message) (k : Place) → m ≡ Message.Clear k → withEntry b prefix (defined.message (messageIn s m)) t ≡ t
   unfolding withEntry
   after-clear m k q = rw q
 
-  pub after-pair : (e : Entry) (k v : Place) → e ≡ Entry.Pair k v → After (entryIn s e) ≡ t
+  pub after-pair : (e : Entry) (k v : Place) → e ≡ Entry.Pair k v → withEntry b prefix (entryIn s e) t ≡ t
   unfolding withEntry
   after-pair e k v q = rw q
 
-  pub after-child : (e : Entry) (i : ℕ) (k : Place) → e ≡ Entry.Child i k → After (entryIn s e) ≡ t
+  pub after-child : (e : Entry) (i : ℕ) (k : Place) → e ≡ Entry.Child i k → withEntry b prefix (entryIn s e) t ≡ t
   unfolding withEntry
   after-child e i k q = rw q
 
 -- what is asked and given of a message or an entry, told of what it is
-pub open-as : (area : List ℕ) (first m : ℕ) (ok : List ℕ → Bool) (X : List ℕ) (e d : defined.Entry) (es : List defined.Entry) → e ≡ d
-    → Open area first m ok X (e ∷ es) → Open area first m ok X (d ∷ es)
-open-as area first m ok X e d es q o = subst (λ x. Open area first m ok X (x ∷ es)) q o
+pub open-as : (area : List ℕ) (first m : ℕ) (ok : List ℕ → Bool) (prefix : List ℕ) (e d : defined.Entry) (es : List defined.Entry) → e ≡ d
+    → Open area first m ok prefix (e ∷ es) → Open area first m ok prefix (d ∷ es)
+open-as area first m ok prefix e d es q o = subst (λ x. Open area first m ok prefix (x ∷ es)) q o
 
-pub placed-as : (first r : ℕ) (area area′ : List ℕ) (ok : List ℕ → Bool) (X : List ℕ) (e d : defined.Entry) (es : List defined.Entry) (t : List Row) → d ≡ e
-    → Placed first area area′ r (withEntry (decides ok X e es) X e t) → Placed first area area′ r (withEntry (decides ok X d es) X d t)
-placed-as first r area area′ ok X e d es t q o = subst (λ x. Placed first area area′ r (withEntry (decides ok X x es) X x t)) (sym q) o
+pub placed-as : (first r : ℕ) (area area′ : List ℕ) (ok : List ℕ → Bool) (prefix : List ℕ) (e d : defined.Entry) (es : List defined.Entry) (t : List Row) → d ≡ e
+    → Placed first area area′ r (withEntry (decides ok prefix e es) prefix e t) → Placed first area area′ r (withEntry (decides ok prefix d es) prefix d t)
+placed-as first r area area′ ok prefix e d es t q o = subst (λ x. Placed first area area′ r (withEntry (decides ok prefix x es) prefix x t)) (sym q) o
 
 -- THE LOOP
-pub record Inserting (first : ℕ) (area₀ area : List ℕ) (m : ℕ) (ok : List ℕ → Bool) (X : List ℕ) (es : List defined.Entry) (all : List Row) : Type 0 where
-  pub opened : Open area first m ok X es
-  pub whole : insertAmong ok X es (rowsOf (m - first) area first) ≡ all
+pub record Inserting (first : ℕ) (area₀ area : List ℕ) (m : ℕ) (ok : List ℕ → Bool) (prefix : List ℕ) (es : List defined.Entry) (all : List Row) : Type 0 where
+  pub opened : Open area first m ok prefix es
+  pub whole : insertAmong ok prefix es (rowsOf (m - first) area first) ≡ all
   pub front : rowsOf first area 0 ≡ rowsOf first area₀ 0
   pub size : length area ≡ length area₀
 
-pub insert-first : (first : ℕ) (area : List ℕ) (m : ℕ) (ok : List ℕ → Bool) (X : List ℕ) (es : List defined.Entry) → Open area first m ok X es
-    → Inserting first area area m ok X es (insertAmong ok X es (rowsOf (m - first) area first))
-insert-first first area m ok X es o = record { opened = o; whole = refl; front = refl; size = refl }
+pub insert-first : (first : ℕ) (area : List ℕ) (m : ℕ) (ok : List ℕ → Bool) (prefix : List ℕ) (es : List defined.Entry) → Open area first m ok prefix es
+    → Inserting first area area m ok prefix es (insertAmong ok prefix es (rowsOf (m - first) area first))
+insert-first first area m ok prefix es o = record { opened = o; whole = refl; front = refl; size = refl }
 
-module _ (first : ℕ) (area₀ area : List ℕ) (m : ℕ) (ok : List ℕ → Bool) (X : List ℕ) (es : List defined.Entry) (all : List Row)
-    (a : Inserting first area₀ area m ok X es all) where
+module _ (first : ℕ) (area₀ area : List ℕ) (m : ℕ) (ok : List ℕ → Bool) (prefix : List ℕ) (es : List defined.Entry) (all : List Row)
+    (a : Inserting first area₀ area m ok prefix es all) where
   pub insert-end : es ≡ [] → Placed first area₀ area m all
   unfolding insertAmong
   insert-end q =
@@ -307,30 +283,30 @@ module _ (first : ℕ) (area₀ area : List ℕ) (m : ℕ) (ok : List ℕ → Bo
       record { fit = a .opened .fit; ahead = a .opened .ahead; front = a .front; rows = e; size = a .size }
 
   module _ (e : defined.Entry) (ts : List defined.Entry) (q : es ≡ e ∷ ts) where
-    pub insert-open : Open area first m ok X (e ∷ ts)
-    insert-open = subst (λ l. Open area first m ok X l) q (a .opened)
+    pub insert-open : Open area first m ok prefix (e ∷ ts)
+    insert-open = subst (λ l. Open area first m ok prefix l) q (a .opened)
 
-    pub insert-next : (area′ : List ℕ) (r : ℕ) → Placed first area area′ r (withEntry (decides ok X e ts) X e (rowsOf (m - first) area first))
-        → Inserting first area₀ area′ r ok X ts all
+    pub insert-next : (area′ : List ℕ) (r : ℕ) → Placed first area area′ r (withEntry (decides ok prefix e ts) prefix e (rowsOf (m - first) area first))
+        → Inserting first area₀ area′ r ok prefix ts all
     insert-next area′ r x =
         let o = insert-open in
-        let t : List Row = withEntry (decides ok X e ts) X e (rowsOf (m - first) area first) in
-        let w : insertAmong ok X ts (rowsOf (r - first) area′ first) ≡ insertAmong ok X (e ∷ ts) (rowsOf (m - first) area first) = ap (λ l. insertAmong ok X ts l) (x .rows) ∙ folds in
+        let t : List Row = withEntry (decides ok prefix e ts) prefix e (rowsOf (m - first) area first) in
+        let w : insertAmong ok prefix ts (rowsOf (r - first) area′ first) ≡ insertAmong ok prefix (e ∷ ts) (rowsOf (m - first) area first) = ap (λ l. insertAmong ok prefix ts l) (x .rows) ∙ folds in
         let h = o .room in
         let s = x .size in
-        let l : length (insertAmong ok X ts (rowsOf (r - first) area′ first)) ≡ length (insertAmong ok X (e ∷ ts) (rowsOf (m - first) area first)) = ap length w in
+        let l : length (insertAmong ok prefix ts (rowsOf (r - first) area′ first)) ≡ length (insertAmong ok prefix (e ∷ ts) (rowsOf (m - first) area first)) = ap length w in
         record {
           opened = record {
             fit = x .fit;
             ahead = x .ahead;
-            untold = subst (λ u. Untold X ts u) (sym (x .rows)) (untold-next ok X e ts (rowsOf (m - first) area first) (o .untold));
+            untold = subst (λ u. Untold prefix ts u) (sym (x .rows)) (untold-next ok prefix e ts (rowsOf (m - first) area first) (o .untold));
             values = values-later e (e ∷ ts) ts refl (o .values);
             room = omega arith;
           };
-          whole = w ∙ ap (λ l. insertAmong ok X l (rowsOf (m - first) area first)) (sym q) ∙ a .whole;
+          whole = w ∙ ap (λ l. insertAmong ok prefix l (rowsOf (m - first) area first)) (sym q) ∙ a .whole;
           front = x .front ∙ a .front;
           size = x .size ∙ a .size;
         }
       where
-        folds : insertAmong ok X ts (withEntry (decides ok X e ts) X e (rowsOf (m - first) area first)) ≡ insertAmong ok X (e ∷ ts) (rowsOf (m - first) area first)
+        folds : insertAmong ok prefix ts (withEntry (decides ok prefix e ts) prefix e (rowsOf (m - first) area first)) ≡ insertAmong ok prefix (e ∷ ts) (rowsOf (m - first) area first)
         folds = unfold insertAmong in refl

@@ -4,4 +4,5 @@ pub mod Merge
 pub mod Moves
 pub mod Slots
 pub mod InsertSteps
+pub mod ReplaceSteps
 pub mod MergeSteps

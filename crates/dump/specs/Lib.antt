@@ -1,7 +1,10 @@
 pub mod Insertion
 pub mod Dump
+pub mod Replacing
 pub mod AppendSteps
 pub mod InsertSteps
 pub mod TreeLaws
 pub mod NodeSteps
 pub mod RootSteps
+pub mod ReplacingSteps
+pub mod RootPuts

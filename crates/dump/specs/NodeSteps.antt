@@ -27,19 +27,20 @@ use Rattle.lookup.specs.Look.{listing, part-rest}
 use Rattle.packed.specs.Rows.Area.{rowsOf}
 use Rattle.packed.specs.Rows.Steps.{rows-length}
 use Rattle.dump.specs.Insertion.Insertion.{Apart, Merged}
-use Rattle.dump.specs.Insertion.Slots.{rows-split}
+use Rattle.dump.specs.Insertion.Slots.{rows-split, rows-parts}
 use Rattle.live.specs.Live.{holdsNoMessage}
 use Rattle.live.specs.PathBuffers.{pathIn}
 use Rattle.live.specs.PathSteps.{path-length}
-use Rattle.live.specs.declared.path_buffer.PathBuffer.{PathBuffer}
-use Rattle.live.specs.declared.Trail.{Trail}
-use Rattle.live.specs.Walk.{passing, Deeper, NextChild, Ready}
+use Rattle.node.specs.declared.PathBuffer.{PathBuffer}
+use Rattle.live.specs.declared.visibility.Trail.{Trail}
+use Rattle.live.specs.Walk.{passing, Deeper, Ready}
 use Rattle.live.specs.Steps.{passes-short}
 use Rattle.dump.specs.Dump.{pairsAmong, valuesFitAmong, insertAmong, Untold, Room, Added, Open, Placed, SoundBranches}
 use Rattle.dump.specs.AppendSteps.{added-none, added-as, added-more, room-first, room-rest}
-use Rattle.dump.specs.InsertSteps.{insert-grows, untold-none, insert-put, insert-rises, insert-counts, rows-parts}
+use Rattle.dump.specs.InsertSteps.{insert-grows, untold-none, insert-put, insert-rises, insert-counts}
 use Rattle.dump.specs.TreeLaws.{leaf-is, leaf-fits, branches-sound, interior-fits, has-branches, interior-is, interior-untold, long-none}
 use Rattle.octets.specs.Beginnings.{shared-take}
+use Rattle.node.specs.Search.Child.{NextChild}
 
 -- A NODE: its pivots are lo and hi, the prefix and the trail are those of its parent's children.
 module _ (s : List ℕ) (level num : ℕ) (p : PathBuffer) (t : Trail) (ready : Ready s level num p t) (lo hi : List ℕ)
@@ -77,7 +78,7 @@ module _ (s : List ℕ) (level num : ℕ) (p : PathBuffer) (t : Trail) (ready : 
       -- a leaf
       leaf-whole : level ≤ 1 → keep (passing s t) (underPrefix (pathIn here) (pairsAmong own)) ≡ Whole
       leaf-whole l =
-          ap₂ (λ X es. keep (passing s t) (underPrefix X (pairsAmong es))) (sym here-is) (sym own-is) ∙ ap (keep (passing s t)) (leaf-is s num level (ready .reads) low high sound l)
+          ap₂ (λ prefix es. keep (passing s t) (underPrefix prefix (pairsAmong es))) (sym here-is) (sym own-is) ∙ ap (keep (passing s t)) (leaf-is s num level (ready .reads) low high sound l)
 
       pub leaf-values : level ≤ 1 → valuesFitAmong own ≡ true
       leaf-values l = ap (λ es. valuesFitAmong es) (sym own-is) ∙ leaf-fits s num level (ready .reads) low high sound l
@@ -115,7 +116,7 @@ module _ (s : List ℕ) (level num : ℕ) (p : PathBuffer) (t : Trail) (ready : 
           sound-branches =
               record {
                 low = low;
-                branches = sym (ap₂ (λ X ks. soundForest (forestOf (λ j. treeAt (level - 1) s j) ks) X low high) here-is branches-are
+                branches = sym (ap₂ (λ prefix ks. soundForest (forestOf (λ j. treeAt (level - 1) s j) ks) prefix low high) here-is branches-are
                     ∙ ap (λ h. soundForest (forestOf (λ j. treeAt (level - 1) s j) branches) (pathIn here) low h) high-is)
                     ∙ branches-sound s num level (ready .reads) two low high sound;
               }
@@ -126,7 +127,7 @@ module _ (s : List ℕ) (level num : ℕ) (p : PathBuffer) (t : Trail) (ready : 
 
             kept-branches : keep (passing s above) (rowsIn (forestOf (λ j. treeAt (level - 1) s j) (branchesAmong (listing s num))) (shared low high) high) ≡ Branches
             kept-branches =
-                ap₂ (λ X ks. keep (passing s above) (rowsIn (forestOf (λ j. treeAt (level - 1) s j) ks) X high)) here-is branches-are
+                ap₂ (λ prefix ks. keep (passing s above) (rowsIn (forestOf (λ j. treeAt (level - 1) s j) ks) prefix high)) here-is branches-are
                 ∙ ap (λ h. keep (passing s above) (rowsIn (forestOf (λ j. treeAt (level - 1) s j) branches) (pathIn here) h)) high-is
 
             test : (q : List ℕ) → passing s above q ≡ passing s t q && holdsNoMessage (newestAmong (listing s num) (drop (length (shared low high)) q))
@@ -137,13 +138,13 @@ module _ (s : List ℕ) (level num : ℕ) (p : PathBuffer) (t : Trail) (ready : 
             inner-whole : insertAmong (passing s t) (pathIn here) own Branches ≡ Whole
             inner-whole =
                 sym (interior-is s num level (ready .reads) two low high sound (passing s t) (passing s above) test
-                ∙ ap₂ (λ X es. insertAmong (passing s t) X es (keep (passing s above) (rowsIn (forestOf (λ j. treeAt (level - 1) s j) (branchesAmong (listing s num))) (shared low high) high))) here-is own-is
+                ∙ ap₂ (λ prefix es. insertAmong (passing s t) prefix es (keep (passing s above) (rowsIn (forestOf (λ j. treeAt (level - 1) s j) (branchesAmong (listing s num))) (shared low high) high))) here-is own-is
                 ∙ ap (λ l. insertAmong (passing s t) (pathIn here) own l) kept-branches)
 
             untold : Untold (pathIn here) own Branches
             untold =
                 subst (λ l. Untold (pathIn here) own l) kept-branches
-                (subst (λ X. Untold X own (keep (passing s above) (rowsIn (forestOf (λ j. treeAt (level - 1) s j) (branchesAmong (listing s num))) (shared low high) high))) here-is
+                (subst (λ prefix. Untold prefix own (keep (passing s above) (rowsIn (forestOf (λ j. treeAt (level - 1) s j) (branchesAmong (listing s num))) (shared low high) high))) here-is
                 (subst (λ es. Untold (shared low high) es (keep (passing s above) (rowsIn (forestOf (λ j. treeAt (level - 1) s j) (branchesAmong (listing s num))) (shared low high) high))) own-is
                 (interior-untold s num level (ready .reads) two low high sound (passing s t) (passing s above) test)))
 
@@ -160,7 +161,7 @@ module _ (s : List ℕ) (level num : ℕ) (p : PathBuffer) (t : Trail) (ready : 
 
             whole-parts : putAll Puts Branches ≡ Whole
             unfolding putAll
-            whole-parts = sym (insert-put (passing s t) (pathIn here) own [] Branches (untold-none (pathIn here) own) (untold .rises)) ∙ inner-whole
+            whole-parts = sym (insert-put (passing s t) (pathIn here) own [] Branches (untold .rises)) ∙ inner-whole
 
             whole-count : length Whole ≡ length Branches + length Puts
             whole-count =
@@ -236,12 +237,12 @@ module _ (s : List ℕ) (level num : ℕ) (p : PathBuffer) (t : Trail) (ready : 
                     }
 
 -- THE CHILDREN: the child in hand, and those that follow
-module _ (s : List ℕ) (level : ℕ) (X hi : List ℕ) (ok : List ℕ → Bool) where
+module _ (s : List ℕ) (level : ℕ) (prefix hi : List ℕ) (ok : List ℕ → Bool) where
   abbrev forest : List Branch → Forest
   forest ks = forestOf (λ j. treeAt level s j) ks
 
   abbrev below : List Branch → List Row
-  below ks = keep ok (rowsIn (forest ks) X (X ++ hi))
+  below ks = keep ok (rowsIn (forest ks) prefix (prefix ++ hi))
 
   -- the rows so far, and those of the children from the one in hand on, make all
   pub record Descending (first : ℕ) (area₀ area : List ℕ) (m : ℕ) (ks : List Branch) (all : List Row) : Type 0 where
@@ -249,35 +250,35 @@ module _ (s : List ℕ) (level : ℕ) (X hi : List ℕ) (ok : List ℕ → Bool)
     pub so-far : Added first area₀ area m done
     pub room : Room area m (below ks)
     pub whole : all ≡ done ++ below ks
-    pub sound : SoundBranches s level X hi ks
+    pub sound : SoundBranches s level prefix hi ks
 
-  pub descend-first : (first : ℕ) (area : List ℕ) (ks : List Branch) → Room area first (below ks) → SoundBranches s level X hi ks → Descending first area area first ks (below ks)
+  pub descend-first : (first : ℕ) (area : List ℕ) (ks : List Branch) → Room area first (below ks) → SoundBranches s level prefix hi ks → Descending first area area first ks (below ks)
   descend-first first area ks r k = record { done = []; so-far = added-none first area [] refl (r .fit); room = r; whole = refl; sound = k }
 
   module _ (num : ℕ) (low : List ℕ) where
     abbrev rowsUnder : List ℕ → List Row
-    rowsUnder high = keep ok (rows (treeAt level s num) (X ++ low) (X ++ high))
+    rowsUnder high = keep ok (rows (treeAt level s num) (prefix ++ low) (prefix ++ high))
 
     below-last : below (branch num low ∷ []) ≡ rowsUnder hi
     unfolding rowsIn forestOf highOf
-    below-last = ap (keep ok) (append-nil (rows (treeAt level s num) (X ++ low) (X ++ hi)))
+    below-last = ap (keep ok) (append-nil (rows (treeAt level s num) (prefix ++ low) (prefix ++ hi)))
 
     below-more : (k : ℕ) (p : List ℕ) (us : List Branch) → below (branch num low ∷ branch k p ∷ us) ≡ rowsUnder p ++ below (branch k p ∷ us)
     unfolding rowsIn forestOf highOf
-    below-more k p us = keep-append ok (rows (treeAt level s num) (X ++ low) (X ++ p)) (rowsIn (forest (branch k p ∷ us)) X (X ++ hi))
+    below-more k p us = keep-append ok (rows (treeAt level s num) (prefix ++ low) (prefix ++ p)) (rowsIn (forest (branch k p ∷ us)) prefix (prefix ++ hi))
 
-    sound-last : (lo : List ℕ) → soundForest (forest (branch num low ∷ [])) X lo (X ++ hi) ≡ true → soundTree (treeAt level s num) (X ++ low) (X ++ hi) ≡ true
+    sound-last : (lo : List ℕ) → soundForest (forest (branch num low ∷ [])) prefix lo (prefix ++ hi) ≡ true → soundTree (treeAt level s num) (prefix ++ low) (prefix ++ hi) ≡ true
     unfolding forestOf highOf
-    sound-last lo e = parts low (treeAt level s num) (forest []) X lo (X ++ hi) e .first
+    sound-last lo e = parts low (treeAt level s num) (forest []) prefix lo (prefix ++ hi) e .first
 
-    sound-more : (lo : List ℕ) (k : ℕ) (p : List ℕ) (us : List Branch) → soundForest (forest (branch num low ∷ branch k p ∷ us)) X lo (X ++ hi) ≡ true
-        → soundTree (treeAt level s num) (X ++ low) (X ++ p) ≡ true
+    sound-more : (lo : List ℕ) (k : ℕ) (p : List ℕ) (us : List Branch) → soundForest (forest (branch num low ∷ branch k p ∷ us)) prefix lo (prefix ++ hi) ≡ true
+        → soundTree (treeAt level s num) (prefix ++ low) (prefix ++ p) ≡ true
     unfolding forestOf highOf
-    sound-more lo k p us e = parts low (treeAt level s num) (forest (branch k p ∷ us)) X lo (X ++ hi) e .first
+    sound-more lo k p us e = parts low (treeAt level s num) (forest (branch k p ∷ us)) prefix lo (prefix ++ hi) e .first
 
-    sound-rest : (lo : List ℕ) (us : List Branch) → soundForest (forest (branch num low ∷ us)) X lo (X ++ hi) ≡ true → soundForest (forest us) X lo (X ++ hi) ≡ true
+    sound-rest : (lo : List ℕ) (us : List Branch) → soundForest (forest (branch num low ∷ us)) prefix lo (prefix ++ hi) ≡ true → soundForest (forest us) prefix lo (prefix ++ hi) ≡ true
     unfolding forestOf
-    sound-rest lo us e = parts low (treeAt level s num) (forest us) X lo (X ++ hi) e .later
+    sound-rest lo us e = parts low (treeAt level s num) (forest us) prefix lo (prefix ++ hi) e .later
 
     module _ (first : ℕ) (area₀ area : List ℕ) (m : ℕ) (ks : List Branch) (all : List Row) (a : Descending first area₀ area m (branch num low ∷ ks) all) where
       -- the last child
@@ -285,9 +286,9 @@ module _ (s : List ℕ) (level : ℕ) (X hi : List ℕ) (ok : List ℕ → Bool)
         last-is : below (branch num low ∷ ks) ≡ rowsUnder hi
         last-is = ap (λ us. below (branch num low ∷ us)) q ∙ below-last
 
-        pub last-sound : soundTree (treeAt level s num) (X ++ low) (X ++ hi) ≡ true
+        pub last-sound : soundTree (treeAt level s num) (prefix ++ low) (prefix ++ hi) ≡ true
         last-sound =
-            sound-last (a .sound .low) (ap (λ us. soundForest (forest (branch num low ∷ us)) X (a .sound .low) (X ++ hi)) (sym q) ∙ a .sound .branches)
+            sound-last (a .sound .low) (ap (λ us. soundForest (forest (branch num low ∷ us)) prefix (a .sound .low) (prefix ++ hi)) (sym q) ∙ a .sound .branches)
 
         pub last-room : Room area m (rowsUnder hi)
         last-room = subst (λ t. Room area m t) last-is (a .room)
@@ -301,10 +302,10 @@ module _ (s : List ℕ) (level : ℕ) (X hi : List ℕ) (ok : List ℕ → Bool)
         more-is : below (branch num low ∷ ks) ≡ rowsUnder p ++ below (branch k p ∷ us)
         more-is = ap (λ vs. below (branch num low ∷ vs)) q ∙ below-more k p us
 
-        forest-sound : soundForest (forest (branch num low ∷ branch k p ∷ us)) X (a .sound .low) (X ++ hi) ≡ true
-        forest-sound = ap (λ vs. soundForest (forest (branch num low ∷ vs)) X (a .sound .low) (X ++ hi)) (sym q) ∙ a .sound .branches
+        forest-sound : soundForest (forest (branch num low ∷ branch k p ∷ us)) prefix (a .sound .low) (prefix ++ hi) ≡ true
+        forest-sound = ap (λ vs. soundForest (forest (branch num low ∷ vs)) prefix (a .sound .low) (prefix ++ hi)) (sym q) ∙ a .sound .branches
 
-        pub more-sound : soundTree (treeAt level s num) (X ++ low) (X ++ p) ≡ true
+        pub more-sound : soundTree (treeAt level s num) (prefix ++ low) (prefix ++ p) ≡ true
         more-sound = sound-more (a .sound .low) k p us forest-sound
 
         pub more-room : Room area m (rowsUnder p)

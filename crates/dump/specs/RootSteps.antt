@@ -20,8 +20,8 @@ use Rattle.packed.specs.Rows.Area.{rowsOf}
 use Rattle.live.specs.Live.{short}
 use Rattle.live.specs.LiveLaws.{all-short}
 use Rattle.live.specs.PathBuffers.{pathIn}
-use Rattle.live.specs.declared.path_buffer.PathBuffer.{PathBuffer}
-use Rattle.live.specs.declared.Trail.{Trail}
+use Rattle.node.specs.declared.PathBuffer.{PathBuffer}
+use Rattle.live.specs.declared.visibility.Trail.{Trail}
 use Rattle.live.specs.Walk.{passing, Ready}
 use Rattle.live.specs.RootSteps.{countable, one-node, tree-is, root-ready, empty-prefix, no-trail}
 use Rattle.dump.specs.Dump.{Room, Added, Dumped}

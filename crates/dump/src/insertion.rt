@@ -1,15 +1,15 @@
-// Rows put at their places among rows of the work area that rise: one row, the place by halving and then a move of the rows behind it; or
-// rows that rise too, merged in one pass. Relies on the layout of a row and on the writer of one row (packed).
+// Rows put at their places among rows of the work area that rise: one row, the place by halving and then a move of the rows behind it, or
+// in the place of its path's row; or rows that rise too, merged in one pass. Relies on the layout of a row and on the writer of one (packed).
 ghost use mathlib.Core.Path.{_≡_};
 ghost use mathlib.Core.Bool.{true};
 ghost use mathlib.Core.Option.{none};
 ghost use Prim.Native.Nat.{_+_, _*_, _-_, _<_, _≤_};
 ghost use lib.ListN.{length, take, drop, getD};
-ghost use Rattle.image.specs.Bytes.{before};
-ghost use Rattle.image.specs.Table.{rising, find};
+ghost use Rattle.image.specs.Bytes.{before, same};
+ghost use Rattle.image.specs.Table.{rising, find, withRow};
 ghost use Rattle.octets.specs.Put.{put};
 ghost use Rattle.packed.specs.Rows.Area.{RowsFit, rowAt, rowsOf};
-ghost use Rattle.dump.specs.Insertion.Insertion.{rank, slot, Inserted, Apart, RowMerged, Merged};
+ghost use Rattle.dump.specs.Insertion.Insertion.{rank, slot, Inserted, Replaced, Apart, Laid, laid, RowMerged, Merged};
 
 // Whether the path of row `i` comes before a path.
 fn row_precedes(area: &[u8], m: usize, i: usize, path: &[u8]) -> bool
@@ -77,6 +77,55 @@ pub fn insert_row(area: &mut [u8], from: usize, m: usize, path: &[u8], value: &[
     let i = place_of(area, from, m, path);
     move_rows(area, i, m, 1);
     packed::put_row(area, i, path, value);
+}
+
+// Whether row `i` has a path.
+fn row_holds(area: &[u8], m: usize, i: usize, path: &[u8]) -> bool
+    requires { ⌜ RowsFit m (now area) × (i < m) ⌝ }
+    ensures { λ r. ⌜ r ≡ same (rowAt (now (area .entry)) i .key) (now (path .entry)) ⌝ }
+{
+    let from = i * 128 + 4;
+    let to = from + octets::wide(area[i * 128]);
+    octets::equal(&area[from..to], path)
+}
+
+// The path's row among the rows from `from` up to `m`, which rise, gets this value. Gives whether there is one.
+fn replace_row(area: &mut [u8], from: usize, m: usize, path: &[u8], value: &[u8]) -> bool
+    requires { ⌜ RowsFit m (now area)
+        × (from ≤ m)
+        × (length (now path) ≤ 64)
+        × (length (now value) ≤ 60)
+        × (rising (rowsOf (m - from) (now area) from) ≡ true) ⌝ }
+    ensures { λ r. ⌜ Replaced from m (now (area .entry)) (now (area .exit)) (now (path .entry)) (now (value .entry)) r ⌝ }
+{
+    let i = place_of(area, from, m, path);
+    if m <= i {
+        return false;
+    }
+    if !row_holds(area, m, i, path) {
+        return false;
+    }
+    packed::put_row(area, i, path, value);
+    true
+}
+
+// The path gets this value: in its row, among those up to `m` or among those from there up to `all`, or else in a new row among the latter.
+// Gives how many rows there are then.
+pub fn set_row(area: &mut [u8], m: usize, all: usize, path: &[u8], value: &[u8]) -> usize
+    requires { ⌜ Apart (now area) 0 m all
+        × (length (now path) ≤ 64)
+        × (length (now value) ≤ 60)
+        × (128 * length (withRow (now path) (now value) (laid (now area) m all)) ≤ length (now area)) ⌝ }
+    ensures { λ r. ⌜ Laid m (now (area .entry)) (now (area .exit)) r (withRow (now (path .entry)) (now (value .entry)) (laid (now (area .entry)) m all)) ⌝ }
+{
+    if replace_row(area, 0, m, path, value) {
+        return all;
+    }
+    if replace_row(area, m, all, path, value) {
+        return all;
+    }
+    insert_row(area, m, all, path, value);
+    all + 1
 }
 
 // Row `left` of those set aside, the last that is not merged yet, at its place among the rows from `first` up to `high`. Those behind its

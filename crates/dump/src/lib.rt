@@ -1,21 +1,24 @@
 // Every row of a sound store's map, rising, in the rows of the work area, by one walk over the tree: a leaf's pairs are appended in their
 // order, and a node's waiting puts are merged into the rows of its children. Only what decides a path is written, so that there are never
-// more rows than live paths. Relies on the tests of `live` and its notes, `packed` (one row) and `insertion`; the caller has checked the store.
+// more rows than live paths. Where the root's messages are all puts, the usual state, they go into its children's rows as they are.
+// Relies on the tests of `live` and its notes, `packed` (one row), `insertion` and `replacing`; the caller has checked the store.
 pub mod insertion;
+pub mod replacing;
 
-use live::Pending;
 use live::Position;
-use live::Run;
-use live::Trail;
 use live::Visit;
 use live::path_buffer;
-use live::path_buffer::PathBuffer;
+use live::visibility;
+use live::visibility::Trail;
 use node::Cursor;
 use node::Entry;
 use node::Message;
+use node::PathBuffer;
 use node::Place;
 use node::Step;
 use node::search::PairStep;
+use node::search::Pending;
+use node::search::Run;
 ghost use mathlib.Core.Path.{_≡_};
 ghost use mathlib.Core.Bool.{true};
 ghost use mathlib.Core.List.{_∷_, [], _++_};
@@ -31,10 +34,12 @@ ghost use Rattle.laws.specs.Filter.{keep};
 ghost use Rattle.node.specs.Places.{Within, EntryWithin, MessageWithin, part, entryIn, messageIn};
 ghost use Rattle.node.specs.Entries.{listed};
 ghost use Rattle.node.specs.Search.Own.{branch, branchesAmong};
+ghost use Rattle.lookup.specs.Look.{listing};
 ghost use Rattle.packed.specs.Rows.Area.{rowsOf};
 ghost use Rattle.live.specs.PathBuffers.{pathIn};
 ghost use Rattle.live.specs.Noted.{Tells, LeafTold};
 ghost use Rattle.live.specs.Walk.{passing, decides, TrailIn, Ready, ReadyBranches};
+ghost use Rattle.dump.specs.Replacing.{onlyPuts, AtRoot};
 ghost use Rattle.dump.specs.Dump.{rowIn, pairsAmong, valuesFitAmong, withEntry, insertAmong, Room, Added, Open, Placed, KeyTold, BranchesTold, SoundBranches, Dumped};
 
 // The places of a key and its value.
@@ -51,7 +56,7 @@ fn is_shown(store: &[u8], here: Position, key: &[u8], notes: &[usize; 64]) -> bo
     ensures { λ r. ⌜ r ≡ passing (now (store .entry)) (here .trail) (pathIn (here .prefix) ++ now (key .entry)) ⌝ }
 {
     if 64 < here.noted {
-        return live::is_live(store, here.prefix, here.trail, key);
+        return visibility::is_live(store, here.prefix, here.trail, key);
     }
     live::notes::is_quiet(store, notes, here.noted, key)
 }
@@ -149,11 +154,11 @@ fn insert_put(
     let b = pair.key.stop;
     let from = next.at;
     let end = next.end;
-    if !live::none_covers(store, from, end, &store[a..b]) {
+    if !visibility::none_covers(store, from, end, &store[a..b]) {
         return m;
     }
     let prefix = here.prefix;
-    if !live::is_live(store, prefix, here.trail, &store[a..b]) {
+    if !visibility::is_live(store, prefix, here.trail, &store[a..b]) {
         return m;
     }
     let full = path_buffer::extend(prefix, &store[a..b]);
@@ -309,18 +314,11 @@ fn dump_node(
     if level <= 1 {
         return append_pairs(store, area, m, c, here, &notes);
     }
-    let Pending::Child(first, low, rest) = live::read_child(store, c) else {
+    let Pending::Child(first, low, rest) = node::search::read_child(store, c) else {
         return m;
     };
-    let lift = lifted.len;
-    let deeper = live::lengthen_trail(store, trail, num, lift);
-    let more = live::note_own(store, num, &lo[k..], &hi[k..], &mut notes, n);
+    let position = live::enter(store, num, here, &lo[k..], &hi[k..], &mut notes);
     let below = level - 1;
-    let position = Position {
-        prefix: lifted,
-        trail: deeper,
-        noted: more,
-    };
     let child = Visit {
         num: first,
         level: below,
@@ -375,7 +373,7 @@ fn dump_children(
             level,
             position,
         };
-        let Pending::Child(k, p, next) = live::read_child(store, c) else {
+        let Pending::Child(k, p, next) = node::search::read_child(store, c) else {
             return dump_node(store, area, m, node, &store[a..b], hi, notes);
         };
         let x = p.start;
@@ -387,6 +385,38 @@ fn dump_children(
     }
 }
 
+// The rows of the whole map, where the root's messages are all puts: its children's rows, and its puts put into them, oldest first. So no
+// message of the root is held against the pairs below it, nor against the later ones.
+fn dump_putting(store: &[u8], area: &mut [u8], root: Visit) -> usize
+    requires { ⌜ AtRoot (now store) root
+        × (sound (now store) ≡ true)
+        × (128 * nodesOf (length (now store)) ≤ length (now area))
+        × (2 ≤ root .level)
+        × (onlyPuts (listing (now store) (root .num)) ≡ true) ⌝ }
+    ensures { λ r. ⌜ Dumped (now (store .entry)) (now (area .entry)) (now (area .exit)) r ⌝ }
+{
+    let at = root.num * image::NODE_SIZE;
+    let len = octets::u16_at(store, at);
+    let from = at + image::ENTRIES_AT;
+    let end = from + len;
+    let c = Cursor { at: from, end };
+    let Pending::Child(first, low, rest) = node::search::read_child(store, c) else {
+        return 0;
+    };
+    let position = root.position;
+    let child = Visit {
+        num: first,
+        level: root.level - 1,
+        position,
+    };
+    let hi = [255u8; 1];
+    let notes = [0usize; 64];
+    let m = dump_children(store, area, 0, child, Run { low, rest }, &hi, &notes);
+    let all = replacing::set_puts(store, area, m, c);
+    insertion::merge_rows(area, 0, m, all);
+    all
+}
+
 // Every row of the map, rising, in the area. Gives how many.
 pub fn dump(store: &[u8], area: &mut [u8]) -> usize
     requires { ⌜ (sound (now store) ≡ true) × (128 * nodesOf (length (now store)) ≤ length (now area)) ⌝ }
@@ -394,8 +424,6 @@ pub fn dump(store: &[u8], area: &mut [u8]) -> usize
 {
     let root = octets::u16_at(store, image::ROOT_AT);
     let levels = octets::u16_at(store, image::LEVELS_AT);
-    let lo = [0u8; 1];
-    let hi = [255u8; 1];
     let prefix = PathBuffer {
         bytes: [0u8; 64],
         len: 0,
@@ -405,15 +433,23 @@ pub fn dump(store: &[u8], area: &mut [u8]) -> usize
         lifts: [0usize; 8],
         depth: 0,
     };
-    let notes = [0usize; 64];
+    let position = Position {
+        prefix,
+        trail,
+        noted: 0,
+    };
     let node = Visit {
         num: root,
         level: levels,
-        position: Position {
-            prefix,
-            trail,
-            noted: 0,
-        },
+        position,
     };
+    if 1 < levels {
+        if replacing::only_puts(store, root) {
+            return dump_putting(store, area, node);
+        }
+    }
+    let lo = [0u8; 1];
+    let hi = [255u8; 1];
+    let notes = [0usize; 64];
     dump_node(store, area, 0, node, &lo[0..0], &hi, &notes)
 }

@@ -28,7 +28,7 @@ use Rattle.laws.specs.Follow.{table-rises}
 use Rattle.dump.specs.RootSteps.{table-few}
 use Rattle.rebuild.specs.Rebuild.{cleared}
 use Rattle.finish.specs.Finished.{Finished, finish-done, known-cap}
-use Rattle.packed.specs.Form.Tidy.{zerosOf}
+use Rattle.laws.specs.Page.{zerosOf}
 use Rattle.append.specs.Laws.SetLive.{withLive}
 use Rattle.octets.specs.Cap.{cap}
 use Rattle.questions.specs.Callers.{to-act, laterNo, later-number}

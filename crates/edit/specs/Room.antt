@@ -2,7 +2,7 @@
 use Prim.Native.Nat.{ℕ, _+_, _*_, _/_, _<_, _≤_}
 use mathlib.Core.Path.{_≡_, refl, sym, ap, _∙_}
 use mathlib.Core.List.{List}
-use mathlib.Core.Bool.{Bool, true, false}
+use mathlib.Core.Bool.{Bool, true, false, false≢true}
 use mathlib.Core.Logic.{_⊎_, inl, inr}
 use native.Mathlib.Omega.{arith}
 use lib.ListN.{length, drop, getD}
@@ -18,6 +18,7 @@ use Rattle.rebuild.specs.Rebuild.{Rebuilt, cleared}
 use Rattle.finish.specs.Finished.{cleared-size, cleared-later}
 use Rattle.edit.specs.Free.{FirstFree}
 use Rattle.edit.specs.declared.Spot.{Spot}
+use Rattle.edit.specs.declared.Terms.{Terms}
 
 -- node i is free, and a root of one level more is allowed
 pub record Free (s : List ℕ) (i : ℕ) : Type 0 where
@@ -25,6 +26,27 @@ pub record Free (s : List ℕ) (i : ℕ) : Type 0 where
   pub high : i < nodesOf (length s)
   pub unused : isIn i (numbers (treeOf s)) ≡ false
   pub seven : u16 s 8 ≤ 7
+
+-- the marks that are lent are the store's, where it is said that they are
+unfoldable pub MarkedWhere : Bool → List ℕ → List ℕ → Type 0
+MarkedWhere marked s seen = marked ≡ true → Marks s seen
+
+pub marked-here : (marked : Bool) (s seen : List ℕ) → MarkedWhere marked s seen → marked ≡ true → Marks s seen
+unfolding MarkedWhere
+marked-here marked s seen m e = m e
+
+-- the terms of a change: a reserve that leaves room for every message, and the marks as they are said to be
+pub record TermsHold (t : Terms) (s seen : List ℕ) : Type 0 where
+  pub small : t .reserve ≤ 900
+  pub marks : MarkedWhere (t .marked) s seen
+
+pub terms-marked : (k : ℕ) (s seen : List ℕ) → k ≤ 900 → Marks s seen → TermsHold (record { reserve = k; marked = true }) s seen
+unfolding MarkedWhere
+terms-marked k s seen h m = record { small = h; marks = λ e. m }
+
+pub terms-unmarked : (k : ℕ) (s seen : List ℕ) → k ≤ 900 → TermsHold (record { reserve = k; marked = false }) s seen
+unfolding MarkedWhere
+terms-unmarked k s seen h = record { small = h; marks = λ e. absurd (false≢true e) }
 
 -- the answer r of free_above: such a node, or 0
 pub record Above (s : List ℕ) (r : ℕ) : Type 0 where

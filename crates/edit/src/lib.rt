@@ -1,7 +1,8 @@
 // put, drop and clear: each becomes one message at the root. Where the root has no room, a new root is put above an old one that holds no
 // message; where that cannot be, the store is rebuilt first, and then it always can. The live count follows by one lookup; after a clear it is
-// counted anew. Each call is questions 1 and 2, its part on a store that is fit (put_fit, drop_fit, clear_fit), which uses the work area for a
-// rebuild alone and leaves it zero then, and the area zeroed. Relies on: questions, append (the message), rebuild, live (the count).
+// counted anew. Each call is questions 1 and 2, its part on a store that is fit (put_fit, drop_fit, clear_fit), which takes a free node off the
+// marks of question 2, uses the work area for a rebuild alone and leaves it zero then, and the area zeroed.
+// Relies on: questions, append (the message), rebuild, live (the count), tree_check (the marks, where none are lent).
 use image::Outcome;
 use image::Refusal;
 use node::search::Found;
@@ -23,11 +24,11 @@ ghost use Rattle.questions.specs.Acted.{Passed, Acted};
 ghost use Rattle.append.specs.Laws.Append.{roomAtRoot, Appended};
 ghost use Rattle.edit.specs.Change.{messageOf, sizeOf, Allowed};
 ghost use Rattle.edit.specs.Known.{Known, CountWith};
-ghost use Rattle.edit.specs.Room.{Above, Free, SpotFits, Roomy};
+ghost use Rattle.edit.specs.Room.{Above, Free, MarkedWhere, SpotFits, Roomy, TermsHold};
 ghost use Rattle.edit.specs.Edited.{Counted, Edited};
 
 // Of the root's 1,016 bytes for entries a call leaves so many free, and rebuilds the store before it takes them: a message that waits costs every
-// later judgement, and a rebuild that comes sooner is cheaper. A batch, which judges once, leaves none free.
+// later judgement, and a rebuild that comes sooner is cheaper. A batch, which judges once, leaves them free by its last change.
 pub const RESERVE: usize = 616;
 
 // What is done to a path.
@@ -35,6 +36,19 @@ pub enum Change {
     Put,
     Drop,
     Clear,
+}
+
+// On what terms a change is made: how many bytes of the root it leaves free, and whether the marks that are lent with it are the store's.
+pub struct Terms {
+    pub reserve: usize,
+    pub marked: bool,
+}
+
+// A change that the questions allow: how many paths there are after it, or 65,536 where that is not known, and its terms.
+pub struct Edit {
+    pub change: Change,
+    pub count: usize,
+    pub terms: Terms,
 }
 
 // Where a message goes: to the root, or with a new root into this free node.
@@ -58,9 +72,10 @@ fn first_free(seen: &[u8; 1024], n: usize) -> usize
     0
 }
 
-// A free node for a new root above the old one; 0 where the root holds a message, there is no level left, or no node is free.
-fn free_above(store: &[u8]) -> usize
-    requires { ⌜ (wholeNodes (length (now store)) ≡ true) × (sound (now store) ≡ true) ⌝ }
+// A free node for a new root above the old one; 0 where the root holds a message, there is no level left, or no node is free. Where `seen` does
+// not hold the marks of the store, it marks into an array of its own: inside a batch, whose changes make the marks of question 2 stale.
+fn free_above(store: &[u8], seen: &[u8; 1024], marked: bool) -> usize
+    requires { ⌜ (wholeNodes (length (now store)) ≡ true) × (sound (now store) ≡ true) × MarkedWhere marked (now store) (now seen) ⌝ }
     ensures { λ r. ⌜ Above (now (store .entry)) r ⌝ }
 {
     if append::has_messages_at_root(store) {
@@ -70,22 +85,32 @@ fn free_above(store: &[u8]) -> usize
     if 7 < levels {
         return 0;
     }
-    let mut seen = [0u8; 1024];
-    tree_check::marks::mark_nodes(store, &mut seen);
-    first_free(&seen, store.len() / image::NODE_SIZE)
+    let n = store.len() / image::NODE_SIZE;
+    if marked {
+        return first_free(seen, n);
+    }
+    let mut own = [0u8; 1024];
+    tree_check::marks::mark_nodes(store, &mut own);
+    first_free(&own, n)
 }
 
 // Makes room for a message of this size, with a reserve left at the root, and tells where. After a rebuild a new root goes above the packed one
 // even where that has room: it holds one branch, so that all its room but the reserve is taken before the next rebuild. A packed tree takes no
 // node from a quarter of them on.
-fn make_room(store: &mut [u8], work: &mut [u8], size: usize, reserve: usize) -> Spot
-    requires { ⌜ Passed (now store) (now work) × (size + reserve ≤ 1016) ⌝ }
+fn make_room(
+    store: &mut [u8],
+    work: &mut [u8],
+    seen: &[u8; 1024],
+    size: usize,
+    terms: Terms,
+) -> Spot
+    requires { ⌜ Passed (now store) (now work) × (size + terms .reserve ≤ 1016) × MarkedWhere (terms .marked) (now store) (now seen) ⌝ }
     ensures { λ r. ⌜ Roomy (now (store .entry)) (now (store .exit)) (now (work .entry)) (now (work .exit)) size r ⌝ }
 {
-    if append::fits_at_root(store, size + reserve) {
+    if append::fits_at_root(store, size + terms.reserve) {
         return Spot::AtRoot;
     }
-    let free = free_above(store);
+    let free = free_above(store, seen, terms.marked);
     if free != 0 {
         return Spot::Above(free);
     }
@@ -190,37 +215,38 @@ fn write_count(store: &mut [u8], known: usize)
     append::set_live(store, known);
 }
 
-// A change that the questions allow; `count` is how many paths there are after it, or 65,536 where that is not known.
+// A change that the questions allow: room for its message, the message, the live count.
 fn apply_change(
     store: &mut [u8],
     work: &mut [u8],
-    change: Change,
+    seen: &[u8; 1024],
     path: &[u8],
     value: &[u8],
-    count: usize,
-    reserve: usize,
+    edit: Edit,
 )
     requires { ⌜ Passed (now store) (now work)
-        × (reserve ≤ 900)
-        × Allowed change (now path) (now value) (tableOf (now store)) (nodesOf (length (now store)))
-        × Known (messageOf change (now path) (now value)) (tableOf (now store)) count ⌝ }
-    ensures { λ _. ⌜ Edited (now (store .entry)) (now (store .exit)) (now (work .entry)) (now (work .exit)) (messageOf change (now (path .entry)) (now (value .entry))) ⌝ }
+        × TermsHold (edit .terms) (now store) (now seen)
+        × Allowed (edit .change) (now path) (now value) (tableOf (now store)) (nodesOf (length (now store)))
+        × Known (messageOf (edit .change) (now path) (now value)) (tableOf (now store)) (edit .count) ⌝ }
+    ensures { λ _. ⌜ Edited (now (store .entry)) (now (store .exit)) (now (work .entry)) (now (work .exit)) (messageOf (edit .change) (now (path .entry)) (now (value .entry))) ⌝ }
 {
+    let change = edit.change;
     let size = entry_size(change, path.len(), value.len());
-    let spot = make_room(store, work, size, reserve);
+    let spot = make_room(store, work, seen, size, edit.terms);
     add(store, spot, change, path, value);
-    write_count(store, count);
+    write_count(store, edit.count);
 }
 
 // put, on a store and a work area that are fit. Question 10 asks whether there is a node for each path.
 pub fn put_fit(
     store: &mut [u8],
     work: &mut [u8],
+    seen: &[u8; 1024],
     path: &[u8],
     value: &[u8],
-    reserve: usize,
+    terms: Terms,
 ) -> Outcome
-    requires { ⌜ Passed (now store) (now work) × (reserve ≤ 900) ⌝ }
+    requires { ⌜ Passed (now store) (now work) × TermsHold terms (now store) (now seen) ⌝ }
     ensures { λ r. ⌜ Acted (now (store .entry)) (acts (put (now (path .entry)) (now (value .entry))) (now (work .entry))) r (now (store .exit)) (now (work .entry)) (now (work .exit)) ⌝ }
 {
     if !path::is_path(path) {
@@ -233,7 +259,12 @@ pub fn put_fit(
     if store.len() / image::NODE_SIZE < count {
         return Outcome::Refused(Refusal::Full);
     }
-    apply_change(store, work, Change::Put, path, value, count, reserve);
+    let edit = Edit {
+        change: Change::Put,
+        count,
+        terms,
+    };
+    apply_change(store, work, seen, path, value, edit);
     Outcome::Done
 }
 
@@ -246,7 +277,11 @@ pub fn put(store: &mut [u8], work: &mut [u8], path: &[u8], value: &[u8]) -> Outc
     match asked {
         Admission::Refused(refusal) => Outcome::Refused(refusal),
         Admission::Fit(_) => {
-            let outcome = put_fit(store, work, path, value, RESERVE);
+            let terms = Terms {
+                reserve: RESERVE,
+                marked: true,
+            };
+            let outcome = put_fit(store, work, &seen, path, value, terms);
             questions::zero_area(outcome, work, store.len() / image::NODE_SIZE);
             outcome
         }
@@ -254,15 +289,26 @@ pub fn put(store: &mut [u8], work: &mut [u8], path: &[u8], value: &[u8]) -> Outc
 }
 
 // drop, likewise.
-pub fn drop_fit(store: &mut [u8], work: &mut [u8], path: &[u8], reserve: usize) -> Outcome
-    requires { ⌜ Passed (now store) (now work) × (reserve ≤ 900) ⌝ }
+pub fn drop_fit(
+    store: &mut [u8],
+    work: &mut [u8],
+    seen: &[u8; 1024],
+    path: &[u8],
+    terms: Terms,
+) -> Outcome
+    requires { ⌜ Passed (now store) (now work) × TermsHold terms (now store) (now seen) ⌝ }
     ensures { λ r. ⌜ Acted (now (store .entry)) (acts (drops (now (path .entry))) (now (work .entry))) r (now (store .exit)) (now (work .entry)) (now (work .exit)) ⌝ }
 {
     if !path::is_path(path) {
         return Outcome::Refused(Refusal::Malformed);
     }
     let count = count_without(store, path);
-    apply_change(store, work, Change::Drop, path, &path[0..0], count, reserve);
+    let edit = Edit {
+        change: Change::Drop,
+        count,
+        terms,
+    };
+    apply_change(store, work, seen, path, &path[0..0], edit);
     Outcome::Done
 }
 
@@ -275,7 +321,11 @@ pub fn drop(store: &mut [u8], work: &mut [u8], path: &[u8]) -> Outcome
     match asked {
         Admission::Refused(refusal) => Outcome::Refused(refusal),
         Admission::Fit(_) => {
-            let outcome = drop_fit(store, work, path, RESERVE);
+            let terms = Terms {
+                reserve: RESERVE,
+                marked: true,
+            };
+            let outcome = drop_fit(store, work, &seen, path, terms);
             questions::zero_area(outcome, work, store.len() / image::NODE_SIZE);
             outcome
         }
@@ -283,22 +333,25 @@ pub fn drop(store: &mut [u8], work: &mut [u8], path: &[u8]) -> Outcome
 }
 
 // clear, likewise. How many paths there are below the given one is not known.
-pub fn clear_fit(store: &mut [u8], work: &mut [u8], path: &[u8], reserve: usize) -> Outcome
-    requires { ⌜ Passed (now store) (now work) × (reserve ≤ 900) ⌝ }
+pub fn clear_fit(
+    store: &mut [u8],
+    work: &mut [u8],
+    seen: &[u8; 1024],
+    path: &[u8],
+    terms: Terms,
+) -> Outcome
+    requires { ⌜ Passed (now store) (now work) × TermsHold terms (now store) (now seen) ⌝ }
     ensures { λ r. ⌜ Acted (now (store .entry)) (acts (clear (now (path .entry))) (now (work .entry))) r (now (store .exit)) (now (work .entry)) (now (work .exit)) ⌝ }
 {
     if !path::is_path(path) {
         return Outcome::Refused(Refusal::Malformed);
     }
-    apply_change(
-        store,
-        work,
-        Change::Clear,
-        path,
-        &path[0..0],
-        65536,
-        reserve,
-    );
+    let edit = Edit {
+        change: Change::Clear,
+        count: 65536,
+        terms,
+    };
+    apply_change(store, work, seen, path, &path[0..0], edit);
     Outcome::Done
 }
 
@@ -311,7 +364,11 @@ pub fn clear(store: &mut [u8], work: &mut [u8], path: &[u8]) -> Outcome
     match asked {
         Admission::Refused(refusal) => Outcome::Refused(refusal),
         Admission::Fit(_) => {
-            let outcome = clear_fit(store, work, path, RESERVE);
+            let terms = Terms {
+                reserve: RESERVE,
+                marked: true,
+            };
+            let outcome = clear_fit(store, work, &seen, path, terms);
             questions::zero_area(outcome, work, store.len() / image::NODE_SIZE);
             outcome
         }

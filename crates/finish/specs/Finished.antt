@@ -12,7 +12,7 @@ use Rattle.image.specs.Sound.{sound, tableOf}
 use Rattle.image.specs.Calls.{workPerNode}
 use Rattle.octets.specs.Cap.{cap, cap-small}
 use Rattle.laws.specs.ButLive.{soundButLive}
-use Rattle.packed.specs.Form.Tidy.{zerosOf}
+use Rattle.laws.specs.Page.{zerosOf}
 use Rattle.node.specs.Whole.{Whole, whole-parts}
 use Rattle.append.specs.Laws.SetLive.{withLive, live-right, live-length, live-table}
 use Rattle.rebuild.specs.Rebuild.{cleared}

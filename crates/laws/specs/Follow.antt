@@ -1,5 +1,5 @@
--- What follows a path in a rising table: next from the empty beginning is the first of the rows greater than a path, and once that row is
--- passed, the rows greater than it are the later ones. For the calls that walk a whole store by next.
+-- What follows a path in a rising table: once the first of the rows greater than a path is passed, the rows greater than it are the later
+-- ones. For the calls that walk a whole store by next.
 use borrow.Author.Tests.{leb-true}
 use Prim.Native.Nat.{ℕ, _≤_}
 use mathlib.Core.Path.{_≡_, refl, sym, ap, _∙_}
@@ -7,9 +7,9 @@ use mathlib.Core.List.{List, [], _∷_}
 use mathlib.Core.Bool.{Bool, true, false, false≢true}
 use native.Mathlib.Omega.{arith}
 use lib.ListN.{length}
-use Rattle.image.specs.Bytes.{before, begins}
-use Rattle.image.specs.Path.{wellFormed, readsOn, below, pathLimit}
-use Rattle.image.specs.Table.{Row, rowsBelow, rowsAfter, firstKey, leastAfter, leads, rising}
+use Rattle.image.specs.Bytes.{before}
+use Rattle.image.specs.Path.{wellFormed, readsOn, pathLimit}
+use Rattle.image.specs.Table.{Row, rowsAfter, leads, rising}
 use Rattle.image.specs.Image.{treeOf}
 use Rattle.image.specs.Sound.{sound, tableOf, lowest, highest}
 use Rattle.octets.specs.Order.{and-left, and-right, not-so, before-irrefl, before-trans}
@@ -21,20 +21,6 @@ pub formed-some : (k : List ℕ) → wellFormed k ≡ true → before [] k ≡ t
 unfolding wellFormed readsOn before pathLimit
 formed-some [] h = absurd (false≢true h)
 formed-some (b ∷ k) h = refl
-
--- every path is below the empty beginning
-pub begins-empty : (k : List ℕ) → begins [] k ≡ true
-unfolding begins
-begins-empty k = refl
-
-below-empty : (t : List Row) → rowsBelow [] t ≡ t
-unfolding rowsBelow below
-below-empty [] = refl
-below-empty (r ∷ t) = rw (begins-empty (r .key)) (ap (λ u. r ∷ u) (below-empty t))
-
-pub least-first : (q : List ℕ) (t : List Row) → leastAfter [] q t ≡ firstKey (rowsAfter q t)
-unfolding leastAfter
-least-first q t = ap (λ u. firstKey (rowsAfter q u)) (below-empty t)
 
 -- a row that is greater, and one that is not
 after-yes : (q : List ℕ) (r : Row) (t : List Row) → before q (r .key) ≡ true → rowsAfter q (r ∷ t) ≡ r ∷ rowsAfter q t

@@ -1,12 +1,12 @@
 -- The 1,024 bytes of a node with given entries, and that they read back: what joins a written image to its tree, for the packed form, the
 -- slices and the upkeep alike. Relies on Encode (entries as bytes).
 use Prim.Native.Nat.{ℕ, zero, suc, _+_, _-_, _/_, _%_, _≤_, _*_}
-use mathlib.Core.Path.{_≡_, refl, _∙_}
+use mathlib.Core.Path.{_≡_, refl, ap, _∙_}
 use mathlib.Core.List.{List, [], _∷_, _++_}
 use mathlib.Core.Bool.{true}
 use mathlib.Core.Option.{some, Option, none}
 use native.Mathlib.Omega.{arith}
-use lib.ListN.{length, drop, replicate, length-append, length-replicate}
+use lib.ListN.{length, take, drop, replicate, length-append, length-replicate}
 use lib.Seq.{drop-append-add, take-append-seam, drop-append-seam}
 use borrow.Author.Tests.{le-leb, eq-eqb}
 use Rattle.image.specs.Bytes.{u16, zeros, u16Bytes}
@@ -151,3 +151,28 @@ head-laid n root levels live = zeros-replicate 1012
 pub head-length : (n root levels live : ℕ) → length (headPage n root levels live) ≡ 1024
 unfolding headPage
 head-length n root levels live = refl
+
+-- k zeros: a page before anything is written in it
+unfoldable pub zerosOf : ℕ → List ℕ
+zerosOf k = replicate k 0
+
+sub-zero : (m : ℕ) → m ≡ m - 0
+sub-zero m = omega arith
+
+zero-sub : (k : ℕ) → 0 ≡ 0 - suc k
+zero-sub k = omega arith
+
+suc-sub : (m k : ℕ) → m - k ≡ suc m - suc k
+suc-sub m k = omega arith
+
+pub drop-zeros : (k m : ℕ) → drop k (zerosOf m) ≡ zerosOf (m - k)
+unfolding zerosOf
+drop-zeros zero m = ap (λ i. replicate i 0) (sub-zero m)
+drop-zeros (suc k) zero = ap (λ i. replicate i 0) (zero-sub k)
+drop-zeros (suc k) (suc m) = drop-zeros k m ∙ ap (λ i. replicate i 0) (suc-sub m k)
+
+pub take-zeros : (k m : ℕ) → k ≤ m → take k (zerosOf m) ≡ zerosOf k
+unfolding zerosOf
+take-zeros zero m h = refl
+take-zeros (suc k) zero h = absurd (omega arith)
+take-zeros (suc k) (suc m) h = ap (λ l. 0 ∷ l) (take-zeros k m (omega arith))

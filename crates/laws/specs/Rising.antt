@@ -13,6 +13,12 @@ use Rattle.laws.specs.Tables.{find-nil, find-yes, find-no}
 pub both : {a b : Bool} → a ≡ true → b ≡ true → a && b ≡ true
 both p q = rw (p, q)
 
+-- two tests that pass together are one
+pub both-ways : (a b : Bool) → (a ≡ true → b ≡ true) → (b ≡ true → a ≡ true) → a ≡ b
+both-ways true b f g = sym (f refl)
+both-ways false true f g = g refl
+both-ways false false f g = refl
+
 pub leads-trans : (k m : List ℕ) (t : List Row) → before k m ≡ true → leads m t ≡ true → leads k t ≡ true
 unfolding leads
 leads-trans k m [] e f = refl

@@ -4,7 +4,7 @@ use Prim.Native.Nat.{ℕ, suc, _+_, _≤_}
 use mathlib.Core.Path.{_≡_, refl, sym, _∙_}
 use mathlib.Core.List.{List, [], _∷_, _++_}
 use mathlib.Core.Bool.{Bool, true, false, cond}
-use mathlib.Core.Option.{none, some}
+use mathlib.Core.Option.{none, some, Option·none-ne-some}
 use Rattle.image.specs.Bytes.{same, before, begins}
 use Rattle.image.specs.Path.{below}
 use Rattle.image.specs.Table.{Row, find, withRow, without, withoutBelow, putAll, underPrefix, everyKey}
@@ -137,3 +137,14 @@ pub put-length : (u t : List Row) → length (putAll u t) ≤ length u + length 
 unfolding putAll
 put-length [] t = omega arith
 put-length (r ∷ u) t = omega (arith, with-length (r .key) (r .value) (putAll u t), put-length u t)
+
+-- rows put into a table that lack a path leave what is found of it
+pub find-put-other : (p : List ℕ) (u t : List Row) → find p u ≡ none → find p (putAll u t) ≡ find p t
+unfolding putAll
+find-put-other p [] t h = refl
+find-put-other p (r ∷ u) t h = by-key (same p (r .key)) refl (find-put-other p u t)
+  where
+    by-key : (x : Bool) → same p (r .key) ≡ x → (find p u ≡ none → find p (putAll u t) ≡ find p t)
+        → find p (withRow (r .key) (r .value) (putAll u t)) ≡ find p t
+    by-key true e ih = absurd (Option·none-ne-some (r .value) (sym h ∙ find-yes p r u e))
+    by-key false e ih = find-with-other p (r .key) (r .value) (putAll u t) e ∙ ih (sym (find-no p r u e) ∙ h)

@@ -159,15 +159,15 @@ keep-cleared test p (r ∷ t) = go (begins p (r .key)) refl (test (r .key)) refl
 
 -- ONE MESSAGE: what it brings by itself, and what it leaves of the table
 unfoldable pub added : (List ℕ → Bool) → List ℕ → Message → List Row → List Row
-added test X (puts s v) t = cond (test (X ++ s)) (withRow (X ++ s) v t) t
-added test X (drops s) t = t
-added test X (clears s) t = t
+added test prefix (puts s v) t = cond (test (prefix ++ s)) (withRow (prefix ++ s) v t) t
+added test prefix (drops s) t = t
+added test prefix (clears s) t = t
 
-named : (X s q : List ℕ) → begins X q ≡ true → same (X ++ s) q ≡ same s (drop (length X) q)
-named X s q b = ap (λ z. same (X ++ s) z) (sym (begins-split X q b)) ∙ same-append X s (drop (length X) q)
+named : (prefix s q : List ℕ) → begins prefix q ≡ true → same (prefix ++ s) q ≡ same s (drop (length prefix) q)
+named prefix s q b = ap (λ z. same (prefix ++ s) z) (sym (begins-split prefix q b)) ∙ same-append prefix s (drop (length prefix) q)
 
-cleared : (X s q : List ℕ) → begins X q ≡ true → begins (X ++ s) q ≡ begins s (drop (length X) q)
-cleared X s q b = ap (λ z. begins (X ++ s) z) (sym (begins-split X q b)) ∙ begins-append X s (drop (length X) q)
+cleared : (prefix s q : List ℕ) → begins prefix q ≡ true → begins (prefix ++ s) q ≡ begins s (drop (length prefix) q)
+cleared prefix s q b = ap (λ z. begins (prefix ++ s) z) (sym (begins-split prefix q b)) ∙ begins-append prefix s (drop (length prefix) q)
 
 pub quiet-put : (s v r : List ℕ) → holdsNoMessage (saysOf (puts s v) r) ≡ not (same s r)
 unfolding saysOf
@@ -193,24 +193,24 @@ quiet-clear s r = go (begins s r)
     go true = unfold holdsNoMessage in refl
     go false = unfold holdsNoMessage in refl
 
-pub message-keep : (test : List ℕ → Bool) (X : List ℕ) (m : Message) (t : List Row) → rising t ≡ true → everyKey (λ q. begins X q) t ≡ true
-    → keep test (apply X m t) ≡ added test X m (keep (λ q. test q && holdsNoMessage (saysOf m (drop (length X) q))) t)
+pub message-keep : (test : List ℕ → Bool) (prefix : List ℕ) (m : Message) (t : List Row) → rising t ≡ true → everyKey (λ q. begins prefix q) t ≡ true
+    → keep test (apply prefix m t) ≡ added test prefix m (keep (λ q. test q && holdsNoMessage (saysOf m (drop (length prefix) q))) t)
 unfolding apply added
-message-keep test X (puts s v) t e g =
-    keep-with test (X ++ s) v t e
-    ∙ ap (λ l. cond (test (X ++ s)) (withRow (X ++ s) v l) l)
-    (keep-ext _ _ (λ q. begins X q) t g (λ q b. ap (λ x. test q && x) (ap not (named X s q b) ∙ sym (quiet-put s v (drop (length X) q)))))
-message-keep test X (drops s) t e g =
-    keep-without test (X ++ s) t
-    ∙ keep-ext _ _ (λ q. begins X q) t g (λ q b. ap (λ x. test q && x) (ap not (named X s q b) ∙ sym (quiet-drop s (drop (length X) q))))
-message-keep test X (clears s) t e g =
-    keep-cleared test (X ++ s) t
-    ∙ keep-ext _ _ (λ q. begins X q) t g (λ q b. ap (λ x. test q && x) (ap not (cleared X s q b) ∙ sym (quiet-clear s (drop (length X) q))))
+message-keep test prefix (puts s v) t e g =
+    keep-with test (prefix ++ s) v t e
+    ∙ ap (λ l. cond (test (prefix ++ s)) (withRow (prefix ++ s) v l) l)
+    (keep-ext _ _ (λ q. begins prefix q) t g (λ q b. ap (λ x. test q && x) (ap not (named prefix s q b) ∙ sym (quiet-put s v (drop (length prefix) q)))))
+message-keep test prefix (drops s) t e g =
+    keep-without test (prefix ++ s) t
+    ∙ keep-ext _ _ (λ q. begins prefix q) t g (λ q b. ap (λ x. test q && x) (ap not (named prefix s q b) ∙ sym (quiet-drop s (drop (length prefix) q))))
+message-keep test prefix (clears s) t e g =
+    keep-cleared test (prefix ++ s) t
+    ∙ keep-ext _ _ (λ q. begins prefix q) t g (λ q b. ap (λ x. test q && x) (ap not (cleared prefix s q b) ∙ sym (quiet-clear s (drop (length prefix) q))))
 
 -- ALL THE MESSAGES OF A NODE: the puts that pass and of which no later message says anything, put into the table one after the other
 unfoldable pub insertPuts : (List ℕ → Bool) → List ℕ → List Message → List Row → List Row
-insertPuts ok X [] t = t
-insertPuts ok X (m ∷ ms) t = insertPuts ok X ms (added (λ q. ok q && holdsNoMessage (newest ms (drop (length X) q))) X m t)
+insertPuts ok prefix [] t = t
+insertPuts ok prefix (m ∷ ms) t = insertPuts ok prefix ms (added (λ q. ok q && holdsNoMessage (newest ms (drop (length prefix) q))) prefix m t)
 
 pub quiet-newer : (x : Bool) (a b : Said) → x && holdsNoMessage b && holdsNoMessage a ≡ x && holdsNoMessage (newer a b)
 unfolding holdsNoMessage newer
@@ -237,12 +237,12 @@ messages-keep ok lo hi [] t h e o = keep-ext ok _ (owns lo hi) t o (λ q n. nil-
     nil-quiet : (q : List ℕ) → ok q ≡ ok q && holdsNoMessage (newest [] (drop (length (shared lo hi)) q))
     nil-quiet q = unfold holdsNoMessage newest in sym (and-true (ok q))
 messages-keep ok lo hi (m ∷ ms) t h e o =
-    let X : List ℕ = shared lo hi in
+    let prefix : List ℕ = shared lo hi in
     let first : soundMessage lo hi m ≡ true = and-left _ _ h in
-    messages-keep ok lo hi ms (apply X m t) (and-right (soundMessage lo hi m) _ h) (rising-apply X m t e) (owned-apply lo hi m t first o)
-    ∙ ap (λ l. insertPuts ok X ms l)
-    (message-keep (λ q. ok q && holdsNoMessage (newest ms (drop (length X) q))) X m t e (all-begin lo hi t o)
-    ∙ ap (λ l. added (λ q. ok q && holdsNoMessage (newest ms (drop (length X) q))) X m l) (keep-ext _ _ (owns lo hi) t o (λ q n. newest-cons q)))
+    messages-keep ok lo hi ms (apply prefix m t) (and-right (soundMessage lo hi m) _ h) (rising-apply prefix m t e) (owned-apply lo hi m t first o)
+    ∙ ap (λ l. insertPuts ok prefix ms l)
+    (message-keep (λ q. ok q && holdsNoMessage (newest ms (drop (length prefix) q))) prefix m t e (all-begin lo hi t o)
+    ∙ ap (λ l. added (λ q. ok q && holdsNoMessage (newest ms (drop (length prefix) q))) prefix m l) (keep-ext _ _ (owns lo hi) t o (λ q n. newest-cons q)))
   where
     newest-cons : (q : List ℕ) → ok q && holdsNoMessage (newest ms (drop (length (shared lo hi)) q)) && holdsNoMessage (saysOf m (drop (length (shared lo hi)) q))
         ≡ ok q && holdsNoMessage (newest (m ∷ ms) (drop (length (shared lo hi)) q))

@@ -31,27 +31,27 @@ short q = leb (length q) pathLimit
 unfoldable pub Shortens : (List ℕ → Bool) → Type 0
 Shortens ok = (q : List ℕ) → 64 < length q → ok q ≡ false
 
--- the pairs of a leaf whose full path passes; X is what the node lifts
+-- the pairs of a leaf whose full path passes; `prefix` is what the node lifts
 unfoldable pub countRows : (List ℕ → Bool) → List ℕ → List Row → ℕ
-countRows ok X [] = 0
-countRows ok X (r ∷ rs) = one (ok (X ++ r .key)) + countRows ok X rs
+countRows ok prefix [] = 0
+countRows ok prefix (r ∷ rs) = one (ok (prefix ++ r .key)) + countRows ok prefix rs
 
 -- the puts whose full path passes and of which no later message of the node says anything
 unfoldable pub countPuts : (List ℕ → Bool) → List ℕ → List Message → ℕ
-countPuts ok X [] = 0
-countPuts ok X (puts s v ∷ ms) = one (ok (X ++ s) && holdsNoMessage (newest ms s)) + countPuts ok X ms
-countPuts ok X (drops s ∷ ms) = countPuts ok X ms
-countPuts ok X (clears s ∷ ms) = countPuts ok X ms
+countPuts ok prefix [] = 0
+countPuts ok prefix (puts s v ∷ ms) = one (ok (prefix ++ s) && holdsNoMessage (newest ms s)) + countPuts ok prefix ms
+countPuts ok prefix (drops s ∷ ms) = countPuts ok prefix ms
+countPuts ok prefix (clears s ∷ ms) = countPuts ok prefix ms
 
--- The entries under a node that decide a path that passes. X is what the node lifts, hi its high pivot without that.
+-- The entries under a node that decide a path that passes. `prefix` is what the node lifts, hi its high pivot without that.
 unfoldable mutual
   pub liveHere : Tree → (List ℕ → Bool) → List ℕ → List ℕ → ℕ
-  liveHere (unread i) ok X hi = 0
-  liveHere (leaf i rs) ok X hi = countRows ok X rs
-  liveHere (interior i f ms) ok X hi =
-      countPuts ok X ms + liveBranches f (λ q. ok q && holdsNoMessage (newest ms (drop (length X) q))) X hi
+  liveHere (unread i) ok prefix hi = 0
+  liveHere (leaf i rs) ok prefix hi = countRows ok prefix rs
+  liveHere (interior i f ms) ok prefix hi =
+      countPuts ok prefix ms + liveBranches f (λ q. ok q && holdsNoMessage (newest ms (drop (length prefix) q))) prefix hi
 
   pub liveBranches : Forest → (List ℕ → Bool) → List ℕ → List ℕ → ℕ
-  liveBranches end ok X hi = 0
-  liveBranches (tree s t f) ok X hi =
-      liveHere t ok (X ++ shared s (highOf [] hi f)) (drop (lifts s (highOf [] hi f)) (highOf [] hi f)) + liveBranches f ok X hi
+  liveBranches end ok prefix hi = 0
+  liveBranches (tree s t f) ok prefix hi =
+      liveHere t ok (prefix ++ shared s (highOf [] hi f)) (drop (lifts s (highOf [] hi f)) (highOf [] hi f)) + liveBranches f ok prefix hi

@@ -40,46 +40,46 @@ nothing-kept ok = refl
 
 -- one message: what it adds by itself, and what it leaves of the table
 unfoldable adds : (List ℕ → Bool) → List ℕ → Message → ℕ
-adds ok X (puts s v) = one (ok (X ++ s))
-adds ok X (drops s) = 0
-adds ok X (clears s) = 0
+adds ok prefix (puts s v) = one (ok (prefix ++ s))
+adds ok prefix (drops s) = 0
+adds ok prefix (clears s) = 0
 
 zero-plus : (n : ℕ) → n ≡ 0 + n
 zero-plus n = omega arith
 
 -- a put's own path is not among the rows that it says nothing of
-put-absent : (test : List ℕ → Bool) (X s v : List ℕ) (t : List Row) → everyKey (λ q. begins X q) t ≡ true
-    → find (X ++ s) (keep (λ q. test q && holdsNoMessage (saysOf (puts s v) (drop (length X) q))) t) ≡ none
-put-absent test X s v t g =
-    find-fails quiet (X ++ s) (keep (λ q. test q && quiet q) t) (keep-passes (λ q. begins X q) (λ q. test q && quiet q) quiet t (λ q a b. and-right (test q) _ b) g) named-it
+put-absent : (test : List ℕ → Bool) (prefix s v : List ℕ) (t : List Row) → everyKey (λ q. begins prefix q) t ≡ true
+    → find (prefix ++ s) (keep (λ q. test q && holdsNoMessage (saysOf (puts s v) (drop (length prefix) q))) t) ≡ none
+put-absent test prefix s v t g =
+    find-fails quiet (prefix ++ s) (keep (λ q. test q && quiet q) t) (keep-passes (λ q. begins prefix q) (λ q. test q && quiet q) quiet t (λ q a b. and-right (test q) _ b) g) named-it
   where
     quiet : List ℕ → Bool
-    quiet q = holdsNoMessage (saysOf (puts s v) (drop (length X) q))
+    quiet q = holdsNoMessage (saysOf (puts s v) (drop (length prefix) q))
 
-    named-it : quiet (X ++ s) ≡ false
-    named-it = quiet-put s v (drop (length X) (X ++ s)) ∙ rw (drop-append-seam X s, same-refl s)
+    named-it : quiet (prefix ++ s) ≡ false
+    named-it = quiet-put s v (drop (length prefix) (prefix ++ s)) ∙ rw (drop-append-seam prefix s, same-refl s)
 
-message-count : (test : List ℕ → Bool) (X : List ℕ) (m : Message) (t : List Row) → rising t ≡ true → everyKey (λ q. begins X q) t ≡ true
-    → length (keep test (apply X m t)) ≡ adds test X m + length (keep (λ q. test q && holdsNoMessage (saysOf m (drop (length X) q))) t)
-message-count test X m t e g = ap length (message-keep test X m t e g) ∙ sum m
+message-count : (test : List ℕ → Bool) (prefix : List ℕ) (m : Message) (t : List Row) → rising t ≡ true → everyKey (λ q. begins prefix q) t ≡ true
+    → length (keep test (apply prefix m t)) ≡ adds test prefix m + length (keep (λ q. test q && holdsNoMessage (saysOf m (drop (length prefix) q))) t)
+message-count test prefix m t e g = ap length (message-keep test prefix m t e g) ∙ sum m
   where
-    sum : (m : Message) → length (added test X m (keep (λ q. test q && holdsNoMessage (saysOf m (drop (length X) q))) t))
-        ≡ adds test X m + length (keep (λ q. test q && holdsNoMessage (saysOf m (drop (length X) q))) t)
-    sum (puts s v) = unfold added adds in go (test (X ++ s)) (keep (λ q. test q && holdsNoMessage (saysOf (puts s v) (drop (length X) q))) t) (put-absent test X s v t g)
+    sum : (m : Message) → length (added test prefix m (keep (λ q. test q && holdsNoMessage (saysOf m (drop (length prefix) q))) t))
+        ≡ adds test prefix m + length (keep (λ q. test q && holdsNoMessage (saysOf m (drop (length prefix) q))) t)
+    sum (puts s v) = unfold added adds in go (test (prefix ++ s)) (keep (λ q. test q && holdsNoMessage (saysOf (puts s v) (drop (length prefix) q))) t) (put-absent test prefix s v t g)
       where
-        go : (x : Bool) (K : List Row) → find (X ++ s) K ≡ none → length (cond x (withRow (X ++ s) v K) K) ≡ one x + length K
-        go true K f = unfold one in (with-length (X ++ s) v K f ∙ (omega arith))
+        go : (x : Bool) (K : List Row) → find (prefix ++ s) K ≡ none → length (cond x (withRow (prefix ++ s) v K) K) ≡ one x + length K
+        go true K f = unfold one in (with-length (prefix ++ s) v K f ∙ (omega arith))
         go false K f = unfold one in omega arith
-    sum (drops s) = unfold added adds in zero-plus (length (keep (λ q. test q && holdsNoMessage (saysOf (drops s) (drop (length X) q))) t))
-    sum (clears s) = unfold added adds in zero-plus (length (keep (λ q. test q && holdsNoMessage (saysOf (clears s) (drop (length X) q))) t))
+    sum (drops s) = unfold added adds in zero-plus (length (keep (λ q. test q && holdsNoMessage (saysOf (drops s) (drop (length prefix) q))) t))
+    sum (clears s) = unfold added adds in zero-plus (length (keep (λ q. test q && holdsNoMessage (saysOf (clears s) (drop (length prefix) q))) t))
 
 -- all the messages of a node
-puts-cons : (ok : List ℕ → Bool) (X : List ℕ) (m : Message) (ms : List Message)
-    → countPuts ok X (m ∷ ms) ≡ adds (λ q. ok q && holdsNoMessage (newest ms (drop (length X) q))) X m + countPuts ok X ms
+puts-cons : (ok : List ℕ → Bool) (prefix : List ℕ) (m : Message) (ms : List Message)
+    → countPuts ok prefix (m ∷ ms) ≡ adds (λ q. ok q && holdsNoMessage (newest ms (drop (length prefix) q))) prefix m + countPuts ok prefix ms
 unfolding countPuts adds
-puts-cons ok X (puts s v) ms = rw (drop-append-seam X s)
-puts-cons ok X (drops s) ms = omega arith
-puts-cons ok X (clears s) ms = omega arith
+puts-cons ok prefix (puts s v) ms = rw (drop-append-seam prefix s)
+puts-cons ok prefix (drops s) ms = omega arith
+puts-cons ok prefix (clears s) ms = omega arith
 
 pub messages-count : (ok : List ℕ → Bool) (lo hi : List ℕ) (ms : List Message) (t : List Row) → soundMessages lo hi ms ≡ true → rising t ≡ true
     → everyKey (owns lo hi) t ≡ true → length (keep ok (applyAll (shared lo hi) ms t))
@@ -94,37 +94,37 @@ messages-count ok lo hi [] t h e o =
     no-puts : (n : ℕ) → n ≡ countPuts ok (shared lo hi) [] + n
     no-puts n = unfold countPuts in omega arith
 messages-count ok lo hi (m ∷ ms) t h e o =
-    let X : List ℕ = shared lo hi in
+    let prefix : List ℕ = shared lo hi in
     let first : soundMessage lo hi m ≡ true = and-left _ _ h in
-    let a : length (keep ok (applyAll X ms (apply X m t))) ≡ countPuts ok X ms + length (keep (λ q. ok q && holdsNoMessage (newest ms (drop (length X) q))) (apply X m t))
-    = messages-count ok lo hi ms (apply X m t) (and-right (soundMessage lo hi m) _ h) (rising-apply X m t e) (owned-apply lo hi m t first o) in
-    let b : length (keep (λ q. ok q && holdsNoMessage (newest ms (drop (length X) q))) (apply X m t))
-    ≡ adds (λ q. ok q && holdsNoMessage (newest ms (drop (length X) q))) X m
-    + length (keep (λ q. ok q && holdsNoMessage (newest ms (drop (length X) q)) && holdsNoMessage (saysOf m (drop (length X) q))) t)
-    = message-count (λ q. ok q && holdsNoMessage (newest ms (drop (length X) q))) X m t e (all-begin lo hi t o) in
-    let c : length (keep (λ q. ok q && holdsNoMessage (newest ms (drop (length X) q)) && holdsNoMessage (saysOf m (drop (length X) q))) t)
-    ≡ length (keep (λ q. ok q && holdsNoMessage (newest (m ∷ ms) (drop (length X) q))) t)
+    let a : length (keep ok (applyAll prefix ms (apply prefix m t))) ≡ countPuts ok prefix ms + length (keep (λ q. ok q && holdsNoMessage (newest ms (drop (length prefix) q))) (apply prefix m t))
+    = messages-count ok lo hi ms (apply prefix m t) (and-right (soundMessage lo hi m) _ h) (rising-apply prefix m t e) (owned-apply lo hi m t first o) in
+    let b : length (keep (λ q. ok q && holdsNoMessage (newest ms (drop (length prefix) q))) (apply prefix m t))
+    ≡ adds (λ q. ok q && holdsNoMessage (newest ms (drop (length prefix) q))) prefix m
+    + length (keep (λ q. ok q && holdsNoMessage (newest ms (drop (length prefix) q)) && holdsNoMessage (saysOf m (drop (length prefix) q))) t)
+    = message-count (λ q. ok q && holdsNoMessage (newest ms (drop (length prefix) q))) prefix m t e (all-begin lo hi t o) in
+    let c : length (keep (λ q. ok q && holdsNoMessage (newest ms (drop (length prefix) q)) && holdsNoMessage (saysOf m (drop (length prefix) q))) t)
+    ≡ length (keep (λ q. ok q && holdsNoMessage (newest (m ∷ ms) (drop (length prefix) q))) t)
     = ap length (keep-ext _ _ (owns lo hi) t o (λ q n. newest-cons q)) in
-    let d = puts-cons ok X m ms in
+    let d = puts-cons ok prefix m ms in
     omega arith
   where
     newest-cons : (q : List ℕ) → ok q && holdsNoMessage (newest ms (drop (length (shared lo hi)) q)) && holdsNoMessage (saysOf m (drop (length (shared lo hi)) q))
         ≡ ok q && holdsNoMessage (newest (m ∷ ms) (drop (length (shared lo hi)) q))
     newest-cons q = unfold newest in quiet-newer (ok q) (saysOf m (drop (length (shared lo hi)) q)) (newest ms (drop (length (shared lo hi)) q))
 
-rows-count : (ok : List ℕ → Bool) (X : List ℕ) (rs : List Row) → countRows ok X rs ≡ length (keep ok (underPrefix X rs))
+rows-count : (ok : List ℕ → Bool) (prefix : List ℕ) (rs : List Row) → countRows ok prefix rs ≡ length (keep ok (underPrefix prefix rs))
 unfolding countRows underPrefix
-rows-count ok X [] = nothing-kept ok
-rows-count ok X (r ∷ rs) =
-    let a = keep-length ok (record { key = X ++ r .key; value = r .value }) (underPrefix X rs) in
-    let b = rows-count ok X rs in
+rows-count ok prefix [] = nothing-kept ok
+rows-count ok prefix (r ∷ rs) =
+    let a = keep-length ok (record { key = prefix ++ r .key; value = r .value }) (underPrefix prefix rs) in
+    let b = rows-count ok prefix rs in
     omega arith
 
 -- a child's pivots, with and without what its parent lifts
-child-here : (t : Tree) (ok : List ℕ → Bool) (X s h : List ℕ)
-    → liveHere t ok (X ++ shared s h) (drop (lifts s h) h) ≡ liveHere t ok (shared (X ++ s) (X ++ h)) (drop (lifts (X ++ s) (X ++ h)) (X ++ h))
+child-here : (t : Tree) (ok : List ℕ → Bool) (prefix s h : List ℕ)
+    → liveHere t ok (prefix ++ shared s h) (drop (lifts s h) h) ≡ liveHere t ok (shared (prefix ++ s) (prefix ++ h)) (drop (lifts (prefix ++ s) (prefix ++ h)) (prefix ++ h))
 unfolding lifts
-child-here t ok X s h = rw (shared-append X s h, length-append X (shared s h), drop-append-add X h (length (shared s h)))
+child-here t ok prefix s h = rw (shared-append prefix s h, length-append prefix (shared s h), drop-append-add prefix h (length (shared s h)))
 
 mutual
   unfolding rows rowsIn liveHere liveBranches
@@ -135,29 +135,29 @@ mutual
   live-here (leaf i rs) ok lo hi e = rows-count ok (shared lo hi) rs
   live-here (interior i f ms) ok lo hi e =
       let n = inner i f ms lo hi e in
-      let X : List ℕ = shared lo hi in
-      let T : List Row = rowsIn f X hi in
-      let branches : liveBranches f (λ q. ok q && holdsNoMessage (newest ms (drop (length X) q))) X (drop (lifts lo hi) hi)
-      ≡ length (keep (λ q. ok q && holdsNoMessage (newest ms (drop (length X) q))) T)
-      = live-branches f (λ q. ok q && holdsNoMessage (newest ms (drop (length X) q))) X lo (drop (lifts lo hi) hi) (rw (high-split lo hi) (n .branches))
-      ∙ ap (λ h. length (keep (λ q. ok q && holdsNoMessage (newest ms (drop (length X) q))) (rowsIn f X h))) (high-split lo hi) in
-      ap (λ z. countPuts ok X ms + z) branches
-      ∙ sym (messages-count ok lo hi ms T (n .wait) (rows-rise-in f X lo hi (n .branches))
-      (every-key (owns lo hi) T (λ q o. outside-in f X lo hi q (n .branches) o)))
+      let prefix : List ℕ = shared lo hi in
+      let T : List Row = rowsIn f prefix hi in
+      let branches : liveBranches f (λ q. ok q && holdsNoMessage (newest ms (drop (length prefix) q))) prefix (drop (lifts lo hi) hi)
+      ≡ length (keep (λ q. ok q && holdsNoMessage (newest ms (drop (length prefix) q))) T)
+      = live-branches f (λ q. ok q && holdsNoMessage (newest ms (drop (length prefix) q))) prefix lo (drop (lifts lo hi) hi) (rw (high-split lo hi) (n .branches))
+      ∙ ap (λ h. length (keep (λ q. ok q && holdsNoMessage (newest ms (drop (length prefix) q))) (rowsIn f prefix h))) (high-split lo hi) in
+      ap (λ z. countPuts ok prefix ms + z) branches
+      ∙ sym (messages-count ok lo hi ms T (n .wait) (rows-rise-in f prefix lo hi (n .branches))
+      (every-key (owns lo hi) T (λ q o. outside-in f prefix lo hi q (n .branches) o)))
 
-  pub live-branches : (f : Forest) (ok : List ℕ → Bool) (X lo hi : List ℕ) → soundForest f X lo (X ++ hi) ≡ true
-      → liveBranches f ok X hi ≡ length (keep ok (rowsIn f X (X ++ hi)))
-  live-branches end ok X lo hi e = nothing-kept ok
-  live-branches (tree s t f) ok X lo hi e =
-      let p = parts s t f X lo (X ++ hi) e in
+  pub live-branches : (f : Forest) (ok : List ℕ → Bool) (prefix lo hi : List ℕ) → soundForest f prefix lo (prefix ++ hi) ≡ true
+      → liveBranches f ok prefix hi ≡ length (keep ok (rowsIn f prefix (prefix ++ hi)))
+  live-branches end ok prefix lo hi e = nothing-kept ok
+  live-branches (tree s t f) ok prefix lo hi e =
+      let p = parts s t f prefix lo (prefix ++ hi) e in
       let h : List ℕ = highOf [] hi f in
-      let a : soundTree t (X ++ s) (X ++ h) ≡ true = rw (high-under X hi f) at (p .first) in
-      let b : liveHere t ok (X ++ shared s h) (drop (lifts s h) h) ≡ length (keep ok (rows t (X ++ s) (X ++ h)))
-      = child-here t ok X s h ∙ live-here t ok (X ++ s) (X ++ h) a in
-      let c : liveBranches f ok X hi ≡ length (keep ok (rowsIn f X (X ++ hi))) = live-branches f ok X lo hi (p .later) in
-      let d : length (keep ok (rows t (X ++ s) (X ++ h) ++ rowsIn f X (X ++ hi))) ≡ length (keep ok (rows t (X ++ s) (X ++ h))) + length (keep ok (rowsIn f X (X ++ hi)))
-      = ap length (keep-append ok (rows t (X ++ s) (X ++ h)) (rowsIn f X (X ++ hi))) ∙ length-append (keep ok (rows t (X ++ s) (X ++ h))) (keep ok (rowsIn f X (X ++ hi))) in
-      rw (high-under X hi f) (omega arith)
+      let a : soundTree t (prefix ++ s) (prefix ++ h) ≡ true = rw (high-under prefix hi f) at (p .first) in
+      let b : liveHere t ok (prefix ++ shared s h) (drop (lifts s h) h) ≡ length (keep ok (rows t (prefix ++ s) (prefix ++ h)))
+      = child-here t ok prefix s h ∙ live-here t ok (prefix ++ s) (prefix ++ h) a in
+      let c : liveBranches f ok prefix hi ≡ length (keep ok (rowsIn f prefix (prefix ++ hi))) = live-branches f ok prefix lo hi (p .later) in
+      let d : length (keep ok (rows t (prefix ++ s) (prefix ++ h) ++ rowsIn f prefix (prefix ++ hi))) ≡ length (keep ok (rows t (prefix ++ s) (prefix ++ h))) + length (keep ok (rowsIn f prefix (prefix ++ hi)))
+      = ap length (keep-append ok (rows t (prefix ++ s) (prefix ++ h)) (rowsIn f prefix (prefix ++ hi))) ∙ length-append (keep ok (rows t (prefix ++ s) (prefix ++ h))) (keep ok (rowsIn f prefix (prefix ++ hi))) in
+      rw (high-under prefix hi f) (omega arith)
 
 -- every key of a sound tree is short
 key-passes : (test : List ℕ → Bool) (k : List ℕ) (ks : List (List ℕ)) → every test ks ≡ true → isKey k ks ≡ true → test k ≡ true
@@ -190,25 +190,25 @@ unfolding lifts shared
 live-root t hi e = live-here t short [] hi e ∙ ap length (keep-all short (rows t [] hi) (all-short t [] hi e))
 
 -- a prefix that is too long for any path: no entry under it counts
-long-rows : (ok : List ℕ → Bool) (X : List ℕ) (rs : List Row) → Shortens ok → 64 < length X → countRows ok X rs ≡ 0
+long-rows : (ok : List ℕ → Bool) (prefix : List ℕ) (rs : List Row) → Shortens ok → 64 < length prefix → countRows ok prefix rs ≡ 0
 unfolding countRows Shortens one
-long-rows ok X [] h l = refl
-long-rows ok X (r ∷ rs) h l =
-    let n = length-append X (r .key) in
-    let a : one (ok (X ++ r .key)) ≡ 0 = ap one (h (X ++ r .key) (omega arith)) in
-    let b = long-rows ok X rs h l in
+long-rows ok prefix [] h l = refl
+long-rows ok prefix (r ∷ rs) h l =
+    let n = length-append prefix (r .key) in
+    let a : one (ok (prefix ++ r .key)) ≡ 0 = ap one (h (prefix ++ r .key) (omega arith)) in
+    let b = long-rows ok prefix rs h l in
     omega arith
 
-long-puts : (ok : List ℕ → Bool) (X : List ℕ) (ms : List Message) → Shortens ok → 64 < length X → countPuts ok X ms ≡ 0
+long-puts : (ok : List ℕ → Bool) (prefix : List ℕ) (ms : List Message) → Shortens ok → 64 < length prefix → countPuts ok prefix ms ≡ 0
 unfolding countPuts Shortens one
-long-puts ok X [] h l = refl
-long-puts ok X (puts s v ∷ ms) h l =
-    let n = length-append X s in
-    let a : one (ok (X ++ s) && holdsNoMessage (newest ms s)) ≡ 0 = ap (λ x. one (x && holdsNoMessage (newest ms s))) (h (X ++ s) (omega arith)) in
-    let b = long-puts ok X ms h l in
+long-puts ok prefix [] h l = refl
+long-puts ok prefix (puts s v ∷ ms) h l =
+    let n = length-append prefix s in
+    let a : one (ok (prefix ++ s) && holdsNoMessage (newest ms s)) ≡ 0 = ap (λ x. one (x && holdsNoMessage (newest ms s))) (h (prefix ++ s) (omega arith)) in
+    let b = long-puts ok prefix ms h l in
     omega arith
-long-puts ok X (drops s ∷ ms) h l = long-puts ok X ms h l
-long-puts ok X (clears s ∷ ms) h l = long-puts ok X ms h l
+long-puts ok prefix (drops s ∷ ms) h l = long-puts ok prefix ms h l
+long-puts ok prefix (clears s ∷ ms) h l = long-puts ok prefix ms h l
 
 more-short : (ok more : List ℕ → Bool) → Shortens ok → Shortens (λ q. ok q && more q)
 unfolding Shortens
@@ -217,18 +217,18 @@ more-short ok more h = λ q l. ap (λ x. x && more q) (h q l)
 mutual
   unfolding liveHere liveBranches
 
-  pub too-long : (t : Tree) (ok : List ℕ → Bool) (X hi : List ℕ) → Shortens ok → 64 < length X → liveHere t ok X hi ≡ 0
-  too-long (unread i) ok X hi h l = refl
-  too-long (leaf i rs) ok X hi h l = long-rows ok X rs h l
-  too-long (interior i f ms) ok X hi h l =
-      let a = long-puts ok X ms h l in
-      let b = too-long-in f (λ q. ok q && holdsNoMessage (newest ms (drop (length X) q))) X hi (more-short ok (λ q. holdsNoMessage (newest ms (drop (length X) q))) h) l in
+  pub too-long : (t : Tree) (ok : List ℕ → Bool) (prefix hi : List ℕ) → Shortens ok → 64 < length prefix → liveHere t ok prefix hi ≡ 0
+  too-long (unread i) ok prefix hi h l = refl
+  too-long (leaf i rs) ok prefix hi h l = long-rows ok prefix rs h l
+  too-long (interior i f ms) ok prefix hi h l =
+      let a = long-puts ok prefix ms h l in
+      let b = too-long-in f (λ q. ok q && holdsNoMessage (newest ms (drop (length prefix) q))) prefix hi (more-short ok (λ q. holdsNoMessage (newest ms (drop (length prefix) q))) h) l in
       omega arith
 
-  pub too-long-in : (f : Forest) (ok : List ℕ → Bool) (X hi : List ℕ) → Shortens ok → 64 < length X → liveBranches f ok X hi ≡ 0
-  too-long-in end ok X hi h l = refl
-  too-long-in (tree s t f) ok X hi h l =
-      let n = length-append X (shared s (highOf [] hi f)) in
-      let a = too-long t ok (X ++ shared s (highOf [] hi f)) (drop (lifts s (highOf [] hi f)) (highOf [] hi f)) h (omega arith) in
-      let b = too-long-in f ok X hi h l in
+  pub too-long-in : (f : Forest) (ok : List ℕ → Bool) (prefix hi : List ℕ) → Shortens ok → 64 < length prefix → liveBranches f ok prefix hi ≡ 0
+  too-long-in end ok prefix hi h l = refl
+  too-long-in (tree s t f) ok prefix hi h l =
+      let n = length-append prefix (shared s (highOf [] hi f)) in
+      let a = too-long t ok (prefix ++ shared s (highOf [] hi f)) (drop (lifts s (highOf [] hi f)) (highOf [] hi f)) h (omega arith) in
+      let b = too-long-in f ok prefix hi h l in
       omega arith

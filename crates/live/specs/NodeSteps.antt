@@ -9,28 +9,29 @@ use lib.ListN.{length, take, drop, length-append}
 use Rattle.image.specs.Bytes.{u16, shared}
 use Rattle.image.specs.Image.{Tree, Branch, nodesOf, forestOf, treeAt}
 use Rattle.octets.specs.Cap.{cap, cap-small, cap-add}
-use Rattle.laws.specs.Reading.Relative.{lifts, usable, usableIn}
+use Rattle.laws.specs.Reading.Relative.{lifts, usable, usableIn, first-usable}
 use Rattle.node.specs.Places.{part}
 use Rattle.node.specs.Entries.{listed}
 use Rattle.node.specs.declared.Place.{Place}
 use Rattle.node.specs.declared.Cursor.{Cursor}
 use Rattle.node.specs.Search.Latest.{newestAmong}
 use Rattle.node.specs.Search.Own.{branch, branchesAmong}
-use Rattle.lookup.specs.Look.{listing, node-inside, part-rest}
+use Rattle.lookup.specs.Look.{listing, node-inside, part-rest, branches-usable}
 use Rattle.live.specs.Live.{holdsNoMessage, liveHere, liveBranches}
 use Rattle.live.specs.LiveLaws.{too-long}
 use Rattle.live.specs.PathBuffers.{pathIn}
 use Rattle.live.specs.PathSteps.{path-length}
-use Rattle.live.specs.declared.path_buffer.PathBuffer.{PathBuffer}
-use Rattle.live.specs.declared.Trail.{Trail}
-use Rattle.live.specs.Walk.{passing, TrailIn, Above, Deeper, countAmong, NextChild, Ready, ReadyBranches}
+use Rattle.node.specs.declared.PathBuffer.{PathBuffer}
+use Rattle.live.specs.declared.visibility.Trail.{Trail}
+use Rattle.live.specs.Walk.{passing, TrailIn, Above, Deeper, countAmong, Ready, ReadyBranches}
 use Rattle.live.specs.Steps.{passes-short}
-use Rattle.live.specs.WalkLaws.{leaf-counts, branches-usable, interior-counts, first-usable}
+use Rattle.live.specs.WalkLaws.{leaf-counts, interior-counts}
 use Rattle.octets.specs.Beginnings.{shared-take}
+use Rattle.node.specs.Search.Child.{NextChild}
 
-no-branches : (under : ℕ → Tree) (ok : List ℕ → Bool) (X hi : List ℕ) → liveBranches (forestOf under []) ok X hi ≡ 0
+no-branches : (under : ℕ → Tree) (ok : List ℕ → Bool) (prefix hi : List ℕ) → liveBranches (forestOf under []) ok prefix hi ≡ 0
 unfolding liveBranches forestOf
-no-branches under ok X hi = refl
+no-branches under ok prefix hi = refl
 
 -- A node: its pivots are lo and hi, the prefix and the trail are those of its parent's children.
 module _ (s : List ℕ) (level num : ℕ) (p : PathBuffer) (t : Trail) (ready : Ready s level num p t) (lo hi : List ℕ) where
@@ -56,7 +57,7 @@ module _ (s : List ℕ) (level num : ℕ) (p : PathBuffer) (t : Trail) (ready : 
     rest-is = ap (λ n. drop n hi) ek
 
     whole-is : liveHere (treeAt level s num) (passing s t) (pathIn here) (drop k hi) ≡ Whole
-    whole-is = ap₂ (λ X h. liveHere (treeAt level s num) (passing s t) X h) here-is rest-is
+    whole-is = ap₂ (λ prefix h. liveHere (treeAt level s num) (passing s t) prefix h) here-is rest-is
 
     module _ (len own : ℕ) (el : len ≡ u16 s (num * 1024)) (eo : own ≡ countAmong (passing s t) (pathIn here) (listed s (num * 1024 + 8) (num * 1024 + 8 + len))) where
       own-is : own ≡ countAmong (passing s t) (pathIn here) (listing s num)

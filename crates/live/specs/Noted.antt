@@ -19,38 +19,38 @@ use Rattle.live.specs.Notes.Notes.{NotesFit, quiet, noneCovers}
 use Rattle.live.specs.Live.{short}
 use Rattle.live.specs.Walk.{passing}
 use Rattle.live.specs.PathBuffers.{pathIn}
-use Rattle.live.specs.declared.path_buffer.PathBuffer.{PathBuffer}
-use Rattle.live.specs.declared.Trail.{Trail}
+use Rattle.node.specs.declared.PathBuffer.{PathBuffer}
+use Rattle.live.specs.declared.visibility.Trail.{Trail}
 
--- no message of the first d nodes of a trail is on the path of a key under the prefix X
+-- no message of the first d nodes of a trail is on the path of a key under the prefix `prefix`
 unfoldable pub quietAbove : List ℕ → List ℕ → List ℕ → List ℕ → ℕ → List ℕ → Bool
-quietAbove s nodes lifts X zero k = true
-quietAbove s nodes lifts X (suc d) k =
-    quietAbove s nodes lifts X d k && noneCovers (listing s (getD nodes d 0)) (drop (getD lifts d 0) X ++ k)
+quietAbove s nodes lifts prefix zero k = true
+quietAbove s nodes lifts prefix (suc d) k =
+    quietAbove s nodes lifts prefix d k && noneCovers (listing s (getD nodes d 0)) (drop (getD lifts d 0) prefix ++ k)
 
 abbrev pub quietTrail : List ℕ → Trail → List ℕ → List ℕ → Bool
-quietTrail s t X k = quietAbove s (t .nodes) (t .lifts) X (t .depth) k
+quietTrail s t prefix k = quietAbove s (t .nodes) (t .lifts) prefix (t .depth) k
 
--- pairs alone, whose keys are from lo up to hi, and short under the prefix X
+-- pairs alone, whose keys are from lo up to hi, and short under the prefix `prefix`
 unfoldable pub keyed : List ℕ → List ℕ → List ℕ → List defined.Entry → Bool
-keyed X lo hi [] = true
-keyed X lo hi (defined.pair k v ∷ es) = owns lo hi k && short (X ++ k) && keyed X lo hi es
-keyed X lo hi (defined.child i k ∷ es) = false
-keyed X lo hi (defined.message m ∷ es) = false
+keyed prefix lo hi [] = true
+keyed prefix lo hi (defined.pair k v ∷ es) = owns lo hi k && short (prefix ++ k) && keyed prefix lo hi es
+keyed prefix lo hi (defined.child i k ∷ es) = false
+keyed prefix lo hi (defined.message m ∷ es) = false
 
 -- the tree under a node is sound: its pivots lack what its parent lifts, which is the prefix
 abbrev pub SoundNode : List ℕ → ℕ → ℕ → PathBuffer → List ℕ → List ℕ → Type 0
 SoundNode s level num p lo hi = soundTree (treeAt level s num) (pathIn p ++ lo) (pathIn p ++ hi) ≡ true
 
--- Notes tell which paths pass a trail: those under the prefix X whose keys are from lo up to hi. More than 64 notes tell nothing.
-pub record Tells (s : List ℕ) (t : Trail) (X lo hi ns : List ℕ) (n : ℕ) : Type 0 where
+-- Notes tell which paths pass a trail: those under the prefix `prefix` whose keys are from lo up to hi. More than 64 notes tell nothing.
+pub record Tells (s : List ℕ) (t : Trail) (prefix lo hi ns : List ℕ) (n : ℕ) : Type 0 where
   pub fits : n ≤ 64 → NotesFit s ns n
-  pub told : n ≤ 64 → (k : List ℕ) → owns lo hi k ≡ true → passing s t (X ++ k) ≡ short (X ++ k) && quiet s ns n k
+  pub told : n ≤ 64 → (k : List ℕ) → owns lo hi k ≡ true → passing s t (prefix ++ k) ≡ short (prefix ++ k) && quiet s ns n k
 
 -- the same by notes of the node above, which sees the keys after w
-pub record Handed (s : List ℕ) (t : Trail) (X w lo hi ns : List ℕ) (n : ℕ) : Type 0 where
+pub record Handed (s : List ℕ) (t : Trail) (prefix w lo hi ns : List ℕ) (n : ℕ) : Type 0 where
   pub fits : n ≤ 64 → NotesFit s ns n
-  pub told : n ≤ 64 → (k : List ℕ) → owns lo hi k ≡ true → passing s t (X ++ k) ≡ short (X ++ k) && quiet s ns n (w ++ k)
+  pub told : n ≤ 64 → (k : List ℕ) → owns lo hi k ≡ true → passing s t (prefix ++ k) ≡ short (prefix ++ k) && quiet s ns n (w ++ k)
 
 -- notes with those of a node's own messages after them
 pub record Joined (s : List ℕ) (num : ℕ) (lo hi ns : List ℕ) (n : ℕ) (after : List ℕ) (m : ℕ) : Type 0 where
@@ -58,12 +58,12 @@ pub record Joined (s : List ℕ) (num : ℕ) (lo hi ns : List ℕ) (n : ℕ) (af
   pub few : m ≤ 64 → n ≤ 64
   pub told : m ≤ 64 → (k : List ℕ) → owns lo hi k ≡ true → quiet s after m k ≡ quiet s ns n k && noneCovers (listing s num) k
 
--- the entries of a leaf under the prefix X, and notes that tell of their keys
-pub record LeafTold (s : List ℕ) (t : Trail) (X : List ℕ) (es : List defined.Entry) (ns : List ℕ) (n : ℕ) : Type 0 where
+-- the entries of a leaf under the prefix `prefix`, and notes that tell of their keys
+pub record LeafTold (s : List ℕ) (t : Trail) (prefix : List ℕ) (es : List defined.Entry) (ns : List ℕ) (n : ℕ) : Type 0 where
   pub lo : List ℕ
   pub hi : List ℕ
-  pub keys : keyed X lo hi es ≡ true
-  pub tells : Tells s t X lo hi ns n
+  pub keys : keyed prefix lo hi es ≡ true
+  pub tells : Tells s t prefix lo hi ns n
 
 -- the children from the one in hand on are sound, and notes tell of all that their node owns
 pub record SoundBranches (s : List ℕ) (level first : ℕ) (pivot : Place) (start : Cursor) (p : PathBuffer) (hi : List ℕ) (t : Trail) (ns : List ℕ) (n : ℕ) : Type 0 where

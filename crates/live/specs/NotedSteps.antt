@@ -31,13 +31,14 @@ use Rattle.node.specs.Search.Own.{branch, branchesAmong}
 use Rattle.lookup.specs.Look.{listing, leaf-at, interior-at, inside-splits, part-rest}
 use Rattle.live.specs.Notes.Notes as notes
 use Rattle.live.specs.Live.{holdsNoMessage, one, short}
-use Rattle.live.specs.Walk.{passes, passing, TrailIn, Deeper, decides, countAmong, NextChild}
+use Rattle.live.specs.Walk.{passes, passing, TrailIn, Deeper, decides, countAmong}
 use Rattle.live.specs.Noted.{quietAbove, quietTrail, keyed, Tells, Handed, Joined, LeafTold, SoundNode, SoundBranches}
 use Rattle.live.specs.PathSteps.{path-length}
 use Rattle.live.specs.Steps.{as-path}
 use Rattle.live.specs.PathBuffers.{pathIn}
-use Rattle.live.specs.declared.path_buffer.PathBuffer.{PathBuffer}
-use Rattle.live.specs.declared.Trail.{Trail}
+use Rattle.node.specs.declared.PathBuffer.{PathBuffer}
+use Rattle.live.specs.declared.visibility.Trail.{Trail}
+use Rattle.node.specs.Search.Child.{NextChild}
 
 -- messages that say nothing cover nothing, one by one
 no-newer : (a b : Said) → holdsNoMessage (newer a b) ≡ not (covers a) && holdsNoMessage b
@@ -53,62 +54,62 @@ uncovered-all [] r = unfold holdsNoMessage in refl
 uncovered-all (e ∷ es) r = no-newer (entrySays e r) (newestAmong es r) ∙ ap (λ x. not (covers (entrySays e r)) && x) (uncovered-all es r)
 
 -- entries held against a rest one by one
-module _ (es : List defined.Entry) (r : List ℕ) (X : Bool) (inv : notes.noneCovers es r ≡ X) where
-  pub uncovered-end : es ≡ [] → true ≡ X
+module _ (es : List defined.Entry) (r : List ℕ) (answer : Bool) (inv : notes.noneCovers es r ≡ answer) where
+  pub uncovered-end : es ≡ [] → true ≡ answer
   unfolding notes.noneCovers
   uncovered-end q = rw q at inv
 
   module _ (e : defined.Entry) (ts : List defined.Entry) (q : es ≡ e ∷ ts) (b : Bool) (f : b ≡ covers (entrySays e r)) where
-    here-uncovered : not (covers (entrySays e r)) && notes.noneCovers ts r ≡ X
+    here-uncovered : not (covers (entrySays e r)) && notes.noneCovers ts r ≡ answer
     unfolding notes.noneCovers
     here-uncovered = rw q at inv
 
-    pub uncovered-stop : b ≡ true → false ≡ X
+    pub uncovered-stop : b ≡ true → false ≡ answer
     uncovered-stop g = rw (sym f ∙ g) at here-uncovered
 
-    pub uncovered-on : b ≡ false → notes.noneCovers ts r ≡ X
+    pub uncovered-on : b ≡ false → notes.noneCovers ts r ≡ answer
     uncovered-on g = rw (sym f ∙ g) at here-uncovered
 
 -- a path under the prefix passes the trail if it is short and nothing above is on its key
-pub passes-quiet : (s nodes ls X : List ℕ) (d : ℕ) (k : List ℕ) → ((i : ℕ) → i < d → getD ls i 0 ≤ length X)
-    → passes s nodes ls d (X ++ k) ≡ short (X ++ k) && quietAbove s nodes ls X d k
+pub passes-quiet : (s nodes ls prefix : List ℕ) (d : ℕ) (k : List ℕ) → ((i : ℕ) → i < d → getD ls i 0 ≤ length prefix)
+    → passes s nodes ls d (prefix ++ k) ≡ short (prefix ++ k) && quietAbove s nodes ls prefix d k
 unfolding passes quietAbove
-passes-quiet s nodes ls X zero k h = sym (and-true (short (X ++ k)))
-passes-quiet s nodes ls X (suc d) k h =
-    ap₂ (λ a b. a && b) (passes-quiet s nodes ls X d k (λ i l. h i (omega arith)))
-    (ap (λ r. holdsNoMessage (newestAmong (listing s (getD nodes d 0)) r)) (drop-append-le (getD ls d 0) X k (h d (omega arith)))
-    ∙ uncovered-all (listing s (getD nodes d 0)) (drop (getD ls d 0) X ++ k))
-    ∙ and-assoc (short (X ++ k)) (quietAbove s nodes ls X d k) (notes.noneCovers (listing s (getD nodes d 0)) (drop (getD ls d 0) X ++ k))
+passes-quiet s nodes ls prefix zero k h = sym (and-true (short (prefix ++ k)))
+passes-quiet s nodes ls prefix (suc d) k h =
+    ap₂ (λ a b. a && b) (passes-quiet s nodes ls prefix d k (λ i l. h i (omega arith)))
+    (ap (λ r. holdsNoMessage (newestAmong (listing s (getD nodes d 0)) r)) (drop-append-le (getD ls d 0) prefix k (h d (omega arith)))
+    ∙ uncovered-all (listing s (getD nodes d 0)) (drop (getD ls d 0) prefix ++ k))
+    ∙ and-assoc (short (prefix ++ k)) (quietAbove s nodes ls prefix d k) (notes.noneCovers (listing s (getD nodes d 0)) (drop (getD ls d 0) prefix ++ k))
 
-above-step : (s nodes ls X k : List ℕ) (d : ℕ) → 0 < d → quietAbove s nodes ls X d k
-    ≡ quietAbove s nodes ls X (d - 1) k && notes.noneCovers (listing s (getD nodes (d - 1) 0)) (drop (getD ls (d - 1) 0) X ++ k)
+above-step : (s nodes ls prefix k : List ℕ) (d : ℕ) → 0 < d → quietAbove s nodes ls prefix d k
+    ≡ quietAbove s nodes ls prefix (d - 1) k && notes.noneCovers (listing s (getD nodes (d - 1) 0)) (drop (getD ls (d - 1) 0) prefix ++ k)
 unfolding quietAbove
-above-step s nodes ls X k zero h = absurd (omega arith)
-above-step s nodes ls X k (suc d) h = let z : suc d - 1 ≡ d = omega arith in rw z
+above-step s nodes ls prefix k zero h = absurd (omega arith)
+above-step s nodes ls prefix k (suc d) h = let z : suc d - 1 ≡ d = omega arith in rw z
 
 -- the loop over the trail
-pub record Trailing (s lo hi nodes ls X : List ℕ) (d₀ : ℕ) (ns : List ℕ) (n d : ℕ) : Type 0 where
+pub record Trailing (s lo hi nodes ls prefix : List ℕ) (d₀ : ℕ) (ns : List ℕ) (n d : ℕ) : Type 0 where
   pub few : n ≤ 64
   pub fits : notes.NotesFit s ns n
-  pub tells : (k : List ℕ) → owns lo hi k ≡ true → notes.quiet s ns n k && quietAbove s nodes ls X d k ≡ quietAbove s nodes ls X d₀ k
+  pub tells : (k : List ℕ) → owns lo hi k ≡ true → notes.quiet s ns n k && quietAbove s nodes ls prefix d k ≡ quietAbove s nodes ls prefix d₀ k
 
-module _ (s lo hi nodes ls X : List ℕ) (d₀ : ℕ) where
-  pub trailing-start : (ns : List ℕ) → Trailing s lo hi nodes ls X d₀ ns 0 d₀
+module _ (s lo hi nodes ls prefix : List ℕ) (d₀ : ℕ) where
+  pub trailing-start : (ns : List ℕ) → Trailing s lo hi nodes ls prefix d₀ ns 0 d₀
   unfolding notes.quiet
   trailing-start ns = record { few = omega arith; fits = λ i l. absurd (omega arith); tells = λ k o. refl }
 
-  module _ (ns : List ℕ) (n d : ℕ) (inv : Trailing s lo hi nodes ls X d₀ ns n d) where
-    pub trailing-end : d ≤ 0 → (ms : List ℕ) → notes.Gathered s lo hi (λ k. quietAbove s nodes ls X d₀ k) ms 0 ns n
+  module _ (ns : List ℕ) (n d : ℕ) (inv : Trailing s lo hi nodes ls prefix d₀ ns n d) where
+    pub trailing-end : d ≤ 0 → (ms : List ℕ) → notes.Gathered s lo hi (λ k. quietAbove s nodes ls prefix d₀ k) ms 0 ns n
     unfolding notes.quiet quietAbove
     trailing-end l ms =
         let z : d ≡ 0 = omega arith in
         record {
           few = let a = inv .few in omega arith;
           fits = λ m. inv .fits;
-          tells = λ m k o. sym (and-true (notes.quiet s ns n k)) ∙ sym (ap (λ e. notes.quiet s ns n k && quietAbove s nodes ls X e k) z) ∙ inv .tells k o;
+          tells = λ m k o. sym (and-true (notes.quiet s ns n k)) ∙ sym (ap (λ e. notes.quiet s ns n k && quietAbove s nodes ls prefix e k) z) ∙ inv .tells k o;
         }
 
-    pub trailing-full : (ms after : List ℕ) → notes.Gathered s lo hi (λ k. quietAbove s nodes ls X d₀ k) ms 0 after 65
+    pub trailing-full : (ms after : List ℕ) → notes.Gathered s lo hi (λ k. quietAbove s nodes ls prefix d₀ k) ms 0 after 65
     trailing-full ms after = record { few = omega arith; fits = λ m. absurd (omega arith); tells = λ m. absurd (omega arith) }
 
     moved : (q a b : Bool) → (q && b) && a ≡ q && (a && b)
@@ -117,22 +118,22 @@ module _ (s lo hi nodes ls X : List ℕ) (d₀ : ℕ) where
     moved true false false = refl
     moved false a b = refl
 
-    pub trailing-on : (len : ℕ) (w after : List ℕ) (r : ℕ) → 0 < d → len ≡ u16 s (getD nodes (d - 1) 0 * 1024) → w ≡ drop (getD ls (d - 1) 0) X
+    pub trailing-on : (len : ℕ) (w after : List ℕ) (r : ℕ) → 0 < d → len ≡ u16 s (getD nodes (d - 1) 0 * 1024) → w ≡ drop (getD ls (d - 1) 0) prefix
         → notes.Gathered s lo hi (λ k. notes.noneCovers (listed s (getD nodes (d - 1) 0 * 1024 + 8) (getD nodes (d - 1) 0 * 1024 + 8 + len)) (w ++ k)) ns n after r
-        → r ≤ 64 → Trailing s lo hi nodes ls X d₀ after r (d - 1)
+        → r ≤ 64 → Trailing s lo hi nodes ls prefix d₀ after r (d - 1)
     trailing-on len w after r h el ew g l =
         record {
           few = l;
           fits = g .fits l;
           tells = λ k o.
-              ap (λ x. x && quietAbove s nodes ls X (d - 1) k) (g .tells l k o ∙ here k)
-              ∙ moved (notes.quiet s ns n k) (quietAbove s nodes ls X (d - 1) k) (notes.noneCovers (listing s (getD nodes (d - 1) 0)) (drop (getD ls (d - 1) 0) X ++ k))
-              ∙ ap (λ x. notes.quiet s ns n k && x) (sym (above-step s nodes ls X k d h))
+              ap (λ x. x && quietAbove s nodes ls prefix (d - 1) k) (g .tells l k o ∙ here k)
+              ∙ moved (notes.quiet s ns n k) (quietAbove s nodes ls prefix (d - 1) k) (notes.noneCovers (listing s (getD nodes (d - 1) 0)) (drop (getD ls (d - 1) 0) prefix ++ k))
+              ∙ ap (λ x. notes.quiet s ns n k && x) (sym (above-step s nodes ls prefix k d h))
               ∙ inv .tells k o;
         }
       where
         here : (k : List ℕ) → notes.quiet s ns n k && notes.noneCovers (listed s (getD nodes (d - 1) 0 * 1024 + 8) (getD nodes (d - 1) 0 * 1024 + 8 + len)) (w ++ k)
-            ≡ notes.quiet s ns n k && notes.noneCovers (listing s (getD nodes (d - 1) 0)) (drop (getD ls (d - 1) 0) X ++ k)
+            ≡ notes.quiet s ns n k && notes.noneCovers (listing s (getD nodes (d - 1) 0)) (drop (getD ls (d - 1) 0) prefix ++ k)
         here k =
             ap₂ (λ e v. notes.quiet s ns n k && notes.noneCovers (listed s (getD nodes (d - 1) 0 * 1024 + 8) (getD nodes (d - 1) 0 * 1024 + 8 + e)) (v ++ k)) el ew
 
@@ -148,43 +149,43 @@ unfolding notes.one one
 same-one true = refl
 same-one false = refl
 
-pub quiet-count : (X lo hi : List ℕ) (ok test : List ℕ → Bool) (es : List defined.Entry) → keyed X lo hi es ≡ true
-    → ((k : List ℕ) → owns lo hi k ≡ true → ok (X ++ k) ≡ short (X ++ k) && test k) → notes.countQuiet test es ≡ countAmong ok X es
+pub quiet-count : (prefix lo hi : List ℕ) (ok test : List ℕ → Bool) (es : List defined.Entry) → keyed prefix lo hi es ≡ true
+    → ((k : List ℕ) → owns lo hi k ≡ true → ok (prefix ++ k) ≡ short (prefix ++ k) && test k) → notes.countQuiet test es ≡ countAmong ok prefix es
 unfolding keyed notes.countQuiet countAmong decides
-quiet-count X lo hi ok test [] h f = refl
-quiet-count X lo hi ok test (defined.pair k v ∷ es) h f =
-    let a : owns lo hi k && short (X ++ k) ≡ true = and-left _ _ h in
-    let b : ok (X ++ k) ≡ test k = f k (and-left _ _ a) ∙ ap (λ x. x && test k) (and-right (owns lo hi k) _ a) in
-    ap₂ (λ x y. x + y) (same-one (test k) ∙ ap one (sym b)) (quiet-count X lo hi ok test es (and-right (owns lo hi k && short (X ++ k)) _ h) f)
-quiet-count X lo hi ok test (defined.child i k ∷ es) h f = absurd (false≢true h)
-quiet-count X lo hi ok test (defined.message m ∷ es) h f = absurd (false≢true h)
+quiet-count prefix lo hi ok test [] h f = refl
+quiet-count prefix lo hi ok test (defined.pair k v ∷ es) h f =
+    let a : owns lo hi k && short (prefix ++ k) ≡ true = and-left _ _ h in
+    let b : ok (prefix ++ k) ≡ test k = f k (and-left _ _ a) ∙ ap (λ x. x && test k) (and-right (owns lo hi k) _ a) in
+    ap₂ (λ x y. x + y) (same-one (test k) ∙ ap one (sym b)) (quiet-count prefix lo hi ok test es (and-right (owns lo hi k && short (prefix ++ k)) _ h) f)
+quiet-count prefix lo hi ok test (defined.child i k ∷ es) h f = absurd (false≢true h)
+quiet-count prefix lo hi ok test (defined.message m ∷ es) h f = absurd (false≢true h)
 
-pub leaf-counted : (s : List ℕ) (t : Trail) (X : List ℕ) (es : List defined.Entry) (ns : List ℕ) (n r : ℕ) → LeafTold s t X es ns n → n ≤ 64
-    → r ≡ notes.countQuiet (λ k. notes.quiet s ns n k) es → r ≡ countAmong (passing s t) X es
-leaf-counted s t X es ns n r h l e = e ∙ quiet-count X (h .lo) (h .hi) (passing s t) (λ k. notes.quiet s ns n k) es (h .keys) (h .tells .told l)
+pub leaf-counted : (s : List ℕ) (t : Trail) (prefix : List ℕ) (es : List defined.Entry) (ns : List ℕ) (n r : ℕ) → LeafTold s t prefix es ns n → n ≤ 64
+    → r ≡ notes.countQuiet (λ k. notes.quiet s ns n k) es → r ≡ countAmong (passing s t) prefix es
+leaf-counted s t prefix es ns n r h l e = e ∙ quiet-count prefix (h .lo) (h .hi) (passing s t) (λ k. notes.quiet s ns n k) es (h .keys) (h .tells .told l)
 
 -- NOTES HANDED DOWN
 first-quiet : (s ms : List ℕ) (k : List ℕ) (b : Bool) → notes.quiet s ms 0 k && b ≡ b
 unfolding notes.quiet
 first-quiet s ms k b = refl
 
-module _ (s : List ℕ) (t : Trail) (X lo hi ms ns : List ℕ) (r : ℕ) where
+module _ (s : List ℕ) (t : Trail) (prefix lo hi ms ns : List ℕ) (r : ℕ) where
   -- made of the notes of the node above, or of the trail
-  pub told-narrowed : (w above : List ℕ) (many : ℕ) → Handed s t X w lo hi above many → many ≤ 64
-      → notes.Gathered s lo hi (λ k. notes.quiet s above many (w ++ k)) ms 0 ns r → Tells s t X lo hi ns r
+  pub told-narrowed : (w above : List ℕ) (many : ℕ) → Handed s t prefix w lo hi above many → many ≤ 64
+      → notes.Gathered s lo hi (λ k. notes.quiet s above many (w ++ k)) ms 0 ns r → Tells s t prefix lo hi ns r
   told-narrowed w above many h l g =
       record {
         fits = g .fits;
-        told = λ m k o. h .told l k o ∙ ap (λ x. short (X ++ k) && x) (sym (g .tells m k o ∙ first-quiet s ms k (notes.quiet s above many (w ++ k))));
+        told = λ m k o. h .told l k o ∙ ap (λ x. short (prefix ++ k) && x) (sym (g .tells m k o ∙ first-quiet s ms k (notes.quiet s above many (w ++ k))));
       }
 
-  pub told-trail : TrailIn s (length X) t → notes.Gathered s lo hi (λ k. quietTrail s t X k) ms 0 ns r → Tells s t X lo hi ns r
+  pub told-trail : TrailIn s (length prefix) t → notes.Gathered s lo hi (λ k. quietTrail s t prefix k) ms 0 ns r → Tells s t prefix lo hi ns r
   told-trail f g =
       record {
         fits = g .fits;
         told = λ m k o.
-            passes-quiet s (t .nodes) (t .lifts) X (t .depth) k (λ i l. f .each i l .lifted)
-            ∙ ap (λ x. short (X ++ k) && x) (sym (g .tells m k o ∙ first-quiet s ms k (quietTrail s t X k)));
+            passes-quiet s (t .nodes) (t .lifts) prefix (t .depth) k (λ i l. f .each i l .lifted)
+            ∙ ap (λ x. short (prefix ++ k) && x) (sym (g .tells m k o ∙ first-quiet s ms k (quietTrail s t prefix k)));
       }
 
 -- a node's own messages noted after what it was handed
@@ -215,8 +216,8 @@ module _ (s : List ℕ) (num : ℕ) (lo hi ns : List ℕ) (n : ℕ) where
       }
 
 -- of fewer keys
-tells-within : (s : List ℕ) (t : Trail) (X lo hi a b ns : List ℕ) (n : ℕ) → ((k : List ℕ) → owns a b k ≡ true → owns lo hi k ≡ true) → Tells s t X lo hi ns n → Tells s t X a b ns n
-tells-within s t X lo hi a b ns n f h = record { fits = h .fits; told = λ l k o. h .told l k (f k o) }
+tells-within : (s : List ℕ) (t : Trail) (prefix lo hi a b ns : List ℕ) (n : ℕ) → ((k : List ℕ) → owns a b k ≡ true → owns lo hi k ≡ true) → Tells s t prefix lo hi ns n → Tells s t prefix a b ns n
+tells-within s t prefix lo hi a b ns n f h = record { fits = h .fits; told = λ l k o. h .told l k (f k o) }
 
 -- a child's range lies in its node's
 child-within : (s : List ℕ) (t : Tree) (f : Forest) (lifted lo hi : List ℕ) → soundForest (tree s t f) lifted lo hi ≡ true
@@ -231,26 +232,26 @@ child-within s t f lifted lo hi e q o = go (owns lo hi q) refl
         absurd (false≢true (sym z ∙ o))
 
 -- THE TREE IS SOUND ON THE WAY DOWN
-owns-under : (X lo hi k : List ℕ) → owns (X ++ lo) (X ++ hi) (X ++ k) ≡ owns lo hi k
+owns-under : (prefix lo hi k : List ℕ) → owns (prefix ++ lo) (prefix ++ hi) (prefix ++ k) ≡ owns lo hi k
 unfolding owns
-owns-under X lo hi k = rw (before-append X k lo, before-append X k hi)
+owns-under prefix lo hi k = rw (before-append prefix k lo, before-append prefix k hi)
 
-split-first : (X lo hi k v : List ℕ) (ts : List Row) → everyKey (owns (X ++ lo) (X ++ hi)) (underPrefix X (record { key = k; value = v } ∷ ts)) ≡ true
-    → everyKey wellFormed (underPrefix X (record { key = k; value = v } ∷ ts)) ≡ true
-    → (owns lo hi k ≡ true) × (short (X ++ k) ≡ true) × (everyKey (owns (X ++ lo) (X ++ hi)) (underPrefix X ts) ≡ true) × (everyKey wellFormed (underPrefix X ts) ≡ true)
+split-first : (prefix lo hi k v : List ℕ) (ts : List Row) → everyKey (owns (prefix ++ lo) (prefix ++ hi)) (underPrefix prefix (record { key = k; value = v } ∷ ts)) ≡ true
+    → everyKey wellFormed (underPrefix prefix (record { key = k; value = v } ∷ ts)) ≡ true
+    → (owns lo hi k ≡ true) × (short (prefix ++ k) ≡ true) × (everyKey (owns (prefix ++ lo) (prefix ++ hi)) (underPrefix prefix ts) ≡ true) × (everyKey wellFormed (underPrefix prefix ts) ≡ true)
 unfolding everyKey underPrefix wellFormed short
-split-first X lo hi k v ts o f =
-    (sym (owns-under X lo hi k) ∙ and-left _ _ o, and-left _ _ (and-left _ _ f), and-right (owns (X ++ lo) (X ++ hi) (X ++ k)) _ o, and-right (wellFormed (X ++ k)) _ f)
+split-first prefix lo hi k v ts o f =
+    (sym (owns-under prefix lo hi k) ∙ and-left _ _ o, and-left _ _ (and-left _ _ f), and-right (owns (prefix ++ lo) (prefix ++ hi) (prefix ++ k)) _ o, and-right (wellFormed (prefix ++ k)) _ f)
 
-pairs-keyed : (X lo hi : List ℕ) (es : List defined.Entry) (rs : List Row) → pairsOf es ≡ some rs → everyKey (owns (X ++ lo) (X ++ hi)) (underPrefix X rs) ≡ true
-    → everyKey wellFormed (underPrefix X rs) ≡ true → keyed X lo hi es ≡ true
+pairs-keyed : (prefix lo hi : List ℕ) (es : List defined.Entry) (rs : List Row) → pairsOf es ≡ some rs → everyKey (owns (prefix ++ lo) (prefix ++ hi)) (underPrefix prefix rs) ≡ true
+    → everyKey wellFormed (underPrefix prefix rs) ≡ true → keyed prefix lo hi es ≡ true
 unfolding pairsOf keyed
-pairs-keyed X lo hi [] rs h o f = refl
-pairs-keyed X lo hi (defined.pair k v ∷ es) rs h o f = go (pairsOf es) refl (pairs-keyed X lo hi es)
+pairs-keyed prefix lo hi [] rs h o f = refl
+pairs-keyed prefix lo hi (defined.pair k v ∷ es) rs h o f = go (pairsOf es) refl (pairs-keyed prefix lo hi es)
   where
     go : (x : Option (List Row)) → pairsOf es ≡ x
-        → ((ts : List Row) → pairsOf es ≡ some ts → everyKey (owns (X ++ lo) (X ++ hi)) (underPrefix X ts) ≡ true → everyKey wellFormed (underPrefix X ts) ≡ true → keyed X lo hi es ≡ true)
-        → owns lo hi k && short (X ++ k) && keyed X lo hi es ≡ true
+        → ((ts : List Row) → pairsOf es ≡ some ts → everyKey (owns (prefix ++ lo) (prefix ++ hi)) (underPrefix prefix ts) ≡ true → everyKey wellFormed (underPrefix prefix ts) ≡ true → keyed prefix lo hi es ≡ true)
+        → owns lo hi k && short (prefix ++ k) && keyed prefix lo hi es ≡ true
     go none e ih = let q : none ≡ some rs = unfold pairThen in rw e at h in let z : _≡_ {A = ℕ} 0 1 = cc in absurd (omega arith)
     go (some ts) e ih =
         let q : some (record { key = k; value = v } ∷ ts) ≡ some rs = unfold pairThen in rw e at h in
@@ -259,10 +260,10 @@ pairs-keyed X lo hi (defined.pair k v ∷ es) rs h o f = go (pairsOf es) refl (p
         both (both (a .0) (a .1)) (ih ts e (a .2) (a .3))
       where
         first-key : rs ≡ record { key = k; value = v } ∷ ts
-            → (owns lo hi k ≡ true) × (short (X ++ k) ≡ true) × (everyKey (owns (X ++ lo) (X ++ hi)) (underPrefix X ts) ≡ true) × (everyKey wellFormed (underPrefix X ts) ≡ true)
-        first-key p = split-first X lo hi k v ts (rw p at o) (rw p at f)
-pairs-keyed X lo hi (defined.child i k ∷ es) rs h o f = let q : none ≡ some rs = unfold pairThen in h in let z : _≡_ {A = ℕ} 0 1 = cc in absurd (omega arith)
-pairs-keyed X lo hi (defined.message m ∷ es) rs h o f = let q : none ≡ some rs = unfold pairThen in h in let z : _≡_ {A = ℕ} 0 1 = cc in absurd (omega arith)
+            → (owns lo hi k ≡ true) × (short (prefix ++ k) ≡ true) × (everyKey (owns (prefix ++ lo) (prefix ++ hi)) (underPrefix prefix ts) ≡ true) × (everyKey wellFormed (underPrefix prefix ts) ≡ true)
+        first-key p = split-first prefix lo hi k v ts (rw p at o) (rw p at f)
+pairs-keyed prefix lo hi (defined.child i k ∷ es) rs h o f = let q : none ≡ some rs = unfold pairThen in h in let z : _≡_ {A = ℕ} 0 1 = cc in absurd (omega arith)
+pairs-keyed prefix lo hi (defined.message m ∷ es) rs h o f = let q : none ≡ some rs = unfold pairThen in h in let z : _≡_ {A = ℕ} 0 1 = cc in absurd (omega arith)
 
 -- the pivots in full, and what the node lifts of them
 module _ (p : PathBuffer) (lo hi : List ℕ) (k : ℕ) (ek : k ≡ length (shared lo hi)) (here : PathBuffer) (eh : pathIn here ≡ pathIn p ++ take (k - 0) (drop 0 lo)) where
@@ -408,10 +409,10 @@ module _ (s : List ℕ) (level num : ℕ) (low : Place) (c : Cursor) (p : PathBu
         }
 
 -- above the root there is nothing to tell
-pub root-told : (s : List ℕ) (t : Trail) (X lo hi ns : List ℕ) → t .depth ≡ 0 → Tells s t X lo hi ns 0
+pub root-told : (s : List ℕ) (t : Trail) (prefix lo hi ns : List ℕ) → t .depth ≡ 0 → Tells s t prefix lo hi ns 0
 unfolding notes.quiet
-root-told s t X lo hi ns e =
-    record { fits = λ l i h. absurd (omega arith); told = λ l k o. ap (λ d. passes s (t .nodes) (t .lifts) d (X ++ k)) e ∙ at-top (X ++ k) ∙ sym (and-true (short (X ++ k))) }
+root-told s t prefix lo hi ns e =
+    record { fits = λ l i h. absurd (omega arith); told = λ l k o. ap (λ d. passes s (t .nodes) (t .lifts) d (prefix ++ k)) e ∙ at-top (prefix ++ k) ∙ sym (and-true (short (prefix ++ k))) }
   where
     at-top : (q : List ℕ) → passes s (t .nodes) (t .lifts) 0 q ≡ short q
     at-top q = unfold passes in refl

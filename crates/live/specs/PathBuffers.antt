@@ -2,7 +2,7 @@
 use Prim.Native.Nat.{ℕ}
 use mathlib.Core.List.{List}
 use lib.ListN.{take}
-use Rattle.live.specs.declared.path_buffer.PathBuffer.{PathBuffer}
+use Rattle.node.specs.declared.PathBuffer.{PathBuffer}
 
 unfoldable pub pathIn : PathBuffer → List ℕ
 pathIn p = take (p .len) (p .bytes)

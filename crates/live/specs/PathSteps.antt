@@ -6,7 +6,7 @@ use native.Mathlib.Omega.{arith}
 use native.Mathlib.Numerals.{add-one}
 use lib.ListN.{length, take, set, getD}
 use lib.Seq.{paste, paste-suc, take-paste, take-length, length-take-le}
-use Rattle.live.specs.declared.path_buffer.PathBuffer.{PathBuffer}
+use Rattle.node.specs.declared.PathBuffer.{PathBuffer}
 use Rattle.live.specs.PathBuffers.{pathIn}
 
 pub copy-step : (b d : List ℕ) (start : ℕ) (s : List ℕ) (i : ℕ) → start + i < length d → i < length s → b ≡ paste d start s i

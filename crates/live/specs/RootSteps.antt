@@ -17,8 +17,8 @@ use Rattle.lookup.specs.Root.{first-u16}
 use Rattle.live.specs.Live.{short, liveHere}
 use Rattle.live.specs.LiveLaws.{live-root}
 use Rattle.live.specs.PathBuffers.{pathIn}
-use Rattle.live.specs.declared.path_buffer.PathBuffer.{PathBuffer}
-use Rattle.live.specs.declared.Trail.{Trail}
+use Rattle.node.specs.declared.PathBuffer.{PathBuffer}
+use Rattle.live.specs.declared.visibility.Trail.{Trail}
 use Rattle.live.specs.Walk.{passes, passing, Ready, Countable}
 
 -- an image that is sound but for its live count can be counted

@@ -1,9 +1,9 @@
 -- Step lemmas of the functions that look at one entry: what each exit of the code owes, over plain lists and numbers.
 -- Relies on the definitions of Walk and on the contracts of node and search.
 use Prim.Native.Nat.{ℕ, zero, suc, _+_, _-_, _*_, _<_, _≤_}
-use mathlib.Core.Path.{_≡_, refl, sym, ap, subst, _∙_}
+use mathlib.Core.Path.{_≡_, refl, sym, ap, _∙_}
 use mathlib.Core.List.{List, [], _∷_, _++_}
-use mathlib.Core.Bool.{Bool, true, false, _&&_, not, cond, true≢false, and-true}
+use mathlib.Core.Bool.{Bool, true, false, _&&_, not, true≢false, and-true}
 use native.Mathlib.Omega.{arith}
 use native.Mathlib.Numerals.{add-one}
 use lib.ListN.{length, take, drop, getD, set, length-append}
@@ -14,23 +14,20 @@ use Rattle.image.specs.Bytes.{u16}
 use Rattle.image.specs.Path.{pathLimit}
 use Rattle.image.specs.Entry as defined
 use Rattle.octets.specs.Order.{and-false}
-use Rattle.node.specs.Places.{part, entryIn, messageIn, Next}
-use Rattle.node.specs.declared.Cursor.{Cursor}
+use Rattle.node.specs.Places.{part, entryIn, messageIn}
 use Rattle.node.specs.Entries.{listed}
 use Rattle.node.specs.declared.Place.{Place}
 use Rattle.node.specs.declared.Message.{Message}
 use Rattle.node.specs.declared.Entry.{Entry}
-use Rattle.node.specs.declared.search.Branch.{Branch}
-use Rattle.node.specs.Search.Own.{branchIs, branchesAmong, branch-place, branches-none, branches-other, branches-more}
 use Rattle.node.specs.Search.Latest.{entrySays, newestAmong, newer-nothing}
+use Rattle.node.specs.Search.Messages.{isMessage, hasMessage}
 use Rattle.lookup.specs.Look.{listing, part-rest}
 use Rattle.live.specs.Live.{holdsNoMessage, one, short, Shortens}
 use Rattle.live.specs.PathBuffers.{pathIn}
 use Rattle.live.specs.PathSteps.{path-length}
-use Rattle.live.specs.declared.path_buffer.PathBuffer.{PathBuffer}
-use Rattle.live.specs.declared.Trail.{Trail}
-use Rattle.live.specs.declared.Pending.{Pending}
-use Rattle.live.specs.Walk.{passes, passing, TrailIn, Above, Deeper, pushed, decides, countAmong, isMessage, hasMessage, NextChild, Pends}
+use Rattle.node.specs.declared.PathBuffer.{PathBuffer}
+use Rattle.live.specs.declared.visibility.Trail.{Trail}
+use Rattle.live.specs.Walk.{passes, passing, TrailIn, Above, Deeper, pushed, decides, countAmong}
 
 pub node-uncovered : (s : List ℕ) (num len : ℕ) (rest : List ℕ) (r : Bool) → len ≡ u16 s (num * 1024)
     → r ≡ holdsNoMessage (newestAmong (listed s (num * 1024 + 8) (num * 1024 + 8 + len)) rest) → r ≡ holdsNoMessage (newestAmong (listing s num) rest)
@@ -48,20 +45,20 @@ module _ (s nodes lifts : List ℕ) (q : List ℕ) where
       → holdsNoMessage (newestAmong (listing s (getD nodes (d - 1) 0)) (drop (getD lifts (d - 1) 0) q)) ≡ r
   latest-at d r h = ap (λ z. holdsNoMessage (newestAmong (listing s (getD nodes (d - 1) 0)) z)) (sym (part-rest (getD lifts (d - 1) 0) q)) ∙ sym h
 
-  pub trail-latest : (d : ℕ) (r : Bool) (P : Bool) → 0 < d → P ≡ passes s nodes lifts d q
-      → r ≡ holdsNoMessage (newestAmong (listing s (getD nodes (d - 1) 0)) (take (length q - getD lifts (d - 1) 0) (drop (getD lifts (d - 1) 0) q))) → not r ≡ true → false ≡ P
-  trail-latest d r P h inv e n =
+  pub trail-latest : (d : ℕ) (r : Bool) (answer : Bool) → 0 < d → answer ≡ passes s nodes lifts d q
+      → r ≡ holdsNoMessage (newestAmong (listing s (getD nodes (d - 1) 0)) (take (length q - getD lifts (d - 1) 0) (drop (getD lifts (d - 1) 0) q))) → not r ≡ true → false ≡ answer
+  trail-latest d r answer h inv e n =
       sym (inv ∙ passes-step d h ∙ ap (λ x. passes s nodes lifts (d - 1) q && x) (latest-at d r e ∙ not-true r n) ∙ and-false (passes s nodes lifts (d - 1) q))
 
-  pub trail-quiet : (d : ℕ) (r : Bool) (P : Bool) → 0 < d → P ≡ passes s nodes lifts d q
+  pub trail-quiet : (d : ℕ) (r : Bool) (answer : Bool) → 0 < d → answer ≡ passes s nodes lifts d q
       → r ≡ holdsNoMessage (newestAmong (listing s (getD nodes (d - 1) 0)) (take (length q - getD lifts (d - 1) 0) (drop (getD lifts (d - 1) 0) q))) → not r ≡ false
-      → P ≡ passes s nodes lifts (d - 1) q
-  trail-quiet d r P h inv e n = inv ∙ passes-step d h ∙ ap (λ x. passes s nodes lifts (d - 1) q && x) (latest-at d r e ∙ not-false r n) ∙ and-true (passes s nodes lifts (d - 1) q)
+      → answer ≡ passes s nodes lifts (d - 1) q
+  trail-quiet d r answer h inv e n = inv ∙ passes-step d h ∙ ap (λ x. passes s nodes lifts (d - 1) q && x) (latest-at d r e ∙ not-false r n) ∙ and-true (passes s nodes lifts (d - 1) q)
 
-  pub trail-over : (d : ℕ) (P : Bool) → d ≤ 0 → length q ≤ 64 → P ≡ passes s nodes lifts d q → true ≡ P
+  pub trail-over : (d : ℕ) (answer : Bool) → d ≤ 0 → length q ≤ 64 → answer ≡ passes s nodes lifts d q → true ≡ answer
   unfolding passes short pathLimit
-  trail-over zero P h l inv = sym (inv ∙ le-leb (length q) 64 l)
-  trail-over (suc d) P h l inv = absurd (omega arith)
+  trail-over zero answer h l inv = sym (inv ∙ le-leb (length q) 64 l)
+  trail-over (suc d) answer h l inv = absurd (omega arith)
 
 -- a path that is too long passes no trail
 long-fails : (s nodes lifts : List ℕ) (d : ℕ) (q : List ℕ) → 64 < length q → passes s nodes lifts d q ≡ false
@@ -106,67 +103,49 @@ key-length p full key h e =
     ap length (as-path full (full .len) (full .bytes) refl refl ∙ e) ∙ length-append (pathIn p) key ∙ ap (λ n. n + length key) (path-length p h)
 
 -- whether an entry decides its path, by its kind
-module _ (ok : List ℕ → Bool) (X s : List ℕ) (es : List defined.Entry) where
-  pub pair-decides : (e : Entry) (p v : Place) (r : Bool) → e ≡ Entry.Pair p v → r ≡ ok (X ++ part s p) → r ≡ decides ok X (entryIn s e) es
+module _ (ok : List ℕ → Bool) (prefix s : List ℕ) (es : List defined.Entry) where
+  pub pair-decides : (e : Entry) (p v : Place) (r : Bool) → e ≡ Entry.Pair p v → r ≡ ok (prefix ++ part s p) → r ≡ decides ok prefix (entryIn s e) es
   unfolding decides
   pair-decides e p v r q h = h ∙ rw q
 
-  pub child-decides : (e : Entry) (i : ℕ) (p : Place) → e ≡ Entry.Child i p → false ≡ decides ok X (entryIn s e) es
+  pub child-decides : (e : Entry) (i : ℕ) (p : Place) → e ≡ Entry.Child i p → false ≡ decides ok prefix (entryIn s e) es
   unfolding decides
   child-decides e i p q = rw q
 
-  pub message-decides : (e : Entry) (m : Message) (r : Bool) → e ≡ Entry.Message m → r ≡ decides ok X (defined.message (messageIn s m)) es → r ≡ decides ok X (entryIn s e) es
+  pub message-decides : (e : Entry) (m : Message) (r : Bool) → e ≡ Entry.Message m → r ≡ decides ok prefix (defined.message (messageIn s m)) es → r ≡ decides ok prefix (entryIn s e) es
   message-decides e m r q h = rw q h
 
   pub put-hidden : (m : Message) (p v : Place) (b : Bool) → m ≡ Message.Put p v → b ≡ holdsNoMessage (newestAmong es (part s p)) → not b ≡ true
-      → false ≡ decides ok X (defined.message (messageIn s m)) es
+      → false ≡ decides ok prefix (defined.message (messageIn s m)) es
   unfolding decides
   put-hidden m p v b q h n = rw (q, ← h, not-true b n)
 
   pub put-decides : (m : Message) (p v : Place) (b r : Bool) → m ≡ Message.Put p v → b ≡ holdsNoMessage (newestAmong es (part s p)) → not b ≡ false
-      → r ≡ ok (X ++ part s p) → r ≡ decides ok X (defined.message (messageIn s m)) es
+      → r ≡ ok (prefix ++ part s p) → r ≡ decides ok prefix (defined.message (messageIn s m)) es
   unfolding decides
   put-decides m p v b r q h n g = rw (q, ← h, not-false b n) g
 
-  pub drop-decides : (m : Message) (p : Place) → m ≡ Message.Drop p → false ≡ decides ok X (defined.message (messageIn s m)) es
+  pub drop-decides : (m : Message) (p : Place) → m ≡ Message.Drop p → false ≡ decides ok prefix (defined.message (messageIn s m)) es
   unfolding decides
   drop-decides m p q = rw q
 
-  pub clear-decides : (m : Message) (p : Place) → m ≡ Message.Clear p → false ≡ decides ok X (defined.message (messageIn s m)) es
+  pub clear-decides : (m : Message) (p : Place) → m ≡ Message.Clear p → false ≡ decides ok prefix (defined.message (messageIn s m)) es
   unfolding decides
   clear-decides m p q = rw q
 
 -- the loop over a node's entries
-module _ (ok : List ℕ → Bool) (X : List ℕ) where
-  pub count-end : (es : List defined.Entry) (n N : ℕ) → es ≡ [] → n + countAmong ok X es ≡ N → n ≡ N
+module _ (ok : List ℕ → Bool) (prefix : List ℕ) where
+  pub count-end : (es : List defined.Entry) (n N : ℕ) → es ≡ [] → n + countAmong ok prefix es ≡ N → n ≡ N
   unfolding countAmong
   count-end es n N q inv = let z : n + 0 ≡ N = rw q at inv in omega arith
 
-  pub count-step : (s : List ℕ) (e : Entry) (es ts : List defined.Entry) (n d N : ℕ) (b : Bool) → es ≡ entryIn s e ∷ ts → b ≡ decides ok X (entryIn s e) ts → d ≡ one b
-      → n + countAmong ok X es ≡ N → n + d + countAmong ok X ts ≡ N
+  pub count-step : (s : List ℕ) (e : Entry) (es ts : List defined.Entry) (n d N : ℕ) (b : Bool) → es ≡ entryIn s e ∷ ts → b ≡ decides ok prefix (entryIn s e) ts → d ≡ one b
+      → n + countAmong ok prefix es ≡ N → n + d + countAmong ok prefix ts ≡ N
   unfolding countAmong
   count-step s e es ts n d N b q h f inv =
-      let z : n + (one (decides ok X (entryIn s e) ts) + countAmong ok X ts) ≡ N = rw q at inv in
-      let w : d ≡ one (decides ok X (entryIn s e) ts) = f ∙ ap one h in
+      let z : n + (one (decides ok prefix (entryIn s e) ts) + countAmong ok prefix ts) ≡ N = rw q at inv in
+      let w : d ≡ one (decides ok prefix (entryIn s e) ts) = f ∙ ap one h in
       omega arith
-
--- whether a node has a message
-pub message-end : (es : List defined.Entry) (P : Bool) → es ≡ [] → hasMessage es ≡ P → false ≡ P
-unfolding hasMessage
-message-end es P q inv = rw q at inv
-
-module _ (s : List ℕ) (e : Entry) (es ts : List defined.Entry) (b P : Bool) (q : es ≡ entryIn s e ∷ ts) (h : b ≡ isMessage (entryIn s e)) (inv : hasMessage es ≡ P) where
-  pub message-here : b ≡ true → true ≡ P
-  unfolding hasMessage
-  message-here t =
-      let z : cond (isMessage (entryIn s e)) true (hasMessage ts) ≡ P = rw q at inv in
-      rw (sym h ∙ t) at z
-
-  pub message-on : b ≡ false → hasMessage ts ≡ P
-  unfolding hasMessage
-  message-on t =
-      let z : cond (isMessage (entryIn s e)) true (hasMessage ts) ≡ P = rw q at inv in
-      rw (sym h ∙ t) at z
 
 no-message : (es : List defined.Entry) (r : List ℕ) → hasMessage es ≡ false → holdsNoMessage (newestAmong es r) ≡ true
 unfolding hasMessage newestAmong entrySays isMessage holdsNoMessage
@@ -233,36 +212,6 @@ module _ (s : List ℕ) (num lift : ℕ) (t : Trail) (fit : TrailIn s lift t) (f
         depth = omega arith;
       }
 
--- the next child
-pub child-bad : (s : List ℕ) (at end : ℕ) → listed s at end ≡ [] → Pends s at end Pending.End
-unfolding Pends
-child-bad s at end h = branches-none (listed s at end) h
-
-pub child-other : (s : List ℕ) (at end : ℕ) (e : Entry) (c : Cursor) → Next s at end e c → branchIs e ≡ Branch.Other → Pends s at end Pending.End
-unfolding Pends
-child-other s at end e c n h = branches-other e s (listed s at end) (listed s (c .at) (c .end)) (n .lists) h
-
-pub child-next : (s : List ℕ) (at end : ℕ) (e : Entry) (c : Cursor) (k : ℕ) (p : Place) → end ≤ length s → Next s at end e c → branchIs e ≡ Branch.Of k p
-    → Pends s at end (Pending.Child k p c)
-unfolding Pends
-child-next s at end e c k p f n h =
-    let w = branch-place at end e k p h (n .reachable) in
-    record {
-      lists = branches-more e k p s (listed s at end) (listed s (c .at) (c .end)) (n .lists) h;
-      moves = n .moves;
-      stays = n .stays;
-      ends = n .ends;
-      place = record { low = omega arith; rises = omega arith; high = omega arith };
-    }
-
-pub pends-child : (s : List ℕ) (at end : ℕ) (r : Pending) (k : ℕ) (p : Place) (c : Cursor) → Pends s at end r → r ≡ Pending.Child k p c → NextChild s at end k p c
-unfolding Pends
-pends-child s at end r k p c h e = subst (Pends s at end) e h
-
-pub pends-end : (s : List ℕ) (at end : ℕ) (r : Pending) → Pends s at end r → r ≡ Pending.End → branchesAmong (listed s at end) ≡ []
-unfolding Pends
-pends-end s at end r h e = subst (Pends s at end) e h
-
 pub one-yes : (b : Bool) → b ≡ true → 1 ≡ one b
 unfolding one
 one-yes b e = rw e
@@ -270,16 +219,3 @@ one-yes b e = rw e
 pub one-not : (b : Bool) → b ≡ false → 0 ≡ one b
 unfolding one
 one-not b e = rw e
-
--- whether an entry is a message, by its kind
-pub pair-message : (e : Entry) (p v : Place) → e ≡ Entry.Pair p v → (s : List ℕ) → false ≡ isMessage (entryIn s e)
-unfolding isMessage
-pair-message e p v q s = rw q
-
-pub child-message : (e : Entry) (i : ℕ) (p : Place) → e ≡ Entry.Child i p → (s : List ℕ) → false ≡ isMessage (entryIn s e)
-unfolding isMessage
-child-message e i p q s = rw q
-
-pub is-message : (e : Entry) (m : Message) → e ≡ Entry.Message m → (s : List ℕ) → true ≡ isMessage (entryIn s e)
-unfolding isMessage
-is-message e m q s = rw q

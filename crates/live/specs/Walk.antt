@@ -2,7 +2,7 @@
 use Prim.Native.Nat.{ℕ, zero, suc, _+_, _*_, _<_, _≤_}
 use mathlib.Core.Path.{_≡_}
 use mathlib.Core.List.{List, [], _∷_, _++_}
-use mathlib.Core.Bool.{Bool, true, false, _&&_, cond}
+use mathlib.Core.Bool.{Bool, true, false, _&&_}
 use lib.ListN.{length, drop, getD, set}
 use Rattle.image.specs.Bytes.{u16}
 use Rattle.image.specs.Entry as defined
@@ -17,9 +17,8 @@ use Rattle.node.specs.Search.Latest.{newestAmong}
 use Rattle.node.specs.Search.Own.{branch, branchesAmong}
 use Rattle.lookup.specs.Look.{listing}
 use Rattle.live.specs.Live.{holdsNoMessage, one, short}
-use Rattle.live.specs.declared.path_buffer.PathBuffer.{PathBuffer}
-use Rattle.live.specs.declared.Trail.{Trail}
-use Rattle.live.specs.declared.Pending.{Pending}
+use Rattle.node.specs.declared.PathBuffer.{PathBuffer}
+use Rattle.live.specs.declared.visibility.Trail.{Trail}
 
 -- a path is short, and none of the first d nodes of a trail has a message on it; a node's messages see what follows the bytes that it lifts
 unfoldable pub passes : List ℕ → List ℕ → List ℕ → ℕ → List ℕ → Bool
@@ -53,36 +52,15 @@ pub record Deeper (s : List ℕ) (num lift : ℕ) (t r : Trail) : Type 0 where
 
 -- an entry decides its path: es are the entries after it in its node
 unfoldable pub decides : (List ℕ → Bool) → List ℕ → defined.Entry → List defined.Entry → Bool
-decides ok X (defined.pair k v) es = ok (X ++ k)
-decides ok X (defined.child i k) es = false
-decides ok X (defined.message (defined.puts k v)) es = holdsNoMessage (newestAmong es k) && ok (X ++ k)
-decides ok X (defined.message (defined.drops k)) es = false
-decides ok X (defined.message (defined.clears k)) es = false
+decides ok prefix (defined.pair k v) es = ok (prefix ++ k)
+decides ok prefix (defined.child i k) es = false
+decides ok prefix (defined.message (defined.puts k v)) es = holdsNoMessage (newestAmong es k) && ok (prefix ++ k)
+decides ok prefix (defined.message (defined.drops k)) es = false
+decides ok prefix (defined.message (defined.clears k)) es = false
 
 unfoldable pub countAmong : (List ℕ → Bool) → List ℕ → List defined.Entry → ℕ
-countAmong ok X [] = 0
-countAmong ok X (e ∷ es) = one (decides ok X e es) + countAmong ok X es
-
-unfoldable pub isMessage : defined.Entry → Bool
-isMessage (defined.pair k v) = false
-isMessage (defined.child i k) = false
-isMessage (defined.message m) = true
-
-unfoldable pub hasMessage : List defined.Entry → Bool
-hasMessage [] = false
-hasMessage (e ∷ es) = cond (isMessage e) true (hasMessage es)
-
--- The child at a cursor and the cursor after it, or that no child is there.
-pub record NextChild (s : List ℕ) (at end k : ℕ) (p : Place) (c : Cursor) : Type 0 where
-  pub lists : branchesAmong (listed s at end) ≡ branch k (part s p) ∷ branchesAmong (listed s (c .at) (c .end))
-  pub moves : at + 4 ≤ c .at
-  pub stays : c .at ≤ end
-  pub ends : c .end ≡ end
-  pub place : Within 0 (length s) p
-
-unfoldable pub Pends : List ℕ → ℕ → ℕ → Pending → Type 0
-Pends s at end (Pending.Child k p c) = NextChild s at end k p c
-Pends s at end Pending.End = branchesAmong (listed s at end) ≡ []
+countAmong ok prefix [] = 0
+countAmong ok prefix (e ∷ es) = one (decides ok prefix e es) + countAmong ok prefix es
 
 -- What the walk relies on at a node of a level, under a prefix and a trail; and at the children of a node from the one in hand on.
 pub record Ready (s : List ℕ) (level num : ℕ) (p : PathBuffer) (t : Trail) : Type 0 where

@@ -2,45 +2,33 @@
 // its path counts once. Relies on the readers of nodes (node) and on `usable` (laws/Reading); specs/Live says what is counted.
 pub mod notes;
 pub mod path_buffer;
+pub mod visibility;
 
 use node::Cursor;
-use node::Entry;
-use node::Message;
+use node::PathBuffer;
 use node::Place;
-use node::Split;
 use node::Step;
-use node::search::Branch;
-use path_buffer::PathBuffer;
+use node::search::Pending;
+use node::search::Run;
+use visibility::Trail;
 ghost use mathlib.Core.Path.{_≡_};
-ghost use mathlib.Core.Bool.{true};
-ghost use mathlib.Core.List.{List, _++_, _∷_};
-ghost use Prim.Native.Nat.{ℕ, _+_, _*_, _<_, _≤_};
+ghost use mathlib.Core.List.{_++_, _∷_};
+ghost use Prim.Native.Nat.{_+_, _*_, _<_, _≤_};
 ghost use lib.ListN.{length, drop};
 ghost use Rattle.image.specs.Bytes.{shared, u16};
-ghost use Rattle.image.specs.Entry.{message};
 ghost use Rattle.image.specs.Image.{treeAt, forestOf};
 ghost use Rattle.image.specs.Sound.{tableOf};
 ghost use Rattle.octets.specs.Cap.{cap};
 ghost use Rattle.laws.specs.Reading.Relative.{lifts};
-ghost use Rattle.node.specs.Places.{EntryWithin, MessageWithin, part, entryIn, messageIn};
+ghost use Rattle.node.specs.Places.{part};
 ghost use Rattle.node.specs.Entries.{listed};
-ghost use Rattle.node.specs.Search.Latest.{newestAmong};
 ghost use Rattle.node.specs.Search.Own.{branch, branchesAmong};
 ghost use Rattle.node.specs.Whole.{HasNode};
-ghost use Rattle.lookup.specs.Look.{listing};
 ghost use Rattle.live.specs.Notes.Notes.{NotesFit, Gathered};
 ghost use Rattle.live.specs.Noted.{quietTrail, Tells, Handed, Joined, LeafTold, SoundNode, SoundBranches};
-ghost use Rattle.live.specs.Live.{holdsNoMessage, one, liveHere, liveBranches};
+ghost use Rattle.live.specs.Live.{one, liveHere, liveBranches};
 ghost use Rattle.live.specs.PathBuffers.{pathIn};
-ghost use Rattle.live.specs.CoverSteps.{Passed, Passing};
-ghost use Rattle.live.specs.Walk.{passing, TrailIn, Above, decides, countAmong, isMessage, hasMessage, Pends, Deeper, pushed, Ready, ReadyBranches, Countable};
-
-// The nodes above that hold messages, from the root down: each with how many bytes it lifts.
-pub struct Trail {
-    pub nodes: [usize; 8],
-    pub lifts: [usize; 8],
-    pub depth: usize,
-}
+ghost use Rattle.live.specs.Walk.{passing, TrailIn, Above, Deeper, countAmong, Ready, ReadyBranches, Countable};
 
 // Where a walk stands: what all paths there begin with, the nodes above that hold messages, and how many notes tell what these say. More
 // than 64 notes tell nothing.
@@ -55,181 +43,6 @@ pub struct Visit {
     pub num: usize,
     pub level: usize,
     pub position: Position,
-}
-
-// The children of a node from one on: the place of its low pivot, and the cursor past it.
-pub struct Run {
-    pub low: Place,
-    pub rest: Cursor,
-}
-
-// The next child of an interior node, and the cursor after it.
-pub enum Pending {
-    Child(usize, Place, Cursor),
-    End,
-}
-
-// The place behind the put at a place, where the numbers in front of it show one, and it is not on a rest; 0 for all else.
-fn pass_put(s: &[u8], at: usize, end: usize, rest: &[u8]) -> usize
-    requires { ⌜ end ≤ length (now s) ⌝ }
-    ensures { λ r. ⌜ ((r ≡ 0 → ⊥) → Passed (now (s .entry)) at end (now (rest .entry)) r) ⌝ }
-{
-    if end <= at {
-        return 0;
-    }
-    if end - at < 4 {
-        return 0;
-    }
-    let len = octets::u16_at(s, at);
-    if octets::u16_at(s, at + 2) != image::PUT {
-        return 0;
-    }
-    let start = at + 4;
-    if end - start < len {
-        return 0;
-    }
-    let stop = start + len;
-    let Split::At(m) = node::parted(s, start, stop) else {
-        return 0;
-    };
-    let a = start + 2;
-    if octets::equal(&s[a..m], rest) {
-        return 0;
-    }
-    stop
-}
-
-// The same by way of any entry: the place behind it, `end` where none reads; 0 where it is on the rest.
-fn pass_any(s: &[u8], at: usize, end: usize, rest: &[u8]) -> usize
-    requires { ⌜ (at < end) × (end ≤ length (now s)) ⌝ }
-    ensures { λ r. ⌜ Passing (now (s .entry)) at end (now (rest .entry)) r ⌝ }
-{
-    let c = Cursor { at, end };
-    let Step::Read(e, next) = c.step(s) else {
-        return end;
-    };
-    if node::search::entry_covers(s, e, rest) {
-        return 0;
-    }
-    next.at
-}
-
-// Past the entry at a place: a put, of which the most are, is told by its own numbers.
-fn pass_entry(s: &[u8], at: usize, end: usize, rest: &[u8]) -> usize
-    requires { ⌜ (at < end) × (end ≤ length (now s)) ⌝ }
-    ensures { λ r. ⌜ Passing (now (s .entry)) at end (now (rest .entry)) r ⌝ }
-{
-    let next = pass_put(s, at, end, rest);
-    if next != 0 {
-        return next;
-    }
-    pass_any(s, at, end, rest)
-}
-
-// Whether the entries from a place up to another say nothing of a rest.
-pub fn none_covers(store: &[u8], from: usize, end: usize, rest: &[u8]) -> bool
-    requires { ⌜ end ≤ length (now store) ⌝ }
-    ensures { λ r. ⌜ r ≡ holdsNoMessage (newestAmong (listed (now (store .entry)) from end) (now (rest .entry))) ⌝ }
-{
-    let mut at = from;
-    while at < end {
-        at = pass_entry(store, at, end, rest);
-        if at == 0 {
-            return false;
-        }
-    }
-    true
-}
-
-// Whether the messages of a node say nothing of a rest.
-pub fn none_in_node_covers(store: &[u8], num: usize, rest: &[u8]) -> bool
-    requires { ⌜ HasNode (now store) num × (u16 (now store) (num * 1024) ≤ 1016) ⌝ }
-    ensures { λ r. ⌜ r ≡ holdsNoMessage (newestAmong (listing (now (store .entry)) num) (now (rest .entry))) ⌝ }
-{
-    let at = num * image::NODE_SIZE;
-    let len = octets::u16_at(store, at);
-    let from = at + image::ENTRIES_AT;
-    none_covers(store, from, from + len, rest)
-}
-
-// Whether no node of the trail has a message on a path.
-pub fn is_visible(store: &[u8], trail: Trail, path: &[u8]) -> bool
-    requires { ⌜ (length (now path) ≤ 64) × TrailIn (now store) (length (now path)) trail ⌝ }
-    ensures { λ r. ⌜ r ≡ passing (now (store .entry)) trail (now (path .entry)) ⌝ }
-{
-    let nodes = trail.nodes;
-    let lifts = trail.lifts;
-    let mut d = trail.depth;
-    while 0 < d {
-        d -= 1;
-        let num = nodes[d];
-        let k = lifts[d];
-        if !none_in_node_covers(store, num, &path[k..]) {
-            return false;
-        }
-    }
-    true
-}
-
-// Whether the path that is the prefix and a key is short enough, and no node of the trail has a message on it.
-pub fn is_live(store: &[u8], prefix: PathBuffer, trail: Trail, key: &[u8]) -> bool
-    requires { ⌜ (prefix .len ≤ 64) × TrailIn (now store) (prefix .len) trail ⌝ }
-    ensures { λ r. ⌜ r ≡ passing (now (store .entry)) trail (pathIn prefix ++ now (key .entry)) ⌝ }
-{
-    let room = 64 - prefix.len;
-    if room < key.len() {
-        return false;
-    }
-    if trail.depth == 0 {
-        return true;
-    }
-    let full = path_buffer::extend(prefix, key);
-    let n = full.len;
-    let b = full.bytes;
-    is_visible(store, trail, &b[0..n])
-}
-
-// Whether a message is a put that no later entry of its node and no node of the trail says anything of. The cursor stands after it.
-pub fn message_decides(
-    store: &[u8],
-    prefix: PathBuffer,
-    trail: Trail,
-    m: Message,
-    next: Cursor,
-) -> bool
-    requires { ⌜ (prefix .len ≤ 64) × TrailIn (now store) (prefix .len) trail × MessageWithin 0 (length (now store)) m × (next .end ≤ length (now store)) ⌝ }
-    ensures { λ r. ⌜ r ≡ decides (passing (now (store .entry)) trail) (pathIn prefix) (message (messageIn (now (store .entry)) m)) (listed (now (store .entry)) (next .at) (next .end)) ⌝ }
-{
-    match m {
-        Message::Put(p, _) => {
-            let a = p.start;
-            let b = p.stop;
-            let from = next.at;
-            let end = next.end;
-            if !none_covers(store, from, end, &store[a..b]) {
-                return false;
-            }
-            is_live(store, prefix, trail, &store[a..b])
-        }
-        Message::Drop(_) => false,
-        Message::Clear(_) => false,
-    }
-}
-
-// Whether an entry decides its path.
-pub fn entry_decides(store: &[u8], prefix: PathBuffer, trail: Trail, e: Entry, next: Cursor) -> bool
-    requires { ⌜ (prefix .len ≤ 64) × TrailIn (now store) (prefix .len) trail × EntryWithin 0 (length (now store)) e × (next .end ≤ length (now store)) ⌝ }
-    ensures { λ r. ⌜ r ≡ decides (passing (now (store .entry)) trail) (pathIn prefix) (entryIn (now (store .entry)) e) (listed (now (store .entry)) (next .at) (next .end)) ⌝ }
-{
-    match e {
-        Entry::Pair(p, _) => {
-            let a = p.start;
-            let b = p.stop;
-            is_live(store, prefix, trail, &store[a..b])
-        }
-        Entry::Child(_, _) => false,
-        Entry::Message(m) => message_decides(store, prefix, trail, m, next),
-    }
 }
 
 fn as_number(b: bool) -> usize
@@ -258,7 +71,7 @@ pub fn count_entries(
         let Step::Read(e, next) = c.step(store) else {
             return n;
         };
-        n = n + as_number(entry_decides(store, prefix, trail, e, next));
+        n = n + as_number(visibility::entry_decides(store, prefix, trail, e, next));
         c = next;
     }
     n
@@ -322,14 +135,7 @@ pub fn note_above(
 }
 
 // A node's own messages that can be on a key from lo up to hi, noted after the n notes that it was handed. Gives how many there are then.
-pub fn note_own(
-    store: &[u8],
-    num: usize,
-    lo: &[u8],
-    hi: &[u8],
-    notes: &mut [usize],
-    n: usize,
-) -> usize
+fn note_own(store: &[u8], num: usize, lo: &[u8], hi: &[u8], notes: &mut [usize], n: usize) -> usize
     requires { ⌜ HasNode (now store) num × (u16 (now store) (num * 1024) ≤ 1016) × (n ≤ 64 → NotesFit (now store) (now notes) n) ⌝ }
     ensures { λ r. ⌜ Joined (now (store .entry)) num (now (lo .entry)) (now (hi .entry)) (now (notes .entry)) n (now (notes .exit)) r ⌝ }
 {
@@ -367,70 +173,31 @@ pub fn count_leaf(
     notes::count_pairs(store, from, end, notes, n)
 }
 
-fn is_message(e: Entry) -> bool
-    ensures { λ r. ⌜ ((s : List ℕ) → r ≡ isMessage (entryIn s e)) ⌝ }
+// Where the children of a node stand: its own messages join the trail, and the notes where they can be on a key from lo up to hi.
+pub fn enter(
+    store: &[u8],
+    num: usize,
+    here: Position,
+    lo: &[u8],
+    hi: &[u8],
+    notes: &mut [usize],
+) -> Position
+    requires { ⌜ (here .trail .depth < 8)
+        × TrailIn (now store) (here .prefix .len) (here .trail)
+        × Above (now store) (here .prefix .len) num (here .prefix .len)
+        × (here .noted ≤ 64 → NotesFit (now store) (now notes) (here .noted)) ⌝ }
+    ensures { λ r. ⌜ (r .prefix ≡ here .prefix)
+        × Deeper (now (store .entry)) num (here .prefix .len) (here .trail) (r .trail)
+        × Joined (now (store .entry)) num (now (lo .entry)) (now (hi .entry)) (now (notes .entry)) (here .noted) (now (notes .exit)) (r .noted) ⌝ }
 {
-    match e {
-        Entry::Pair(_, _) => false,
-        Entry::Child(_, _) => false,
-        Entry::Message(_) => true,
+    let prefix = here.prefix;
+    let trail = visibility::lengthen_trail(store, here.trail, num, prefix.len);
+    let noted = note_own(store, num, lo, hi, notes, here.noted);
+    Position {
+        prefix,
+        trail,
+        noted,
     }
-}
-
-pub fn has_messages(store: &[u8], from: usize, end: usize) -> bool
-    requires { ⌜ end ≤ length (now store) ⌝ }
-    ensures { λ r. ⌜ r ≡ hasMessage (listed (now (store .entry)) from end) ⌝ }
-{
-    let mut c = Cursor { at: from, end };
-    while c.at < end {
-        let Step::Read(e, next) = c.step(store) else {
-            return false;
-        };
-        if is_message(e) {
-            return true;
-        }
-        c = next;
-    }
-    false
-}
-
-fn push(trail: Trail, num: usize, lift: usize) -> Trail
-    requires { ⌜ trail .depth < 8 ⌝ }
-    ensures { λ r. ⌜ r ≡ pushed trail num lift ⌝ }
-{
-    let d = trail.depth;
-    let mut t = trail;
-    t.nodes[d] = num;
-    t.lifts[d] = lift;
-    t.depth = d + 1;
-    t
-}
-
-// The trail for the children of a node: a node without messages is not added.
-pub fn lengthen_trail(store: &[u8], trail: Trail, num: usize, lift: usize) -> Trail
-    requires { ⌜ (trail .depth < 8) × TrailIn (now store) lift trail × Above (now store) lift num lift ⌝ }
-    ensures { λ r. ⌜ Deeper (now (store .entry)) num lift trail r ⌝ }
-{
-    let at = num * image::NODE_SIZE;
-    let len = octets::u16_at(store, at);
-    let from = at + image::ENTRIES_AT;
-    if !has_messages(store, from, from + len) {
-        return trail;
-    }
-    push(trail, num, lift)
-}
-
-pub fn read_child(store: &[u8], c: Cursor) -> Pending
-    requires { ⌜ c .end ≤ length (now store) ⌝ }
-    ensures { λ r. ⌜ Pends (now (store .entry)) (c .at) (c .end) r ⌝ }
-{
-    let Step::Read(e, next) = c.step(store) else {
-        return Pending::End;
-    };
-    let Branch::Of(k, p) = node::search::branch_of(e) else {
-        return Pending::End;
-    };
-    Pending::Child(k, p, next)
 }
 
 // How many entries under a node decide a path that passes the trail. The pivots lack what the parent lifts, which is the prefix; `above` has
@@ -458,7 +225,7 @@ pub fn count_node(store: &[u8], node: Visit, lo: &[u8], hi: &[u8], above: &[usiz
     }
     let here = path_buffer::extend(prefix, &lo[0..k]);
     let mut notes = [0usize; 64];
-    let position = Position {
+    let mut position = Position {
         prefix: here,
         trail,
         noted,
@@ -480,18 +247,13 @@ pub fn count_node(store: &[u8], node: Visit, lo: &[u8], hi: &[u8], above: &[usiz
         return count_leaf(store, from, end, here, trail, &notes, n);
     }
     let own = count_entries(store, from, end, here, trail);
-    let Pending::Child(first, low, rest) = read_child(store, Cursor { at: from, end }) else {
+    let Pending::Child(first, low, rest) = node::search::read_child(store, Cursor { at: from, end })
+    else {
         return own;
     };
-    let lift = here.len;
-    let deeper = lengthen_trail(store, trail, num, lift);
-    let m = note_own(store, num, &lo[k..], &hi[k..], &mut notes, n);
+    position.noted = n;
+    position = enter(store, num, position, &lo[k..], &hi[k..], &mut notes);
     let below = level - 1;
-    let position = Position {
-        prefix: here,
-        trail: deeper,
-        noted: m,
-    };
     let child = Visit {
         num: first,
         level: below,
@@ -529,7 +291,7 @@ pub fn count_children(store: &[u8], first: Visit, run: Run, hi: &[u8], notes: &[
             level,
             position,
         };
-        let Pending::Child(k, p, next) = read_child(store, c) else {
+        let Pending::Child(k, p, next) = node::search::read_child(store, c) else {
             let last = count_node(store, node, &store[a..b], hi, notes);
             return octets::capped_sum(total, last);
         };

@@ -457,3 +457,12 @@ module _ (s : List ℕ) (i level : ℕ) (u : usable (nodesOf (length s)) (treeAt
             let l : k ≡ lifts (part s low) hi = unfold lifts in ek in
             let b2 : fromHere (treeAt (level - 1) s c) (drop k hi) (drop k rest) ≡ fromHere (treeAt level s i) hi rest = rw (← l) at b in
             finds-as s _ _ r (ap₂ (λ a z. fromHere (treeAt (level - 1) s c) a z) (part-rest k hi) (part-rest k rest) ∙ b2) h
+
+-- the children of a node that can be read
+pub branches-usable : (s : List ℕ) (i level : ℕ) → usable (nodesOf (length s)) (treeAt level s i) ≡ true → 2 ≤ level
+    → usableIn (nodesOf (length s)) (forestOf (λ j. treeAt (level - 1) s j) (branchesAmong (listing s i))) ≡ true
+branches-usable s i level u l =
+    let n = interior-at s i level l u in
+    let p = inside-splits (n .es) (n .x) (n .splits) in
+    let b : branchesAmong (listing s i) ≡ n .x .branches = ap (λ es. branchesAmong es) (n .node .lists) ∙ p .branches in
+    ap (λ ks. usableIn (nodesOf (length s)) (forestOf (λ j. treeAt (level - 1) s j) ks)) b ∙ n .branches

@@ -21,7 +21,7 @@ use Rattle.image.specs.declared.Outcome.{Outcome}
 use Rattle.octets.specs.Order.{and-left, and-right}
 use Rattle.laws.specs.Rising.{both}
 use Rattle.laws.specs.Frame.{or-right}
-use Rattle.packed.specs.Form.Tidy.{zerosOf}
+use Rattle.laws.specs.Page.{zerosOf}
 use Rattle.laws.specs.Upkeep.Kept.{gains-none-empty}
 use Rattle.laws.specs.Upkeep.Healed.{place-test}
 use Rattle.rebuild.specs.Rebuild.{Rebuilt, cleared}

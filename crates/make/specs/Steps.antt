@@ -1,15 +1,16 @@
--- The bytes that make writes, one number after another, are those of `made-image`; and its two ways out meet the contract.
+-- Zeros with node 0 and an empty leaf written are `made-image`; and make's two ways out meet the contract.
 use Prim.Native.Nat.{ℕ, zero, suc, _+_, _*_, _-_, _/_, _≤_}
-use mathlib.Core.Path.{_≡_, refl, sym, ap, subst, _∙_}
-use mathlib.Core.List.{List, _∷_, _++_, append-nil}
+use mathlib.Core.Path.{_≡_, refl, sym, ap, ap₂, subst, _∙_}
+use mathlib.Core.List.{List, [], _∷_, _++_, append-nil}
 use mathlib.Core.Bool.{Bool, true, false}
 use native.Mathlib.Omega.{arith}
 use lib.ListN.{length, replicate, length-replicate, drop-of-length-le}
-use Rattle.image.specs.Bytes.{u16Bytes}
 use Rattle.image.specs.Image.{nodesOf, wholeNodes}
 use Rattle.image.specs.Calls.{firstNo}
 use Rattle.image.specs.Contract.{makeNo, Made, MakeMeets}
 use Rattle.octets.specs.Put.{put}
+use Rattle.laws.specs.Page.{page, headPage}
+use Rattle.laws.specs.WriteNode.{writeNode}
 use Rattle.laws.specs.Made.{made-image, head-bytes, leaf-bytes, made, made-length}
 use Rattle.node.specs.Whole.{Whole, whole-parts}
 use Rattle.image.specs.Answers.{outcomeNumber, refusalNumber}
@@ -28,24 +29,20 @@ apart : (v a b : ℕ) → replicate (a + b) v ≡ replicate a v ++ replicate b v
 apart v zero b = let z : 0 + b ≡ b = omega arith in ap (λ k. replicate k v) z
 apart v (suc a) b = let z : suc a + b ≡ suc (a + b) = omega arith in ap (λ k. replicate k v) z ∙ ap (λ l. v ∷ l) (apart v a b)
 
--- what make writes into zeros
-unfoldable written : List ℕ → ℕ → List ℕ
-written s n = put (put (put (put (put (put (put s 0 (u16Bytes 8)) 2 (u16Bytes 256)) 4 (u16Bytes n)) 6 (u16Bytes 1)) 8 (u16Bytes 1)) 1026 (u16Bytes 1)) 1028 (u16Bytes 1)
-
-written-is : (n : ℕ) → written (replicate 2048 0 ++ replicate (1024 * (n - 2)) 0) n ≡ made-image n
-unfolding written put made-image head-bytes leaf-bytes
+-- zeros, and two nodes written
+written-is : (n : ℕ) → writeNode (writeNode (replicate 2048 0 ++ replicate (1024 * (n - 2)) 0) 0 (headPage n 1 1 0)) 1 (page 1 1 []) ≡ made-image n
+unfolding writeNode headPage page made-image head-bytes leaf-bytes
 written-is n = refl
 
-pub writes-empty : (s s₀ s₁ s₂ s₃ s₄ s₅ s₆ s₇ : List ℕ) (n : ℕ) → length s ≡ 1024 * n → 2 ≤ n
-    → s₀ ≡ put s 0 (replicate (1024 * n) 0) → s₁ ≡ put s₀ 0 (u16Bytes 8) → s₂ ≡ put s₁ 2 (u16Bytes 256) → s₃ ≡ put s₂ 4 (u16Bytes n)
-    → s₄ ≡ put s₃ 6 (u16Bytes 1) → s₅ ≡ put s₄ 8 (u16Bytes 1) → s₆ ≡ put s₅ 1026 (u16Bytes 1) → s₇ ≡ put s₆ 1028 (u16Bytes 1)
-    → s₇ ≡ made-image n
-unfolding written
-writes-empty s s₀ s₁ s₂ s₃ s₄ s₅ s₆ s₇ n e h e₀ e₁ e₂ e₃ e₄ e₅ e₆ e₇ =
+pub writes-empty : (s s₀ s₁ s₂ : List ℕ) (n : ℕ) → length s ≡ 1024 * n → 2 ≤ n → s₀ ≡ put s 0 (replicate (1024 * n) 0)
+    → s₁ ≡ writeNode s₀ 0 (headPage (length s₀ / 1024) 1 1 0) → s₂ ≡ writeNode s₁ 1 (page 1 1 []) → s₂ ≡ made-image n
+writes-empty s s₀ s₁ s₂ n e h e₀ e₁ e₂ =
     let z : 1024 * n ≡ 2048 + 1024 * (n - 2) = omega arith in
-    let zeros : s₀ ≡ replicate 2048 0 ++ replicate (1024 * (n - 2)) 0 = e₀ ∙ filled s (1024 * n) e ∙ ap (λ k. replicate k 0) z ∙ apart 0 2048 (1024 * (n - 2)) in
-    let all : s₇ ≡ written s₀ n = rw (e₇, e₆, e₅, e₄, e₃, e₂, e₁) refl in
-    all ∙ ap (λ l. written l n) zeros ∙ written-is n
+    let all : s₀ ≡ replicate (1024 * n) 0 = e₀ ∙ filled s (1024 * n) e in
+    let zeros : s₀ ≡ replicate 2048 0 ++ replicate (1024 * (n - 2)) 0 = all ∙ ap (λ k. replicate k 0) z ∙ apart 0 2048 (1024 * (n - 2)) in
+    let long : length s₀ ≡ 1024 * n = ap length all ∙ length-replicate {A = ℕ} (1024 * n) 0 in
+    let count : length s₀ / 1024 ≡ n = omega arith in
+    e₂ ∙ ap (λ x. writeNode x 1 (page 1 1 [])) (e₁ ∙ ap₂ (λ x k. writeNode x 0 (headPage k 1 1 0)) zeros count) ∙ written-is n
 
 -- the two ways out
 pub make-refused : (s : List ℕ) (b : Bool) → b ≡ wholeNodes (length s) → b ≡ false → MakeMeets s (outcomeNumber (Outcome.Refused Refusal.Length)) s

@@ -9,20 +9,14 @@ ghost use Rattle.image.specs.Answers.{outcomeNumber};
 ghost use Rattle.image.specs.Contract.{MakeMeets};
 ghost use Rattle.laws.specs.Made.{made-image};
 
+// The empty store's three parts: zeros, node 0, and a leaf with no pairs as the root.
 fn write_empty(store: &mut [u8], n: usize)
     requires { ⌜ (length (now store) ≡ 1024 * n) × (2 ≤ n) × (n ≤ 1024) ⌝ }
     ensures { λ _. ⌜ now (store .exit) ≡ made-image n ⌝ }
 {
-    octets::fill_at(store, 0, 1024 * n, 0);
-    // node 0: its length and kind, then n, the root, the levels; no path is live
-    octets::put_u16(store, 0, 8);
-    octets::put_u16(store, image::KIND_AT, image::HEADER);
-    octets::put_u16(store, image::COUNT_AT, n);
-    octets::put_u16(store, image::ROOT_AT, 1);
-    octets::put_u16(store, image::LEVELS_AT, 1);
-    // node 1: a leaf, of level 1, with no entry
-    octets::put_u16(store, image::NODE_SIZE + image::KIND_AT, image::LEAF);
-    octets::put_u16(store, image::NODE_SIZE + image::LEVEL_AT, 1);
+    octets::fill_at(store, 0, image::NODE_SIZE * n, 0);
+    node::writer::write_header(store, 1, 1, 0);
+    node::writer::write_empty_leaf(store, 1);
 }
 
 pub fn make(store: &mut [u8]) -> Outcome

@@ -13,9 +13,8 @@ use Rattle.octets.specs.Order.{and-left, and-right}
 use Rattle.octets.specs.Put.{put, put-put}
 use Rattle.laws.specs.Encode.{bytesOf, bytesOfAll}
 use Rattle.laws.specs.WriteNode.{writeNode}
-use Rattle.laws.specs.Page.{page, page-length}
-use Rattle.packed.specs.Form.Tidy.{zerosOf}
-use Rattle.packed.specs.Pages.Nodes.{page-is, node-written}
+use Rattle.laws.specs.Page.{page, zerosOf}
+use Rattle.node.specs.Pages.{page-written}
 use Rattle.node.specs.Entries.{listed}
 use Rattle.node.specs.Places.{part, entryIn, messageIn}
 use Rattle.node.specs.declared.Place.{Place}
@@ -129,10 +128,7 @@ pub without-written : (s s′ p₁ : List ℕ) (n level e g : ℕ) (es : List de
 unfolding nodeWithout
 without-written s s′ p₁ n level e g es f a b d =
     let h : length (bytesOfAll (withoutChild g es)) ≤ 1016 = let w = without-fits g es in omega arith in
-    let z : e - 8 ≡ length (bytesOfAll (withoutChild g es)) = omega arith in
-    let t : put (put (put p₁ 0 (u16Bytes (e - 8))) 2 (u16Bytes 2)) 4 (u16Bytes level) ≡ page 2 level (bytesOfAll (withoutChild g es)) =
-    ap₂ (λ x y. put (put (put x 0 (u16Bytes y)) 2 (u16Bytes 2)) 4 (u16Bytes level)) a z ∙ page-is (bytesOfAll (withoutChild g es)) 2 level h in
-    node-written s (page 2 level (bytesOfAll (withoutChild g es))) n s′ (page-length 2 level (bytesOfAll (withoutChild g es)) h) (d ∙ ap (put s (n * 1024)) t)
+    page-written s s′ p₁ n 2 level e (bytesOfAll (withoutChild g es)) h a b d
 
 drop-over : (j : ℕ) (l : List ℕ) → length l ≤ j → drop j l ≡ []
 drop-over j l h = drop-of-length-le l {i = j} h
@@ -208,11 +204,7 @@ module _ (s : List ℕ) (a b : ℕ) (lo mid hi : List ℕ) (fits : pairFits s a 
       → s′ ≡ put s (a * 1024) (put (put (put p₂ 0 (u16Bytes (e - 8))) 2 (u16Bytes kind)) 4 (u16Bytes level)) → s′ ≡ leftWritten s a b lo mid hi
   unfolding leftWritten
   left-written kind level e p₂ s′ ek ev t₂ b₂ d =
-      let f = both-small in
-      let size : e - 8 ≡ length (bothEntries s a b lo mid hi) = omega arith in
-      let t₃ : put (put (put p₂ 0 (u16Bytes (e - 8))) 2 (u16Bytes kind)) 4 (u16Bytes level) ≡ page kind level (bothEntries s a b lo mid hi) =
-      ap₂ (λ x y. put (put (put x 0 (u16Bytes y)) 2 (u16Bytes kind)) 4 (u16Bytes level)) t₂ size ∙ page-is (bothEntries s a b lo mid hi) kind level f in
-      node-written s (page kind level (bothEntries s a b lo mid hi)) a s′ (page-length kind level (bothEntries s a b lo mid hi) f) (d ∙ ap (put s (a * 1024)) t₃)
+      page-written s s′ p₂ a kind level e (bothEntries s a b lo mid hi) both-small t₂ b₂ d
       ∙ ap₂ (λ k v. writeNode s a (page k v (bothEntries s a b lo mid hi))) ek ev
 
 pub small-as : (s : List ℕ) (i n : ℕ) → n ≡ u16 s (i * 1024) → smallEntries (listing s i) ≡ true → smallEntries (listed s (i * 1024 + 8) (i * 1024 + 8 + n)) ≡ true

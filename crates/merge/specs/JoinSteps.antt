@@ -58,13 +58,13 @@ module _ (n level : ℕ) (es : List defined.Entry) (hi s : List ℕ) where
       (sym (ap (λ l. firstJoined n level es l hi s) g), sym (ap (λ l. anyFits l hi s) g))
 
   -- the two in hand are a and b with the low pivots lo and mid; ks follow
-  module _ (a b : ℕ) (lo mid : List ℕ) (ks : List Branch) (s′ : List ℕ) (r : Bool) (X : List ℕ) (Y : Bool)
-      (inv : firstJoined n level es (branch a lo ∷ branch b mid ∷ ks) hi s ≡ X) (yes : anyFits (branch a lo ∷ branch b mid ∷ ks) hi s ≡ Y) where
+  module _ (a b : ℕ) (lo mid : List ℕ) (ks : List Branch) (s′ : List ℕ) (r : Bool) (result : List ℕ) (Y : Bool)
+      (inv : firstJoined n level es (branch a lo ∷ branch b mid ∷ ks) hi s ≡ result) (yes : anyFits (branch a lo ∷ branch b mid ∷ ks) hi s ≡ Y) where
     as-any : (x : Bool) → x ≡ cond x true false
     as-any true = refl
     as-any false = refl
 
-    pub first-last : ks ≡ [] → s′ ≡ joinedIf n level es a b lo mid hi s → r ≡ pairFits s a b lo mid hi → (s′ ≡ X) × (r ≡ Y)
+    pub first-last : ks ≡ [] → s′ ≡ joinedIf n level es a b lo mid hi s → r ≡ pairFits s a b lo mid hi → (s′ ≡ result) × (r ≡ Y)
     unfolding firstJoined anyFits joinedIf branchHigh
     first-last e f g = (
       f ∙ ap (λ l. firstJoined n level es (branch a lo ∷ branch b mid ∷ l) hi s) (sym e) ∙ inv,
@@ -72,13 +72,13 @@ module _ (n level : ℕ) (es : List defined.Entry) (hi s : List ℕ) where
     )
 
     module _ (k : ℕ) (p : List ℕ) (us : List Branch) (e : ks ≡ branch k p ∷ us) (f : s′ ≡ joinedIf n level es a b lo mid p s) (g : r ≡ pairFits s a b lo mid p) where
-      at-first : firstJoined n level es (branch a lo ∷ branch b mid ∷ branch k p ∷ us) hi s ≡ X
+      at-first : firstJoined n level es (branch a lo ∷ branch b mid ∷ branch k p ∷ us) hi s ≡ result
       at-first = ap (λ l. firstJoined n level es (branch a lo ∷ branch b mid ∷ l) hi s) (sym e) ∙ inv
 
       at-any : anyFits (branch a lo ∷ branch b mid ∷ branch k p ∷ us) hi s ≡ Y
       at-any = ap (λ l. anyFits (branch a lo ∷ branch b mid ∷ l) hi s) (sym e) ∙ yes
 
-      pub first-here : r ≡ true → (s′ ≡ X) × (true ≡ Y)
+      pub first-here : r ≡ true → (s′ ≡ result) × (true ≡ Y)
       unfolding firstJoined anyFits joinedIf branchHigh
       first-here h =
           let z : pairFits s a b lo mid p ≡ true = sym g ∙ h in (
@@ -87,7 +87,7 @@ module _ (n level : ℕ) (es : List defined.Entry) (hi s : List ℕ) where
             sym (ap (λ x. cond x true (anyFits (branch b mid ∷ branch k p ∷ us) hi s)) z) ∙ at-any,
           )
 
-      pub first-on : r ≡ false → (s′ ≡ s) × (firstJoined n level es (branch b mid ∷ branch k p ∷ us) hi s ≡ X) × (anyFits (branch b mid ∷ branch k p ∷ us) hi s ≡ Y)
+      pub first-on : r ≡ false → (s′ ≡ s) × (firstJoined n level es (branch b mid ∷ branch k p ∷ us) hi s ≡ result) × (anyFits (branch b mid ∷ branch k p ∷ us) hi s ≡ Y)
       unfolding firstJoined anyFits joinedIf branchHigh
       first-on h =
           let z : pairFits s a b lo mid p ≡ false = sym g ∙ h in (

@@ -16,7 +16,7 @@ use Rattle.octets.specs.Order.{not-true}
 use Rattle.octets.specs.Put.{put}
 use Rattle.laws.specs.RowsRising.{is-true}
 use Rattle.laws.specs.Encode.{bytesOfAll}
-use Rattle.packed.specs.Form.Tidy.{zerosOf}
+use Rattle.laws.specs.Page.{zerosOf}
 use Rattle.node.specs.Cut.{cut, cut-drop, cut-take, cut-length}
 use Rattle.node.specs.Entries.{listed, listOf}
 use Rattle.node.specs.Search.Own.{branchesAmong}
@@ -99,11 +99,11 @@ module _ (s₀ : List ℕ) (n : ℕ) (hi s s′ : List ℕ) (b : Bool) (m : Mend
 -- THE HIGH PIVOT
 module _ (s : List ℕ) (n : ℕ) (out : List ℕ) (r : Sought) (w : wholeNodes (length s) ≡ true) (e : sound s ≡ true) (i : isInterior (reachableAt n (reachableNodes s)) ≡ true)
     (h : Seen (highHere n (treeOf s) [] highest) r out) where
-  pub not-missing : (X : Type 0) → r ≡ Sought.Missing → X
-  not-missing X q = absurd (high-there s n e i (missing-is (highHere n (treeOf s) [] highest) r out h q))
+  pub not-missing : (Any : Type 0) → r ≡ Sought.Missing → Any
+  not-missing Any q = absurd (high-there s n e i (missing-is (highHere n (treeOf s) [] highest) r out h q))
 
-  pub not-long : (X : Type 0) (k : ℕ) → r ≡ Sought.Found k → 1024 < k → X
-  not-long X k q g =
+  pub not-long : (Any : Type 0) (k : ℕ) → r ≡ Sought.Found k → 1024 < k → Any
+  not-long Any k q g =
       let f = found-is (highHere n (treeOf s) [] highest) r k out h q in
       let z = f .held .size in
       let l = high-fits s n (f .high) (f .is) in

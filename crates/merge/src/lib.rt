@@ -4,8 +4,8 @@
 pub mod emit;
 pub mod weigh;
 
-use live::Pending;
 use node::Cursor;
+use node::search::Pending;
 use push::high::Sought;
 ghost use mathlib.Core.Path.{_≡_};
 ghost use mathlib.Core.Bool.{true};
@@ -125,7 +125,7 @@ fn join_first(store: &mut [u8], parent: Parent, node: &[u8], hi: &[u8]) -> bool
         (now (store .entry)))
         × (r ≡ anyFits (branchesAmong (listed (now (node .entry)) 8 (parent .stop))) (now (hi .entry)) (now (store .entry))) ⌝ }
 {
-    let Pending::Child(first, pivot, start) = live::read_child(
+    let Pending::Child(first, pivot, start) = node::search::read_child(
         node,
         Cursor {
             at: image::ENTRIES_AT,
@@ -134,7 +134,7 @@ fn join_first(store: &mut [u8], parent: Parent, node: &[u8], hi: &[u8]) -> bool
     ) else {
         return false;
     };
-    let Pending::Child(second, middle, then) = live::read_child(node, start) else {
+    let Pending::Child(second, middle, then) = node::search::read_child(node, start) else {
         return false;
     };
     let mut c = then;
@@ -148,7 +148,7 @@ fn join_first(store: &mut [u8], parent: Parent, node: &[u8], hi: &[u8]) -> bool
         let x = mid.start;
         let y = mid.stop;
         let pair = Neighbours { left, right };
-        let Pending::Child(k, p, next) = live::read_child(node, c) else {
+        let Pending::Child(k, p, next) = node::search::read_child(node, c) else {
             return join_fitting(store, parent, node, pair, &node[a..b], &node[x..y], hi);
         };
         let v = p.start;

@@ -7,6 +7,7 @@ use lib.ListN.{length}
 use lib.Dec.{leb, eqb}
 use borrow.Author.Tests.{eq-eqb, ne-eqb, lt-leb, le-leb, eqb-true, leb-true}
 use Rattle.octets.specs.Order.{and-left, and-right}
+use Rattle.image.specs.Bytes.{u16}
 use Rattle.image.specs.Image.{nodesOf, wholeNodes}
 
 pub ragged : (len : ℕ) → (1024 * (len / 1024) ≡ len → ⊥) → false ≡ wholeNodes len
@@ -40,3 +41,7 @@ whole-parts len e =
 -- node i lies in the store s
 abbrev pub HasNode : List ℕ → ℕ → Type 0
 HasNode s i = i * 1024 + 1024 ≤ length s
+
+-- and its entries do
+abbrev pub HasEntries : List ℕ → ℕ → Type 0
+HasEntries s i = HasNode s i × (u16 s (i * 1024) ≤ 1016)

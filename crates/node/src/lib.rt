@@ -23,6 +23,12 @@ pub fn whole_nodes(len: usize) -> bool
     n <= 1024
 }
 
+// The bytes of a path, or of the beginning of one, by value: the first len of them. A length over 64 says that there is none.
+pub struct PathBuffer {
+    pub bytes: [u8; 64],
+    pub len: usize,
+}
+
 // A part of a slice: from start up to, not including, stop.
 pub struct Place {
     pub start: usize,

@@ -1,4 +1,5 @@
-// What one node says of a path: its newest message on it, the pair of a leaf, the child that owns it; and the list of children.
+// What one node says of a path: its newest message on it, the pair of a leaf, the child that owns it; its children one by one; and whether it
+// holds messages.
 // Relies on the cursor; specs/Search joins each reader to the definitions.
 use crate::Cursor;
 use crate::Entry;
@@ -7,14 +8,16 @@ use crate::Place;
 use crate::Split;
 use crate::Step;
 ghost use mathlib.Core.Path.{_≡_};
-ghost use Prim.Native.Nat.{_≤_};
+ghost use Prim.Native.Nat.{ℕ, _≤_};
 ghost use lib.ListN.{length};
-ghost use mathlib.Core.List.{[], _∷_};
+ghost use mathlib.Core.List.{List, [], _∷_};
 ghost use Rattle.node.specs.Places.{EntryWithin, MessageWithin, Within, part, entryIn, messageIn};
 ghost use Rattle.image.specs.Meaning.{saysOf};
+ghost use Rattle.node.specs.Search.Child.{Pends};
 ghost use Rattle.node.specs.Search.Own.{branchIs, branch, branchesAmong, ownerOf, Owned};
 ghost use Rattle.node.specs.Entries.{listed};
 ghost use Rattle.node.specs.Search.Latest.{LatestIs, LatestFits, said, saidBy, entrySays, newestAmong, covers};
+ghost use Rattle.node.specs.Search.Messages.{isMessage, hasMessage};
 ghost use Rattle.node.specs.Search.Pairs.{Finds, findAmong, pairIs};
 ghost use Rattle.node.specs.Search.PairSteps.{Stands, PairStepped};
 
@@ -129,6 +132,34 @@ pub fn newest(s: &[u8], from: usize, end: usize, rest: &[u8]) -> Latest
     best
 }
 
+fn is_message(e: Entry) -> bool
+    ensures { λ r. ⌜ ((s : List ℕ) → r ≡ isMessage (entryIn s e)) ⌝ }
+{
+    match e {
+        Entry::Pair(_, _) => false,
+        Entry::Child(_, _) => false,
+        Entry::Message(_) => true,
+    }
+}
+
+// Whether any of the entries from a place up to another is a message.
+pub fn has_messages(store: &[u8], from: usize, end: usize) -> bool
+    requires { ⌜ end ≤ length (now store) ⌝ }
+    ensures { λ r. ⌜ r ≡ hasMessage (listed (now (store .entry)) from end) ⌝ }
+{
+    let mut c = Cursor { at: from, end };
+    while c.at < end {
+        let Step::Read(e, next) = c.step(store) else {
+            return false;
+        };
+        if is_message(e) {
+            return true;
+        }
+        c = next;
+    }
+    false
+}
+
 pub enum Found {
     Value(Place),
     Nothing,
@@ -177,6 +208,12 @@ pub enum Owner {
     Inner(usize, Place, Place),
     Last(usize, Place),
     Nobody,
+}
+
+// The children of a node from one on: the place of its low pivot, and the cursor past it.
+pub struct Run {
+    pub low: Place,
+    pub rest: Cursor,
 }
 
 pub enum Branch {
@@ -323,4 +360,24 @@ pub fn step_pair(s: &[u8], c: Cursor) -> PairStep
         return step_any(s, c);
     };
     PairStep::Read(p, v, next)
+}
+
+// The next child of an interior node, and the cursor after it.
+pub enum Pending {
+    Child(usize, Place, Cursor),
+    End,
+}
+
+// The child at a cursor, if there is one.
+pub fn read_child(store: &[u8], c: Cursor) -> Pending
+    requires { ⌜ c .end ≤ length (now store) ⌝ }
+    ensures { λ r. ⌜ Pends (now (store .entry)) (c .at) (c .end) r ⌝ }
+{
+    let Step::Read(e, next) = c.step(store) else {
+        return Pending::End;
+    };
+    let Branch::Of(k, p) = branch_of(e) else {
+        return Pending::End;
+    };
+    Pending::Child(k, p, next)
 }

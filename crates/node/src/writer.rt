@@ -1,13 +1,17 @@
-// The writer of the format: how an entry and the first bytes of a node's page are laid out is said here, and nowhere else.
-// An entry goes into a page of 1,024 bytes or straight into a store. Relies on octets; laws' Encode has the bytes, specs/Writer the steps.
+// The writer of the format: how an entry, the first bytes of a node's page and node 0 are laid out is said here, and nowhere else.
+// An entry goes into a page of 1,024 bytes or straight into a store. Relies on octets; laws' Encode and Page have the bytes, specs/Writer and
+// specs/Pages the steps.
 ghost use mathlib.Core.Path.{_≡_};
-ghost use mathlib.Core.List.{_++_};
-ghost use Prim.Native.Nat.{_+_, _*_, _<_, _≤_};
+ghost use mathlib.Core.List.{[], _++_};
+ghost use Prim.Native.Nat.{_+_, _*_, _/_, _<_, _≤_};
 ghost use lib.ListN.{length};
 ghost use Rattle.image.specs.Bytes.{u16Bytes};
 ghost use Rattle.image.specs.Entry.{pair, child};
 ghost use Rattle.laws.specs.Encode.{bytesOf, keyedEntry, shortEntry, headBytes};
+ghost use Rattle.laws.specs.Page.{page, headPage};
+ghost use Rattle.laws.specs.WriteNode.{writeNode};
 ghost use Rattle.octets.specs.Put.{put};
+ghost use Rattle.node.specs.Whole.{HasNode};
 
 // The first bytes of the entry of a pair, a put or a child: the length of its rest, its kind, and the number that its rest begins with.
 fn write_head(page: &mut [u8], at: usize, rest: usize, kind: usize, first: usize)
@@ -122,4 +126,32 @@ pub fn write_page(
     octets::put_u16(page, image::KIND_AT, kind);
     octets::put_u16(page, image::LEVEL_AT, level);
     octets::copy_at(store, num * image::NODE_SIZE, page);
+}
+
+// A leaf with no pairs.
+pub fn write_empty_leaf(store: &mut [u8], num: usize)
+    requires { ⌜ HasNode (now store) num × (length (now store) ≤ 2000000) ⌝ }
+    ensures { λ _. ⌜ now (store .exit) ≡ writeNode (now (store .entry)) num (page 1 1 []) ⌝ }
+{
+    let mut page = [0u8; 1024];
+    write_page(store, num, &mut page, image::LEAF, 1, 0);
+}
+
+// Node 0 of a store: how many nodes there are, the root, the levels, and how many paths are live.
+pub fn write_header(store: &mut [u8], root: usize, levels: usize, live: usize)
+    requires { ⌜ (1024 ≤ length (now store))
+        × (length (now store) ≤ 2000000)
+        × (root < 65536)
+        × (levels < 65536)
+        × (live < 65536) ⌝ }
+    ensures { λ _. ⌜ now (store .exit) ≡ writeNode (now (store .entry)) 0 (headPage (length (now (store .entry)) / 1024) root levels live) ⌝ }
+{
+    let mut page = [0u8; 1024];
+    octets::put_u16(&mut page, 0, 8);
+    octets::put_u16(&mut page, image::KIND_AT, image::HEADER);
+    octets::put_u16(&mut page, image::COUNT_AT, store.len() / image::NODE_SIZE);
+    octets::put_u16(&mut page, image::ROOT_AT, root);
+    octets::put_u16(&mut page, image::LEVELS_AT, levels);
+    octets::put_u16(&mut page, image::LIVE_AT, live);
+    octets::copy_at(store, 0, &page);
 }

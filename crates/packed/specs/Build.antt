@@ -8,7 +8,6 @@ pub mod Grow
 pub mod LeafSteps
 pub mod LevelSteps
 pub mod AboveSteps
-pub mod HeadSteps
 pub mod Built
 pub mod BuiltLaws
 pub mod BuildSteps

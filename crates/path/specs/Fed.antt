@@ -64,15 +64,15 @@ module _ (sh : Shape) (done here len b : ℕ) (e : sh ≡ Shape.Partway done her
       fed-on g h k w = rw (e, lt-ltb len 64 l, ne-eqb b 0 nz, le-leb 33 b g, le-leb b 126 h, ne-eqb b 47 k, lt-ltb here 16 w, add-one here, add-one len)
 
 -- the loop
-pub feed-step : (sh : defined.Shape) (s : List ℕ) (i : ℕ) (X : defined.Shape) (r : defined.Shape) → i < length s → r ≡ defined.fed sh (getD s i 0) → defined.feed sh (drop i s) ≡ X → defined.feed r (drop (i + 1) s) ≡ X
+pub feed-step : (sh : defined.Shape) (s : List ℕ) (i : ℕ) (answer : defined.Shape) (r : defined.Shape) → i < length s → r ≡ defined.fed sh (getD s i 0) → defined.feed sh (drop i s) ≡ answer → defined.feed r (drop (i + 1) s) ≡ answer
 unfolding defined.feed
-feed-step sh s i X r h e inv =
-    let w : defined.feed (defined.fed sh (getD s i 0)) (drop (suc i) s) ≡ X = rw (drop-cons s i 0 h) at inv in
+feed-step sh s i answer r h e inv =
+    let w : defined.feed (defined.fed sh (getD s i 0)) (drop (suc i) s) ≡ answer = rw (drop-cons s i 0 h) at inv in
     rw (add-one i, e) w
 
-pub feed-end : (sh : defined.Shape) (s : List ℕ) (i : ℕ) (X : defined.Shape) → length s ≤ i → defined.feed sh (drop i s) ≡ X → sh ≡ X
+pub feed-end : (sh : defined.Shape) (s : List ℕ) (i : ℕ) (answer : defined.Shape) → length s ≤ i → defined.feed sh (drop i s) ≡ answer → sh ≡ answer
 unfolding defined.feed
-feed-end sh s i X h inv = rw (drop-of-length-le s h) at inv
+feed-end sh s i answer h inv = rw (drop-of-length-le s h) at inv
 
 -- from no byte on it is the definition
 pub path-is : (r : Bool) (p : List ℕ) → r ≡ defined.goesOn (shapeIs (Shape.Partway 0 0 0)) p → r ≡ wellFormed p

@@ -4,12 +4,13 @@ use Prim.Native.Nat.{ℕ, _+_, _-_, _<_, _≤_}
 use mathlib.Core.Path.{_≡_, refl, sym, ap, _∙_}
 use mathlib.Core.List.{List, _∷_}
 use mathlib.Core.Bool.{Bool, true, false, _&&_}
+use mathlib.Core.Logic.{_⊎_, inl, inr}
 use native.Mathlib.Omega.{arith}
 use native.Mathlib.Numerals.{add-one}
 use lib.ListN.{length, drop, getD, drop-of-length-le}
 use lib.Seq.{drop-cons}
-use lib.Dec.{leb, eqb}
-use borrow.Author.Tests.{le-leb, lt-leb, eq-eqb, ne-eqb}
+use lib.Dec.{ltb, leb, eqb}
+use borrow.Author.Tests.{le-leb, lt-leb, eq-eqb, ne-eqb, ltb-true, ltb-false}
 use Rattle.image.specs.Path.{letter, readsOn, pathLimit}
 use Rattle.path.specs.Shape as defined
 use Rattle.path.specs.Fed.{shapeIs}
@@ -33,6 +34,11 @@ letter-low : (b : ℕ) → 33 ≤ b → b ≤ 47 → (b ≡ 47 → ⊥) → lett
 unfolding letter
 letter-low b h k d = rw (le-leb 33 b h, le-leb b 126 (omega arith), ne-eqb b 47 d)
 
+-- what is no letter past `/`: past the letters, or `/` at most
+pub no-letter : (b : ℕ) → (127 ≤ b) ⊎ (b ≤ 47) → 47 < b → 126 < b
+no-letter b (inl h) k = omega arith
+no-letter b (inr h) k = absurd (omega arith)
+
 -- the ways out of one byte
 module _ (done here b : ℕ) where
   bad : ((p : List ℕ) → readsOn done here (b ∷ p) ≡ false) → Reads done here b Reading.Bad
@@ -47,7 +53,7 @@ module _ (done here b : ℕ) where
         few = λ d h q. (let z : done ≡ d = cc in omega arith, let z : here + 1 ≡ h = cc in omega arith);
       }
 
-  pub byte-high : 126 < b → Reads done here b Reading.Bad
+  byte-high : 126 < b → Reads done here b Reading.Bad
   unfolding readsOn letter
   byte-high h = bad (λ p. rw (ne-eqb b 0 (λ e. omega arith), le-leb 33 b (omega arith), lt-leb b 126 h) refl)
 
@@ -74,38 +80,46 @@ module _ (done here b : ℕ) where
   unfolding readsOn letter
   byte-low nz h = bad (λ p. rw (ne-eqb b 0 nz, lt-leb 33 b h) refl)
 
-  pub byte-slash : b ≡ 47 → Reads done here b Reading.Bad
+  byte-slash : b ≡ 47 → Reads done here b Reading.Bad
   unfolding readsOn letter
   byte-slash e = bad (λ p. rw (ne-eqb b 0 (λ z. omega arith), le-leb 33 b (omega arith), le-leb b 126 (omega arith), eq-eqb b 47 e) refl)
+
+  -- past the signs before `/`, and no letter
+  pub byte-over : 46 < b → (47 < b → 126 < b) → Reads done here b Reading.Bad
+  byte-over h k = go (ltb 47 b) refl
+    where
+      go : (x : Bool) → ltb 47 b ≡ x → Reads done here b Reading.Bad
+      go true e = byte-high (k (ltb-true 47 b e))
+      go false e = byte-slash (let l = ltb-false 47 b e in omega arith)
 
   pub byte-sign : b ≤ 47 → 33 ≤ b → (b ≡ 47 → ⊥) → Reads done here b (Reading.At done (here + 1))
   byte-sign k h d = on (letter-low b h k d) (λ e. omega arith)
 
 -- the loop
-module _ (s : List ℕ) (i d h : ℕ) (X : Bool) (inside : i < length s) (inv : readsOn d h (drop i s) ≡ X) (r : Reading) (q : Reads d h (getD s i 0) r) where
+module _ (s : List ℕ) (i d h : ℕ) (answer : Bool) (inside : i < length s) (inv : readsOn d h (drop i s) ≡ answer) (r : Reading) (q : Reads d h (getD s i 0) r) where
   here-is : drop i s ≡ getD s i 0 ∷ drop (i + 1) s
   here-is = rw (add-one i, drop-cons s i 0 inside) refl
 
-  pub reads-bad : r ≡ Reading.Bad → false ≡ X
+  pub reads-bad : r ≡ Reading.Bad → false ≡ answer
   unfolding Left
   reads-bad e = let f : Left d h (getD s i 0) Reading.Bad (drop (i + 1) s) = rw e at (q .left (drop (i + 1) s)) in sym f ∙ sym (ap (readsOn d h) here-is) ∙ inv
 
-  pub reads-on : (x y : ℕ) → r ≡ Reading.At x y → readsOn x y (drop (i + 1) s) ≡ X
+  pub reads-on : (x y : ℕ) → r ≡ Reading.At x y → readsOn x y (drop (i + 1) s) ≡ answer
   unfolding Left
   reads-on x y e = let f : Left d h (getD s i 0) (Reading.At x y) (drop (i + 1) s) = rw e at (q .left (drop (i + 1) s)) in sym f ∙ sym (ap (readsOn d h) here-is) ∙ inv
 
-module _ (s : List ℕ) (i d h : ℕ) (X : Bool) (over : length s ≤ i) (inv : readsOn d h (drop i s) ≡ X) where
-  ended : leb 1 d && leb d 8 && eqb h 0 ≡ X
+module _ (s : List ℕ) (i d h : ℕ) (answer : Bool) (over : length s ≤ i) (inv : readsOn d h (drop i s) ≡ answer) where
+  ended : leb 1 d && leb d 8 && eqb h 0 ≡ answer
   unfolding readsOn
   ended = rw (drop-of-length-le s over) at inv
 
-  pub reads-none : d < 1 → false ≡ X
+  pub reads-none : d < 1 → false ≡ answer
   reads-none k = rw (lt-leb 1 d k) at ended
 
-  pub reads-many : 1 ≤ d → 8 < d → false ≡ X
+  pub reads-many : 1 ≤ d → 8 < d → false ≡ answer
   reads-many l k = rw (le-leb 1 d l, lt-leb d 8 k) at ended
 
-  pub reads-end : 1 ≤ d → d ≤ 8 → eqb h 0 ≡ X
+  pub reads-end : 1 ≤ d → d ≤ 8 → eqb h 0 ≡ answer
   reads-end l k = rw (le-leb 1 d l, le-leb d 8 k) at ended
 
 -- the whole: a length, and then the loop

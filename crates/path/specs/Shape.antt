@@ -110,10 +110,10 @@ open-reads done here len (b ∷ p) = reads-cons done here len b p (open-reads (s
 abbrev pub fresh : Shape
 fresh = partway 0 0 0
 
-pub shape-is : (P s : List ℕ) → goesOn (feed fresh P) s ≡ wellFormed (P ++ s)
+pub shape-is : (prefix s : List ℕ) → goesOn (feed fresh prefix) s ≡ wellFormed (prefix ++ s)
 unfolding goesOn wellFormed
-shape-is P s =
-    ap (λ x. closed x) (sym (feed-append fresh P s)) ∙ open-reads 0 0 0 (P ++ s) ∙ ap (λ n. leb n pathLimit && readsOn 0 0 (P ++ s)) (zero-plus (length (P ++ s)))
+shape-is prefix s =
+    ap (λ x. closed x) (sym (feed-append fresh prefix s)) ∙ open-reads 0 0 0 (prefix ++ s) ∙ ap (λ n. leb n pathLimit && readsOn 0 0 (prefix ++ s)) (zero-plus (length (prefix ++ s)))
   where
     zero-plus : (n : ℕ) → 0 + n ≡ n
     zero-plus n = omega arith

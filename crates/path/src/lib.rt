@@ -1,7 +1,7 @@
 // Whether bytes are a well-formed path: a small state machine that is fed slice by slice, so that a suffix can be judged after a prefix
 // that is not stored. specs/Shape.antt proves it equal to the definition of the paper.
 ghost use mathlib.Core.Path.{_≡_};
-ghost use Prim.Native.Nat.{_≤_};
+ghost use Prim.Native.Nat.{_<_, _≤_};
 ghost use lib.ListN.{length};
 ghost use Rattle.path.specs.Shape as defined;
 ghost use Rattle.path.specs.Fed.{shapeIs};
@@ -70,18 +70,11 @@ pub enum Reading {
     At(usize, usize),
 }
 
-// A byte after whole components and bytes of the next one. How long a component is, is asked at its end; most bytes are letters past `/`, and
-// are asked for first.
-fn read_byte(done: usize, here: usize, b: u8) -> Reading
-    requires { ⌜ (done ≤ 1000) × (here ≤ 1000) ⌝ }
+// A byte that is no letter past `/`: the end of a component, whose length is asked here, or a sign before `/`.
+fn read_sign(done: usize, here: usize, b: u8) -> Reading
+    requires { ⌜ (done ≤ 1000) × (here ≤ 1000) × (47 < b → 126 < b) ⌝ }
     ensures { λ r. ⌜ Reads done here b r ⌝ }
 {
-    if 47 < b {
-        if 126 < b {
-            return Reading::Bad;
-        }
-        return Reading::At(done, here + 1);
-    }
     if b == 0 {
         if here < 1 {
             return Reading::Bad;
@@ -94,10 +87,24 @@ fn read_byte(done: usize, here: usize, b: u8) -> Reading
     if b < 33 {
         return Reading::Bad;
     }
-    if b == 47 {
+    if 46 < b {
         return Reading::Bad;
     }
     Reading::At(done, here + 1)
+}
+
+// A byte after whole components and bytes of the next one. Most bytes are letters past `/`, and are asked for first: both their bounds fail to
+// the same place, so that LLVM makes one comparison of the two.
+fn read_byte(done: usize, here: usize, b: u8) -> Reading
+    requires { ⌜ (done ≤ 1000) × (here ≤ 1000) ⌝ }
+    ensures { λ r. ⌜ Reads done here b r ⌝ }
+{
+    if 47 < b {
+        if b < 127 {
+            return Reading::At(done, here + 1);
+        }
+    }
+    read_sign(done, here, b)
 }
 
 // Whether bytes that are few enough end a path, of which there are whole components and bytes of the next one.

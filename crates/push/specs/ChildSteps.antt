@@ -23,9 +23,9 @@ module _ (es : List Entry) (hi s s′ : List ℕ) (i : ℕ) (lo : List ℕ) (ks 
   unfolding branchHigh
   last-room e h = room-first es (branch i lo) [] hi s (ap (λ l. allHaveRoom es (branch i lo ∷ l) hi s) (sym e) ∙ h)
 
-  pub last-takes : (X : List ℕ) → ks ≡ [] → s′ ≡ childTakes es i lo hi s → eachTakes (childTakes es) (branch i lo ∷ ks) hi s ≡ X → s′ ≡ X
+  pub last-takes : (result : List ℕ) → ks ≡ [] → s′ ≡ childTakes es i lo hi s → eachTakes (childTakes es) (branch i lo ∷ ks) hi s ≡ result → s′ ≡ result
   unfolding eachTakes branchHigh
-  last-takes X e q inv = q ∙ ap (λ l. eachTakes (childTakes es) (branch i lo ∷ l) hi s) (sym e) ∙ inv
+  last-takes result e q inv = q ∙ ap (λ l. eachTakes (childTakes es) (branch i lo ∷ l) hi s) (sym e) ∙ inv
 
   module _ (k : ℕ) (p : List ℕ) (us : List Branch) (e : ks ≡ branch k p ∷ us) where
     all-room : allHaveRoom es (branch i lo ∷ ks) hi s ≡ true → allHaveRoom es (branch i lo ∷ branch k p ∷ us) hi s ≡ true
@@ -46,7 +46,7 @@ module _ (es : List Entry) (hi s s′ : List ℕ) (i : ℕ) (lo : List ℕ) (ks 
     unfolding branchHigh
     next-rooms o h q = ap (allHaveRoom es (branch k p ∷ us) hi) q ∙ rooms-on es (branch i lo) (branch k p ∷ us) hi s (apart o) (all-room h)
 
-    pub next-takes : (X : List ℕ) → s′ ≡ childTakes es i lo p s → eachTakes (childTakes es) (branch i lo ∷ ks) hi s ≡ X
-        → eachTakes (childTakes es) (branch k p ∷ us) hi s′ ≡ X
+    pub next-takes : (result : List ℕ) → s′ ≡ childTakes es i lo p s → eachTakes (childTakes es) (branch i lo ∷ ks) hi s ≡ result
+        → eachTakes (childTakes es) (branch k p ∷ us) hi s′ ≡ result
     unfolding eachTakes branchHigh
-    next-takes X q inv = ap (eachTakes (childTakes es) (branch k p ∷ us) hi) q ∙ ap (λ l. eachTakes (childTakes es) (branch i lo ∷ l) hi s) (sym e) ∙ inv
+    next-takes result q inv = ap (eachTakes (childTakes es) (branch k p ∷ us) hi) q ∙ ap (λ l. eachTakes (childTakes es) (branch i lo ∷ l) hi s) (sym e) ∙ inv

@@ -15,9 +15,8 @@ use Rattle.laws.specs.Encode.{bytesOf, bytesOfAll, keyedEntry, keyed-length, pa
 use Rattle.laws.specs.PushDown.{touches}
 use Rattle.laws.specs.RowsRising.{is-true}
 use Rattle.laws.specs.WriteNode.{writeNode}
-use Rattle.laws.specs.Page.{page, page-length}
-use Rattle.packed.specs.Form.Tidy.{zerosOf}
-use Rattle.packed.specs.Pages.Nodes.{page-is, node-written}
+use Rattle.laws.specs.Page.{page, zerosOf}
+use Rattle.node.specs.Pages.{page-written}
 use Rattle.laws.specs.Upkeep.Size.{bytes-append}
 use Rattle.node.specs.Cut.{cut}
 use Rattle.node.specs.Places.{part, messageIn, entryIn}
@@ -174,11 +173,7 @@ module _ (n : defined.Message) (i : ℕ) (s : List ℕ) (inside : i * 1024 + 102
       → s′ ≡ put s (i * 1024) (put (put (put p₁ 0 (u16Bytes (e - 8))) 2 (u16Bytes 1)) 4 (u16Bytes 1)) → s′ ≡ applied n i s
   unfolding applied
   leaf-written e p₁ s′ a b d =
-      let h = leaf-fits in
-      let z : e - 8 ≡ length (bytesOfAll (pairsAfter n L)) = omega arith in
-      let t : put (put (put p₁ 0 (u16Bytes (e - 8))) 2 (u16Bytes 1)) 4 (u16Bytes 1) ≡ page 1 1 (bytesOfAll (pairsAfter n L)) =
-      ap₂ (λ x y. put (put (put x 0 (u16Bytes y)) 2 (u16Bytes 1)) 4 (u16Bytes 1)) a z ∙ page-is (bytesOfAll (pairsAfter n L)) 1 1 h in
-      node-written s (page 1 1 (bytesOfAll (pairsAfter n L))) i s′ (page-length 1 1 (bytesOfAll (pairsAfter n L)) h) (d ∙ ap (put s (i * 1024)) t)
+      page-written s s′ p₁ i 1 1 e (bytesOfAll (pairsAfter n L)) leaf-fits a b d
       ∙ ap (λ l. writeNode s i (page 1 1 (bytesOfAll (pairsAfter n l)))) same-list
 
 -- ONE ENTRY OF THE NODE
@@ -207,9 +202,9 @@ module _ (s : List ℕ) (e : Entry) (i : ℕ) (lo hi store : List ℕ) where
         h ∙ ap (λ z. applied (loweredBy z (messageIn s m)) i store) ek ∙ sym (by-touch true (sym t ∙ is-true b n))
 
 -- ALL ENTRIES OF THE NODE
-pub all-taken : (es : List defined.Entry) (i : ℕ) (lo hi s X : List ℕ) → es ≡ [] → leafTakes es i lo hi s ≡ X → s ≡ X
+pub all-taken : (es : List defined.Entry) (i : ℕ) (lo hi s result : List ℕ) → es ≡ [] → leafTakes es i lo hi s ≡ result → s ≡ result
 unfolding leafTakes
-all-taken es i lo hi s X q inv = ap (λ l. leafTakes l i lo hi s) (sym q) ∙ inv
+all-taken es i lo hi s result q inv = ap (λ l. leafTakes l i lo hi s) (sym q) ∙ inv
 
 module _ (es ts : List defined.Entry) (e : defined.Entry) (q : es ≡ e ∷ ts) (i : ℕ) (lo hi s : List ℕ) (room : hasRoom es i lo hi s ≡ true) where
   room-here : hasRoom (e ∷ ts) i lo hi s ≡ true
@@ -225,9 +220,9 @@ module _ (es ts : List defined.Entry) (e : defined.Entry) (q : es ≡ e ∷ ts) 
   pub room-left : (s′ : List ℕ) → s′ ≡ leafTakesOne e i lo hi s → hasRoom ts i lo hi s′ ≡ true
   room-left s′ h = ap (hasRoom ts i lo hi) h ∙ one-taken e ts i lo hi s room-here .left
 
-  pub entry-taken : (s′ X : List ℕ) → s′ ≡ leafTakesOne e i lo hi s → leafTakes es i lo hi s ≡ X → leafTakes ts i lo hi s′ ≡ X
+  pub entry-taken : (s′ result : List ℕ) → s′ ≡ leafTakesOne e i lo hi s → leafTakes es i lo hi s ≡ result → leafTakes ts i lo hi s′ ≡ result
   unfolding leafTakes
-  entry-taken s′ X h inv = ap (leafTakes ts i lo hi) h ∙ ap (λ l. leafTakes l i lo hi s) (sym q) ∙ inv
+  entry-taken s′ result h inv = ap (leafTakes ts i lo hi) h ∙ ap (λ l. leafTakes l i lo hi s) (sym q) ∙ inv
 
 -- A CHILD OF EITHER KIND
 module _ (es : List defined.Entry) (i : ℕ) (lo hi s s′ : List ℕ) (kind : ℕ) (ek : kind ≡ u16 s (i * 1024 + 2)) where

@@ -16,14 +16,13 @@ use Rattle.image.specs.Contract.{hasChildren, isInterior}
 use Rattle.octets.specs.Order.{not-true}
 use Rattle.octets.specs.Put.{put}
 use Rattle.laws.specs.RowsRising.{is-true}
-use Rattle.laws.specs.Page.{page, page-length}
-use Rattle.packed.specs.Form.Tidy.{zerosOf, drop-zeros}
-use Rattle.packed.specs.Pages.Nodes.{page-is, node-written}
+use Rattle.laws.specs.Page.{zerosOf, drop-zeros}
+use Rattle.node.specs.Pages.{page-written}
 use Rattle.node.specs.Cut.{cut, cut-drop, cut-take, cut-length}
 use Rattle.node.specs.Entries.{listed, listOf}
 use Rattle.node.specs.Search.Own.{branchesAmong}
 use Rattle.lookup.specs.Look.{listing}
-use Rattle.live.specs.Walk.{isMessage, hasMessage}
+use Rattle.node.specs.Search.Messages.{isMessage, hasMessage}
 use Rattle.push.specs.Laws.Arriving.{waiting}
 use Rattle.push.specs.Laws.High.{highHere}
 use Rattle.push.specs.Laws.Written.{childTakes, eachTakes, allHaveRoom, branchNumbers, smallNumbers, childBytes, emptied}
@@ -39,11 +38,7 @@ use Rattle.push.specs.Outcome.{Outcome, Pushable}
 pub node-emptied : (s s′ p₁ : List ℕ) (n level e : ℕ) (ks : List Branch) → length (childBytes ks) ≤ 1016 → p₁ ≡ put (zerosOf 1024) 8 (childBytes ks) → e ≡ 8 + length (childBytes ks)
     → s′ ≡ put s (n * 1024) (put (put (put p₁ 0 (u16Bytes (e - 8))) 2 (u16Bytes 2)) 4 (u16Bytes level)) → s′ ≡ emptied s n level ks
 unfolding emptied
-node-emptied s s′ p₁ n level e ks h a b d =
-    let z : e - 8 ≡ length (childBytes ks) = omega arith in
-    let t : put (put (put p₁ 0 (u16Bytes (e - 8))) 2 (u16Bytes 2)) 4 (u16Bytes level) ≡ page 2 level (childBytes ks) =
-    ap₂ (λ x y. put (put (put x 0 (u16Bytes y)) 2 (u16Bytes 2)) 4 (u16Bytes level)) a z ∙ page-is (childBytes ks) 2 level h in
-    node-written s (page 2 level (childBytes ks)) n s′ (page-length 2 level (childBytes ks) h) (d ∙ ap (put s (n * 1024)) t)
+node-emptied s s′ p₁ n level e ks h a b d = page-written s s′ p₁ n 2 level e (childBytes ks) h a b d
 
 -- ANSWERS
 pub no-room : (s : List ℕ) (n : ℕ) → Outcome s n Pushed.NoRoom s

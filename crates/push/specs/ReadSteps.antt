@@ -126,17 +126,17 @@ pub brings-none : (es : List ℕ) → es ≡ [] → 0 ≡ length es
 brings-none es e = ap length (sym e)
 
 -- THE SUM OF WHAT ALL ENTRIES BRING
-module _ (lo hi : List ℕ) (es : List defined.Entry) (sum : ℕ) (X : Bool) (inv : leb (sum + length (broughtAll es lo hi)) 1016 ≡ X) where
-  pub fit-over : 1016 < sum → false ≡ X
+module _ (lo hi : List ℕ) (es : List defined.Entry) (sum : ℕ) (answer : Bool) (inv : leb (sum + length (broughtAll es lo hi)) 1016 ≡ answer) where
+  pub fit-over : 1016 < sum → false ≡ answer
   fit-over h = sym (lt-leb (sum + length (broughtAll es lo hi)) 1016 (omega arith)) ∙ inv
 
-  pub fit-end : es ≡ [] → leb sum 1016 ≡ X
+  pub fit-end : es ≡ [] → leb sum 1016 ≡ answer
   unfolding broughtAll
   fit-end e =
       let z : sum + length (broughtAll es lo hi) ≡ sum = ap (λ l. sum + length (broughtAll l lo hi)) e ∙ omega arith in
       ap (λ n. leb n 1016) (sym z) ∙ inv
 
-  pub fit-step : (e : defined.Entry) (ts : List defined.Entry) (r : ℕ) → es ≡ e ∷ ts → r ≡ length (brought e lo hi) → leb (sum + r + length (broughtAll ts lo hi)) 1016 ≡ X
+  pub fit-step : (e : defined.Entry) (ts : List defined.Entry) (r : ℕ) → es ≡ e ∷ ts → r ≡ length (brought e lo hi) → leb (sum + r + length (broughtAll ts lo hi)) 1016 ≡ answer
   unfolding broughtAll
   fit-step e ts r q g =
       let a : length (broughtAll es lo hi) ≡ length (brought e lo hi) + length (broughtAll ts lo hi)
@@ -154,13 +154,13 @@ pub room-is : (es : List defined.Entry) (i : ℕ) (lo hi s : List ℕ) (used : �
 unfolding hasRoom
 room-is es i lo hi s used b h u e = e ∙ ap (λ n. leb (n + length (broughtAll es lo hi)) 1016) u ∙ sym (ap (λ z. z && leb (u16 s (i * 1024) + length (broughtAll es lo hi)) 1016) (lt-ltb i (nodesOf (length s)) h))
 
-module _ (es : List defined.Entry) (hi s : List ℕ) (X : Bool) where
-  pub rooms-none : (ks : List Branch) → ks ≡ [] → allHaveRoom es ks hi s ≡ X → true ≡ X
+module _ (es : List defined.Entry) (hi s : List ℕ) (answer : Bool) where
+  pub rooms-none : (ks : List Branch) → ks ≡ [] → allHaveRoom es ks hi s ≡ answer → true ≡ answer
   unfolding allHaveRoom
   rooms-none ks e inv = ap (λ l. allHaveRoom es l hi s) (sym e) ∙ inv
 
-  module _ (i : ℕ) (lo : List ℕ) (ks : List Branch) (inv : allHaveRoom es (branch i lo ∷ ks) hi s ≡ X) (b : Bool) where
-    pub rooms-last : ks ≡ [] → b ≡ hasRoom es i lo hi s → b ≡ X
+  module _ (i : ℕ) (lo : List ℕ) (ks : List Branch) (inv : allHaveRoom es (branch i lo ∷ ks) hi s ≡ answer) (b : Bool) where
+    pub rooms-last : ks ≡ [] → b ≡ hasRoom es i lo hi s → b ≡ answer
     unfolding allHaveRoom branchHigh
     rooms-last e h = h ∙ and-nil (hasRoom es i lo hi s) ∙ ap (λ l. allHaveRoom es (branch i lo ∷ l) hi s) (sym e) ∙ inv
       where
@@ -168,12 +168,12 @@ module _ (es : List defined.Entry) (hi s : List ℕ) (X : Bool) where
         and-nil true = refl
         and-nil false = refl
 
-    pub rooms-no : (k : ℕ) (p : List ℕ) (us : List Branch) → ks ≡ branch k p ∷ us → b ≡ hasRoom es i lo p s → not b ≡ true → false ≡ X
+    pub rooms-no : (k : ℕ) (p : List ℕ) (us : List Branch) → ks ≡ branch k p ∷ us → b ≡ hasRoom es i lo p s → not b ≡ true → false ≡ answer
     unfolding allHaveRoom branchHigh
     rooms-no k p us e h n =
         ap (λ x. x && allHaveRoom es (branch k p ∷ us) hi s) (sym (not-true b n) ∙ h) ∙ ap (λ l. allHaveRoom es (branch i lo ∷ l) hi s) (sym e) ∙ inv
 
-    pub rooms-on : (k : ℕ) (p : List ℕ) (us : List Branch) → ks ≡ branch k p ∷ us → b ≡ hasRoom es i lo p s → not b ≡ false → allHaveRoom es (branch k p ∷ us) hi s ≡ X
+    pub rooms-on : (k : ℕ) (p : List ℕ) (us : List Branch) → ks ≡ branch k p ∷ us → b ≡ hasRoom es i lo p s → not b ≡ false → allHaveRoom es (branch k p ∷ us) hi s ≡ answer
     unfolding allHaveRoom branchHigh
     rooms-on k p us e h n =
         ap (λ x. x && allHaveRoom es (branch k p ∷ us) hi s) (sym (is-true b n) ∙ h) ∙ ap (λ l. allHaveRoom es (branch i lo ∷ l) hi s) (sym e) ∙ inv

@@ -19,9 +19,8 @@ use Rattle.node.specs.declared.Message.{Message}
 use Rattle.image.specs.Image.{Branch}
 use Rattle.octets.specs.Order.{and-left, and-right}
 use Rattle.laws.specs.WriteNode.{writeNode}
-use Rattle.laws.specs.Page.{page, page-length}
-use Rattle.packed.specs.Form.Tidy.{zerosOf}
-use Rattle.packed.specs.Pages.Nodes.{page-is, node-written}
+use Rattle.laws.specs.Page.{page, zerosOf}
+use Rattle.node.specs.Pages.{page-written}
 use Rattle.push.specs.Laws.Arriving.{loweredBy, brought, broughtAll}
 use Rattle.push.specs.Laws.Written.{bodyOf, lengthened, interiorTakes, hasRoom, childBytes, smallNumbers}
 use Rattle.push.specs.Laws.Only.{room-inside, room-fits}
@@ -130,9 +129,5 @@ module _ (es : List defined.Entry) (i : ℕ) (lo hi s : List ℕ) (room : hasRoo
       let t₂ : p₂ ≡ put (zerosOf 1024) 8 (bodyOf s i ++ broughtAll es lo hi) =
       b ∙ ap₂ (λ x y. put x y (broughtAll es lo hi)) (a ∙ ap (put (zerosOf 1024) 8) (sym whole)) at
       ∙ put-put (zerosOf 1024) 8 (bodyOf s i) (broughtAll es lo hi) (omega arith) in
-      let size : e - 8 ≡ length (bodyOf s i ++ broughtAll es lo hi) = omega arith in
-      let body : List ℕ = bodyOf s i ++ broughtAll es lo hi in
-      let t₃ : put (put (put p₂ 0 (u16Bytes (e - 8))) 2 (u16Bytes 2)) 4 (u16Bytes level) ≡ page 2 level (bodyOf s i ++ broughtAll es lo hi) =
-      ap₂ (λ x y. put (put (put x 0 (u16Bytes y)) 2 (u16Bytes 2)) 4 (u16Bytes level)) t₂ size ∙ page-is (bodyOf s i ++ broughtAll es lo hi) 2 level (omega arith) in
-      node-written s (page 2 level (bodyOf s i ++ broughtAll es lo hi)) i s′ (page-length 2 level (bodyOf s i ++ broughtAll es lo hi) (omega arith)) (d ∙ ap (put s (i * 1024)) t₃)
+      page-written s s′ p₂ i 2 level e (bodyOf s i ++ broughtAll es lo hi) (omega arith) t₂ (omega arith) d
       ∙ ap (λ v. writeNode s i (page 2 v (bodyOf s i ++ broughtAll es lo hi))) ev

@@ -1,8 +1,8 @@
 // The high pivot of an interior node without what the node lifts: only its parent knows it, so it is sought from the root down.
-// Relies on the readers of nodes (node, live) and on `usable` (laws/Reading); Laws/High says what is found.
-use live::Pending;
+// Relies on the readers of nodes (node) and on `usable` (laws/Reading); Laws/High says what is found.
 use node::Cursor;
 use node::Place;
+use node::search::Pending;
 ghost use mathlib.Core.Path.{_≡_};
 ghost use mathlib.Core.List.{_∷_, []};
 ghost use mathlib.Core.Bool.{true};
@@ -65,8 +65,10 @@ pub fn search_node(
     let len = octets::u16_at(store, at);
     let from = at + image::ENTRIES_AT;
     let end = from + len;
-    let Pending::Child(first, pivot, next) = live::read_child(store, Cursor { at: from, end })
-    else {
+    let Pending::Child(first, pivot, next) = node::search::read_child(
+        store,
+        Cursor { at: from, end },
+    ) else {
         return Sought::Missing;
     };
     let down = level - 1;
@@ -95,7 +97,7 @@ pub fn search_children(store: &[u8], run: Run, hi: &[u8], num: usize, out: &mut 
     loop {
         let a = low.start;
         let b = low.stop;
-        let Pending::Child(k, p, next) = live::read_child(store, c) else {
+        let Pending::Child(k, p, next) = node::search::read_child(store, c) else {
             return search_node(store, cur, run.level, &store[a..b], hi, num, out);
         };
         let x = p.start;

@@ -7,8 +7,8 @@ pub mod message;
 pub mod room;
 
 use high::Sought;
-use live::Pending;
 use node::Cursor;
+use node::search::Pending;
 use node::writer;
 ghost use mathlib.Core.Path.{_≡_};
 ghost use mathlib.Core.Bool.{true};
@@ -52,7 +52,7 @@ fn push_children(store: &mut [u8], node: &[u8], stop: usize, hi: &[u8])
         × (once (branchNumbers (branchesAmong (listed (now node) 8 stop))) ≡ true) ⌝ }
     ensures { λ _. ⌜ now (store .exit) ≡ eachTakes (childTakes (listed (now (node .entry)) 8 stop)) (branchesAmong (listed (now (node .entry)) 8 stop)) (now (hi .entry)) (now (store .entry)) ⌝ }
 {
-    let Pending::Child(first, pivot, start) = live::read_child(
+    let Pending::Child(first, pivot, start) = node::search::read_child(
         node,
         Cursor {
             at: image::ENTRIES_AT,
@@ -67,7 +67,7 @@ fn push_children(store: &mut [u8], node: &[u8], stop: usize, hi: &[u8])
     loop {
         let a = low.start;
         let b = low.stop;
-        let Pending::Child(k, p, next) = live::read_child(node, c) else {
+        let Pending::Child(k, p, next) = node::search::read_child(node, c) else {
             push_child(store, num, node, stop, &node[a..b], hi);
             return;
         };
@@ -95,7 +95,7 @@ fn emit_children(page: &mut [u8], at: usize, node: &[u8], stop: usize) -> usize
     };
     let mut to = at;
     loop {
-        let Pending::Child(k, p, next) = live::read_child(node, c) else {
+        let Pending::Child(k, p, next) = node::search::read_child(node, c) else {
             return to;
         };
         let a = p.start;
@@ -138,7 +138,7 @@ fn push_node(store: &mut [u8], num: usize, hi: &[u8]) -> Pushed
     let end = at + image::NODE_SIZE;
     let mut node = [0u8; 1024];
     octets::copy_at(&mut node, 0, &store[at..end]);
-    if !live::has_messages(&node, image::ENTRIES_AT, stop) {
+    if !node::search::has_messages(&node, image::ENTRIES_AT, stop) {
         return Pushed::Done;
     }
     if !room::all_fit(store, &node, stop, hi) {

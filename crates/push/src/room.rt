@@ -1,11 +1,11 @@
 // Whether all children of an interior node have room for its messages: which of them touch a child, and how many bytes they take there.
-// Only reads. Relies on the readers of nodes (node, live) and on octets; specs/Laws says what a message brings and what room is.
-use live::Pending;
+// Only reads. Relies on the readers of nodes (node) and on octets; specs/Laws says what a message brings and what room is.
 use node::Cursor;
 use node::Entry;
 use node::Message;
 use node::Place;
 use node::Step;
+use node::search::Pending;
 ghost use mathlib.Core.Path.{_≡_};
 ghost use mathlib.Core.List.{List};
 ghost use Prim.Native.Nat.{ℕ, _+_, _<_, _≤_};
@@ -141,7 +141,7 @@ pub fn all_fit(store: &[u8], node: &[u8], stop: usize, hi: &[u8]) -> bool
     requires { ⌜ (stop ≤ length (now node)) × (length (now node) ≤ 1024) ⌝ }
     ensures { λ r. ⌜ r ≡ allHaveRoom (listed (now (node .entry)) 8 stop) (branchesAmong (listed (now (node .entry)) 8 stop)) (now (hi .entry)) (now (store .entry)) ⌝ }
 {
-    let Pending::Child(first, pivot, start) = live::read_child(
+    let Pending::Child(first, pivot, start) = node::search::read_child(
         node,
         Cursor {
             at: image::ENTRIES_AT,
@@ -156,7 +156,7 @@ pub fn all_fit(store: &[u8], node: &[u8], stop: usize, hi: &[u8]) -> bool
     loop {
         let a = low.start;
         let b = low.stop;
-        let Pending::Child(k, p, next) = live::read_child(node, c) else {
+        let Pending::Child(k, p, next) = node::search::read_child(node, c) else {
             return child_fits(store, num, node, stop, &node[a..b], hi);
         };
         let x = p.start;

@@ -18,7 +18,7 @@ use Rattle.node.specs.declared.Place.{Place}
 use Rattle.node.specs.Places.{Within, part}
 use Rattle.node.specs.declared.search.Found.{Found}
 use Rattle.node.specs.Search.Pairs.{Finds, foundIn, FoundFits}
-use Rattle.seek.specs.declared.PathBuffer.{PathBuffer}
+use Rattle.node.specs.declared.PathBuffer.{PathBuffer}
 use Rattle.seek.specs.Buffer.{bufferIs}
 use Rattle.seek.specs.Callers.{next-none, next-some}
 use Rattle.query.specs.Asked.{pathsFit, bufferLimit}

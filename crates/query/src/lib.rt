@@ -1,10 +1,9 @@
 // get, next and same: the calls that read a store. Each asks the paper's questions in order and refuses at the first no; a refusal changes
 // no byte. get_fit and next_fit are the parts from question 3 on, for a store that is known to be sound.
-// Relies on: soundness (question 2), path (question 3), lookup and seek for what is found.
+// Relies on: soundness (question 2), path (question 3), lookup and seek for what is found, inclusion for same.
 use image::Found;
 use image::Refusal;
 use image::Sameness;
-use seek::PathBuffer;
 ghost use mathlib.Core.Path.{_≡_};
 ghost use mathlib.Core.Bool.{true};
 ghost use mathlib.Core.List.{[]};
@@ -15,9 +14,7 @@ ghost use Rattle.image.specs.Calls.{asks, get, next};
 ghost use Rattle.image.specs.Sound.{sound, tableOf};
 ghost use Rattle.image.specs.Contract.{Meets, sameKeys, SameMeets};
 ghost use Rattle.image.specs.Answers.{foundAnswer, samenessNumber, samenessVerdict};
-ghost use Rattle.seek.specs.Buffer.{bufferIs};
 ghost use Rattle.query.specs.Asked.{pathsFit, foundLength};
-ghost use Rattle.query.specs.SamePaths.{sameHeld};
 
 // get, on a store that is fit.
 pub fn get_fit(store: &[u8], path: &[u8], buffer: &mut [u8]) -> Found
@@ -104,42 +101,17 @@ pub fn next(store: &[u8], path: &[u8], after: &[u8], buffer: &mut [u8]) -> Found
     next_fit(store, path, after, buffer)
 }
 
-// Whether two buffers hold the same path, or neither holds one.
-fn same_held(p: PathBuffer, q: PathBuffer) -> bool
-    ensures { λ r. ⌜ r ≡ sameHeld (bufferIs p) (bufferIs q) ⌝ }
-{
-    let first = p.len;
-    let second = q.len;
-    if image::PATH_LIMIT < first {
-        return image::PATH_LIMIT < second;
-    }
-    if image::PATH_LIMIT < second {
-        return false;
-    }
-    let a = p.bytes;
-    let b = q.bytes;
-    octets::equal(&a[0..first], &b[0..second])
-}
-
-// Whether two sound stores hold the same paths: each turn takes the next path of both after the last one that they share.
+// Whether two sound stores hold the same paths: as many, and each path of the one is in the other.
 fn same_paths(store: &[u8], other: &[u8]) -> bool
     requires { ⌜ (sound (now store) ≡ true) × (sound (now other) ≡ true) ⌝ }
     ensures { λ r. ⌜ r ≡ sameKeys (tableOf (now (store .entry))) (tableOf (now (other .entry))) ⌝ }
 {
-    let mut last = [0u8; 64];
-    let mut size = 0;
-    loop {
-        let p = seek::next_path(store, &store[0..0], &last[0..size]);
-        let q = seek::next_path(other, &other[0..0], &last[0..size]);
-        if !same_held(p, q) {
-            return false;
-        }
-        size = p.len;
-        if image::PATH_LIMIT < size {
-            return true;
-        }
-        last = p.bytes;
+    let live = octets::u16_at(store, image::LIVE_AT);
+    let others = octets::u16_at(other, image::LIVE_AT);
+    if live != others {
+        return false;
     }
+    inclusion::is_included(store, other)
 }
 
 // Whether two stores hold the same paths.

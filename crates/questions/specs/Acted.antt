@@ -14,7 +14,7 @@ use Rattle.image.specs.Contract.{firstNoOn, Besides, Meets}
 use Rattle.image.specs.Answers.{refusalNumber, outcomeAnswer}
 use Rattle.image.specs.declared.Refusal.{Refusal}
 use Rattle.image.specs.declared.Outcome.{Outcome}
-use Rattle.packed.specs.Form.Tidy.{zerosOf}
+use Rattle.laws.specs.Page.{zerosOf}
 use Rattle.node.specs.Whole.{whole-parts}
 use Rattle.rebuild.specs.Rebuild.{cleared}
 use Rattle.questions.specs.Callers.{Lent, act-meets, act-refused}

@@ -15,7 +15,8 @@ use Rattle.octets.specs.Order.{and-left}
 use Rattle.node.specs.Whole.{whole-parts}
 use Rattle.packed.specs.Form.Packed.{packed, numbersFrom}
 use Rattle.packed.specs.Form.Stored.{held-header}
-use Rattle.packed.specs.Form.Tidy.{imageOf, built-packs, built-holds, zerosOf}
+use Rattle.packed.specs.Form.Tidy.{imageOf, built-packs, built-holds}
+use Rattle.laws.specs.Page.{zerosOf}
 use Rattle.packed.specs.Rows.Area.{rowsOf}
 use Rattle.packed.specs.Rows.Steps.{rows-length}
 use Rattle.packed.specs.Build.Handed.{handed}

@@ -14,7 +14,7 @@ use Rattle.image.specs.Answers.{outcomeAnswer}
 use Rattle.image.specs.declared.Refusal.{Refusal}
 use Rattle.image.specs.declared.Outcome.{Outcome}
 use Rattle.laws.specs.ButLive.{soundButLive}
-use Rattle.packed.specs.Form.Tidy.{zerosOf}
+use Rattle.laws.specs.Page.{zerosOf}
 use Rattle.packed.specs.Build.Handed.{handed}
 use Rattle.rebuild.specs.Rebuild.{cleared}
 use Rattle.tree_check.specs.Whole.{Marks}

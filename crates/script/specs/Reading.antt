@@ -13,7 +13,7 @@ use Rattle.image.specs.Sound.{isIn}
 use Rattle.image.specs.Program.{slash, exchanged, pathOf, digitOf, behind, bytesOf, valueOf, hyphen, hexText, valueText}
 use Rattle.script.specs.Find.{upTo, in-found, in-none}
 use Rattle.script.specs.Writing.{Wrote, set-next, hex-length, exchanged-length}
-use Rattle.script.specs.declared.Value.{Value}
+use Rattle.script.specs.declared.reading.Value.{Value}
 
 -- the first r bytes of a buffer
 pub record Front (bytes : List ℕ) (r : ℕ) (buffer : List ℕ) : Type 0 where

@@ -18,7 +18,7 @@ use Rattle.image.specs.declared.Refusal.{Refusal}
 use Rattle.image.specs.declared.Outcome.{Outcome}
 use Rattle.image.specs.declared.Found.{Found}
 use Rattle.query.specs.Asked.{foundLength}
-use Rattle.script.specs.declared.Value.{Value}
+use Rattle.script.specs.declared.reading.Value.{Value}
 use Rattle.image.specs.Program.{acting, getting, listing, putting, pathOf, valueOf, wordAlone, wordAndPath, wordAndTwo, badText, okText, decimal, refusedText, answerText, hexText, valueText, valueBuffer, exchanged, pathText, rowText, rowsText, putWord, dropWord, clearWord, getWord, listWord, moveWord, settleWord, tidyWord}
 use Rattle.script.specs.Writing.{Wrote, wrote-on, wrote-as, exchanged-length}
 use Rattle.script.specs.Reading.{Front, Parsed, valueRead, readLength, empty-text, some-text, text-short}

@@ -6,7 +6,7 @@ use mathlib.Core.Bool.{cond}
 use mathlib.Core.Option.{Option, none, some}
 use lib.ListN.{length, take}
 use lib.Dec.{leb}
-use Rattle.seek.specs.declared.PathBuffer.{PathBuffer}
+use Rattle.node.specs.declared.PathBuffer.{PathBuffer}
 
 -- the longest path that a buffer holds: as long as the longest well-formed path
 abbrev pub room : ℕ

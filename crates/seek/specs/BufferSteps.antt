@@ -11,7 +11,7 @@ use lib.ListN.{length, take, drop, getD, set, length-append, length-drop, drop-o
 use lib.Seq.{length-take-le, drop-cons, take-suc-set}
 use lib.Dec.{leb}
 use borrow.Author.Tests.{leb-true, leb-false, le-leb, lt-leb}
-use Rattle.seek.specs.declared.PathBuffer.{PathBuffer}
+use Rattle.node.specs.declared.PathBuffer.{PathBuffer}
 use Rattle.seek.specs.Buffer.{room, fitted, bufferIs, appended}
 
 pub held : (p : PathBuffer) → p .len ≤ 64 → bufferIs p ≡ some (take (p .len) (p .bytes))

@@ -5,6 +5,7 @@ pub mod Tests
 pub mod Walk
 pub mod Suffixes
 pub mod Present
+pub mod Candidates
 pub mod WalkLaws
 pub mod Steps
 pub mod NodeSteps

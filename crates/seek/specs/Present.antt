@@ -27,7 +27,7 @@ use Rattle.seek.specs.Walk.{isPresent, walkIn, NodeReady, unfit, isSough
 use Rattle.laws.specs.Follow.{formed-length}
 
 -- a path that stands among paths that all pass a test passes it
-key-passes : (test : List ℕ → Bool) (k : List ℕ) (ks : List (List ℕ)) → isKey k ks ≡ true → every test ks ≡ true → test k ≡ true
+pub key-passes : (test : List ℕ → Bool) (k : List ℕ) (ks : List (List ℕ)) → isKey k ks ≡ true → every test ks ≡ true → test k ≡ true
 unfolding isKey every
 key-passes test k [] h e = absurd (false≢true h)
 key-passes test k (m ∷ ks) h e = go (same k m) refl (λ g. key-passes test k ks g (and-right (test m) _ e))
@@ -37,7 +37,7 @@ key-passes test k (m ∷ ks) h e = go (same k m) refl (λ g. key-passes test k k
     go false a ih = ih (rw a at h)
 
 -- what is present by lookup is in the table
-present-is : (s : List ℕ) → sound s ≡ true → (k : List ℕ) → isPresent s k ≡ present k (tableOf s)
+pub present-is : (s : List ℕ) → sound s ≡ true → (k : List ℕ) → isPresent s k ≡ present k (tableOf s)
 unfolding isPresent present
 present-is s e k = ap (λ o. isSome o) (means-table s e k)
 
@@ -74,23 +74,23 @@ module _ (s : List ℕ) (root levels : ℕ) (e : sound s ≡ true) (a : root ≡
         tree = ap (λ t. soundTree t lowest highest) (root-is s root levels e a b) ∙ starts s e .tree;
       }
 
-  pub root-walk : (sh : Shape) (P Q : List ℕ) → walkIn s sh P Q none (under [] (keysHere (treeAt levels s root) highest)) ≡ leastAfter P Q (keep (unfit sh P) (tableOf s))
+  pub root-walk : (sh : Shape) (below since : List ℕ) → walkIn s sh below since none (under [] (keysHere (treeAt levels s root) highest)) ≡ leastAfter below since (keep (unfit sh below) (tableOf s))
   unfolding walkIn isSought tableOf
-  root-walk sh P Q =
-      ap (λ t. walk (λ k. unfit sh P k && isPresent s k) P Q none (under [] (keysHere t highest))) (root-is s root levels e a b)
-      ∙ walk-same (λ k. unfit sh P k && isPresent s k) (λ k. unfit sh P k && present k (rows (treeOf s) lowest highest)) P Q
-      (λ k. ap (λ x. unfit sh P k && x) (present-is s e k)) none (under [] (keysHere (treeOf s) highest))
-      ∙ next-here (unfit sh P) P Q (treeOf s) highest (starts s e .tree)
+  root-walk sh below since =
+      ap (λ t. walk (λ k. unfit sh below k && isPresent s k) below since none (under [] (keysHere t highest))) (root-is s root levels e a b)
+      ∙ walk-same (λ k. unfit sh below k && isPresent s k) (λ k. unfit sh below k && present k (rows (treeOf s) lowest highest)) below since
+      (λ k. ap (λ x. unfit sh below k && x) (present-is s e k)) none (under [] (keysHere (treeOf s) highest))
+      ∙ next-here (unfit sh below) below since (treeOf s) highest (starts s e .tree)
 
 -- every path is unfit for the dead shape
-dead-unfit : (P k : List ℕ) → unfit dead P k ≡ true
+dead-unfit : (below k : List ℕ) → unfit dead below k ≡ true
 unfolding unfit goesOn
-dead-unfit P k = rw (feed-dead (drop (length P) k))
+dead-unfit below k = rw (feed-dead (drop (length below) k))
 
-pub dead-keeps : (P : List ℕ) (t : List Row) → keep (unfit dead P) t ≡ t
+pub dead-keeps : (below : List ℕ) (t : List Row) → keep (unfit dead below) t ≡ t
 unfolding keep
-dead-keeps P [] = refl
-dead-keeps P (r ∷ t) = rw (dead-unfit P (r .key)) (ap (λ l. r ∷ l) (dead-keeps P t))
+dead-keeps below [] = refl
+dead-keeps below (r ∷ t) = rw (dead-unfit below (r .key)) (ap (λ l. r ∷ l) (dead-keeps below t))
 
 -- what the least path is: present, below p, greater than q
 least-fits : (p q : List ℕ) (t : List Row) (k : List ℕ) → rising t ≡ true → leastAfter p q t ≡ some k → Fits p q t k

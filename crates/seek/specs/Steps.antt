@@ -4,7 +4,7 @@ use Prim.Native.Nat.{ℕ, _+_, _-_, _<_, _≤_}
 use mathlib.Core.Path.{_≡_, refl, sym, ap, subst, _∙_}
 use mathlib.Core.List.{List, [], _∷_, _++_}
 use mathlib.Core.Bool.{Bool, true, false, _&&_, not}
-use mathlib.Core.Option.{Option, none, some}
+use mathlib.Core.Option.{Option, some}
 use native.Mathlib.Omega.{arith}
 use lib.ListN.{length, take, drop, length-append}
 use borrow.Author.Tests.{not-true, not-false}
@@ -23,7 +23,7 @@ use Rattle.node.specs.declared.Message.{Message}
 use Rattle.node.specs.declared.Entry.{Entry}
 use Rattle.node.specs.declared.search.Found.{Found}
 use Rattle.node.specs.Search.Pairs.{foundIn, Finds}
-use Rattle.seek.specs.declared.PathBuffer.{PathBuffer}
+use Rattle.node.specs.declared.PathBuffer.{PathBuffer}
 use Rattle.seek.specs.declared.Suffix.{Suffix}
 use Rattle.seek.specs.Buffer.{bufferIs, fitted}
 use Rattle.seek.specs.BufferSteps.{held, fitted-held, fitted-not}
@@ -34,60 +34,57 @@ use Rattle.seek.specs.WalkLaws.{walk-nothing, walk-one, walk-more}
 use Rattle.octets.specs.Put.{front-is}
 
 -- 1. One path.
--- it begins with P, if it is wanted
-pub wanted-long : (P Q a b : List ℕ) (best : Option (List ℕ)) (w : Bool) → w ≡ wanted P Q best (a ++ b) → not w ≡ false → length P ≤ length a + length b
+-- it begins with `below`, if it is wanted
+pub wanted-long : (below after a b : List ℕ) (best : Option (List ℕ)) (w : Bool) → w ≡ wanted below after best (a ++ b) → not w ≡ false → length below ≤ length a + length b
 unfolding wanted
-wanted-long P Q a b best w e h =
-    let f : begins P (a ++ b) && before Q (a ++ b) && better best (a ++ b) ≡ true = sym e ∙ not-false w h in
-    let l = begins-length P (a ++ b) (and-left (begins P (a ++ b)) (before Q (a ++ b)) (and-left _ _ f)) in
+wanted-long below after a b best w e h =
+    let f : begins below (a ++ b) && before after (a ++ b) && better best (a ++ b) ≡ true = sym e ∙ not-false w h in
+    let l = begins-length below (a ++ b) (and-left (begins below (a ++ b)) (before after (a ++ b)) (and-left _ _ f)) in
     let n = length-append a b in
     omega arith
 
-module _ (s : List ℕ) (sh : Shape) (P Q k : List ℕ) (best : Option (List ℕ)) where
-  not-there : isPresent s k ≡ false → best ≡ tryIn s sh P Q best k
-  unfolding tryIn try isSought
-  not-there h = rw (h, and-false (unfit sh P k), and-false (wanted P Q best k))
+-- what the lookup of a path that was joined finds
+module _ (s k : List ℕ) (full : PathBuffer) (j : bufferIs full ≡ fitted k) (fit : full .len ≤ 64) (f : Found) (v : Finds s (valueIn s (take (full .len - 0) (drop 0 (full .bytes)))) f) where
+  value-there : foundIn s f ≡ valueIn s k
+  value-there = v .meant ∙ ap (λ x. valueIn s x) (front-is (full .len) (full .bytes) ∙ fitted-held full k j fit)
 
-  module _ (w : Bool) (ew : w ≡ wanted P Q best k) where
-    pub try-unwanted : not w ≡ true → best ≡ tryIn s sh P Q best k
+  pub nothing-present : f ≡ Found.Nothing → isPresent s k ≡ false
+  unfolding isPresent isSome foundIn
+  nothing-present h = ap (λ o. isSome o) (sym value-there ∙ ap (foundIn s) h)
+
+  pub value-present : (p : Place) → f ≡ Found.Value p → isPresent s k ≡ true
+  unfolding isPresent isSome foundIn
+  value-present p h = ap (λ o. isSome o) (sym value-there ∙ ap (foundIn s) h)
+
+module _ (s : List ℕ) (sh : Shape) (below after k : List ℕ) (best : Option (List ℕ)) where
+  not-there : isPresent s k ≡ false → best ≡ tryIn s sh below after best k
+  unfolding tryIn try isSought
+  not-there h = rw (h, and-false (unfit sh below k), and-false (wanted below after best k))
+
+  module _ (w : Bool) (ew : w ≡ wanted below after best k) where
+    pub try-unwanted : not w ≡ true → best ≡ tryIn s sh below after best k
     unfolding tryIn try
     try-unwanted h = rw (sym ew ∙ not-true w h)
 
     module _ (yes : not w ≡ false) where
-      module _ (u : Bool) (eu : u ≡ unfit sh P k) where
-        pub try-fit : not u ≡ true → best ≡ tryIn s sh P Q best k
+      module _ (u : Bool) (eu : u ≡ unfit sh below k) where
+        pub try-fit : not u ≡ true → best ≡ tryIn s sh below after best k
         unfolding tryIn try isSought
-        try-fit h = rw (sym eu ∙ not-true u h, and-false (wanted P Q best k))
+        try-fit h = rw (sym eu ∙ not-true u h, and-false (wanted below after best k))
 
         module _ (e : sound s ≡ true) (apart : not u ≡ false) (full : PathBuffer) (j : bufferIs full ≡ fitted k) where
-          pub try-long : 64 < full .len → best ≡ tryIn s sh P Q best k
+          pub try-long : 64 < full .len → best ≡ tryIn s sh below after best k
           try-long h = not-there (too-long s k e (fitted-not full k j h))
 
           module _ (fit : full .len ≤ 64) (f : Found) (v : Finds s (valueIn s (take (full .len - 0) (drop 0 (full .bytes)))) f) where
-            value-there : foundIn s f ≡ valueIn s k
-            value-there = v .meant ∙ ap (λ x. valueIn s x) (front-is (full .len) (full .bytes) ∙ fitted-held full k j fit)
+            pub try-absent : f ≡ Found.Nothing → best ≡ tryIn s sh below after best k
+            try-absent h = not-there (nothing-present s k full j fit f v h)
 
-            pub try-absent : f ≡ Found.Nothing → best ≡ tryIn s sh P Q best k
-            unfolding isPresent
-            try-absent h = not-there (ap (λ o. isSome o) (sym value-there ∙ nothing h) ∙ is-none)
-              where
-                nothing : f ≡ Found.Nothing → foundIn s f ≡ none
-                nothing h = unfold foundIn in rw h
-
-                is-none : isSome none ≡ false
-                is-none = unfold isSome in refl
-
-            pub try-found : (p : Place) → f ≡ Found.Value p → bufferIs full ≡ tryIn s sh P Q best k
-            unfolding tryIn try isSought isPresent
+            pub try-found : (p : Place) → f ≡ Found.Value p → bufferIs full ≡ tryIn s sh below after best k
+            unfolding tryIn try isSought
             try-found p h =
                 held full fit ∙ ap (λ x. some x) (fitted-held full k j fit)
-                ∙ rw (sym ew ∙ not-false w yes, sym eu ∙ not-false u apart, sym value-there ∙ value h, is-some (part s p))
-              where
-                value : f ≡ Found.Value p → foundIn s f ≡ some (part s p)
-                value h = unfold foundIn in rw h
-
-                is-some : (x : List ℕ) → isSome (some x) ≡ true
-                is-some x = unfold isSome in refl
+                ∙ rw (sym ew ∙ not-false w yes, sym eu ∙ not-false u apart, value-present s k full j fit f v p h)
 
 -- 2. The suffix of an entry.
 pub put-at : (m : Message) (p v : Place) → m ≡ Message.Put p v → Suffix.At p ≡ putIs m
@@ -114,7 +111,7 @@ pub message-put : (e : Entry) (m : Message) (r : Suffix) → e ≡ Entry.Message
 unfolding suffixIs
 message-put e m r h f = f ∙ rw h
 
-at-path : (s : List ℕ) (e : Entry) (p : Place) → suffixIs e ≡ Suffix.At p → pathOf (entryIn s e) ≡ part s p ∷ []
+pub at-path : (s : List ℕ) (e : Entry) (p : Place) → suffixIs e ≡ Suffix.At p → pathOf (entryIn s e) ≡ part s p ∷ []
 unfolding suffixIs putIs pathOf
 at-path s (Entry.Pair q v) p h = let z : q ≡ p = cc in rw z
 at-path s (Entry.Child i q) p h = let z : _≡_ {A = ℕ} 0 1 = cc in absurd (omega arith)
@@ -122,7 +119,7 @@ at-path s (Entry.Message (Message.Put q v)) p h = let z : q ≡ p = cc in rw z
 at-path s (Entry.Message (Message.Drop q)) p h = let z : _≡_ {A = ℕ} 0 1 = cc in absurd (omega arith)
 at-path s (Entry.Message (Message.Clear q)) p h = let z : _≡_ {A = ℕ} 0 1 = cc in absurd (omega arith)
 
-other-path : (s : List ℕ) (e : Entry) → suffixIs e ≡ Suffix.Other → pathOf (entryIn s e) ≡ []
+pub other-path : (s : List ℕ) (e : Entry) → suffixIs e ≡ Suffix.Other → pathOf (entryIn s e) ≡ []
 unfolding suffixIs putIs pathOf
 other-path s (Entry.Pair q v) h = let z : _≡_ {A = ℕ} 0 1 = cc in absurd (omega arith)
 other-path s (Entry.Child i q) h = refl
@@ -139,23 +136,23 @@ suffix-place a b (Entry.Message (Message.Drop q)) p h w = let z : _≡_ {A = ℕ
 suffix-place a b (Entry.Message (Message.Clear q)) p h w = let z : _≡_ {A = ℕ} 0 1 = cc in absurd (omega arith)
 
 -- 3. One entry, and the loop over entries: the walk over what is left of them is R.
-module _ (s : List ℕ) (sh : Shape) (P Q X : List ℕ) (best : Option (List ℕ)) where
-  pub entry-tried : (e : Entry) (p : Place) (r : Option (List ℕ)) → suffixIs e ≡ Suffix.At p → r ≡ tryIn s sh P Q best (X ++ part s p)
-      → r ≡ walkIn s sh P Q best (under X (pathOf (entryIn s e)))
-  entry-tried e p r h f = f ∙ walk-one s sh P Q best X (part s p) ∙ ap (λ ks. walkIn s sh P Q best (under X ks)) (sym (at-path s e p h))
+module _ (s : List ℕ) (sh : Shape) (below after prefix : List ℕ) (best : Option (List ℕ)) where
+  pub entry-tried : (e : Entry) (p : Place) (r : Option (List ℕ)) → suffixIs e ≡ Suffix.At p → r ≡ tryIn s sh below after best (prefix ++ part s p)
+      → r ≡ walkIn s sh below after best (under prefix (pathOf (entryIn s e)))
+  entry-tried e p r h f = f ∙ walk-one s sh below after best prefix (part s p) ∙ ap (λ ks. walkIn s sh below after best (under prefix ks)) (sym (at-path s e p h))
 
-  pub entry-other : (e : Entry) → suffixIs e ≡ Suffix.Other → best ≡ walkIn s sh P Q best (under X (pathOf (entryIn s e)))
-  entry-other e h = walk-nothing s sh P Q best X ∙ ap (λ ks. walkIn s sh P Q best (under X ks)) (sym (other-path s e h))
+  pub entry-other : (e : Entry) → suffixIs e ≡ Suffix.Other → best ≡ walkIn s sh below after best (under prefix (pathOf (entryIn s e)))
+  entry-other e h = walk-nothing s sh below after best prefix ∙ ap (λ ks. walkIn s sh below after best (under prefix ks)) (sym (other-path s e h))
 
-  module _ (es : List defined.Entry) (R : Option (List ℕ)) (inv : walkIn s sh P Q best (under X (pathsOf es)) ≡ R) where
-    pub entries-step : (e : Entry) (ts : List defined.Entry) (r : Option (List ℕ)) → es ≡ entryIn s e ∷ ts → r ≡ walkIn s sh P Q best (under X (pathOf (entryIn s e)))
-        → walkIn s sh P Q r (under X (pathsOf ts)) ≡ R
+  module _ (es : List defined.Entry) (R : Option (List ℕ)) (inv : walkIn s sh below after best (under prefix (pathsOf es)) ≡ R) where
+    pub entries-step : (e : Entry) (ts : List defined.Entry) (r : Option (List ℕ)) → es ≡ entryIn s e ∷ ts → r ≡ walkIn s sh below after best (under prefix (pathOf (entryIn s e)))
+        → walkIn s sh below after r (under prefix (pathsOf ts)) ≡ R
     unfolding pathsOf
     entries-step e ts r q f =
-        ap (λ b. walkIn s sh P Q b (under X (pathsOf ts))) f
-        ∙ sym (walk-more s sh P Q best X (pathOf (entryIn s e)) (pathsOf ts))
-        ∙ ap (λ l. walkIn s sh P Q best (under X (pathsOf l))) (sym q) ∙ inv
+        ap (λ b. walkIn s sh below after b (under prefix (pathsOf ts))) f
+        ∙ sym (walk-more s sh below after best prefix (pathOf (entryIn s e)) (pathsOf ts))
+        ∙ ap (λ l. walkIn s sh below after best (under prefix (pathsOf l))) (sym q) ∙ inv
 
     pub entries-end : es ≡ [] → best ≡ R
     unfolding pathsOf
-    entries-end q = walk-nothing s sh P Q best X ∙ ap (λ l. walkIn s sh P Q best (under X (pathsOf l))) (sym q) ∙ inv
+    entries-end q = walk-nothing s sh below after best prefix ∙ ap (λ l. walkIn s sh below after best (under prefix (pathsOf l))) (sym q) ∙ inv

@@ -20,20 +20,20 @@ use Rattle.laws.specs.Reading.SeekHere.{under, keysHere, keysBranches}
 unfoldable pub isPresent : List ℕ → List ℕ → Bool
 isPresent s k = isSome (valueIn s k)
 
--- what follows the bytes of P does not go on from a shape; from the dead shape nothing does
+-- what follows the bytes of `below` does not go on from a shape; from the dead shape nothing does
 unfoldable pub unfit : Shape → List ℕ → List ℕ → Bool
-unfit sh P k = not (goesOn sh (drop (length P) k))
+unfit sh below k = not (goesOn sh (drop (length below) k))
 
 -- a path is unfit, and present in the image
 unfoldable pub isSought : List ℕ → Shape → List ℕ → List ℕ → Bool
-isSought s sh P k = unfit sh P k && isPresent s k
+isSought s sh below k = unfit sh below k && isPresent s k
 
--- one path tried, and the walk over a list of paths, both from the best so far: below P, after Q, unfit for the shape
+-- one path tried, and the walk over a list of paths, both from the best so far: below `below`, after `after`, unfit for the shape
 unfoldable pub tryIn : List ℕ → Shape → List ℕ → List ℕ → Option (List ℕ) → List ℕ → Option (List ℕ)
-tryIn s sh P Q best k = try (isSought s sh P) P Q best k
+tryIn s sh below after best k = try (isSought s sh below) below after best k
 
 unfoldable pub walkIn : List ℕ → Shape → List ℕ → List ℕ → Option (List ℕ) → List (List ℕ) → Option (List ℕ)
-walkIn s sh P Q best ks = walk (isSought s sh P) P Q best ks
+walkIn s sh below after best ks = walk (isSought s sh below) below after best ks
 
 -- the path that an entry may hold a value for: of a pair and of a put
 unfoldable pub pathOf : Entry → List (List ℕ)
@@ -54,21 +54,21 @@ childPaths level s num low high = under (shared low high) (keysHere (treeAt leve
 unfoldable pub runPaths : ℕ → List ℕ → List ℕ → List Branch → List Entry → List (List ℕ)
 runPaths level s hi ks es = keysBranches (forestOf (λ j. treeAt level s j) ks) hi ++ pathsOf es
 
--- A child under the prefix X with the pivots low and high, without X.
-pub record ChildReady (s X low high : List ℕ) (level num : ℕ) : Type 0 where
+-- A child under the prefix `prefix` with the pivots low and high, without `prefix`.
+pub record ChildReady (s prefix low high : List ℕ) (level num : ℕ) : Type 0 where
   pub whole : sound s ≡ true
   pub usable : usable (nodesOf (length s)) (treeAt level s num) ≡ true
-  pub tree : soundTree (treeAt level s num) (X ++ low) (X ++ high) ≡ true
+  pub tree : soundTree (treeAt level s num) (prefix ++ low) (prefix ++ high) ≡ true
 
--- A node that lifts X, with the high pivot hi without X. Its low pivot is not needed to read it, only to know that it is sound.
-pub record NodeReady (s X hi : List ℕ) (level num : ℕ) : Type 0 where
+-- A node that lifts `prefix`, with the high pivot hi without `prefix`. Its low pivot is not needed to read it, only to know that it is sound.
+pub record NodeReady (s prefix hi : List ℕ) (level num : ℕ) : Type 0 where
   pub whole : sound s ≡ true
   pub usable : usable (nodesOf (length s)) (treeAt level s num) ≡ true
   pub lo : List ℕ
   pub apart : shared lo hi ≡ []
-  pub tree : soundTree (treeAt level s num) (X ++ lo) (X ++ hi) ≡ true
+  pub tree : soundTree (treeAt level s num) (prefix ++ lo) (prefix ++ hi) ≡ true
 
 -- each of these children, the last of which ends at hi
 unfoldable pub BranchesReady : List ℕ → ℕ → List ℕ → List ℕ → List Branch → Type 0
-BranchesReady s level X hi [] = Unit
-BranchesReady s level X hi (k ∷ ks) = ChildReady s X (k .pivot) (branchHigh hi ks) level (k .number) × BranchesReady s level X hi ks
+BranchesReady s level prefix hi [] = Unit
+BranchesReady s level prefix hi (k ∷ ks) = ChildReady s prefix (k .pivot) (branchHigh hi ks) level (k .number) × BranchesReady s level prefix hi ks

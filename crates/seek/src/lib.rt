@@ -4,10 +4,12 @@
 use node::Cursor;
 use node::Entry;
 use node::Message;
+use node::PathBuffer;
 use node::Place;
 use node::Step;
 use node::search::Branch;
 use node::search::Found;
+use node::search::Run;
 use path::Shape;
 ghost use mathlib.Core.Path.{_≡_};
 ghost use mathlib.Core.Bool.{true};
@@ -30,13 +32,7 @@ ghost use Rattle.seek.specs.Buffer.{bufferIs, fitted, appended};
 ghost use Rattle.seek.specs.Walk.{unfit, tryIn, walkIn, pathOf, pathsOf, childPaths, runPaths, ChildReady, NodeReady, BranchesReady};
 ghost use Rattle.seek.specs.Suffixes.{suffixIs, putIs};
 
-// A path by value: the first len bytes, or none where len is over 64.
-pub struct PathBuffer {
-    pub bytes: [u8; 64],
-    pub len: usize,
-}
-
-// The path with the bytes of s after it; none where they do not fit.
+// The path with the bytes of s after it; none, with a length over 64, where they do not fit.
 pub fn extend(p: PathBuffer, s: &[u8]) -> PathBuffer
     ensures { λ r. ⌜ bufferIs r ≡ appended (bufferIs p) (now (s .entry)) ⌝ }
 {
@@ -255,12 +251,6 @@ pub struct Visit {
     pub level: usize,
     pub shape: Shape,
     pub best: PathBuffer,
-}
-
-// The children of a node from one on: the place of its low pivot, and the cursor past it.
-pub struct Run {
-    pub low: Place,
-    pub rest: Cursor,
 }
 
 // The pairs and puts among the entries from the cursor on, each tried.

@@ -10,14 +10,13 @@ use Rattle.image.specs.Image.{end, tree}
 use Rattle.octets.specs.Put.{put, put-nil}
 use Rattle.laws.specs.Encode.{bytesOf, bytesOfAll, child-size}
 use Rattle.laws.specs.Pieces.{lower, node}
-use Rattle.laws.specs.Page.{page, pairEntries, childEntries}
+use Rattle.laws.specs.Page.{page, pairEntries, childEntries, zerosOf}
 use Rattle.laws.specs.WriteNode.{writeNode}
-use Rattle.packed.specs.Form.Tidy.{zerosOf}
 use Rattle.slice.specs.Slicing.SliceWrite.{pageOf}
 use Rattle.slice.specs.Slicing.Tail.{gapOf}
 use Rattle.slice.specs.Moving.GapWrite.{gapWrite, gap-number}
 use Rattle.slice.specs.Point.{freshIn}
-use Rattle.slice.specs.PairSteps.{page-written}
+use Rattle.node.specs.Pages.{page-written}
 
 pub record GapAsks (s : List ℕ) (level : ℕ) (lo : List ℕ) (at : ℕ) (free : List ℕ) : Type 0 where
   pub some : 1 ≤ level

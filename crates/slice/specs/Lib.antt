@@ -11,5 +11,6 @@ pub mod GapSteps
 pub mod Right
 pub mod RightLaws
 pub mod PieceSteps
+pub mod RightPieces
 pub mod RightSteps
 pub mod Callers

@@ -1,20 +1,14 @@
 -- Step lemmas of a leaf's part: which entries are written, one after the other, and the page. Relies on push's step lemmas of writers.
-use Prim.Native.Nat.{ℕ, _+_, _-_, _*_, _≤_}
-use mathlib.Core.Path.{_≡_, refl, sym, ap, ap₂, _∙_}
+use Prim.Native.Nat.{ℕ}
+use mathlib.Core.Path.{_≡_, refl, sym, ap, _∙_}
 use mathlib.Core.List.{List, [], _∷_, _++_, append-nil}
 use mathlib.Core.Bool.{Bool, true, false, not, cond}
-use native.Mathlib.Omega.{arith}
-use lib.ListN.{length, drop}
-use Rattle.image.specs.Bytes.{u16Bytes, before}
+use lib.ListN.{drop}
+use Rattle.image.specs.Bytes.{before}
 use Rattle.image.specs.Entry as defined
 use Rattle.octets.specs.Order.{not-true}
-use Rattle.octets.specs.Put.{put}
 use Rattle.laws.specs.Encode.{bytesOf, keyedEntry, pair-entry}
 use Rattle.laws.specs.RowsRising.{is-true}
-use Rattle.laws.specs.WriteNode.{writeNode}
-use Rattle.laws.specs.Page.{page, page-length}
-use Rattle.packed.specs.Form.Tidy.{zerosOf}
-use Rattle.packed.specs.Pages.Nodes.{page-is, node-written}
 use Rattle.node.specs.Cut.{cut}
 use Rattle.node.specs.Places.{part, entryIn}
 use Rattle.node.specs.declared.Place.{Place}
@@ -77,12 +71,3 @@ side-cons left k d es ts e q = ap (sideLine left k d) q ∙ side-split left k d 
 pub side-none : (left : Bool) (k : List ℕ) (d : ℕ) (es : List defined.Entry) → es ≡ [] → sideLine left k d es ≡ []
 unfolding sideLine
 side-none left k d es q = ap (sideLine left k d) q
-
--- A PAGE WRITTEN
-pub page-written : (s s′ p : List ℕ) (n kind level e : ℕ) (body : List ℕ) → length body ≤ 1016 → p ≡ put (zerosOf 1024) 8 body → e ≡ 8 + length body
-    → s′ ≡ put s (n * 1024) (put (put (put p 0 (u16Bytes (e - 8))) 2 (u16Bytes kind)) 4 (u16Bytes level)) → s′ ≡ writeNode s n (page kind level body)
-page-written s s′ p n kind level e body h a b c =
-    let z : e - 8 ≡ length body = omega arith in
-    let t : put (put (put p 0 (u16Bytes (e - 8))) 2 (u16Bytes kind)) 4 (u16Bytes level) ≡ page kind level body =
-    ap₂ (λ x y. put (put (put x 0 (u16Bytes y)) 2 (u16Bytes kind)) 4 (u16Bytes level)) a z ∙ page-is body kind level h in
-    node-written s (page kind level body) n s′ (page-length kind level body h) (c ∙ ap (put s (n * 1024)) t)

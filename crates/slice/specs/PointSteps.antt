@@ -15,20 +15,20 @@ use Rattle.node.specs.Search.Own.{branch}
 use Rattle.slice.specs.declared.Cut.{Cut}
 use Rattle.slice.specs.Point.{Point, within, between, nowhere, pointOf, pointIn, CutFits, CutAs}
 
-module _ (s hi : List ℕ) (X : Point) where
-  inner-as : (n i : ℕ) (p q : Place) → within n i (part s p) (part s q) ≡ X → Within 0 (length s) p → Within 0 (length s) q → CutAs s hi X (Cut.Inner n i p q)
+module _ (s hi : List ℕ) (answer : Point) where
+  inner-as : (n i : ℕ) (p q : Place) → within n i (part s p) (part s q) ≡ answer → Within 0 (length s) p → Within 0 (length s) q → CutAs s hi answer (Cut.Inner n i p q)
   unfolding pointIn CutFits
   inner-as n i p q e a b = record { meant = e; fits = (a, b) }
 
-  last-as : (n i : ℕ) (p : Place) → within n i (part s p) hi ≡ X → Within 0 (length s) p → CutAs s hi X (Cut.Last n i p)
+  last-as : (n i : ℕ) (p : Place) → within n i (part s p) hi ≡ answer → Within 0 (length s) p → CutAs s hi answer (Cut.Last n i p)
   unfolding pointIn CutFits
   last-as n i p e a = record { meant = e; fits = a }
 
-  between-as : (n : ℕ) (p : Place) → between n (part s p) ≡ X → Within 0 (length s) p → CutAs s hi X (Cut.Between n p)
+  between-as : (n : ℕ) (p : Place) → between n (part s p) ≡ answer → Within 0 (length s) p → CutAs s hi answer (Cut.Between n p)
   unfolding pointIn CutFits
   between-as n p e a = record { meant = e; fits = a }
 
-  nowhere-as : (n : ℕ) → nowhere n ≡ X → CutAs s hi X (Cut.Nowhere n)
+  nowhere-as : (n : ℕ) → nowhere n ≡ answer → CutAs s hi answer (Cut.Nowhere n)
   unfolding pointIn CutFits
   nowhere-as n e = record { meant = e; fits = tt }
 
@@ -59,24 +59,24 @@ module _ (s hi k : List ℕ) (n i : ℕ) (low : Place) (b : Bool) (t : b ≡ bef
     last-between f = between-as s hi _ n low (sym (by-tests hi k n (branch i (part s low)) [] true false (sym t ∙ is-true b e) (sym t′ ∙ f))) w
 
 -- each child in front of others
-module _ (s hi k : List ℕ) (X : Point) (n i : ℕ) (low : Place) (ks : List Branch) (inv : pointOf n (branch i (part s low) ∷ ks) hi k ≡ X) where
-  pub point-last : (r : Cut) → ks ≡ [] → CutAs s hi (pointOf n (branch i (part s low) ∷ []) hi k) r → CutAs s hi X r
+module _ (s hi k : List ℕ) (answer : Point) (n i : ℕ) (low : Place) (ks : List Branch) (inv : pointOf n (branch i (part s low) ∷ ks) hi k ≡ answer) where
+  pub point-last : (r : Cut) → ks ≡ [] → CutAs s hi (pointOf n (branch i (part s low) ∷ []) hi k) r → CutAs s hi answer r
   point-last r e h = subst (λ x. CutAs s hi x r) (ap (λ l. pointOf n (branch i (part s low) ∷ l) hi k) (sym e) ∙ inv) h
 
   module _ (j : ℕ) (p : Place) (us : List Branch) (e : ks ≡ branch j (part s p) ∷ us) (b : Bool) (t : b ≡ before k (part s p)) where
-    here : pointOf n (branch i (part s low) ∷ (branch j (part s p) ∷ us)) hi k ≡ X
+    here : pointOf n (branch i (part s low) ∷ (branch j (part s p) ∷ us)) hi k ≡ answer
     here = ap (λ l. pointOf n (branch i (part s low) ∷ l) hi k) (sym e) ∙ inv
 
     module _ (f : b ≡ true) (b′ : Bool) (t′ : b′ ≡ before (part s low) k) (w : Within 0 (length s) low) where
-      pub point-in : b′ ≡ true → Within 0 (length s) p → CutAs s hi X (Cut.Inner n i low p)
+      pub point-in : b′ ≡ true → Within 0 (length s) p → CutAs s hi answer (Cut.Inner n i low p)
       unfolding branchHigh
-      point-in g v = inner-as s hi X n i low p (sym (by-tests hi k n (branch i (part s low)) (branch j (part s p) ∷ us) true true (sym t ∙ f) (sym t′ ∙ g)) ∙ here) w v
+      point-in g v = inner-as s hi answer n i low p (sym (by-tests hi k n (branch i (part s low)) (branch j (part s p) ∷ us) true true (sym t ∙ f) (sym t′ ∙ g)) ∙ here) w v
 
-      pub point-between : b′ ≡ false → CutAs s hi X (Cut.Between n low)
+      pub point-between : b′ ≡ false → CutAs s hi answer (Cut.Between n low)
       unfolding branchHigh
-      point-between g = between-as s hi X n low (sym (by-tests hi k n (branch i (part s low)) (branch j (part s p) ∷ us) true false (sym t ∙ f) (sym t′ ∙ g)) ∙ here) w
+      point-between g = between-as s hi answer n low (sym (by-tests hi k n (branch i (part s low)) (branch j (part s p) ∷ us) true false (sym t ∙ f) (sym t′ ∙ g)) ∙ here) w
 
-    pub point-on : b ≡ false → pointOf (n + 1) (branch j (part s p) ∷ us) hi k ≡ X
+    pub point-on : b ≡ false → pointOf (n + 1) (branch j (part s p) ∷ us) hi k ≡ answer
     unfolding branchHigh
     point-on f = sym (past-test hi k n (branch i (part s low)) (branch j (part s p) ∷ us) (sym t ∙ f)) ∙ here
 

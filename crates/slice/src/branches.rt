@@ -1,9 +1,9 @@
 // The page of a part of an interior node: its children's entries, each pivot without its first bytes. Relies on live's reader of children
 // and on node's writer; specs/Point says what stands in the page.
 use crate::Cut;
-use live::Pending;
 use node::Cursor;
 use node::Place;
+use node::search::Pending;
 use node::writer;
 ghost use mathlib.Core.Path.{_≡_};
 ghost use mathlib.Core.List.{[], _++_};
@@ -39,7 +39,7 @@ pub fn emit_branches(
     let mut to = at;
     let mut left = n;
     while 0 < left {
-        let Pending::Child(num, p, next) = live::read_child(node, c) else {
+        let Pending::Child(num, p, next) = node::search::read_child(node, c) else {
             return to;
         };
         let a = push::room::start_past(p, d);

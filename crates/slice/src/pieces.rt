@@ -3,8 +3,8 @@
 use crate::Cut;
 use crate::Parts;
 use crate::branches;
-use live::Pending;
 use node::Cursor;
+use node::search::Pending;
 use node::writer;
 ghost use mathlib.Core.Path.{_≡_};
 ghost use mathlib.Core.List.{[], _++_};
@@ -141,7 +141,7 @@ fn skip_branches(node: &[u8], start: Cursor, n: usize) -> Cursor
     let mut c = start;
     let mut left = n;
     while 0 < left {
-        let Pending::Child(_, _, next) = live::read_child(node, c) else {
+        let Pending::Child(_, _, next) = node::search::read_child(node, c) else {
             return c;
         };
         c = next;

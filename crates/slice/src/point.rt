@@ -1,8 +1,8 @@
 // Where a cut falls among the children of a node. Relies on live's reader of children; specs/Point says what is sought.
 use crate::Cut;
-use live::Pending;
 use node::Cursor;
 use node::Place;
+use node::search::Pending;
 ghost use mathlib.Core.List.{_∷_, []};
 ghost use Prim.Native.Nat.{_≤_, _<_};
 ghost use lib.ListN.{length};
@@ -32,7 +32,7 @@ pub fn find_point(node: &[u8], stop: usize, hi: &[u8], k: &[u8]) -> Cut
     requires { ⌜ (stop ≤ length (now node)) × (length (now node) ≤ 1024) ⌝ }
     ensures { λ r. ⌜ CutAs (now (node .entry)) (now (hi .entry)) (pointOf 0 (branchesAmong (listed (now (node .entry)) 8 stop)) (now (hi .entry)) (now (k .entry))) r ⌝ }
 {
-    let Pending::Child(first, pivot, start) = live::read_child(
+    let Pending::Child(first, pivot, start) = node::search::read_child(
         node,
         Cursor {
             at: image::ENTRIES_AT,
@@ -46,7 +46,7 @@ pub fn find_point(node: &[u8], stop: usize, hi: &[u8], k: &[u8]) -> Cut
     let mut low = pivot;
     let mut n: usize = 0;
     loop {
-        let Pending::Child(j, p, next) = live::read_child(node, c) else {
+        let Pending::Child(j, p, next) = node::search::read_child(node, c) else {
             return last_point(node, n, num, low, hi, k);
         };
         let x = p.start;

@@ -8,8 +8,8 @@ use crate::pieces::Following;
 use crate::pieces::New;
 use crate::pieces::Numbered;
 use crate::point;
-use live::Pending;
 use node::Cursor;
+use node::search::Pending;
 ghost use mathlib.Core.Path.{_≡_};
 ghost use mathlib.Core.List.{[], _++_};
 ghost use Prim.Native.Nat.{_+_, _*_, _≤_};
@@ -148,7 +148,7 @@ fn write_both(
         (branchesAmong (listed (now (node .entry)) (layer .start .at) (layer .start .end))) (now (store .entry)) ⌝ }
 {
     let start = layer.start;
-    let Pending::Child(_, p, _) = live::read_child(node, start) else {
+    let Pending::Child(_, p, _) = node::search::read_child(node, start) else {
         let edge = octets::common_length(k, hi);
         let rest = octets::common_length(hi, hi);
         write_wide(store, layer, Lifts { edge, rest }, node, k, out, free);
@@ -166,7 +166,7 @@ fn tell_both(node: &[u8], start: Cursor, below: Parts, lift: &[u8], out: &mut [u
     requires { ⌜ (start .end ≤ length (now node)) × (length (now lift) + length (now node) ≤ length (now out)) ⌝ }
     ensures { λ r. ⌜ bothTold (branchesAmong (listed (now (node .entry)) (start .at) (start .end))) below (now (lift .entry)) (now (out .exit)) r ⌝ }
 {
-    let Pending::Child(_, p, _) = live::read_child(node, start) else {
+    let Pending::Child(_, p, _) = node::search::read_child(node, start) else {
         return tell_edge(below);
     };
     let x = p.start;

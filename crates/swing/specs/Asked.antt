@@ -225,9 +225,9 @@ end-laid path zeros bound n e q =
     ap₂ (λ m l. take m l) a q ∙ take-at (past path) (drop (0 + length (past path)) zeros) (length (past path)) refl
 
 pub past-plan : (s free p r bound limit : List ℕ) (up : Bool) → Plan s free p r up → bound ≡ past p → limit ≡ past r → PastPlan s free bound limit up
-past-plan s free p r bound limit up P eb el =
+past-plan s free p r bound limit up planned eb el =
     record {
-      plan = subst (λ x. Plan s free x (front limit) up) (sym p-is) (subst (λ y. Plan s free p y up) (sym r-is) P);
+      plan = subst (λ x. Plan s free x (front limit) up) (sym p-is) (subst (λ y. Plan s free p y up) (sym r-is) planned);
       bound-is = eb ∙ ap past (sym p-is);
       limit-is = el ∙ ap past (sym r-is);
     }

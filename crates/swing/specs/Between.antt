@@ -36,7 +36,7 @@ whole-bytes n e = (
   leb-true (nodesOf n) 1024 (and-right (eqb (1024 * nodesOf n) n && leb 32 (nodesOf n)) _ e),
 )
 
-module _ (s free p r : List ℕ) (up : Bool) (P : Plan s free p r up) where
+module _ (s free p r : List ℕ) (up : Bool) (planned : Plan s free p r up) where
   abbrev F : ℕ → ℕ
   F = freshIn free
 
@@ -44,14 +44,14 @@ module _ (s free p r : List ℕ) (up : Bool) (P : Plan s free p r up) where
   H = headerOf s .levels
 
   big : 12 ≤ length s
-  big = let w = whole-bytes (length s) (P .whole) in omega (arith, w .0, w .1)
+  big = let w = whole-bytes (length s) (planned .whole) in omega (arith, w .0, w .1)
 
   small : (x : ℕ) → F x < 65536
-  small x = let w = whole-bytes (length s) (P .whole) in omega (arith, P .small x, w .2)
+  small x = let w = whole-bytes (length s) (planned .whole) in omega (arith, planned .small x, w .2)
 
   module _ (s₆ low high : List ℕ) (c : Cuts) (a : BothAs s H (past p) (past r) free s₆ low high c) where
     take-0 : TakeAsks s₆ H (past p) (past r) free up
-    take-0 = subst (λ x. TakeAsks x H (past p) (past r) free up) (sym (both-written s free p r up P s₆ low high c a)) (take-asks s free p r up P up)
+    take-0 = subst (λ x. TakeAsks x H (past p) (past r) free up) (sym (both-written s free p r up planned s₆ low high c a)) (take-asks s free p r up planned up)
 
     module _ (s₈ : List ℕ) (e : s₈ ≡ takenOut s₆ H (past p) (past r) free up) (place : ℕ) (z : place ≡ lowPlace H up) where
       abbrev lower : Half
@@ -61,45 +61,45 @@ module _ (s free p r : List ℕ) (up : Bool) (P : Plan s free p r up) where
       higher = halfIn free (17 * H - place) H (c .high)
 
       eight : s₈ ≡ im8 F H (treeOf s) p r s (taken F H (treeOf s) p r up) (takenPath F H (treeOf s) p r up)
-      eight = e ∙ ap (λ x. takenOut x H (past p) (past r) free up) (both-written s free p r up P s₆ low high c a) ∙ taken-is s free p r up P up
+      eight = e ∙ ap (λ x. takenOut x H (past p) (past r) free up) (both-written s free p r up planned s₆ low high c a) ∙ taken-is s free p r up planned up
 
       eight-size : length s₈ ≡ length s
-      eight-size = ap length eight ∙ size-8 s free p r up P up
+      eight-size = ap length eight ∙ size-8 s free p r up planned up
 
       under-low : numberOf (underLow F H (treeOf s) p r up) ≡ lower .number
       unfolding halfIn
-      under-low = number-under-low s free p r up P up ∙ ap F (sym z)
+      under-low = number-under-low s free p r up planned up ∙ ap F (sym z)
 
       under-high : numberOf (underHigh F H (treeOf s) p r up) ≡ higher .number
       unfolding halfIn
-      under-high = number-under-high s free p r up P up ∙ ap (λ k. F (17 * H - k)) (sym z)
+      under-high = number-under-high s free p r up planned up ∙ ap (λ k. F (17 * H - k)) (sym z)
 
       behind-low : raiseBranches [] (branchesOf (rightPastP F H (treeOf s) p r)) ≡ piecesIn (lower .edge) (lower .rest) (past p) low (lower .parts)
       unfolding halfIn
-      behind-low = low-pieces s free p r up P s₆ low high c a
+      behind-low = low-pieces s free p r up planned s₆ low high c a
 
       behind-high : raiseBranches [] (branchesOf (rightPastR F H (treeOf s) p r)) ≡ piecesIn (higher .edge) (higher .rest) (past r) high (higher .parts)
       unfolding halfIn
-      behind-high = high-pieces s free p r up P s₆ low high c a
+      behind-high = high-pieces s free p r up planned s₆ low high c a
 
       size-0 : length (rootLine (F (7 * H)) (past p) lower low (past r) higher high) ≤ 1016
       size-0 =
           root-size F H (treeOf s) p r (underLow F H (treeOf s) p r up) (underHigh F H (treeOf s) p r up) (F (7 * H)) lower higher low high (front-past p) (front-past r)
-          (number-first s free p r up P) under-low under-high behind-low behind-high (P .root-fits)
+          (number-first s free p r up planned) under-low under-high behind-low behind-high (planned .root-fits)
 
       page-0 : page 2 (suc H) (rootLine (F (7 * H)) (past p) lower low (past r) higher high)
           ≡ pageOf (suc H) (rootOver F H (treeOf s) p r (underLow F H (treeOf s) p r up) (underHigh F H (treeOf s) p r up))
       page-0 =
           root-page F H (treeOf s) p r (underLow F H (treeOf s) p r up) (underHigh F H (treeOf s) p r up) (F (7 * H)) lower higher low high (front-past p) (front-past r)
-          (number-first s free p r up P) under-low under-high behind-low behind-high
+          (number-first s free p r up planned) under-low under-high behind-low behind-high
 
       root-0 : RootAsks s₈ H (past p) (past r) free lower low higher high
       unfolding halfIn
       root-0 =
           record {
-            levels = omega (arith, P .low);
-            enough = P .enough;
-            room = omega (arith, P .room (10 * H), eight-size);
+            levels = omega (arith, planned .low);
+            enough = planned .enough;
+            room = omega (arith, planned .room (10 * H), eight-size);
             lower =
                 record {
                   ends = omega (arith, past-length p);
@@ -132,7 +132,7 @@ module _ (s free p r : List ℕ) (up : Bool) (P : Plan s free p r up) where
         nine-size : length s₉ ≡ length s
         nine-size =
             ap length w
-            ∙ write-length s₈ (F (10 * H)) (page 2 (H + 1) (rootLine (F (7 * H)) (past p) lower low (past r) higher high)) (omega (arith, P .room (10 * H), eight-size))
+            ∙ write-length s₈ (F (10 * H)) (page 2 (H + 1) (rootLine (F (7 * H)) (past p) lower low (past r) higher high)) (omega (arith, planned .room (10 * H), eight-size))
             (page-length 2 (H + 1) (rootLine (F (7 * H)) (past p) lower low (past r) higher high) size-0)
             ∙ eight-size
 

@@ -11,10 +11,9 @@ use Rattle.image.specs.Image.{headerOf, treeAt}
 use Rattle.image.specs.Sound.{highest}
 use Rattle.octets.specs.Put.{put, put-one, put-put, put-size}
 use Rattle.laws.specs.Encode.{bytesOf, child-size}
-use Rattle.laws.specs.Page.{page, branchesOf}
+use Rattle.laws.specs.Page.{page, branchesOf, zerosOf}
 use Rattle.slice.specs.Slicing.Slice.{rightOf}
 use Rattle.laws.specs.WriteNode.{writeNode}
-use Rattle.packed.specs.Form.Tidy.{zerosOf}
 use Rattle.append.specs.Laws.Append.{header-root}
 use Rattle.slice.specs.Slicing.Range.{past}
 use Rattle.slice.specs.Slicing.SliceWrite.{leftWrite}
@@ -25,7 +24,7 @@ use Rattle.slice.specs.Point.{freshIn}
 use Rattle.slice.specs.Left.{LeftAsks}
 use Rattle.slice.specs.Right.{RightAsks, RightAs, piecesIn, raiseBranches, allLine}
 use Rattle.slice.specs.GapSteps.{GapAsks}
-use Rattle.slice.specs.PairSteps.{page-written}
+use Rattle.node.specs.Pages.{page-written}
 use Rattle.swing.specs.declared.root.Half.{Half}
 use Rattle.swing.specs.Cuts.{front, leftIn, rightIn, rangeIn, RangeAsks, RangeAs, highIn, BothAsks, BothAs, tailIn, outIn, OutAsks, takenNumber, takenBound, takenOut, TakeAsks, lowPlace}
 use Rattle.swing.specs.Root.{halfIn, halfLine, rootLine, RootAsks}

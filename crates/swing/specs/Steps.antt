@@ -94,7 +94,7 @@ module _ (free : List ℕ) (h num : ℕ) (u inner : Tree) (hi bound path : List 
   pub range-written : (s′ out : List ℕ) (r : Parts) → RangeAs s₀ num h hi bound at free s′ out r → s′ ≡ s₃
   range-written s′ out r a = a .written ∙ range-is
 
-module _ (s free p r : List ℕ) (up : Bool) (P : Plan s free p r up) where
+module _ (s free p r : List ℕ) (up : Bool) (plan : Plan s free p r up) where
   abbrev F : ℕ → ℕ
   F = freshIn free
 
@@ -108,12 +108,12 @@ module _ (s free p r : List ℕ) (up : Bool) (P : Plan s free p r up) where
   some-level = go (headerOf s .levels) refl
     where
       go : (m : ℕ) → headerOf s .levels ≡ m → (k : ℕ) × (headerOf s .levels ≡ suc k)
-      go zero e = absurd (omega (arith, P .some))
+      go zero e = absurd (omega (arith, plan .some))
       go (suc k) e = (k, e)
 
   few-nodes : nodesOf (length s) ≤ 1024
   unfolding wholeNodes
-  few-nodes = leb-true (nodesOf (length s)) 1024 (and-right (eqb (1024 * nodesOf (length s)) (length s) && leb 32 (nodesOf (length s))) _ (P .whole))
+  few-nodes = leb-true (nodesOf (length s)) 1024 (and-right (eqb (1024 * nodesOf (length s)) (length s) && leb 32 (nodesOf (length s))) _ (plan .whole))
 
   root-reads : treeAt h s (headerOf s .root) ≡ t
   unfolding treeOf
@@ -127,13 +127,13 @@ module _ (s free p r : List ℕ) (up : Bool) (P : Plan s free p r up) where
   reads-old = ap (treeAt h s) root-number ∙ root-reads
 
   -- WHAT A CUT ASKS
-  usable-of : (u : Tree) (c : ℕ) (lo hi : List ℕ) → Good h u lo hi → Within F t (suc (10 * h)) (P .once) c u → c ≤ suc (10 * h) → usable (nodesOf (length s)) u ≡ true
+  usable-of : (u : Tree) (c : ℕ) (lo hi : List ℕ) → Good h u lo hi → Within F t (suc (10 * h)) (plan .once) c u → c ≤ suc (10 * h) → usable (nodesOf (length s)) u ≡ true
   unfolding Within
   usable-of u c lo hi g w l =
-      sound-usable u (nodesOf (length s)) lo hi (g .sound) (range-of (nodesOf (length s)) (numbers u) (λ j q. P .range j c l (omega (arith, hits-met j u, w j))))
+      sound-usable u (nodesOf (length s)) lo hi (g .sound) (range-of (nodesOf (length s)) (numbers u) (λ j q. plan .range j c l (omega (arith, hits-met j u, w j))))
 
   module _ (im : List ℕ) (num : ℕ) (u : Tree) (c : ℕ) (lo hi k : List ℕ) (at : ℕ) (reads : treeAt h im num ≡ u) (size : length im ≡ length s) (g : Good h u lo hi)
-      (w : Within F t (suc (10 * h)) (P .once) c u) (l : c ≤ suc (10 * h)) (above : before lo k ≡ true) (below : before k hi ≡ true) (short : length k ≤ pivotLimit) where
+      (w : Within F t (suc (10 * h)) (plan .once) c u) (l : c ≤ suc (10 * h)) (above : before lo k ≡ true) (below : before k hi ≡ true) (short : length k ≤ pivotLimit) where
     reads-in : usable (nodesOf (length im)) (treeAt h im num) ≡ true
     reads-in = ap₂ (λ m x. usable (nodesOf m) x) size reads ∙ usable-of u c lo hi g w l
 
@@ -144,15 +144,15 @@ module _ (s free p r : List ℕ) (up : Bool) (P : Plan s free p r up) where
     good-in = subst (λ x. Good h x lo hi) (sym reads) g
 
     room-in : (i : ℕ) → freshIn free i * 1024 + 1024 ≤ length im
-    room-in i = omega (arith, P .room i, size)
+    room-in i = omega (arith, plan .room i, size)
 
     left-at : at + h ≤ 10 * h → LeftAsks im num h lo hi k at free
     left-at a =
-        left-asked im num h lo hi k free reads-in good-in above below short few-in (omega (arith, P .low)) at (omega (arith, P .enough)) (λ i q. room-in i)
+        left-asked im num h lo hi k free reads-in good-in above below short few-in (omega (arith, plan .low)) at (omega (arith, plan .enough)) (λ i q. room-in i)
 
     right-at : (v : Bool) → v || begins k hi ≡ true → at + 2 * h ≤ 10 * h → RightAsks v im num h lo hi k at free
     right-at v e a =
-        right-asked im num h lo hi k free reads-in good-in above below short few-in (omega (arith, P .low)) at v e (omega (arith, P .enough)) (λ i q. room-in i)
+        right-asked im num h lo hi k free reads-in good-in above below short few-in (omega (arith, plan .low)) at v e (omega (arith, plan .enough)) (λ i q. room-in i)
 
   -- THE HIGHER RANGE
   abbrev A1 : List ℕ
@@ -174,81 +174,81 @@ module _ (s free p r : List ℕ) (up : Bool) (P : Plan s free p r up) where
   A6 = im6 F h t p r s
 
   b-end-p : before [] (past p) ≡ true
-  b-end-p = b-past-p F h t p r (P .good) (P .above) (P .between) (P .below)
+  b-end-p = b-past-p F h t p r (plan .good) (plan .above) (plan .between) (plan .below)
 
   b-path-r : before [] r ≡ true
-  b-path-r = b-r F h t p r (P .good) (P .above) (P .between) (P .below)
+  b-path-r = b-r F h t p r (plan .good) (plan .above) (plan .between) (plan .below)
 
   b-end-r : before [] (past r) ≡ true
-  b-end-r = b-past-r F h t p r (P .good) (P .above) (P .between) (P .below)
+  b-end-r = b-past-r F h t p r (plan .good) (plan .above) (plan .between) (plan .below)
 
   cut-left : Good h (leftPastR F h t p r) [] (past r)
-  cut-left = g1 F h t p r (P .good) (P .above) (P .between) (P .below) (P .short-p) (P .short-r) (P .fit) s (P .room) reads-old (P .once)
+  cut-left = g1 F h t p r (plan .good) (plan .above) (plan .between) (plan .below) (plan .short-p) (plan .short-r) (plan .fit) s (plan .room) reads-old (plan .once)
 
   cut-mid : Good h (leftR F h t p r) [] r
-  cut-mid = g3 F h t p r (P .good) (P .above) (P .between) (P .below) (P .short-p) (P .short-r) (P .fit) s (P .room) reads-old (P .once)
+  cut-mid = g3 F h t p r (plan .good) (plan .above) (plan .between) (plan .below) (plan .short-p) (plan .short-r) (plan .fit) s (plan .room) reads-old (plan .once)
 
   cut-low : Good h (leftPastP F h t p r) [] (past p)
-  cut-low = g4 F h t p r (P .good) (P .above) (P .between) (P .below) (P .short-p) (P .short-r) (P .fit) s (P .room) reads-old (P .once)
+  cut-low = g4 F h t p r (plan .good) (plan .above) (plan .between) (plan .below) (plan .short-p) (plan .short-r) (plan .fit) s (plan .room) reads-old (plan .once)
 
-  in-left : Within F t (suc (10 * h)) (P .once) h (leftPastR F h t p r)
-  in-left = w1 F h t p r (P .good) (P .above) (P .between) (P .below) (P .short-p) (P .short-r) (P .fit) s (P .room) reads-old (P .once)
+  in-left : Within F t (suc (10 * h)) (plan .once) h (leftPastR F h t p r)
+  in-left = w1 F h t p r (plan .good) (plan .above) (plan .between) (plan .below) (plan .short-p) (plan .short-r) (plan .fit) s (plan .room) reads-old (plan .once)
 
-  in-mid : Within F t (suc (10 * h)) (P .once) (4 * h) (leftR F h t p r)
-  in-mid = w3 F h t p r (P .good) (P .above) (P .between) (P .below) (P .short-p) (P .short-r) (P .fit) s (P .room) reads-old (P .once)
+  in-mid : Within F t (suc (10 * h)) (plan .once) (4 * h) (leftR F h t p r)
+  in-mid = w3 F h t p r (plan .good) (plan .above) (plan .between) (plan .below) (plan .short-p) (plan .short-r) (plan .fit) s (plan .room) reads-old (plan .once)
 
-  in-low : Within F t (suc (10 * h)) (P .once) (5 * h) (leftPastP F h t p r)
-  in-low = w4 F h t p r (P .good) (P .above) (P .between) (P .below) (P .short-p) (P .short-r) (P .fit) s (P .room) reads-old (P .once)
+  in-low : Within F t (suc (10 * h)) (plan .once) (5 * h) (leftPastP F h t p r)
+  in-low = w4 F h t p r (plan .good) (plan .above) (plan .between) (plan .below) (plan .short-p) (plan .short-r) (plan .fit) s (plan .room) reads-old (plan .once)
 
   size-1 : length A1 ≡ length s
-  size-1 = d1 F h t p r (P .good) (P .above) (P .between) (P .below) (P .short-p) (P .short-r) (P .fit) s (P .room) reads-old (P .once) .only .size
+  size-1 = d1 F h t p r (plan .good) (plan .above) (plan .between) (plan .below) (plan .short-p) (plan .short-r) (plan .fit) s (plan .room) reads-old (plan .once) .only .size
 
   size-2 : length A2 ≡ length s
-  size-2 = size2 F h t p r (P .good) (P .above) (P .between) (P .below) (P .short-p) (P .short-r) (P .fit) s (P .room) reads-old (P .once)
+  size-2 = size2 F h t p r (plan .good) (plan .above) (plan .between) (plan .below) (plan .short-p) (plan .short-r) (plan .fit) s (plan .room) reads-old (plan .once)
 
   size-3 : length A3 ≡ length s
-  size-3 = d3 F h t p r (P .good) (P .above) (P .between) (P .below) (P .short-p) (P .short-r) (P .fit) s (P .room) reads-old (P .once) .only .size ∙ size-2
+  size-3 = d3 F h t p r (plan .good) (plan .above) (plan .between) (plan .below) (plan .short-p) (plan .short-r) (plan .fit) s (plan .room) reads-old (plan .once) .only .size ∙ size-2
 
   size-4 : length A4 ≡ length s
-  size-4 = d4 F h t p r (P .good) (P .above) (P .between) (P .below) (P .short-p) (P .short-r) (P .fit) s (P .room) reads-old (P .once) .only .size ∙ size-3
+  size-4 = d4 F h t p r (plan .good) (plan .above) (plan .between) (plan .below) (plan .short-p) (plan .short-r) (plan .fit) s (plan .room) reads-old (plan .once) .only .size ∙ size-3
 
   size-5 : length A5 ≡ length s
-  size-5 = size5 F h t p r (P .good) (P .above) (P .between) (P .below) (P .short-p) (P .short-r) (P .fit) s (P .room) reads-old (P .once)
+  size-5 = size5 F h t p r (plan .good) (plan .above) (plan .between) (plan .below) (plan .short-p) (plan .short-r) (plan .fit) s (plan .room) reads-old (plan .once)
 
   pub size-6 : length A6 ≡ length s
-  size-6 = size6 F h t p r (P .good) (P .above) (P .between) (P .below) (P .short-p) (P .short-r) (P .fit) s (P .room) reads-old (P .once)
+  size-6 = size6 F h t p r (plan .good) (plan .above) (plan .between) (plan .below) (plan .short-p) (plan .short-r) (plan .fit) s (plan .room) reads-old (plan .once)
 
   root-1 : treeAt h A1 (headerOf s .root) ≡ t
   root-1 =
       ap (treeAt h A1) (sym root-number)
-      ∙ t1 F h t p r (P .good) (P .above) (P .between) (P .below) (P .short-p) (P .short-r) (P .fit) s (P .room) reads-old (P .once)
+      ∙ t1 F h t p r (plan .good) (plan .above) (plan .between) (plan .below) (plan .short-p) (plan .short-r) (plan .fit) s (plan .room) reads-old (plan .once)
 
   number-left : numberOf (leftPastR F h t p r) ≡ F 0
-  number-left = n1 F h t p r (P .good) (P .above) (P .between) (P .below) (P .short-p) (P .short-r) (P .fit) s (P .room) reads-old (P .once)
+  number-left = n1 F h t p r (plan .good) (plan .above) (plan .between) (plan .below) (plan .short-p) (plan .short-r) (plan .fit) s (plan .room) reads-old (plan .once)
 
   left-2 : treeAt h A2 (F 0) ≡ leftPastR F h t p r
-  left-2 = ap (treeAt h A2) (sym number-left) ∙ l1-2 F h t p r (P .good) (P .above) (P .between) (P .below) (P .short-p) (P .short-r) (P .fit) s (P .room) reads-old (P .once)
+  left-2 = ap (treeAt h A2) (sym number-left) ∙ l1-2 F h t p r (plan .good) (plan .above) (plan .between) (plan .below) (plan .short-p) (plan .short-r) (plan .fit) s (plan .room) reads-old (plan .once)
 
   number-mid : numberOf (leftR F h t p r) ≡ F (3 * h)
-  number-mid = n3 F h t p r (P .good) (P .above) (P .between) (P .below) (P .short-p) (P .short-r) (P .fit) s (P .room) reads-old (P .once)
+  number-mid = n3 F h t p r (plan .good) (plan .above) (plan .between) (plan .below) (plan .short-p) (plan .short-r) (plan .fit) s (plan .room) reads-old (plan .once)
 
   mid-3 : treeAt h A3 (F (3 * h)) ≡ leftR F h t p r
-  mid-3 = ap (treeAt h A3) (sym number-mid) ∙ l3-3 F h t p r (P .good) (P .above) (P .between) (P .below) (P .short-p) (P .short-r) (P .fit) s (P .room) reads-old (P .once)
+  mid-3 = ap (treeAt h A3) (sym number-mid) ∙ l3-3 F h t p r (plan .good) (plan .above) (plan .between) (plan .below) (plan .short-p) (plan .short-r) (plan .fit) s (plan .room) reads-old (plan .once)
 
   mid-4 : treeAt h A4 (F (3 * h)) ≡ leftR F h t p r
-  mid-4 = ap (treeAt h A4) (sym number-mid) ∙ l3-4 F h t p r (P .good) (P .above) (P .between) (P .below) (P .short-p) (P .short-r) (P .fit) s (P .room) reads-old (P .once)
+  mid-4 = ap (treeAt h A4) (sym number-mid) ∙ l3-4 F h t p r (plan .good) (plan .above) (plan .between) (plan .below) (plan .short-p) (plan .short-r) (plan .fit) s (plan .room) reads-old (plan .once)
 
   number-low : numberOf (leftPastP F h t p r) ≡ F (4 * h)
-  number-low = n4 F h t p r (P .good) (P .above) (P .between) (P .below) (P .short-p) (P .short-r) (P .fit) s (P .room) reads-old (P .once)
+  number-low = n4 F h t p r (plan .good) (plan .above) (plan .between) (plan .below) (plan .short-p) (plan .short-r) (plan .fit) s (plan .room) reads-old (plan .once)
 
   low-5 : treeAt h A5 (F (4 * h)) ≡ leftPastP F h t p r
-  low-5 = ap (treeAt h A5) (sym number-low) ∙ l4-5 F h t p r (P .good) (P .above) (P .between) (P .below) (P .short-p) (P .short-r) (P .fit) s (P .room) reads-old (P .once)
+  low-5 = ap (treeAt h A5) (sym number-low) ∙ l4-5 F h t p r (plan .good) (plan .above) (plan .between) (plan .below) (plan .short-p) (plan .short-r) (plan .fit) s (plan .room) reads-old (plan .once)
 
   left-6 : treeAt h A6 (F 0) ≡ leftPastR F h t p r
-  left-6 = ap (treeAt h A6) (sym number-left) ∙ l1-6 F h t p r (P .good) (P .above) (P .between) (P .below) (P .short-p) (P .short-r) (P .fit) s (P .room) reads-old (P .once)
+  left-6 = ap (treeAt h A6) (sym number-left) ∙ l1-6 F h t p r (plan .good) (plan .above) (plan .between) (plan .below) (plan .short-p) (plan .short-r) (plan .fit) s (plan .room) reads-old (plan .once)
 
   low-6 : treeAt h A6 (F (4 * h)) ≡ leftPastP F h t p r
-  low-6 = ap (treeAt h A6) (sym number-low) ∙ l4-6 F h t p r (P .good) (P .above) (P .between) (P .below) (P .short-p) (P .short-r) (P .fit) s (P .room) reads-old (P .once)
+  low-6 = ap (treeAt h A6) (sym number-low) ∙ l4-6 F h t p r (plan .good) (plan .above) (plan .between) (plan .below) (plan .short-p) (plan .short-r) (plan .fit) s (plan .room) reads-old (plan .once)
 
   write-1 : A1 ≡ leftWrite F t h [] highest (past r) 0 s
   unfolding im1
@@ -277,12 +277,12 @@ module _ (s free p r : List ℕ) (up : Bool) (P : Plan s free p r up) where
   high-asks : RangeAsks s (headerOf s .root) h highest (past r) 0 free
   high-asks =
       range-asked free h (headerOf s .root) t (leftPastR F h t p r) highest (past r) r 0 h (3 * h) s A1 A2 A3 (omega arith) (omega arith) (front-past r)
-      root-reads root-1 left-2 write-1 write-2 write-3 (P .some) (omega (arith, past-length r)) (P .short-r)
-      (left-at s (headerOf s .root) t 0 [] highest (past r) 0 root-reads refl (P .good) (within-self F t (suc (10 * h)) (P .once)) (omega arith) b-end-r (P .below) (P .short-r)
+      root-reads root-1 left-2 write-1 write-2 write-3 (plan .some) (omega (arith, past-length r)) (plan .short-r)
+      (left-at s (headerOf s .root) t 0 [] highest (past r) 0 root-reads refl (plan .good) (within-self F t (suc (10 * h)) (plan .once)) (omega arith) b-end-r (plan .below) (plan .short-r)
       (omega arith))
-      (right-at A1 (headerOf s .root) t 0 [] highest (past r) h root-1 size-1 (P .good) (within-self F t (suc (10 * h)) (P .once)) (omega arith) b-end-r (P .below) (P .short-r)
+      (right-at A1 (headerOf s .root) t 0 [] highest (past r) h root-1 size-1 (plan .good) (within-self F t (suc (10 * h)) (plan .once)) (omega arith) b-end-r (plan .below) (plan .short-r)
       true refl (omega arith))
-      (left-at A2 (F 0) (leftPastR F h t p r) h [] (past r) r (3 * h) left-2 size-2 cut-left in-left (omega arith) b-path-r (before-past r) (short-of r (P .short-r)) (omega arith))
+      (left-at A2 (F 0) (leftPastR F h t p r) h [] (past r) r (3 * h) left-2 size-2 cut-left in-left (omega arith) b-path-r (before-past r) (short-of r (plan .short-r)) (omega arith))
 
   high-is : highIn s h (past r) free ≡ A3
   unfolding highIn
@@ -294,10 +294,10 @@ module _ (s free p r : List ℕ) (up : Bool) (P : Plan s free p r up) where
   low-asks : RangeAsks A3 (F (3 * h)) h r (past p) (4 * h) free
   low-asks =
       range-asked free h (F (3 * h)) (leftR F h t p r) (leftPastP F h t p r) r (past p) p (4 * h) (5 * h) (7 * h) A3 A4 A5 A6 (omega arith) (omega arith) (front-past p)
-      mid-3 mid-4 low-5 write-4 write-5 write-6 (P .some) (omega (arith, past-length p)) (P .short-p)
-      (left-at A3 (F (3 * h)) (leftR F h t p r) (4 * h) [] r (past p) (4 * h) mid-3 size-3 cut-mid in-mid (omega arith) b-end-p (P .between) (P .short-p) (omega arith))
-      (right-at A4 (F (3 * h)) (leftR F h t p r) (4 * h) [] r (past p) (5 * h) mid-4 size-4 cut-mid in-mid (omega arith) b-end-p (P .between) (P .short-p) true refl (omega arith))
-      (left-at A5 (F (4 * h)) (leftPastP F h t p r) (5 * h) [] (past p) p (7 * h) low-5 size-5 cut-low in-low (omega arith) (P .above) (before-past p) (short-of p (P .short-p))
+      mid-3 mid-4 low-5 write-4 write-5 write-6 (plan .some) (omega (arith, past-length p)) (plan .short-p)
+      (left-at A3 (F (3 * h)) (leftR F h t p r) (4 * h) [] r (past p) (4 * h) mid-3 size-3 cut-mid in-mid (omega arith) b-end-p (plan .between) (plan .short-p) (omega arith))
+      (right-at A4 (F (3 * h)) (leftR F h t p r) (4 * h) [] r (past p) (5 * h) mid-4 size-4 cut-mid in-mid (omega arith) b-end-p (plan .between) (plan .short-p) true refl (omega arith))
+      (left-at A5 (F (4 * h)) (leftPastP F h t p r) (5 * h) [] (past p) p (7 * h) low-5 size-5 cut-low in-low (omega arith) (plan .above) (before-past p) (short-of p (plan .short-p))
       (omega arith))
 
   pub both-asks : 12 ≤ length s → BothAsks s h (past p) (past r) free
@@ -335,11 +335,11 @@ module _ (s free p r : List ℕ) (up : Bool) (P : Plan s free p r up) where
         root-reads root-1 left-2 write-1 write-2 write-3 (highIn s h (past r) free) high (c .high) (a .higher)
 
   -- THE RANGE THAT MOVES
-  module _ (u : Tree) (q : List ℕ) (num : ℕ) (gu : Good h u [] (past q)) (fu : fits u ≡ true) (wu : Within F t (suc (10 * h)) (P .once) (8 * h) u)
+  module _ (u : Tree) (q : List ℕ) (num : ℕ) (gu : Good h u [] (past q)) (fu : fits u ≡ true) (wu : Within F t (suc (10 * h)) (plan .once) (8 * h) u)
       (nu : numberOf u ≡ num) (ru : treeAt h A6 num ≡ u) (b-q : before [] q ≡ true) (short-q : length (past q) ≤ pivotLimit) where
     sized : length (im7 F h t p r s u q) ≡ length s
     sized =
-        o7 F h t p r (P .good) (P .above) (P .between) (P .below) (P .short-p) (P .short-r) (P .fit) s (P .room) reads-old (P .once) (some-level .0) (some-level .1) u q gu fu b-q
+        o7 F h t p r (plan .good) (plan .above) (plan .between) (plan .below) (plan .short-p) (plan .short-r) (plan .fit) s (plan .room) reads-old (plan .once) (some-level .0) (some-level .1) u q gu fu b-q
         short-q wu (ap (treeAt h A6) nu ∙ ru) .size
         ∙ size-6
 
@@ -363,50 +363,50 @@ module _ (s free p r : List ℕ) (up : Bool) (P : Plan s free p r up) where
               subst (λ x. GapAsks x h (front (past q)) (9 * h) free) (sym tail-is)
               (subst (λ k. GapAsks (im7 F h t p r s u q) h k (9 * h) free) (sym (front-past q))
               (record {
-                some = P .some;
-                levels = omega (arith, P .low);
+                some = plan .some;
+                levels = omega (arith, plan .low);
                 short = short-of q short-q;
-                enough = omega (arith, P .enough);
-                room = λ i z. omega (arith, P .room i, sized);
+                enough = omega (arith, plan .enough);
+                room = λ i z. omega (arith, plan .room i, sized);
               }));
         }
 
   fits-low : fits (leftPastP F h t p r) ≡ true
-  fits-low = f4 F h t p r (P .good) (P .above) (P .between) (P .below) (P .short-p) (P .short-r) (P .fit) s (P .room) reads-old (P .once)
+  fits-low = f4 F h t p r (plan .good) (plan .above) (plan .between) (plan .below) (plan .short-p) (plan .short-r) (plan .fit) s (plan .room) reads-old (plan .once)
 
   fits-left : fits (leftPastR F h t p r) ≡ true
-  fits-left = f1 F h t p r (P .good) (P .above) (P .between) (P .below) (P .short-p) (P .short-r) (P .fit) s (P .room) reads-old (P .once)
+  fits-left = f1 F h t p r (plan .good) (plan .above) (plan .between) (plan .below) (plan .short-p) (plan .short-r) (plan .fit) s (plan .room) reads-old (plan .once)
 
-  later-low : Within F t (suc (10 * h)) (P .once) (8 * h) (leftPastP F h t p r)
-  later-low = within-later F t (suc (10 * h)) (P .once) (leftPastP F h t p r) (5 * h) (8 * h) (omega arith) in-low
+  later-low : Within F t (suc (10 * h)) (plan .once) (8 * h) (leftPastP F h t p r)
+  later-low = within-later F t (suc (10 * h)) (plan .once) (leftPastP F h t p r) (5 * h) (8 * h) (omega arith) in-low
 
-  later-left : Within F t (suc (10 * h)) (P .once) (8 * h) (leftPastR F h t p r)
-  later-left = within-later F t (suc (10 * h)) (P .once) (leftPastR F h t p r) h (8 * h) (omega arith) in-left
+  later-left : Within F t (suc (10 * h)) (plan .once) (8 * h) (leftPastR F h t p r)
+  later-left = within-later F t (suc (10 * h)) (plan .once) (leftPastR F h t p r) h (8 * h) (omega arith) in-left
 
   -- by direction
   pub take-asks : (b : Bool) → TakeAsks A6 h (past p) (past r) free b
   take-asks true =
-      record { out = unfold takenNumber takenBound in out-asks (leftPastP F h t p r) p (F (4 * h)) cut-low fits-low later-low number-low low-6 (P .above) (P .short-p) }
+      record { out = unfold takenNumber takenBound in out-asks (leftPastP F h t p r) p (F (4 * h)) cut-low fits-low later-low number-low low-6 (plan .above) (plan .short-p) }
   take-asks false =
-      record { out = unfold takenNumber takenBound in out-asks (leftPastR F h t p r) r (F 0) cut-left fits-left later-left number-left left-6 b-path-r (P .short-r) }
+      record { out = unfold takenNumber takenBound in out-asks (leftPastR F h t p r) r (F 0) cut-left fits-left later-left number-left left-6 b-path-r (plan .short-r) }
 
   pub taken-is : (b : Bool) → takenOut A6 h (past p) (past r) free b ≡ im8 F h t p r s (taken F h t p r b) (takenPath F h t p r b)
   unfolding takenOut takenNumber takenBound taken takenPath
-  taken-is true = out-is (leftPastP F h t p r) p (F (4 * h)) cut-low fits-low later-low number-low low-6 (P .above) (P .short-p)
-  taken-is false = out-is (leftPastR F h t p r) r (F 0) cut-left fits-left later-left number-left left-6 b-path-r (P .short-r)
+  taken-is true = out-is (leftPastP F h t p r) p (F (4 * h)) cut-low fits-low later-low number-low low-6 (plan .above) (plan .short-p)
+  taken-is false = out-is (leftPastR F h t p r) r (F 0) cut-left fits-left later-left number-left left-6 b-path-r (plan .short-r)
 
   pub size-8 : (b : Bool) → length (im8 F h t p r s (taken F h t p r b) (takenPath F h t p r b)) ≡ length s
   unfolding taken takenPath
   size-8 true =
-      o08 F h t p r (P .good) (P .above) (P .between) (P .below) (P .short-p) (P .short-r) (P .fit) s (P .room) reads-old (P .once) (some-level .0) (some-level .1)
-      (leftPastP F h t p r) p cut-low fits-low (P .above) (P .short-p) later-low (ap (treeAt h A6) number-low ∙ low-6) .size
+      o08 F h t p r (plan .good) (plan .above) (plan .between) (plan .below) (plan .short-p) (plan .short-r) (plan .fit) s (plan .room) reads-old (plan .once) (some-level .0) (some-level .1)
+      (leftPastP F h t p r) p cut-low fits-low (plan .above) (plan .short-p) later-low (ap (treeAt h A6) number-low ∙ low-6) .size
   size-8 false =
-      o08 F h t p r (P .good) (P .above) (P .between) (P .below) (P .short-p) (P .short-r) (P .fit) s (P .room) reads-old (P .once) (some-level .0) (some-level .1)
-      (leftPastR F h t p r) r cut-left fits-left b-path-r (P .short-r) later-left (ap (treeAt h A6) number-left ∙ left-6) .size
+      o08 F h t p r (plan .good) (plan .above) (plan .between) (plan .below) (plan .short-p) (plan .short-r) (plan .fit) s (plan .room) reads-old (plan .once) (some-level .0) (some-level .1)
+      (leftPastR F h t p r) r cut-left fits-left b-path-r (plan .short-r) later-left (ap (treeAt h A6) number-left ∙ left-6) .size
 
   -- THE NUMBERS UNDER THE NEW ROOT
   pub number-first : numberOf (leftP F h t p r) ≡ F (7 * h)
-  number-first = n6 F h t p r (P .good) (P .above) (P .between) (P .below) (P .short-p) (P .short-r) (P .fit) s (P .room) reads-old (P .once)
+  number-first = n6 F h t p r (plan .good) (plan .above) (plan .between) (plan .below) (plan .short-p) (plan .short-r) (plan .fit) s (plan .room) reads-old (plan .once)
 
   pub number-under-low : (b : Bool) → numberOf (underLow F h t p r b) ≡ F (lowPlace h b)
   unfolding underLow lowPlace midR
@@ -419,6 +419,6 @@ module _ (s free p r : List ℕ) (up : Bool) (P : Plan s free p r up) where
   unfolding underHigh lowPlace midP
   number-under-high true =
       number-tail F (leftPastP F h t p r) [] (past p) p (8 * h)
-      (tail-good F (leftPastP F h t p r) h [] (past p) p (8 * h) cut-low (P .above) (before-past p) .sound)
+      (tail-good F (leftPastP F h t p r) h [] (past p) p (8 * h) cut-low (plan .above) (before-past p) .sound)
       ∙ ap F (let e : 8 * h ≡ 17 * h - 9 * h = omega arith in e)
   number-under-high false = gap-number-at F h (some-level .0) (some-level .1) r (9 * h) ∙ ap F (let e : 9 * h ≡ 17 * h - 8 * h = omega arith in e)

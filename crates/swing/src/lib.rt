@@ -189,7 +189,7 @@ fn swing_between(store: &mut [u8], free: &[u8], bound: &[u8], limit: &[u8], up: 
         high: higher,
     };
     root::write_root(store, halves, bound, limit, free, &low, &high);
-    packed::write_head(store, num, h + 1, live);
+    node::writer::write_header(store, num, h + 1, live);
 }
 
 // The same, told by the two paths, the lower one first.

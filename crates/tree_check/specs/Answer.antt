@@ -59,8 +59,8 @@ unfolding withRest
 rest-joined held r t w e f = rw (e, f)
 
 -- a promise on the answer with the rest, from one for each answer of the rest
-pub with-rest : (held : Tally) (P : Checked → Type 0) (r : Checked) → (r ≡ Checked.Unsound → P Checked.Unsound) → ((t : Tally) → r ≡ Checked.Sound t → P (Checked.Sound (tallySum held t)))
-    → (w : Checked) → w ≡ withRest held r → P w
+pub with-rest : (held : Tally) (Holds : Checked → Type 0) (r : Checked) → (r ≡ Checked.Unsound → Holds Checked.Unsound) → ((t : Tally) → r ≡ Checked.Sound t → Holds (Checked.Sound (tallySum held t)))
+    → (w : Checked) → w ≡ withRest held r → Holds w
 unfolding withRest
-with-rest held P Checked.Unsound stopped ended w e = subst P (sym e) (stopped refl)
-with-rest held P (Checked.Sound t) stopped ended w e = subst P (sym e) (ended t refl)
+with-rest held Holds Checked.Unsound stopped ended w e = subst Holds (sym e) (stopped refl)
+with-rest held Holds (Checked.Sound t) stopped ended w e = subst Holds (sym e) (ended t refl)

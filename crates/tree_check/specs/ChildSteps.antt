@@ -98,8 +98,8 @@ module _ (level : ℕ) (s : List ℕ) (sh : Shape) (lo hi : List ℕ) (i : ℕ) 
 -- the child in hand and the entries after it
 module _ (level : ℕ) (s : List ℕ) (sh : Shape) (lo hi : List ℕ) (i : ℕ) (low : List ℕ) (at end : ℕ) (seen : List ℕ) where
   -- what the walk over them leaves, and what they hold
-  abbrev X : Option (List ℕ)
-  X = branchesRun (nodeRun level s) sh lo hi i low (entriesFrom s at end) seen
+  abbrev marked : Option (List ℕ)
+  marked = branchesRun (nodeRun level s) sh lo hi i low (entriesFrom s at end) seen
 
   abbrev Y : Count
   Y = branchesCount (treeAt level s) i (listed s at end)
@@ -129,10 +129,10 @@ module _ (level : ℕ) (s : List ℕ) (sh : Shape) (lo hi : List ℕ) (i : ℕ) 
   unfolding messagesRun
   ends-here = branches-end (nodeRun level s) sh lo hi i low seen ∙ onward-some (childRun (nodeRun level s) sh lo hi i low hi seen)
 
-  pub branches-last : end ≤ at → (r : Checked) (after : List ℕ) → Checks L M r after → Checks X Y r after
+  pub branches-last : end ≤ at → (r : Checked) (after : List ℕ) → Checks L M r after → Checks marked Y r after
   branches-last h r after =
       let e : entriesFrom s at end ≡ some [] = entries-end s at end h in
-      checks-as L X M Y r after
+      checks-as L marked M Y r after
       (ap (λ o. lastRun (nodeRun level s) sh lo hi i low o seen) e ∙ sym ends-here ∙ ap (λ o. branchesRun (nodeRun level s) sh lo hi i low o seen) (sym e))
       (count-end (treeAt level s) i (listed s at end) (listed-end s at end h))
 
@@ -140,8 +140,8 @@ module _ (level : ℕ) (s : List ℕ) (sh : Shape) (lo hi : List ℕ) (i : ℕ) 
   unfolding branchesRun
   no-walk o e = rw e
 
-  pub branches-unread : at < end → (r : Step) → Stepped s at end r → r ≡ Step.Bad → (after : List ℕ) → Checks X Y Checked.Unsound after
-  branches-unread h r st e after = unsound X Y after (no-walk (entriesFrom s at end) (step-bad-is s at end r st e .0 h))
+  pub branches-unread : at < end → (r : Step) → Stepped s at end r → r ≡ Step.Bad → (after : List ℕ) → Checks marked Y Checked.Unsound after
+  branches-unread h r st e after = unsound marked Y after (no-walk (entriesFrom s at end) (step-bad-is s at end r st e .0 h))
 
   module _ (e : Entry) (c : Cursor) (next : Next s at end e c) where
     -- another child follows
@@ -149,7 +149,7 @@ module _ (level : ℕ) (s : List ℕ) (sh : Shape) (lo hi : List ℕ) (i : ℕ) 
       pub next-place : end ≤ length s → Within 0 (length s) p
       next-place h = let w = branch-place at end e j p ek (next .reachable) in record { low = omega arith; rises = w .rises; high = omega arith }
 
-      more : X ≡ onward (childRun (nodeRun level s) sh lo hi i low (part s p) seen) (λ after. branchesRun (nodeRun level s) sh lo hi j (part s p) (entriesFrom s (c .at) (c .end)) after)
+      more : marked ≡ onward (childRun (nodeRun level s) sh lo hi i low (part s p) seen) (λ after. branchesRun (nodeRun level s) sh lo hi j (part s p) (entriesFrom s (c .at) (c .end)) after)
       more =
           ap (λ o. branchesRun (nodeRun level s) sh lo hi i low o seen)
           (next .first ∙ ap (λ x. defined.entryThen (some (entryIn s x)) (entriesFrom s (c .at) (c .end))) (child-entry e j p ek))
@@ -161,15 +161,15 @@ module _ (level : ℕ) (s : List ℕ) (sh : Shape) (lo hi : List ℕ) (i : ℕ) 
           (next .lists ∙ ap (λ x. entryIn s x ∷ listed s (c .at) (c .end)) (child-entry e j p ek)))
 
       module _ (r : Checked) (after : List ℕ) (h : Child level s sh lo hi i low (part s p) seen r after) where
-        pub child-stops : r ≡ Checked.Unsound → (z : List ℕ) → Checks X Y Checked.Unsound z
+        pub child-stops : r ≡ Checked.Unsound → (z : List ℕ) → Checks marked Y Checked.Unsound z
         child-stops f z =
-            first-stops X Y (childRun (nodeRun level s) sh lo hi i low (part s p) seen) (λ a. branchesRun (nodeRun level s) sh lo hi j (part s p) (entriesFrom s (c .at) (c .end)) a)
+            first-stops marked Y (childRun (nodeRun level s) sh lo hi i low (part s p) seen) (λ a. branchesRun (nodeRun level s) sh lo hi j (part s p) (entriesFrom s (c .at) (c .end)) a)
             (countOf (treeAt level s i)) (branchesCount (treeAt level s) j (listed s (c .at) (c .end))) more more-count r after h f z
 
-        pub child-passed : (run : Option (List ℕ)) (count : Count) (total t w : Tally) → Passed run count X Y total → r ≡ Checked.Sound t → w ≡ tallySum total t
+        pub child-passed : (run : Option (List ℕ)) (count : Count) (total t w : Tally) → Passed run count marked Y total → r ≡ Checked.Sound t → w ≡ tallySum total t
             → Passed run count (branchesRun (nodeRun level s) sh lo hi j (part s p) (entriesFrom s (c .at) (c .end)) after) (branchesCount (treeAt level s) j (listed s (c .at) (c .end))) w
         child-passed run count total t w passed et ew =
-            one-passed run count X Y total passed r after (childRun (nodeRun level s) sh lo hi i low (part s p) seen)
+            one-passed run count marked Y total passed r after (childRun (nodeRun level s) sh lo hi i low (part s p) seen)
             (λ a. branchesRun (nodeRun level s) sh lo hi j (part s p) (entriesFrom s (c .at) (c .end)) a)
             (countOf (treeAt level s i)) (branchesCount (treeAt level s) j (listed s (c .at) (c .end))) more more-count h t w et ew
 
@@ -192,7 +192,7 @@ module _ (level : ℕ) (s : List ℕ) (sh : Shape) (lo hi : List ℕ) (i : ℕ) 
       count-rest (Entry.Child k p) es h = let z : _≡_ {A = ℕ} 0 1 = cc in absurd (omega arith)
       count-rest (Entry.Message m) es h = refl
 
-      last-run : L ≡ X
+      last-run : L ≡ marked
       last-run =
           ap (λ o. lastRun (nodeRun level s) sh lo hi i low o seen) (next .first) ∙ sym (ends-run e (entriesFrom s (c .at) (c .end)) ek)
           ∙ ap (λ o. branchesRun (nodeRun level s) sh lo hi i low o seen) (sym (next .first))
@@ -202,5 +202,5 @@ module _ (level : ℕ) (s : List ℕ) (sh : Shape) (lo hi : List ℕ) (i : ℕ) 
           ap (λ l. lastCount (treeAt level s) i l) (next .lists) ∙ sym (count-rest e (listed s (c .at) (c .end)) ek)
           ∙ ap (λ l. branchesCount (treeAt level s) i l) (sym (next .lists))
 
-      pub branches-messages : (r : Checked) (after : List ℕ) → Checks L M r after → Checks X Y r after
-      branches-messages r after = checks-as L X M Y r after last-run last-count
+      pub branches-messages : (r : Checked) (after : List ℕ) → Checks L M r after → Checks marked Y r after
+      branches-messages r after = checks-as L marked M Y r after last-run last-count

@@ -9,8 +9,7 @@ use lib.ListN.{getD}
 use lib.Dec.{eqb}
 use borrow.Author.Tests.{eq-eqb, ne-eqb}
 use Rattle.path.specs.declared.Shape.{Shape}
-use Rattle.node.specs.declared.Place.{Place}
-use Rattle.tree_check.specs.declared.Parent.{Parent}
+use Rattle.tree_check.specs.declared.lent.Parent.{Parent}
 use Rattle.tree_check.specs.declared.Tally.{Tally}
 use Rattle.tree_check.specs.declared.Checked.{Checked}
 use Rattle.tree_check.specs.Count.{Count, tallySum}

@@ -18,7 +18,7 @@ use Rattle.node.specs.declared.Step.{Step}
 use Rattle.node.specs.declared.search.Branch.{Branch}
 use Rattle.node.specs.Search.Own.{branchIs}
 use Rattle.tree_check.specs.Node.Inside.{branchesRun}
-use Rattle.tree_check.specs.declared.Parent.{Parent}
+use Rattle.tree_check.specs.declared.lent.Parent.{Parent}
 use Rattle.tree_check.specs.declared.Tally.{Tally}
 use Rattle.tree_check.specs.declared.Checked.{Checked}
 use Rattle.tree_check.specs.Count.{Count, lastCount, branchesCount, tallySum}
@@ -44,31 +44,31 @@ unfolding answerIs withRest
 added before held Checked.Unsound e = let z : _≡_ {A = ℕ} 0 1 = cc in absurd (omega arith)
 added before held (Checked.Sound t) e = record { tally = t; sound = refl; sum = cc }
 
-module _ (P : Parent) (s hi : List ℕ) (i : ℕ) (low : List ℕ) (at : ℕ) (seen before : List ℕ) where
+module _ (above : Parent) (s hi : List ℕ) (i : ℕ) (low : List ℕ) (at : ℕ) (seen before : List ℕ) where
   abbrev level : ℕ
-  level = P .level
+  level = above .level
 
   abbrev end : ℕ
-  end = P .end
+  end = above .end
 
   abbrev sh : Shape
-  sh = shapeIs (P .shape)
+  sh = shapeIs (above .shape)
 
   abbrev lo : List ℕ
-  lo = part s (P .low)
+  lo = part s (above .low)
 
-  abbrev X : Option (List ℕ)
-  X = branchesRun (nodeRun level s) sh lo hi i low (entriesFrom s at end) seen
+  abbrev marked : Option (List ℕ)
+  marked = branchesRun (nodeRun level s) sh lo hi i low (entriesFrom s at end) seen
 
   abbrev Y : Count
   Y = branchesCount (treeAt level s) i (listed s at end)
 
   abbrev List-adds : Bool → List ℕ → List ℕ → Type 0
-  List-adds b held after = Adds X Y before b held after
+  List-adds b held after = Adds marked Y before b held after
 
-  unread : (r : Checked) (after : List ℕ) → Checks X Y r after → r ≡ Checked.Unsound → (held z : List ℕ) → List-adds false held z
+  unread : (r : Checked) (after : List ℕ) → Checks marked Y r after → r ≡ Checked.Unsound → (held z : List ℕ) → List-adds false held z
   unfolding answerIs
-  unread r after h e held z = record { whole = λ run count p. rest-stops run count X Y (tallyIs before) p r after h e z }
+  unread r after h e held z = record { whole = λ run count p. rest-stops run count marked Y (tallyIs before) p r after h e z }
 
   -- the last child
   module _ (r : Checked) (after : List ℕ)
@@ -76,11 +76,11 @@ module _ (P : Parent) (s hi : List ℕ) (i : ℕ) (low : List ℕ) (at : ℕ) (s
       (e : answerIs b held ≡ withRest (tallyIs before) r) where
     pub list-last : end ≤ at → List-adds b held after
     list-last l =
-        record { whole = λ run count p. rest-done run count X Y (tallyIs before) p r after (branches-last level s sh lo hi i low at end seen l r after h) (answerIs b held) e }
+        record { whole = λ run count p. rest-done run count marked Y (tallyIs before) p r after (branches-last level s sh lo hi i low at end seen l r after h) (answerIs b held) e }
 
     pub list-messages : (x : Entry) (c : Cursor) → Next s at end x c → branchIs x ≡ Branch.Other → List-adds b held after
     list-messages x c next k =
-        record { whole = λ run count p. rest-done run count X Y (tallyIs before) p r after (branches-messages level s sh lo hi i low at end seen x c next k r after h) (answerIs b held) e }
+        record { whole = λ run count p. rest-done run count marked Y (tallyIs before) p r after (branches-messages level s sh lo hi i low at end seen x c next k r after h) (answerIs b held) e }
 
   -- a child that another follows
   module _ (x : Entry) (c : Cursor) (next : Next s at end x c) (j : ℕ) (p : Place) (k : branchIs x ≡ Branch.Of j p) (r : Checked) (after : List ℕ)
@@ -107,6 +107,6 @@ module _ (P : Parent) (s hi : List ℕ) (i : ℕ) (low : List ℕ) (at : ℕ) (s
   list-unread l r st e held z = unread Checked.Unsound z (branches-unread level s sh lo hi i low at end seen l r st e z) refl held z
 
 -- what is said of one parent is said of the other
-pub as-told : (P Q : Parent) → P ≡ Q → (s hi : List ℕ) (i : ℕ) (low : List ℕ) (at : ℕ) (seen before : List ℕ) (b : Bool) (held after : List ℕ)
-    → List-adds P s hi i low at seen before b held after → List-adds Q s hi i low at seen before b held after
-as-told P Q e s hi i low at seen before b held after h = subst (λ (q : Parent). List-adds q s hi i low at seen before b held after) e h
+pub as-told : (above beside : Parent) → above ≡ beside → (s hi : List ℕ) (i : ℕ) (low : List ℕ) (at : ℕ) (seen before : List ℕ) (b : Bool) (held after : List ℕ)
+    → List-adds above s hi i low at seen before b held after → List-adds beside s hi i low at seen before b held after
+as-told above beside e s hi i low at seen before b held after h = subst (λ (q : Parent). List-adds q s hi i low at seen before b held after) e h

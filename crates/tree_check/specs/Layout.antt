@@ -35,18 +35,18 @@ module _ (s : List ℕ) (at end : ℕ) where
       let d : drop at s ≡ getD s at 0 ∷ drop (suc at) s = drop-cons s at 0 (omega arith) in
       rw (e, d) (ap (λ n. getD s at 0 ∷ take (end - (at + 1)) (drop n s)) (sym (add-one at)))
 
-  pub zeros-on : (X b c : Bool) → at < end → end ≤ length s → c ≡ (b && eqb (getD s at 0) 0) → b && zeros (cut s at end) ≡ X → c && zeros (cut s (at + 1) end) ≡ X
+  pub zeros-on : (answer b c : Bool) → at < end → end ≤ length s → c ≡ (b && eqb (getD s at 0) 0) → b && zeros (cut s at end) ≡ answer → c && zeros (cut s (at + 1) end) ≡ answer
   unfolding zeros
-  zeros-on X b c h k e inv =
-      let w : b && (eqb (getD s at 0) 0 && zeros (cut s (at + 1) end)) ≡ X = rw (cut-cons h k) at inv in
+  zeros-on answer b c h k e inv =
+      let w : b && (eqb (getD s at 0) 0 && zeros (cut s (at + 1) end)) ≡ answer = rw (cut-cons h k) at inv in
       ap (λ x. x && zeros (cut s (at + 1) end)) e ∙ regroup b (eqb (getD s at 0) 0) (zeros (cut s (at + 1) end)) ∙ w
     where
       regroup : (x y z : Bool) → (x && y) && z ≡ x && (y && z)
       regroup true y z = refl
       regroup false y z = refl
 
-  pub zeros-done : (X b : Bool) → end ≤ at → b && zeros (cut s at end) ≡ X → b ≡ X
-  zeros-done X b h inv = sym (ap (λ x. b && x) (zeros-end h) ∙ and-true b) ∙ inv
+  pub zeros-done : (answer b : Bool) → end ≤ at → b && zeros (cut s at end) ≡ answer → b ≡ answer
+  zeros-done answer b h inv = sym (ap (λ x. b && x) (zeros-end h) ∙ and-true b) ∙ inv
 
 -- the larger of two bytes is zero if both are
 pub larger-second : (a b : ℕ) → a < b → eqb b 0 ≡ (eqb a 0 && eqb b 0)

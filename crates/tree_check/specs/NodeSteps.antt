@@ -18,7 +18,7 @@ use Rattle.node.specs.Places.{part}
 use Rattle.node.specs.declared.Place.{Place}
 use Rattle.node.specs.declared.Cursor.{Cursor}
 use Rattle.tree_check.specs.Node.Inside.{branchesRun}
-use Rattle.tree_check.specs.declared.Parent.{Parent}
+use Rattle.tree_check.specs.declared.lent.Parent.{Parent}
 use Rattle.tree_check.specs.declared.Tally.{Tally}
 use Rattle.tree_check.specs.declared.Checked.{Checked}
 use Rattle.tree_check.specs.declared.First.{First}
@@ -33,22 +33,22 @@ use Rattle.tree_check.specs.LeafSteps.{LeafChecks}
 
 module _ (s : List ℕ) (i level : ℕ) (sh : Shape) (lo hi seen : List ℕ) where
   -- what the walk over the tree leaves, and what it holds
-  abbrev X : Option (List ℕ)
-  X = visit (treeAt level s i) (nodesOf (length s)) sh lo hi seen
+  abbrev marked : Option (List ℕ)
+  marked = visit (treeAt level s i) (nodesOf (length s)) sh lo hi seen
 
   abbrev Y : Count
   Y = countOf (treeAt level s i)
 
-  met : unmet (nodesOf (length s)) seen i ≡ false → (after : List ℕ) → Checks X Y Checked.Unsound after
-  met e after = unsound X Y after (node-met level s i (nodesOf (length s)) sh lo hi seen e)
+  met : unmet (nodesOf (length s)) seen i ≡ false → (after : List ℕ) → Checks marked Y Checked.Unsound after
+  met e after = unsound marked Y after (node-met level s i (nodesOf (length s)) sh lo hi seen e)
 
-  pub number-low : i < 1 → (after : List ℕ) → Checks X Y Checked.Unsound after
+  pub number-low : i < 1 → (after : List ℕ) → Checks marked Y Checked.Unsound after
   number-low h after = met (unmet-low (nodesOf (length s)) i seen h) after
 
-  pub number-past : (n : ℕ) → n ≡ nodesOf (length s) → n ≤ i → (after : List ℕ) → Checks X Y Checked.Unsound after
+  pub number-past : (n : ℕ) → n ≡ nodesOf (length s) → n ≤ i → (after : List ℕ) → Checks marked Y Checked.Unsound after
   number-past n e h after = met (unmet-past (nodesOf (length s)) i seen (omega arith)) after
 
-  pub reached-before : (getD seen i 0 ≡ 0 → ⊥) → (after : List ℕ) → Checks X Y Checked.Unsound after
+  pub reached-before : (getD seen i 0 ≡ 0 → ⊥) → (after : List ℕ) → Checks marked Y Checked.Unsound after
   reached-before h after = met (unmet-again (nodesOf (length s)) i seen h) after
 
   unread-walk : (l : ℕ) → l < 1 → visit (treeAt l s i) (nodesOf (length s)) sh lo hi seen ≡ none
@@ -56,17 +56,17 @@ module _ (s : List ℕ) (i level : ℕ) (sh : Shape) (lo hi seen : List ℕ) whe
   unread-walk zero h = refl
   unread-walk (suc l) h = absurd (omega arith)
 
-  pub level-zero : level < 1 → (after : List ℕ) → Checks X Y Checked.Unsound after
-  level-zero h after = unsound X Y after (unread-walk level h)
+  pub level-zero : level < 1 → (after : List ℕ) → Checks marked Y Checked.Unsound after
+  level-zero h after = unsound marked Y after (unread-walk level h)
 
   module _ (n : ℕ) (en : n ≡ nodesOf (length s)) (low : 1 ≤ i) (high : i < n) (fresh : getD seen i 0 ≡ 0) where
     open-node : unmet (nodesOf (length s)) seen i ≡ true
     open-node = unmet-yes (nodesOf (length s)) i seen low (omega arith) fresh
 
     -- a leaf
-    pub node-leaf : level ≡ 1 → (r : Checked) → LeafChecks s i sh lo hi r → Checks X Y r (set seen i 1)
+    pub node-leaf : level ≡ 1 → (r : Checked) → LeafChecks s i sh lo hi r → Checks marked Y r (set seen i 1)
     node-leaf e r h =
-        checks-as (cond (soundHere (treeAt 1 s i) sh lo hi) (some (set seen i 1)) none) X (countOf (treeAt 1 s i)) Y r (set seen i 1)
+        checks-as (cond (soundHere (treeAt 1 s i) sh lo hi) (some (set seen i 1)) none) marked (countOf (treeAt 1 s i)) Y r (set seen i 1)
         (leaf-walk s i (nodesOf (length s)) sh lo hi seen open-node level e) (ap (λ l. countOf (treeAt l s i)) (sym e)) (h (set seen i 1))
 
     -- an interior node
@@ -87,9 +87,9 @@ module _ (s : List ℕ) (i level : ℕ) (sh : Shape) (lo hi seen : List ℕ) whe
       T = interiorOf (treeAt (level - 1) s) i (orNone insideOf (nodeEntries 0x0002 level (nodeBytes s i)))
 
       module _ (f : First) (hf : FirstAs s i level lo f) where
-        pub no-first : f ≡ First.Nothing → (after : List ℕ) → Checks X Y Checked.Unsound after
+        pub no-first : f ≡ First.Nothing → (after : List ℕ) → Checks marked Y Checked.Unsound after
         no-first e after =
-            unsound X Y after
+            unsound marked Y after
             (ap (λ t. visit t (nodesOf (length s)) sh lo hi seen) (interior-tree level two)
             ∙ headless (treeAt (level - 1) s) (nodesOf (length s)) (nodeRun (level - 1) s) alike i sh lo hi seen (nodeEntries 0x0002 level (nodeBytes s i)) (first-nothing-is s i level lo f hf e))
 
@@ -100,7 +100,7 @@ module _ (s : List ℕ) (i level : ℕ) (sh : Shape) (lo hi seen : List ℕ) whe
           abbrev K : Option (List ℕ)
           K = branchesRun (nodeRun (level - 1) s) sh lo hi j (part s p) (entriesFrom s (c .at) (c .end)) (set seen i 1)
 
-          walk-is : K ≡ X
+          walk-is : K ≡ marked
           walk-is =
               first-walk (treeAt (level - 1) s) (nodesOf (length s)) (nodeRun (level - 1) s) alike i sh lo hi seen open-node j (part s p) (leads .pivot)
               (nodeEntries 0x0002 level (nodeBytes s i)) (entriesFrom s (c .at) (c .end)) (leads .reads)
@@ -110,15 +110,15 @@ module _ (s : List ℕ) (i level : ℕ) (sh : Shape) (lo hi seen : List ℕ) whe
           M = branchesCount (treeAt (level - 1) s) j (listed s (c .at) (c .end))
 
           -- the node itself is counted before its list of children
-          branches-found : (w : Checked) (after : List ℕ) → Checks K (plus onlyNode M) w after → Checks X Y w after
-          branches-found Checked.Unsound after h = unsound X Y after (sym walk-is ∙ unsound-is K (plus onlyNode M) Checked.Unsound after h refl)
+          branches-found : (w : Checked) (after : List ℕ) → Checks K (plus onlyNode M) w after → Checks marked Y w after
+          branches-found Checked.Unsound after h = unsound marked Y after (sym walk-is ∙ unsound-is K (plus onlyNode M) Checked.Unsound after h refl)
           branches-found (Checked.Sound t) after h =
               let k : K ≡ some after = sound-is K (plus onlyNode M) (Checked.Sound t) t after h refl in
               let y : plus onlyNode M ≡ countOf T
               = first-counts (treeAt (level - 1) s) (nodesOf (length s)) (nodeRun (level - 1) s) alike i sh lo hi seen open-node j (part s p) (leads .pivot)
               (nodeEntries 0x0002 level (nodeBytes s i)) (entriesFrom s (c .at) (c .end)) (listed s (c .at) (c .end)) (set seen i 1) after (leads .reads)
               (λ es q. reads-listed s (c .at) (c .end) es q) k in
-              all-sound X Y t after (sym walk-is ∙ k)
+              all-sound marked Y t after (sym walk-is ∙ k)
               (tally-is K (plus onlyNode M) (Checked.Sound t) t after h refl ∙ ap (λ z. capped z) (y ∙ ap (λ z. countOf z) (sym (interior-tree level two))))
 
           -- the list, told of a parent
@@ -139,7 +139,7 @@ module _ (s : List ℕ) (i level : ℕ) (sh : Shape) (lo hi seen : List ℕ) whe
             unfolding tallyIs
             itself = node-capped
 
-            found : Checks X Y (answerIs r held) after
+            found : Checks marked Y (answerIs r held) after
             found =
                 let h1 : As (level - 1) (own .end) (shapeIs (own .shape)) (part s (own .low)) = subst (λ (l : ℕ). As l (own .end) (shapeIs (own .shape)) (part s (own .low))) level-is h in
                 let h2 : As (level - 1) (c .end) (shapeIs (own .shape)) (part s (own .low)) = subst (λ (n : ℕ). As (level - 1) n (shapeIs (own .shape)) (part s (own .low))) end-is h1 in
@@ -147,10 +147,10 @@ module _ (s : List ℕ) (i level : ℕ) (sh : Shape) (lo hi seen : List ℕ) whe
                 let k : As (level - 1) (c .end) sh lo = subst (λ (a : List ℕ). As (level - 1) (c .end) sh a) (ap (λ (q : Place). part s q) low-is ∙ same-eq (part s p) lo (leads .pivot)) h3 in
                 branches-found (answerIs r held) after (k .whole K (plus onlyNode M) (record { counted = onlyNode; tally = itself; counts = refl; walk = refl }))
 
-            pub branches-stop : r ≡ false → (z : List ℕ) → Checks X Y Checked.Unsound z
+            pub branches-stop : r ≡ false → (z : List ℕ) → Checks marked Y Checked.Unsound z
             unfolding answerIs
-            branches-stop e z = unsound X Y z (unsound-is X Y (answerIs r held) after found (rw e))
+            branches-stop e z = unsound marked Y z (unsound-is marked Y (answerIs r held) after found (rw e))
 
-            pub branches-done : r ≡ true → (t : Tally) → t ≡ tallyIs held → Checks X Y (Checked.Sound t) after
+            pub branches-done : r ≡ true → (t : Tally) → t ≡ tallyIs held → Checks marked Y (Checked.Sound t) after
             unfolding answerIs
-            branches-done e t f = rw f (subst (λ (b : Bool). Checks X Y (answerIs b held) after) e found)
+            branches-done e t f = rw f (subst (λ (b : Bool). Checks marked Y (answerIs b held) after) e found)

@@ -1,8 +1,11 @@
 // Question 2 but for the live count: one marking walk over the tree, in which the check of a node and that of its children call each other.
-// It reads any store of at least one node, and counts pairs and messages. Relies on node_check for what one node holds, and on path.
+// It reads any store of at least one node, and counts pairs and messages. Relies on header and node_check for what one node holds, and on path.
+pub mod header;
+pub mod lent;
 pub mod marks;
 pub mod node_check;
 
+use lent::Parent;
 use node::Cursor;
 use node::Place;
 use node::Step;
@@ -10,27 +13,23 @@ use node::search::Branch;
 use node_check::Counted;
 use path::Shape;
 ghost use mathlib.Core.Path.{_≡_};
-ghost use mathlib.Core.Bool.{cond, _&&_};
+ghost use mathlib.Core.Bool.{cond};
 ghost use mathlib.Core.List.{List};
 ghost use mathlib.Core.Option.{none, some};
 ghost use Prim.Native.Nat.{ℕ, _+_, _*_, _≤_};
 ghost use lib.ListN.{length};
-ghost use lib.Dec.{eqb};
-ghost use Rattle.image.specs.Bytes.{zeros};
-ghost use Rattle.image.specs.Image.{nodesOf, nodeBytes, laidOut, treeAt};
+ghost use Rattle.image.specs.Image.{nodesOf, treeAt};
 ghost use Rattle.laws.specs.Reading.SoundHere.{soundHere};
 ghost use Rattle.laws.specs.Reading.Visit.{visit, blank};
-ghost use Rattle.node.specs.Cut.{cut};
 ghost use Rattle.node.specs.Entries.{entriesFrom, listed};
 ghost use Rattle.node.specs.Places.{Within, part};
 ghost use Rattle.path.specs.Fed.{shapeIs};
 ghost use Rattle.tree_check.specs.Node.Inside.{messagesRun, childRun, branchesRun};
 ghost use Rattle.tree_check.specs.Count.{tallySum, countOf, onlyMessages, lastCount, branchesCount};
 ghost use Rattle.tree_check.specs.Answer.{Checks, withRest};
-ghost use Rattle.tree_check.specs.Held.{tallyIs, answerIs, parentIs, Adds};
+ghost use Rattle.tree_check.specs.Held.{parentIs, Adds};
 ghost use Rattle.tree_check.specs.Walk.{nodeRun, lastRun};
 ghost use Rattle.tree_check.specs.First.{FirstAs};
-ghost use Rattle.laws.specs.ButLive.{soundHead};
 ghost use Rattle.node.specs.Whole.{HasNode};
 ghost use Rattle.tree_check.specs.Whole.{Verified};
 
@@ -65,79 +64,6 @@ pub fn joined(a: Tally, b: Tally) -> Tally
     }
 }
 
-// The tally that is held as pairs, messages and nodes.
-pub fn tally_of(held: &[usize; 3]) -> Tally
-    ensures { λ r. ⌜ r ≡ tallyIs (now (held .entry)) ⌝ }
-{
-    Tally {
-        pairs: held[0],
-        messages: held[1],
-        nodes: held[2],
-    }
-}
-
-// Adds what was found to the tally that is held. Whether it was sound.
-pub fn hold(held: &mut [usize; 3], found: Checked) -> bool
-    ensures { λ r. ⌜ answerIs r (now (held .exit)) ≡ withRest (tallyIs (now (held .entry))) found ⌝ }
-{
-    let Checked::Sound(t) = found else {
-        return false;
-    };
-    let total = joined(tally_of(held), t);
-    *held = [total.pairs, total.messages, total.nodes];
-    true
-}
-
-// What the children of a node share: their level, the end of the node's entries, the place of its own low pivot, and the shape of what it lifts.
-pub struct Parent {
-    pub level: usize,
-    pub end: usize,
-    pub low: Place,
-    pub shape: Shape,
-}
-
-// A parent as plain numbers, which can be lent.
-pub fn flattened(p: Parent) -> [usize; 8]
-    ensures { λ r. ⌜ parentIs r ≡ p ⌝ }
-{
-    let level = p.level;
-    let end = p.end;
-    let low = p.low;
-    let a = low.start;
-    let b = low.stop;
-    let shape = p.shape;
-    let Shape::Partway(done, here, len) = shape else {
-        return [level, end, a, b, 0, 0, 0, 0];
-    };
-    [level, end, a, b, 1, done, here, len]
-}
-
-pub fn parent_of(flat: &[usize; 8]) -> Parent
-    ensures { λ r. ⌜ r ≡ parentIs (now (flat .entry)) ⌝ }
-{
-    let level = flat[0];
-    let end = flat[1];
-    let low = Place {
-        start: flat[2],
-        stop: flat[3],
-    };
-    if flat[4] == 0 {
-        return Parent {
-            level,
-            end,
-            low,
-            shape: Shape::Dead,
-        };
-    }
-    let shape = Shape::Partway(flat[5], flat[6], flat[7]);
-    Parent {
-        level,
-        end,
-        low,
-        shape,
-    }
-}
-
 // What was found sound, with the answer for the rest.
 pub fn with_rest(held: Tally, rest: Checked) -> Checked
     ensures { λ r. ⌜ r ≡ withRest held rest ⌝ }
@@ -148,58 +74,6 @@ pub fn with_rest(held: Tally, rest: Checked) -> Checked
     Checked::Sound(joined(held, t))
 }
 
-// How many nodes the store has room for.
-pub fn node_count(store: &[u8]) -> usize
-    ensures { λ r. ⌜ r ≡ nodesOf (length (now (store .entry))) ⌝ }
-{
-    store.len() / image::NODE_SIZE
-}
-
-fn larger(a: u8, b: u8) -> u8
-    ensures { λ r. ⌜ eqb r 0 ≡ (eqb a 0 && eqb b 0) ⌝ }
-{
-    if a < b {
-        return b;
-    }
-    a
-}
-
-// Whether every byte from a place up to another is zero: whether the largest is. No byte ends the loop, so that many are read at once.
-pub fn all_zero(s: &[u8], from: usize, end: usize) -> bool
-    requires { ⌜ end ≤ length (now s) ⌝ }
-    ensures { λ r. ⌜ r ≡ zeros (cut (now (s .entry)) from end) ⌝ }
-{
-    let mut i = from;
-    let mut most: u8 = 0;
-    while i < end {
-        most = larger(most, s[i]);
-        i += 1;
-    }
-    most == 0
-}
-
-// Whether a node of the store is laid out as one of this kind and level.
-pub fn laid_out(store: &[u8], num: usize, kind: usize, level: usize) -> bool
-    requires { ⌜ HasNode (now store) num ⌝ }
-    ensures { λ r. ⌜ r ≡ laidOut kind level (nodeBytes (now (store .entry)) num) ⌝ }
-{
-    let at = num * image::NODE_SIZE;
-    let len = octets::u16_at(store, at);
-    if 1016 < len {
-        return false;
-    }
-    if octets::u16_at(store, at + 2) != kind {
-        return false;
-    }
-    if octets::u16_at(store, at + 4) != level {
-        return false;
-    }
-    if octets::u16_at(store, at + 6) != 0 {
-        return false;
-    }
-    all_zero(store, at + image::ENTRIES_AT + len, at + image::NODE_SIZE)
-}
-
 // Whether a node of the store is a sound leaf, and how many pairs it holds.
 pub fn check_leaf(store: &[u8], num: usize, lo: &[u8], hi: &[u8], sh: Shape) -> Checked
     requires { ⌜ HasNode (now store) num ⌝ }
@@ -207,7 +81,7 @@ pub fn check_leaf(store: &[u8], num: usize, lo: &[u8], hi: &[u8], sh: Shape) -> 
         (cond (soundHere (treeAt 1 (now (store .entry)) num) (shapeIs sh) (now (lo .entry)) (now (hi .entry))) (some seen) none)
         (countOf (treeAt 1 (now (store .entry)) num)) r seen) ⌝ }
 {
-    if !laid_out(store, num, 1, 1) {
+    if !header::laid_out(store, num, 1, 1) {
         return Checked::Unsound;
     }
     let at = num * image::NODE_SIZE;
@@ -229,7 +103,7 @@ pub fn first_child(store: &[u8], num: usize, level: usize, lo: &[u8]) -> First
     requires { ⌜ HasNode (now store) num ⌝ }
     ensures { λ r. ⌜ FirstAs (now (store .entry)) num level (now (lo .entry)) r ⌝ }
 {
-    if !laid_out(store, num, 2, level) {
+    if !header::laid_out(store, num, 2, level) {
         return First::Nothing;
     }
     let at = num * image::NODE_SIZE;
@@ -294,7 +168,7 @@ pub fn check_node(
     if num < 1 {
         return Checked::Unsound;
     }
-    if node_count(store) <= num {
+    if header::node_count(store) <= num {
         return Checked::Unsound;
     }
     if level < 1 {
@@ -316,7 +190,7 @@ pub fn check_node(
         low: p,
         shape: sh,
     };
-    let flat = flattened(parent);
+    let flat = lent::flattened(parent);
     let first = ChildAt {
         num: child,
         next: next.at,
@@ -325,7 +199,7 @@ pub fn check_node(
     if !check_children(&store, first, p, &hi, &flat, seen, &mut held) {
         return Checked::Unsound;
     }
-    Checked::Sound(tally_of(&held))
+    Checked::Sound(lent::tally_of(&held))
 }
 
 // The child `first` with the low pivot `low`, and the entries of its parent that follow it: whether all are sound. What they hold is added to
@@ -354,7 +228,7 @@ pub fn check_children(
         r (now (held .exit)) (now (seen .exit)) ⌝ }
 {
     let image = *store;
-    let parent = parent_of(flat);
+    let parent = lent::parent_of(flat);
     let num = first.num;
     let rest = Cursor {
         at: first.next,
@@ -364,19 +238,19 @@ pub fn check_children(
     let b = low.stop;
     if rest.end <= rest.at {
         let last = check_last(image, num, &image[a..b], rest, parent, *hi, seen);
-        return hold(held, last);
+        return lent::hold(held, last);
     }
     let Step::Read(e, next) = rest.step(image) else {
         return false;
     };
     let Branch::Of(child, p) = node::search::branch_of(e) else {
         let last = check_last(image, num, &image[a..b], rest, parent, *hi, seen);
-        return hold(held, last);
+        return lent::hold(held, last);
     };
     let x = p.start;
     let y = p.stop;
     let one = check_child(image, num, &image[a..b], &image[x..y], parent, *hi, seen);
-    if !hold(held, one) {
+    if !lent::hold(held, one) {
         return false;
     }
     let second = ChildAt {
@@ -458,45 +332,6 @@ pub fn check_child(
     )
 }
 
-// Whether node 0 is laid out, and its numbers are in the range that a store of this length asks for.
-pub fn header_good(store: &[u8]) -> bool
-    requires { ⌜ 1024 ≤ length (now store) ⌝ }
-    ensures { λ r. ⌜ r ≡ soundHead (now (store .entry)) ⌝ }
-{
-    let n = node_count(store);
-    let len = octets::u16_at(store, 0);
-    let kind = octets::u16_at(store, 2);
-    let count = octets::u16_at(store, image::COUNT_AT);
-    let root = octets::u16_at(store, image::ROOT_AT);
-    let levels = octets::u16_at(store, image::LEVELS_AT);
-    let live = octets::u16_at(store, image::LIVE_AT);
-    if len != 8 {
-        return false;
-    }
-    if kind != 256 {
-        return false;
-    }
-    if count != n {
-        return false;
-    }
-    if root < 1 {
-        return false;
-    }
-    if n <= root {
-        return false;
-    }
-    if levels < 1 {
-        return false;
-    }
-    if 8 < levels {
-        return false;
-    }
-    if n < live {
-        return false;
-    }
-    all_zero(store, 12, 1024)
-}
-
 // Sets every byte to zero.
 pub fn clear(seen: &mut [u8])
     ensures { λ _. ⌜ now (seen .exit) ≡ blank (length (now (seen .entry))) ⌝ }
@@ -513,7 +348,7 @@ pub fn check_tree(store: &[u8], seen: &mut [u8; 1024]) -> Checked
     requires { ⌜ (1024 ≤ length (now store)) × (nodesOf (length (now store)) ≤ 1024) ⌝ }
     ensures { λ r. ⌜ Verified (now (store .entry)) r (now (seen .exit)) ⌝ }
 {
-    if !header_good(store) {
+    if !header::header_good(store) {
         return Checked::Unsound;
     }
     clear(seen);

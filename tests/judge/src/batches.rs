@@ -2,7 +2,7 @@
 // not, on made, generated, damaged and random stores. Each is judged by the plain map and by the same calls made one by one.
 
 use crate::Library;
-use second::batch::{self, Batching, Done, Handed};
+use second::batch::{self, Batching, Done, Handed, Judged};
 use second::calls::{self, Known};
 use second::limits::{NODE, NODES_LEAST, WORK_PER_NODE};
 use second::plain::Call;
@@ -22,6 +22,8 @@ pub struct Tried {
     /// Stopped for room, and at bytes that are no piece.
     pub for_room: usize,
     pub at_no_piece: usize,
+    /// Had to leave a reserve in the root.
+    pub reserved: usize,
 }
 
 /// Judges so many batches.
@@ -31,7 +33,12 @@ pub fn run(seed: u64, cases: usize) -> Result<Tried, String> {
         let mut rng = Rng::new(seed ^ case.wrapping_mul(0xA076_1D64_78BD_642F));
         one(&mut rng, &mut tried).map_err(|what| format!("seed {seed}, batch {case}: {what}"))?;
     }
-    let seldom = [tried.refused, tried.for_room, tried.at_no_piece];
+    let seldom = [
+        tried.refused,
+        tried.for_room,
+        tried.at_no_piece,
+        tried.reserved,
+    ];
     match cases < 100 || seldom.iter().all(|count| *count > 0) {
         true => Ok(tried),
         false => Err(format!("not tried: {tried:?}")),
@@ -65,20 +72,22 @@ fn one(rng: &mut Rng, tried: &mut Tried) -> Result<(), String> {
             work: &rng.bytes(work),
             answers: &rng.bytes(room),
         };
-        let done = batch::check(&mut Library, &mut store, &handed)?;
-        tried.count(&calls, done, stops);
+        let judged = batch::check(&mut Library, &mut store, &handed)?;
+        tried.count(&calls, judged, stops);
     }
     Ok(())
 }
 
 impl Tried {
-    fn count(&mut self, calls: &[Call], done: Done, stops: bool) {
+    fn count(&mut self, calls: &[Call], judged: Judged, stops: bool) {
+        let Judged { done, reserved } = judged;
         let all = done.calls == calls.len();
         self.batches += 1;
         self.calls += done.calls;
         self.refused += usize::from(done.number != 0);
         self.for_room += usize::from(done.number == 0 && !all);
         self.at_no_piece += usize::from(done.number == 0 && all && stops);
+        self.reserved += usize::from(reserved);
     }
 }
 

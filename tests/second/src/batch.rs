@@ -20,6 +20,10 @@ const KIND_HEAL: u16 = 0x0043;
 /// The bytes of an answer before what was found: length, number.
 const ANSWER_HEAD: usize = 4;
 
+/// The bytes for entries that the last change of a batch leaves free in an interior root, as a single call does. The paper
+/// does not ask for it: a full root costs the next call time.
+const RESERVE: usize = 616;
+
 /// What a batch answers: a number, how many calls were done, how many bytes of answers written.
 #[derive(Clone, Copy, Debug, PartialEq, Eq)]
 pub struct Done {
@@ -170,24 +174,59 @@ impl Handed<'_> {
         let mut expected = Expected {
             done: Done::refused(number),
             answers: Vec::new(),
+            accepted: Vec::new(),
             alone: store.to_vec(),
             piecewise: store.to_vec(),
             agree: true,
         };
-        for call in self.calls {
+        for (i, call) in self.calls.iter().enumerate() {
             if number != 0 || self.answers.len() - expected.answers.len() < most(call) {
                 break;
             }
-            expected.step(subject, call);
+            expected.step(subject, call, self.is_followed(i));
         }
         expected.done.written = expected.answers.len();
         expected
     }
+
+    /// Whether a later call of the list, made or not, changes what the root holds: only a change that none follows leaves a
+    /// reserve there.
+    fn is_followed(&self, i: usize) -> bool {
+        self.calls[i + 1..].iter().any(changes_root)
+    }
+
+    /// Whether the batch must have left the reserve: its last change is a put, drop or clear that was made and accepted.
+    fn must_reserve(&self, expected: &Expected) -> bool {
+        let reads = |call: &Call| matches!(call, Call::Get { .. } | Call::Next { .. });
+        let last = self.calls.iter().rposition(|call| !reads(call));
+        last.is_some_and(|i| {
+            adds_message(&self.calls[i]) && expected.accepted.get(i) == Some(&true)
+        })
+    }
+}
+
+/// Whether a call is a put, a drop or a clear.
+fn adds_message(call: &Call) -> bool {
+    matches!(
+        call,
+        Call::Put { .. } | Call::Drop { .. } | Call::Clear { .. }
+    )
+}
+
+/// Whether a call fills or empties the root itself; a flush or a heal may do neither.
+fn changes_root(call: &Call) -> bool {
+    let empties = matches!(
+        call,
+        Call::Move { .. } | Call::Settle { .. } | Call::Tidy { .. }
+    );
+    empties || adds_message(call)
 }
 
 struct Expected {
     done: Done,
     answers: Vec<u8>,
+    /// For each call that is made.
+    accepted: Vec<bool>,
     alone: Vec<u8>,
     piecewise: Vec<u8>,
     /// The calls by themselves answered the same.
@@ -195,31 +234,54 @@ struct Expected {
 }
 
 impl Expected {
-    fn step(&mut self, subject: &mut dyn Batching, call: &Call) {
+    fn step(&mut self, subject: &mut dyn Batching, call: &Call, followed: bool) {
         let answer = must_answer(&self.piecewise, call);
         let alone = answered(subject, &mut self.alone, call);
         let upkeep = matches!(call, Call::Flush { .. } | Call::Heal { .. });
         self.agree &= upkeep || alone == answer;
+        self.accepted.push(answer[2..ANSWER_HEAD] == [0, 0]);
         self.answers.extend(answer);
-        make_one(subject, &mut self.piecewise, call);
+        make_one(subject, &mut self.piecewise, call, followed);
         self.done.calls += 1;
     }
 }
 
-/// A batch of one call.
-fn make_one(subject: &mut dyn Batching, store: &mut [u8], call: &Call) {
+/// A batch of one call. Where a change follows it in its list, a refused one follows it here: no path is empty.
+fn make_one(subject: &mut dyn Batching, store: &mut [u8], call: &Call, followed: bool) {
     let mut work = vec![0; WORK_PER_NODE * store.len() / NODE];
-    let bytes = piece(call).unwrap_or_default();
-    subject.batch(store, &mut work, &bytes, &mut vec![0; most(call)]);
+    let mut bytes = piece(call).unwrap_or_default();
+    if followed {
+        bytes.extend(laid(KIND_DROP, &[]));
+    }
+    subject.batch(
+        store,
+        &mut work,
+        &bytes,
+        &mut vec![0; most(call) + ANSWER_HEAD],
+    );
+}
+
+/// How many bytes are free for entries in the root of a sound image; none is said of a leaf.
+fn free_at_root(store: &[u8]) -> Option<usize> {
+    let header = image::Header::read(store);
+    let taken = image::entry_bytes(image::node(store, header.root)).len();
+    (header.levels > LEAF_LEVEL).then_some(ENTRY_BYTES_LIMIT - taken)
+}
+
+/// A batch that went as it must: what it answered, and whether it had to leave a reserve in the root.
+#[derive(Clone, Copy, Debug)]
+pub struct Judged {
+    pub done: Done,
+    pub reserved: bool,
 }
 
 /// Makes the batch and judges all that it leaves, by the same calls made one by one, and its answers and its meaning by
-/// the plain map, too. Gives what it answered.
+/// the plain map, too.
 pub fn check(
     subject: &mut dyn Batching,
     store: &mut Vec<u8>,
     handed: &Handed,
-) -> Result<Done, String> {
+) -> Result<Judged, String> {
     let mut work = handed.work.to_vec();
     let mut answers = handed.answers.to_vec();
     let before = store.clone();
@@ -243,7 +305,10 @@ pub fn check(
     }
     if done.number != 0 {
         return match *store == before && work == handed.work {
-            true => Ok(done),
+            true => Ok(Judged {
+                done,
+                reserved: false,
+            }),
             false => Err(told("refused, and bytes changed")),
         };
     }
@@ -268,8 +333,15 @@ pub fn check(
     for call in &handed.calls[..done.calls] {
         plain.step(&lent(call, plain.n));
     }
-    match plain.table == meaning(store)? {
-        true => Ok(done),
-        false => Err(told("the store means something else than the plain map")),
+    if plain.table != meaning(store)? {
+        return Err(told("the store means something else than the plain map"));
+    }
+    let free = free_at_root(store).filter(|_| handed.must_reserve(&expected));
+    match free.is_none_or(|free| free >= RESERVE) {
+        true => Ok(Judged {
+            done,
+            reserved: free.is_some(),
+        }),
+        false => Err(told("its last change left too little room in the root")),
     }
 }

@@ -21,14 +21,14 @@ u16-at-requires-2 c κs = search needs
 add-from : tie.Need-add-from
 add-from c = search needs
 
-add-holds-message : tie.Need-add-holds-message
-add-holds-message c = search needs
+add-has-messages : tie.Need-add-has-messages
+add-has-messages c = search needs
 
-holds-message-requires : tie.Need-holds-message-requires
-holds-message-requires c κs = let h = root-short _ (c .before .before .before .before .before .pre) _ _ _ (c .before .before .before .u16-at .ensures .0) (c .before .before .if1 .left) (c .before .root-at .ensures .0) (c .u16-at2 .ensures .0) in omega arith
+has-messages-requires : tie.Need-has-messages-requires
+has-messages-requires c κs = let h = root-short _ (c .before .before .before .before .before .pre) _ _ _ (c .before .before .before .u16-at .ensures .0) (c .before .before .if1 .left) (c .before .root-at .ensures .0) (c .u16-at2 .ensures .0) in omega arith
 
 returns-2 : tie.Need-returns-2
-returns-2 c = root-held _ (c .before .before .before .before .before .before .pre) _ _ _ _ (c .before .before .before .before .u16-at .ensures .0) (c .before .before .before .if1 .left) (c .before .before .root-at .ensures .0) (c .before .u16-at2 .ensures .0) (c .holds-message .ensures)
+returns-2 c = root-held _ (c .before .before .before .before .before .before .pre) _ _ _ _ (c .before .before .before .before .u16-at .ensures .0) (c .before .before .before .if1 .left) (c .before .before .root-at .ensures .0) (c .before .u16-at2 .ensures .0) (c .has-messages .ensures)
 
 pub has-messages-at-root-spec : {M : Type 1} → statement M
 has-messages-at-root-spec =
@@ -39,6 +39,6 @@ has-messages-at-root-spec =
     root-at-requires
     u16-at-requires-2
     add-from
-    add-holds-message
-    holds-message-requires
+    add-has-messages
+    has-messages-requires
     returns-2)

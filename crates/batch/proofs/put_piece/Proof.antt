@@ -1,5 +1,6 @@
 -- `batch::put_piece` meets its contract. Relies on specs/Steps.
 use Rattle.batch.specs.Steps.{served-act}
+use Rattle.edit.specs.Room.{terms-unmarked}
 use borrow.Author.Needs.{needs}
 use Rattle.batch.proofs.put_piece.Statement.{statement}
 use Rattle.batch.proofs.put_piece.Tie as tie
@@ -23,7 +24,7 @@ part-put-fit-end-2 : tie.Need-part-put-fit-end-2
 part-put-fit-end-2 c = search needs
 
 put-fit-requires : tie.Need-put-fit-requires
-put-fit-requires c κs = search needs
+put-fit-requires c κs = (c .before .before .before .before .before .before .before .before .pre .0 .passed, terms-unmarked _ _ _ (c .before .before .before .before .before .before .before .before .pre .3))
 
 same-length : tie.Need-same-length
 same-length c = search needs
@@ -32,7 +33,7 @@ same-length-2 : tie.Need-same-length-2
 same-length-2 c = search needs
 
 returns : tie.Need-returns
-returns c = served-act (c .before .before .before .before .before .before .before .before .before .before .before .before .args .store .now) (c .before .before .before .before .before .before .before .before .before .before .before .before .args .work .now) _ _ (c .before .before .before .before .before .before .before .before .before .before .before .before .pre .0) _ _ (c .before .before .before .before .put-fit .ensures)
+returns c = served-act (c .before .before .before .before .before .before .before .before .before .before .before .before .before .args .store .now) (c .before .before .before .before .before .before .before .before .before .before .before .before .before .args .work .now) _ _ (c .before .before .before .before .before .before .before .before .before .before .before .before .before .pre .0) _ _ (c .before .before .before .before .put-fit .ensures)
 
 pub put-piece-spec : {M : Type 1} → statement M
 put-piece-spec =

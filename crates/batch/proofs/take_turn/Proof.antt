@@ -20,8 +20,11 @@ sub-if1 c = search needs
 returns : tie.Need-returns
 returns c = turn-full (c .before .before .before .before .before .before .before .before .before .args .calls .now) _ _ (c .before .before .before .before .read-piece .ensures) _ _ _ _ _ (c .before .before .piece .given .1) (omega arith)
 
+reserve-of-requires : tie.Need-reserve-of-requires
+reserve-of-requires c κs = c .before .before .before .before .read-piece .ensures .high
+
 make-change-requires : tie.Need-make-change-requires
-make-change-requires c κs = (c .before .before .before .before .before .before .before .before .before .before .before .pre .0, change-within (c .before .before .before .before .before .before .before .before .before .before .before .args .calls .now) _ _ (c .before .before .before .before .before .before .read-piece .ensures) _ (c .before .before .before .before .piece .given .1))
+make-change-requires c κs = (c .before .before .before .before .before .before .before .before .before .before .before .before .pre .0, change-within (c .before .before .before .before .before .before .before .before .before .before .before .before .args .calls .now) _ _ (c .before .before .before .before .before .before .before .read-piece .ensures) _ (c .before .before .before .before .before .piece .given .1), c .before .before .reserve-of .ensures)
 
 write-outcome-requires : tie.Need-write-outcome-requires
 write-outcome-requires c κs = search needs
@@ -54,7 +57,7 @@ same-length-3 : tie.Need-same-length-3
 same-length-3 c = search needs
 
 returns-4 : tie.Need-returns-4
-returns-4 c = turn-change (c .before .before .before .before .before .before .before .before .before .before .before .before .before .before .before .before .before .before .before .before .args .calls .now) _ _ (c .before .before .before .before .before .before .before .before .before .before .before .before .before .before .before .read-piece .ensures) _ _ _ _ _ (c .before .before .before .before .before .before .before .before .before .before .before .before .before .piece .given .1) (omega arith) (c .before .before .before .before .before .before .before .before .before .before .before .before .before .before .before .before .before .before .before .before .pre .2) _ _ _ _ _ (c .before .before .before .before .before .before .before .before .make-change .ensures) (c .before .before .write-outcome .ensures)
+returns-4 c = turn-change (c .before .before .before .before .before .before .before .before .before .before .before .before .before .before .before .before .before .before .before .before .before .args .calls .now) _ _ (c .before .before .before .before .before .before .before .before .before .before .before .before .before .before .before .before .read-piece .ensures) _ _ _ _ _ (c .before .before .before .before .before .before .before .before .before .before .before .before .before .before .piece .given .1) (omega arith) (c .before .before .before .before .before .before .before .before .before .before .before .before .before .before .before .before .before .before .before .before .before .pre .2) _ _ _ _ _ (c .before .before .before .before .before .before .before .before .make-change .ensures) (c .before .before .write-outcome .ensures)
 
 same-length-4 : tie.Need-same-length-4
 same-length-4 c = search needs
@@ -74,6 +77,7 @@ take-turn-spec =
     enum-known-piece
     sub-if1
     returns
+    reserve-of-requires
     make-change-requires
     write-outcome-requires
     enum-known-piece-2

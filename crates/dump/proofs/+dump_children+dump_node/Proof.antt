@@ -4,15 +4,14 @@ use Rattle.dump.specs.Dump.{BranchesTold}
 use Rattle.dump.specs.NodeSteps.{node-long, leaf-values, leaf-room, leaf-added, node-bare, sound-branches, branches-room, puts-open, puts-apart, node-inner, Descending, descend-first, last-sound, last-room, last-added, more-sound, more-room, descend-next}
 use Rattle.live.specs.NotedSteps.{handed, told-joined, leaf-told, branches-sound, last-told, next-told, later-sound}
 use Rattle.live.specs.NodeSteps.{node-above, child-ready, branches-ready}
-use Rattle.live.specs.WalkLaws.{later-usable}
-use Rattle.live.specs.Steps.{trail-wider, pends-child, pends-end}
-use Rattle.live.specs.Walk.{passing, NextChild}
+use Rattle.live.specs.Steps.{trail-wider}
+use Rattle.live.specs.Walk.{passing}
 use Rattle.live.specs.PathBuffers.{pathIn}
 use Rattle.lookup.specs.Look.{node-inside}
 use Rattle.node.specs.Search.Own.{branch, branchesAmong}
 use Rattle.node.specs.Entries.{listed}
 use Rattle.node.specs.Places.{part, Within}
-use Rattle.laws.specs.Reading.Relative.{usableIn}
+use Rattle.laws.specs.Reading.Relative.{usableIn, later-usable}
 use Rattle.laws.specs.Filter.{keep}
 use Rattle.image.specs.Meaning.{rowsIn}
 use Rattle.image.specs.Image.{treeAt, nodesOf, forestOf}
@@ -35,15 +34,15 @@ use Rattle.dump.proofs.+dump_children+dump_node.Lts-dump_node as dump-n
 use Rattle.dump.proofs.append_pairs.Reads as append-pairs-reads
 use Rattle.dump.proofs.insert_puts.Reads as insert-puts-reads
 use Rattle.dump.proofs.insertion.merge_rows.Reads as merge-rows-reads
-use Rattle.live.proofs.lengthen_trail.Reads as lengthen-trail-reads
 use Rattle.live.proofs.note_above.Reads as note-above-reads
-use Rattle.live.proofs.note_own.Reads as note-own-reads
+use Rattle.live.proofs.enter.Reads as enter-reads
 use Rattle.live.proofs.path_buffer.extend.Reads as extend-reads
-use Rattle.live.proofs.read_child.Reads as read-child-reads
+use Rattle.node.proofs.search.read_child.Reads as read-child-reads
 use Rattle.octets.proofs.common_length.Reads as common-length-reads
 use Rattle.octets.proofs.u16_at.Reads as u16-at-reads
 use Rattle.dump.proofs.+dump_children+dump_node.{statement}
 use Rattle.dump.proofs.+dump_children+dump_node.Tie.{close}
+use Rattle.node.specs.Search.Child.{pends-child, pends-end, NextChild}
 
 abbrev μ-dump-children : Measures 4 dump-children-kinds.ps ℕ
 μ-dump-children κs a = a .1 .1 .1 .0 .level * 2 + 1
@@ -89,10 +88,8 @@ here-length : (t : ℕ) (c : dump-node-lts.After-extend (
   append-pairs-reads.Learnt,
   read-child-reads.Asked,
   read-child-reads.Learnt,
-  lengthen-trail-reads.Asked,
-  lengthen-trail-reads.Learnt,
-  note-own-reads.Asked,
-  note-own-reads.Learnt,
+  enter-reads.Asked,
+  enter-reads.Learnt,
   dump-children-below t,
   dump-children.Post,
   insert-puts-reads.Asked,
@@ -116,10 +113,8 @@ here-short : (t : ℕ) (c : dump-node-lts.After-extend (
   append-pairs-reads.Learnt,
   read-child-reads.Asked,
   read-child-reads.Learnt,
-  lengthen-trail-reads.Asked,
-  lengthen-trail-reads.Learnt,
-  note-own-reads.Asked,
-  note-own-reads.Learnt,
+  enter-reads.Asked,
+  enter-reads.Learnt,
   dump-children-below t,
   dump-children.Post,
   insert-puts-reads.Asked,
@@ -142,10 +137,8 @@ first-next : (t : ℕ) (c : dump-node-lts.After-known-told (
   append-pairs-reads.Learnt,
   read-child-reads.Asked,
   read-child-reads.Learnt,
-  lengthen-trail-reads.Asked,
-  lengthen-trail-reads.Learnt,
-  note-own-reads.Asked,
-  note-own-reads.Learnt,
+  enter-reads.Asked,
+  enter-reads.Learnt,
   dump-children-below t,
   dump-children.Post,
   insert-puts-reads.Asked,
@@ -331,10 +324,8 @@ dump-node-common-length-requires : (t : ℕ) → dump-node-lts.Need-common-lengt
   append-pairs-reads.Learnt,
   read-child-reads.Asked,
   read-child-reads.Learnt,
-  lengthen-trail-reads.Asked,
-  lengthen-trail-reads.Learnt,
-  note-own-reads.Asked,
-  note-own-reads.Learnt,
+  enter-reads.Asked,
+  enter-reads.Learnt,
   dump-children-below t,
   dump-children.Post,
   insert-puts-reads.Asked,
@@ -357,10 +348,8 @@ dump-node-sub-room : (t : ℕ) → dump-node-lts.Need-sub-room (
   append-pairs-reads.Learnt,
   read-child-reads.Asked,
   read-child-reads.Learnt,
-  lengthen-trail-reads.Asked,
-  lengthen-trail-reads.Learnt,
-  note-own-reads.Asked,
-  note-own-reads.Learnt,
+  enter-reads.Asked,
+  enter-reads.Learnt,
   dump-children-below t,
   dump-children.Post,
   insert-puts-reads.Asked,
@@ -383,10 +372,8 @@ dump-node-returns : (t : ℕ) → dump-node-lts.Need-returns (
   append-pairs-reads.Learnt,
   read-child-reads.Asked,
   read-child-reads.Learnt,
-  lengthen-trail-reads.Asked,
-  lengthen-trail-reads.Learnt,
-  note-own-reads.Asked,
-  note-own-reads.Learnt,
+  enter-reads.Asked,
+  enter-reads.Learnt,
   dump-children-below t,
   dump-children.Post,
   insert-puts-reads.Asked,
@@ -409,10 +396,8 @@ dump-node-sub-extend : (t : ℕ) → dump-node-lts.Need-sub-extend (
   append-pairs-reads.Learnt,
   read-child-reads.Asked,
   read-child-reads.Learnt,
-  lengthen-trail-reads.Asked,
-  lengthen-trail-reads.Learnt,
-  note-own-reads.Asked,
-  note-own-reads.Learnt,
+  enter-reads.Asked,
+  enter-reads.Learnt,
   dump-children-below t,
   dump-children.Post,
   insert-puts-reads.Asked,
@@ -435,10 +420,8 @@ dump-node-part-extend-start : (t : ℕ) → dump-node-lts.Need-part-extend-start
   append-pairs-reads.Learnt,
   read-child-reads.Asked,
   read-child-reads.Learnt,
-  lengthen-trail-reads.Asked,
-  lengthen-trail-reads.Learnt,
-  note-own-reads.Asked,
-  note-own-reads.Learnt,
+  enter-reads.Asked,
+  enter-reads.Learnt,
   dump-children-below t,
   dump-children.Post,
   insert-puts-reads.Asked,
@@ -461,10 +444,8 @@ dump-node-part-extend-end : (t : ℕ) → dump-node-lts.Need-part-extend-end (
   append-pairs-reads.Learnt,
   read-child-reads.Asked,
   read-child-reads.Learnt,
-  lengthen-trail-reads.Asked,
-  lengthen-trail-reads.Learnt,
-  note-own-reads.Asked,
-  note-own-reads.Learnt,
+  enter-reads.Asked,
+  enter-reads.Learnt,
   dump-children-below t,
   dump-children.Post,
   insert-puts-reads.Asked,
@@ -487,10 +468,8 @@ dump-node-extend-requires : (t : ℕ) → dump-node-lts.Need-extend-requires (
   append-pairs-reads.Learnt,
   read-child-reads.Asked,
   read-child-reads.Learnt,
-  lengthen-trail-reads.Asked,
-  lengthen-trail-reads.Learnt,
-  note-own-reads.Asked,
-  note-own-reads.Learnt,
+  enter-reads.Asked,
+  enter-reads.Learnt,
   dump-children-below t,
   dump-children.Post,
   insert-puts-reads.Asked,
@@ -513,10 +492,8 @@ dump-node-sub-note-above : (t : ℕ) → dump-node-lts.Need-sub-note-above (
   append-pairs-reads.Learnt,
   read-child-reads.Asked,
   read-child-reads.Learnt,
-  lengthen-trail-reads.Asked,
-  lengthen-trail-reads.Learnt,
-  note-own-reads.Asked,
-  note-own-reads.Learnt,
+  enter-reads.Asked,
+  enter-reads.Learnt,
   dump-children-below t,
   dump-children.Post,
   insert-puts-reads.Asked,
@@ -539,10 +516,8 @@ dump-node-part-note-above-start : (t : ℕ) → dump-node-lts.Need-part-note-abo
   append-pairs-reads.Learnt,
   read-child-reads.Asked,
   read-child-reads.Learnt,
-  lengthen-trail-reads.Asked,
-  lengthen-trail-reads.Learnt,
-  note-own-reads.Asked,
-  note-own-reads.Learnt,
+  enter-reads.Asked,
+  enter-reads.Learnt,
   dump-children-below t,
   dump-children.Post,
   insert-puts-reads.Asked,
@@ -565,10 +540,8 @@ dump-node-part-note-above-end : (t : ℕ) → dump-node-lts.Need-part-note-above
   append-pairs-reads.Learnt,
   read-child-reads.Asked,
   read-child-reads.Learnt,
-  lengthen-trail-reads.Asked,
-  lengthen-trail-reads.Learnt,
-  note-own-reads.Asked,
-  note-own-reads.Learnt,
+  enter-reads.Asked,
+  enter-reads.Learnt,
   dump-children-below t,
   dump-children.Post,
   insert-puts-reads.Asked,
@@ -591,10 +564,8 @@ dump-node-sub-note-above-2 : (t : ℕ) → dump-node-lts.Need-sub-note-above-2 (
   append-pairs-reads.Learnt,
   read-child-reads.Asked,
   read-child-reads.Learnt,
-  lengthen-trail-reads.Asked,
-  lengthen-trail-reads.Learnt,
-  note-own-reads.Asked,
-  note-own-reads.Learnt,
+  enter-reads.Asked,
+  enter-reads.Learnt,
   dump-children-below t,
   dump-children.Post,
   insert-puts-reads.Asked,
@@ -617,10 +588,8 @@ dump-node-part-note-above-start-2 : (t : ℕ) → dump-node-lts.Need-part-note-a
   append-pairs-reads.Learnt,
   read-child-reads.Asked,
   read-child-reads.Learnt,
-  lengthen-trail-reads.Asked,
-  lengthen-trail-reads.Learnt,
-  note-own-reads.Asked,
-  note-own-reads.Learnt,
+  enter-reads.Asked,
+  enter-reads.Learnt,
   dump-children-below t,
   dump-children.Post,
   insert-puts-reads.Asked,
@@ -643,10 +612,8 @@ dump-node-part-note-above-end-2 : (t : ℕ) → dump-node-lts.Need-part-note-abo
   append-pairs-reads.Learnt,
   read-child-reads.Asked,
   read-child-reads.Learnt,
-  lengthen-trail-reads.Asked,
-  lengthen-trail-reads.Learnt,
-  note-own-reads.Asked,
-  note-own-reads.Learnt,
+  enter-reads.Asked,
+  enter-reads.Learnt,
   dump-children-below t,
   dump-children.Post,
   insert-puts-reads.Asked,
@@ -669,10 +636,8 @@ dump-node-sub-note-above-3 : (t : ℕ) → dump-node-lts.Need-sub-note-above-3 (
   append-pairs-reads.Learnt,
   read-child-reads.Asked,
   read-child-reads.Learnt,
-  lengthen-trail-reads.Asked,
-  lengthen-trail-reads.Learnt,
-  note-own-reads.Asked,
-  note-own-reads.Learnt,
+  enter-reads.Asked,
+  enter-reads.Learnt,
   dump-children-below t,
   dump-children.Post,
   insert-puts-reads.Asked,
@@ -695,10 +660,8 @@ dump-node-part-note-above-start-3 : (t : ℕ) → dump-node-lts.Need-part-note-a
   append-pairs-reads.Learnt,
   read-child-reads.Asked,
   read-child-reads.Learnt,
-  lengthen-trail-reads.Asked,
-  lengthen-trail-reads.Learnt,
-  note-own-reads.Asked,
-  note-own-reads.Learnt,
+  enter-reads.Asked,
+  enter-reads.Learnt,
   dump-children-below t,
   dump-children.Post,
   insert-puts-reads.Asked,
@@ -721,10 +684,8 @@ dump-node-part-note-above-end-3 : (t : ℕ) → dump-node-lts.Need-part-note-abo
   append-pairs-reads.Learnt,
   read-child-reads.Asked,
   read-child-reads.Learnt,
-  lengthen-trail-reads.Asked,
-  lengthen-trail-reads.Learnt,
-  note-own-reads.Asked,
-  note-own-reads.Learnt,
+  enter-reads.Asked,
+  enter-reads.Learnt,
   dump-children-below t,
   dump-children.Post,
   insert-puts-reads.Asked,
@@ -747,10 +708,8 @@ dump-node-slice-aggregate-note-above : (t : ℕ) → dump-node-lts.Need-slice-ag
   append-pairs-reads.Learnt,
   read-child-reads.Asked,
   read-child-reads.Learnt,
-  lengthen-trail-reads.Asked,
-  lengthen-trail-reads.Learnt,
-  note-own-reads.Asked,
-  note-own-reads.Learnt,
+  enter-reads.Asked,
+  enter-reads.Learnt,
   dump-children-below t,
   dump-children.Post,
   insert-puts-reads.Asked,
@@ -773,10 +732,8 @@ dump-node-note-above-requires : (t : ℕ) → dump-node-lts.Need-note-above-requ
   append-pairs-reads.Learnt,
   read-child-reads.Asked,
   read-child-reads.Learnt,
-  lengthen-trail-reads.Asked,
-  lengthen-trail-reads.Learnt,
-  note-own-reads.Asked,
-  note-own-reads.Learnt,
+  enter-reads.Asked,
+  enter-reads.Learnt,
   dump-children-below t,
   dump-children.Post,
   insert-puts-reads.Asked,
@@ -799,10 +756,8 @@ dump-node-mul-at : (t : ℕ) → dump-node-lts.Need-mul-at (
   append-pairs-reads.Learnt,
   read-child-reads.Asked,
   read-child-reads.Learnt,
-  lengthen-trail-reads.Asked,
-  lengthen-trail-reads.Learnt,
-  note-own-reads.Asked,
-  note-own-reads.Learnt,
+  enter-reads.Asked,
+  enter-reads.Learnt,
   dump-children-below t,
   dump-children.Post,
   insert-puts-reads.Asked,
@@ -825,10 +780,8 @@ dump-node-u16-at-requires : (t : ℕ) → dump-node-lts.Need-u16-at-requires (
   append-pairs-reads.Learnt,
   read-child-reads.Asked,
   read-child-reads.Learnt,
-  lengthen-trail-reads.Asked,
-  lengthen-trail-reads.Learnt,
-  note-own-reads.Asked,
-  note-own-reads.Learnt,
+  enter-reads.Asked,
+  enter-reads.Learnt,
   dump-children-below t,
   dump-children.Post,
   insert-puts-reads.Asked,
@@ -851,10 +804,8 @@ dump-node-add-from : (t : ℕ) → dump-node-lts.Need-add-from (
   append-pairs-reads.Learnt,
   read-child-reads.Asked,
   read-child-reads.Learnt,
-  lengthen-trail-reads.Asked,
-  lengthen-trail-reads.Learnt,
-  note-own-reads.Asked,
-  note-own-reads.Learnt,
+  enter-reads.Asked,
+  enter-reads.Learnt,
   dump-children-below t,
   dump-children.Post,
   insert-puts-reads.Asked,
@@ -877,10 +828,8 @@ dump-node-add-end : (t : ℕ) → dump-node-lts.Need-add-end (
   append-pairs-reads.Learnt,
   read-child-reads.Asked,
   read-child-reads.Learnt,
-  lengthen-trail-reads.Asked,
-  lengthen-trail-reads.Learnt,
-  note-own-reads.Asked,
-  note-own-reads.Learnt,
+  enter-reads.Asked,
+  enter-reads.Learnt,
   dump-children-below t,
   dump-children.Post,
   insert-puts-reads.Asked,
@@ -903,10 +852,8 @@ dump-node-append-pairs-requires : (t : ℕ) → dump-node-lts.Need-append-pairs-
   append-pairs-reads.Learnt,
   read-child-reads.Asked,
   read-child-reads.Learnt,
-  lengthen-trail-reads.Asked,
-  lengthen-trail-reads.Learnt,
-  note-own-reads.Asked,
-  note-own-reads.Learnt,
+  enter-reads.Asked,
+  enter-reads.Learnt,
   dump-children-below t,
   dump-children.Post,
   insert-puts-reads.Asked,
@@ -929,10 +876,8 @@ dump-node-same-length : (t : ℕ) → dump-node-lts.Need-same-length (
   append-pairs-reads.Learnt,
   read-child-reads.Asked,
   read-child-reads.Learnt,
-  lengthen-trail-reads.Asked,
-  lengthen-trail-reads.Learnt,
-  note-own-reads.Asked,
-  note-own-reads.Learnt,
+  enter-reads.Asked,
+  enter-reads.Learnt,
   dump-children-below t,
   dump-children.Post,
   insert-puts-reads.Asked,
@@ -955,10 +900,8 @@ dump-node-returns-2 : (t : ℕ) → dump-node-lts.Need-returns-2 (
   append-pairs-reads.Learnt,
   read-child-reads.Asked,
   read-child-reads.Learnt,
-  lengthen-trail-reads.Asked,
-  lengthen-trail-reads.Learnt,
-  note-own-reads.Asked,
-  note-own-reads.Learnt,
+  enter-reads.Asked,
+  enter-reads.Learnt,
   dump-children-below t,
   dump-children.Post,
   insert-puts-reads.Asked,
@@ -981,10 +924,8 @@ dump-node-read-child-requires : (t : ℕ) → dump-node-lts.Need-read-child-requ
   append-pairs-reads.Learnt,
   read-child-reads.Asked,
   read-child-reads.Learnt,
-  lengthen-trail-reads.Asked,
-  lengthen-trail-reads.Learnt,
-  note-own-reads.Asked,
-  note-own-reads.Learnt,
+  enter-reads.Asked,
+  enter-reads.Learnt,
   dump-children-below t,
   dump-children.Post,
   insert-puts-reads.Asked,
@@ -1007,10 +948,8 @@ dump-node-enum-known-first : (t : ℕ) → dump-node-lts.Need-enum-known-first (
   append-pairs-reads.Learnt,
   read-child-reads.Asked,
   read-child-reads.Learnt,
-  lengthen-trail-reads.Asked,
-  lengthen-trail-reads.Learnt,
-  note-own-reads.Asked,
-  note-own-reads.Learnt,
+  enter-reads.Asked,
+  enter-reads.Learnt,
   dump-children-below t,
   dump-children.Post,
   insert-puts-reads.Asked,
@@ -1033,10 +972,8 @@ dump-node-enum-told : (t : ℕ) → dump-node-lts.Need-enum-told (
   append-pairs-reads.Learnt,
   read-child-reads.Asked,
   read-child-reads.Learnt,
-  lengthen-trail-reads.Asked,
-  lengthen-trail-reads.Learnt,
-  note-own-reads.Asked,
-  note-own-reads.Learnt,
+  enter-reads.Asked,
+  enter-reads.Learnt,
   dump-children-below t,
   dump-children.Post,
   insert-puts-reads.Asked,
@@ -1059,10 +996,8 @@ dump-node-returns-3 : (t : ℕ) → dump-node-lts.Need-returns-3 (
   append-pairs-reads.Learnt,
   read-child-reads.Asked,
   read-child-reads.Learnt,
-  lengthen-trail-reads.Asked,
-  lengthen-trail-reads.Learnt,
-  note-own-reads.Asked,
-  note-own-reads.Learnt,
+  enter-reads.Asked,
+  enter-reads.Learnt,
   dump-children-below t,
   dump-children.Post,
   insert-puts-reads.Asked,
@@ -1072,7 +1007,7 @@ dump-node-returns-3 : (t : ℕ) → dump-node-lts.Need-returns-3 (
 ) (dump-node-at t) dump-node.Post
 dump-node-returns-3 t c = node-bare (c .before .before .before .before .before .before .before .before .before .before .before .before .before .before .before .before .before .before .before .before .before .before .args .store .now) (c .before .before .before .before .before .before .before .before .before .before .before .before .before .before .before .before .before .before .before .before .before .before .args .node .level) (c .before .before .before .before .before .before .before .before .before .before .before .before .before .before .before .before .before .before .before .before .before .before .args .node .num) (c .before .before .before .before .before .before .before .before .before .before .before .before .before .before .before .before .before .before .before .before .before .before .args .node .position .prefix) (c .before .before .before .before .before .before .before .before .before .before .before .before .before .before .before .before .before .before .before .before .before .before .args .node .position .trail) (c .before .before .before .before .before .before .before .before .before .before .before .before .before .before .before .before .before .before .before .before .before .before .pre .1 .0) (c .before .before .before .before .before .before .before .before .before .before .before .before .before .before .before .before .before .before .before .before .before .before .args .lo .now) (c .before .before .before .before .before .before .before .before .before .before .before .before .before .before .before .before .before .before .before .before .before .before .args .hi .now) (c .before .before .before .before .before .before .before .before .before .before .before .before .before .before .before .before .before .before .before .before .before .before .pre .1 .1) (c .before .before .before .before .before .before .before .before .before .before .before .before .before .before .before .before .before .before .before .before .before .before .args .area .now) (c .before .before .before .before .before .before .before .before .before .before .before .before .before .before .before .before .before .before .before .before .before .before .args .m) (c .before .before .before .before .before .before .before .before .before .before .before .before .before .before .before .before .before .before .before .before .before .before .pre .1 .2) (c .before .before .before .before .before .before .before .before .before .before .before .before .before .before .before .common-length .result) (c .before .before .before .before .before .before .before .before .before .before .before .before .before .before .before .common-length .ensures .0) (c .before .before .before .before .before .before .before .before .before .before .before .extend .result) (c .before .before .before .before .before .before .before .before .before .before .before .extend .ensures .0) (c .before .before .before .before .u16-at .result) (c .before .before .before .before .u16-at .ensures .0) (omega arith) (pends-end _ _ _ _ (c .before .before .read-child .ensures) (c .enum-told .given .1))
 
-dump-node-lengthen-trail-requires : (t : ℕ) → dump-node-lts.Need-lengthen-trail-requires (
+dump-node-sub-enter : (t : ℕ) → dump-node-lts.Need-sub-enter (
   common-length-reads.Asked,
   common-length-reads.Learnt,
   extend-reads.Asked,
@@ -1085,10 +1020,8 @@ dump-node-lengthen-trail-requires : (t : ℕ) → dump-node-lts.Need-lengthen-tr
   append-pairs-reads.Learnt,
   read-child-reads.Asked,
   read-child-reads.Learnt,
-  lengthen-trail-reads.Asked,
-  lengthen-trail-reads.Learnt,
-  note-own-reads.Asked,
-  note-own-reads.Learnt,
+  enter-reads.Asked,
+  enter-reads.Learnt,
   dump-children-below t,
   dump-children.Post,
   insert-puts-reads.Asked,
@@ -1096,9 +1029,9 @@ dump-node-lengthen-trail-requires : (t : ℕ) → dump-node-lts.Need-lengthen-tr
   merge-rows-reads.Asked,
   merge-rows-reads.Learnt,
 ) (dump-node-at t) dump-node.Post
-dump-node-lengthen-trail-requires t c κs = let l : length (take ((c .before .before .before .before .before .before .before .before .before .before .before .before .before .before .before .before .common-length .result) - 0) (c .before .before .before .before .before .before .before .before .before .before .before .before .before .before .before .before .before .before .before .before .before .before .before .args .lo .now)) ≡ (c .before .before .before .before .before .before .before .before .before .before .before .before .before .before .before .before .common-length .result) - 0 = length-take-le ((c .before .before .before .before .before .before .before .before .before .before .before .before .before .before .before .before .common-length .result) - 0) (c .before .before .before .before .before .before .before .before .before .before .before .before .before .before .before .before .before .before .before .before .before .before .before .args .lo .now) (omega arith) in let r = (c .before .before .before .before .before .before .before .before .before .before .before .before .before .before .before .before .before .before .before .before .before .before .before .pre .1 .0) .room in let d = (c .before .before .before .before .before .before .before .before .before .before .before .before .before .before .before .before .before .before .before .before .before .before .before .pre .1 .0) .deep in (omega arith, trail-wider (c .before .before .before .before .before .before .before .before .before .before .before .before .before .before .before .before .before .before .before .before .before .before .before .args .store .now) ((c .before .before .before .before .before .before .before .before .before .before .before .before .before .before .before .before .before .before .before .before .before .before .before .args .node .position .prefix) .len) ((c .before .before .before .before .before .before .before .before .before .before .before .before .extend .result) .len) (c .before .before .before .before .before .before .before .before .before .before .before .before .before .before .before .before .before .before .before .before .before .before .before .args .node .position .trail) (omega arith) ((c .before .before .before .before .before .before .before .before .before .before .before .before .before .before .before .before .before .before .before .before .before .before .before .pre .1 .0) .trail), node-above (c .before .before .before .before .before .before .before .before .before .before .before .before .before .before .before .before .before .before .before .before .before .before .before .args .store .now) (c .before .before .before .before .before .before .before .before .before .before .before .before .before .before .before .before .before .before .before .before .before .before .before .args .node .level) (c .before .before .before .before .before .before .before .before .before .before .before .before .before .before .before .before .before .before .before .before .before .before .before .args .node .num) ((c .before .before .before .before .before .before .before .before .before .before .before .before .extend .result) .len) ((c .before .before .before .before .before .before .before .before .before .before .before .before .before .before .before .before .before .before .before .before .before .before .before .pre .1 .0) .reads))
+dump-node-sub-enter t c = let q = c .before .before .before .before .before .before .before .before .before .before .before .before .before .before .before .before .before .before .before .before .before .before .before .pre .0 in let m = c .before .before .before .before .before .before .before .before .before .before .before .before .before .before .before .before .common-length .ensures .1 in let i = c .before .before .before .before .before .before .before .before .before .before .before .before .before .before .before .before .common-length .ensures .2 in let g = c .before .before .before .before .before .before .before .before .before .before .before .before .before .before .if1 .left in let x = c .before .before .before .before .before .before .before .before .before .before .before .before .extend .ensures .1 in let v = c .before .before .before .before .if2 .left in omega arith
 
-dump-node-sub-note-own : (t : ℕ) → dump-node-lts.Need-sub-note-own (
+dump-node-part-enter-start : (t : ℕ) → dump-node-lts.Need-part-enter-start (
   common-length-reads.Asked,
   common-length-reads.Learnt,
   extend-reads.Asked,
@@ -1111,10 +1044,8 @@ dump-node-sub-note-own : (t : ℕ) → dump-node-lts.Need-sub-note-own (
   append-pairs-reads.Learnt,
   read-child-reads.Asked,
   read-child-reads.Learnt,
-  lengthen-trail-reads.Asked,
-  lengthen-trail-reads.Learnt,
-  note-own-reads.Asked,
-  note-own-reads.Learnt,
+  enter-reads.Asked,
+  enter-reads.Learnt,
   dump-children-below t,
   dump-children.Post,
   insert-puts-reads.Asked,
@@ -1122,9 +1053,9 @@ dump-node-sub-note-own : (t : ℕ) → dump-node-lts.Need-sub-note-own (
   merge-rows-reads.Asked,
   merge-rows-reads.Learnt,
 ) (dump-node-at t) dump-node.Post
-dump-node-sub-note-own t c = let q = c .before .before .before .before .before .before .before .before .before .before .before .before .before .before .before .before .before .before .before .before .before .before .before .before .pre .0 in let m = c .before .before .before .before .before .before .before .before .before .before .before .before .before .before .before .before .before .common-length .ensures .1 in let i = c .before .before .before .before .before .before .before .before .before .before .before .before .before .before .before .before .before .common-length .ensures .2 in let g = c .before .before .before .before .before .before .before .before .before .before .before .before .before .before .before .if1 .left in let x = c .before .before .before .before .before .before .before .before .before .before .before .before .before .extend .ensures .1 in let v = c .before .before .before .before .before .if2 .left in omega arith
+dump-node-part-enter-start t c = let q = c .before .before .before .before .before .before .before .before .before .before .before .before .before .before .before .before .before .before .before .before .before .before .before .pre .0 in let m = c .before .before .before .before .before .before .before .before .before .before .before .before .before .before .before .before .common-length .ensures .1 in let i = c .before .before .before .before .before .before .before .before .before .before .before .before .before .before .before .before .common-length .ensures .2 in let g = c .before .before .before .before .before .before .before .before .before .before .before .before .before .before .if1 .left in let x = c .before .before .before .before .before .before .before .before .before .before .before .before .extend .ensures .1 in let v = c .before .before .before .before .if2 .left in omega arith
 
-dump-node-part-note-own-start : (t : ℕ) → dump-node-lts.Need-part-note-own-start (
+dump-node-part-enter-end : (t : ℕ) → dump-node-lts.Need-part-enter-end (
   common-length-reads.Asked,
   common-length-reads.Learnt,
   extend-reads.Asked,
@@ -1137,10 +1068,8 @@ dump-node-part-note-own-start : (t : ℕ) → dump-node-lts.Need-part-note-own-s
   append-pairs-reads.Learnt,
   read-child-reads.Asked,
   read-child-reads.Learnt,
-  lengthen-trail-reads.Asked,
-  lengthen-trail-reads.Learnt,
-  note-own-reads.Asked,
-  note-own-reads.Learnt,
+  enter-reads.Asked,
+  enter-reads.Learnt,
   dump-children-below t,
   dump-children.Post,
   insert-puts-reads.Asked,
@@ -1148,9 +1077,9 @@ dump-node-part-note-own-start : (t : ℕ) → dump-node-lts.Need-part-note-own-s
   merge-rows-reads.Asked,
   merge-rows-reads.Learnt,
 ) (dump-node-at t) dump-node.Post
-dump-node-part-note-own-start t c = let q = c .before .before .before .before .before .before .before .before .before .before .before .before .before .before .before .before .before .before .before .before .before .before .before .before .pre .0 in let m = c .before .before .before .before .before .before .before .before .before .before .before .before .before .before .before .before .before .common-length .ensures .1 in let i = c .before .before .before .before .before .before .before .before .before .before .before .before .before .before .before .before .before .common-length .ensures .2 in let g = c .before .before .before .before .before .before .before .before .before .before .before .before .before .before .before .if1 .left in let x = c .before .before .before .before .before .before .before .before .before .before .before .before .before .extend .ensures .1 in let v = c .before .before .before .before .before .if2 .left in omega arith
+dump-node-part-enter-end t c = search needs
 
-dump-node-part-note-own-end : (t : ℕ) → dump-node-lts.Need-part-note-own-end (
+dump-node-sub-enter-2 : (t : ℕ) → dump-node-lts.Need-sub-enter-2 (
   common-length-reads.Asked,
   common-length-reads.Learnt,
   extend-reads.Asked,
@@ -1163,10 +1092,8 @@ dump-node-part-note-own-end : (t : ℕ) → dump-node-lts.Need-part-note-own-end
   append-pairs-reads.Learnt,
   read-child-reads.Asked,
   read-child-reads.Learnt,
-  lengthen-trail-reads.Asked,
-  lengthen-trail-reads.Learnt,
-  note-own-reads.Asked,
-  note-own-reads.Learnt,
+  enter-reads.Asked,
+  enter-reads.Learnt,
   dump-children-below t,
   dump-children.Post,
   insert-puts-reads.Asked,
@@ -1174,9 +1101,9 @@ dump-node-part-note-own-end : (t : ℕ) → dump-node-lts.Need-part-note-own-end
   merge-rows-reads.Asked,
   merge-rows-reads.Learnt,
 ) (dump-node-at t) dump-node.Post
-dump-node-part-note-own-end t c = search needs
+dump-node-sub-enter-2 t c = let q = c .before .before .before .before .before .before .before .before .before .before .before .before .before .before .before .before .before .before .before .before .before .before .before .before .pre .0 in let m = c .before .before .before .before .before .before .before .before .before .before .before .before .before .before .before .before .before .common-length .ensures .1 in let i = c .before .before .before .before .before .before .before .before .before .before .before .before .before .before .before .before .before .common-length .ensures .2 in let g = c .before .before .before .before .before .before .before .before .before .before .before .before .before .before .before .if1 .left in let x = c .before .before .before .before .before .before .before .before .before .before .before .before .before .extend .ensures .1 in let v = c .before .before .before .before .before .if2 .left in omega arith
 
-dump-node-sub-note-own-2 : (t : ℕ) → dump-node-lts.Need-sub-note-own-2 (
+dump-node-part-enter-start-2 : (t : ℕ) → dump-node-lts.Need-part-enter-start-2 (
   common-length-reads.Asked,
   common-length-reads.Learnt,
   extend-reads.Asked,
@@ -1189,10 +1116,8 @@ dump-node-sub-note-own-2 : (t : ℕ) → dump-node-lts.Need-sub-note-own-2 (
   append-pairs-reads.Learnt,
   read-child-reads.Asked,
   read-child-reads.Learnt,
-  lengthen-trail-reads.Asked,
-  lengthen-trail-reads.Learnt,
-  note-own-reads.Asked,
-  note-own-reads.Learnt,
+  enter-reads.Asked,
+  enter-reads.Learnt,
   dump-children-below t,
   dump-children.Post,
   insert-puts-reads.Asked,
@@ -1200,9 +1125,9 @@ dump-node-sub-note-own-2 : (t : ℕ) → dump-node-lts.Need-sub-note-own-2 (
   merge-rows-reads.Asked,
   merge-rows-reads.Learnt,
 ) (dump-node-at t) dump-node.Post
-dump-node-sub-note-own-2 t c = let q = c .before .before .before .before .before .before .before .before .before .before .before .before .before .before .before .before .before .before .before .before .before .before .before .before .before .pre .0 in let m = c .before .before .before .before .before .before .before .before .before .before .before .before .before .before .before .before .before .before .common-length .ensures .1 in let i = c .before .before .before .before .before .before .before .before .before .before .before .before .before .before .before .before .before .before .common-length .ensures .2 in let g = c .before .before .before .before .before .before .before .before .before .before .before .before .before .before .before .before .if1 .left in let x = c .before .before .before .before .before .before .before .before .before .before .before .before .before .before .extend .ensures .1 in let v = c .before .before .before .before .before .before .if2 .left in omega arith
+dump-node-part-enter-start-2 t c = let q = c .before .before .before .before .before .before .before .before .before .before .before .before .before .before .before .before .before .before .before .before .before .before .before .before .pre .0 in let m = c .before .before .before .before .before .before .before .before .before .before .before .before .before .before .before .before .before .common-length .ensures .1 in let i = c .before .before .before .before .before .before .before .before .before .before .before .before .before .before .before .before .before .common-length .ensures .2 in let g = c .before .before .before .before .before .before .before .before .before .before .before .before .before .before .before .if1 .left in let x = c .before .before .before .before .before .before .before .before .before .before .before .before .before .extend .ensures .1 in let v = c .before .before .before .before .before .if2 .left in omega arith
 
-dump-node-part-note-own-start-2 : (t : ℕ) → dump-node-lts.Need-part-note-own-start-2 (
+dump-node-part-enter-end-2 : (t : ℕ) → dump-node-lts.Need-part-enter-end-2 (
   common-length-reads.Asked,
   common-length-reads.Learnt,
   extend-reads.Asked,
@@ -1215,10 +1140,8 @@ dump-node-part-note-own-start-2 : (t : ℕ) → dump-node-lts.Need-part-note-own
   append-pairs-reads.Learnt,
   read-child-reads.Asked,
   read-child-reads.Learnt,
-  lengthen-trail-reads.Asked,
-  lengthen-trail-reads.Learnt,
-  note-own-reads.Asked,
-  note-own-reads.Learnt,
+  enter-reads.Asked,
+  enter-reads.Learnt,
   dump-children-below t,
   dump-children.Post,
   insert-puts-reads.Asked,
@@ -1226,9 +1149,9 @@ dump-node-part-note-own-start-2 : (t : ℕ) → dump-node-lts.Need-part-note-own
   merge-rows-reads.Asked,
   merge-rows-reads.Learnt,
 ) (dump-node-at t) dump-node.Post
-dump-node-part-note-own-start-2 t c = let q = c .before .before .before .before .before .before .before .before .before .before .before .before .before .before .before .before .before .before .before .before .before .before .before .before .before .pre .0 in let m = c .before .before .before .before .before .before .before .before .before .before .before .before .before .before .before .before .before .before .common-length .ensures .1 in let i = c .before .before .before .before .before .before .before .before .before .before .before .before .before .before .before .before .before .before .common-length .ensures .2 in let g = c .before .before .before .before .before .before .before .before .before .before .before .before .before .before .before .before .if1 .left in let x = c .before .before .before .before .before .before .before .before .before .before .before .before .before .before .extend .ensures .1 in let v = c .before .before .before .before .before .before .if2 .left in omega arith
+dump-node-part-enter-end-2 t c = search needs
 
-dump-node-part-note-own-end-2 : (t : ℕ) → dump-node-lts.Need-part-note-own-end-2 (
+dump-node-slice-aggregate-enter : (t : ℕ) → dump-node-lts.Need-slice-aggregate-enter (
   common-length-reads.Asked,
   common-length-reads.Learnt,
   extend-reads.Asked,
@@ -1241,10 +1164,8 @@ dump-node-part-note-own-end-2 : (t : ℕ) → dump-node-lts.Need-part-note-own-e
   append-pairs-reads.Learnt,
   read-child-reads.Asked,
   read-child-reads.Learnt,
-  lengthen-trail-reads.Asked,
-  lengthen-trail-reads.Learnt,
-  note-own-reads.Asked,
-  note-own-reads.Learnt,
+  enter-reads.Asked,
+  enter-reads.Learnt,
   dump-children-below t,
   dump-children.Post,
   insert-puts-reads.Asked,
@@ -1252,9 +1173,9 @@ dump-node-part-note-own-end-2 : (t : ℕ) → dump-node-lts.Need-part-note-own-e
   merge-rows-reads.Asked,
   merge-rows-reads.Learnt,
 ) (dump-node-at t) dump-node.Post
-dump-node-part-note-own-end-2 t c = search needs
+dump-node-slice-aggregate-enter t c = search needs
 
-dump-node-slice-aggregate-note-own : (t : ℕ) → dump-node-lts.Need-slice-aggregate-note-own (
+dump-node-enter-requires : (t : ℕ) → dump-node-lts.Need-enter-requires (
   common-length-reads.Asked,
   common-length-reads.Learnt,
   extend-reads.Asked,
@@ -1267,10 +1188,8 @@ dump-node-slice-aggregate-note-own : (t : ℕ) → dump-node-lts.Need-slice-aggr
   append-pairs-reads.Learnt,
   read-child-reads.Asked,
   read-child-reads.Learnt,
-  lengthen-trail-reads.Asked,
-  lengthen-trail-reads.Learnt,
-  note-own-reads.Asked,
-  note-own-reads.Learnt,
+  enter-reads.Asked,
+  enter-reads.Learnt,
   dump-children-below t,
   dump-children.Post,
   insert-puts-reads.Asked,
@@ -1278,33 +1197,7 @@ dump-node-slice-aggregate-note-own : (t : ℕ) → dump-node-lts.Need-slice-aggr
   merge-rows-reads.Asked,
   merge-rows-reads.Learnt,
 ) (dump-node-at t) dump-node.Post
-dump-node-slice-aggregate-note-own t c = search needs
-
-dump-node-note-own-requires : (t : ℕ) → dump-node-lts.Need-note-own-requires (
-  common-length-reads.Asked,
-  common-length-reads.Learnt,
-  extend-reads.Asked,
-  extend-reads.Learnt,
-  note-above-reads.Asked,
-  note-above-reads.Learnt,
-  u16-at-reads.Asked,
-  u16-at-reads.Learnt,
-  append-pairs-reads.Asked,
-  append-pairs-reads.Learnt,
-  read-child-reads.Asked,
-  read-child-reads.Learnt,
-  lengthen-trail-reads.Asked,
-  lengthen-trail-reads.Learnt,
-  note-own-reads.Asked,
-  note-own-reads.Learnt,
-  dump-children-below t,
-  dump-children.Post,
-  insert-puts-reads.Asked,
-  insert-puts-reads.Learnt,
-  merge-rows-reads.Asked,
-  merge-rows-reads.Learnt,
-) (dump-node-at t) dump-node.Post
-dump-node-note-own-requires t c κs = let w = node-inside (c .before .before .before .before .before .before .before .before .before .before .before .before .before .before .before .before .before .before .before .before .before .before .before .before .before .before .before .args .store .now) (c .before .before .before .before .before .before .before .before .before .before .before .before .before .before .before .before .before .before .before .before .before .before .before .before .before .before .before .args .node .num) (c .before .before .before .before .before .before .before .before .before .before .before .before .before .before .before .before .before .before .before .before .before .before .before .before .before .before .before .args .node .level) ((c .before .before .before .before .before .before .before .before .before .before .before .before .before .before .before .before .before .before .before .before .before .before .before .before .before .before .before .pre .1 .0) .reads) in (w .0, w .1, c .before .before .before .before .before .before .before .before .before .before .before .note-above .ensures .fits)
+dump-node-enter-requires t c κs = let q = c .before .before .before .before .before .before .before .before .before .before .before .before .before .before .before .before .before .before .before .before .before .before .before .before .before .before .pre .0 in let m = c .before .before .before .before .before .before .before .before .before .before .before .before .before .before .before .before .before .before .before .common-length .ensures .1 in let i = c .before .before .before .before .before .before .before .before .before .before .before .before .before .before .before .before .before .before .before .common-length .ensures .2 in let g = c .before .before .before .before .before .before .before .before .before .before .before .before .before .before .before .before .before .if1 .left in let x = c .before .before .before .before .before .before .before .before .before .before .before .before .before .before .before .extend .ensures .1 in let v = c .before .before .before .before .before .before .before .if2 .left in let l : length (take ((c .before .before .before .before .before .before .before .before .before .before .before .before .before .before .before .before .before .before .before .common-length .result) - 0) (c .before .before .before .before .before .before .before .before .before .before .before .before .before .before .before .before .before .before .before .before .before .before .before .before .before .before .args .lo .now)) ≡ (c .before .before .before .before .before .before .before .before .before .before .before .before .before .before .before .before .before .before .before .common-length .result) - 0 = length-take-le ((c .before .before .before .before .before .before .before .before .before .before .before .before .before .before .before .before .before .before .before .common-length .result) - 0) (c .before .before .before .before .before .before .before .before .before .before .before .before .before .before .before .before .before .before .before .before .before .before .before .before .before .before .args .lo .now) (omega arith) in let r = (c .before .before .before .before .before .before .before .before .before .before .before .before .before .before .before .before .before .before .before .before .before .before .before .before .before .before .pre .1 .0) .room in let d = (c .before .before .before .before .before .before .before .before .before .before .before .before .before .before .before .before .before .before .before .before .before .before .before .before .before .before .pre .1 .0) .deep in (omega arith, trail-wider (c .before .before .before .before .before .before .before .before .before .before .before .before .before .before .before .before .before .before .before .before .before .before .before .before .before .before .args .store .now) ((c .before .before .before .before .before .before .before .before .before .before .before .before .before .before .before .before .before .before .before .before .before .before .before .before .before .before .args .node .position .prefix) .len) ((c .before .before .before .before .before .before .before .before .before .before .before .before .before .before .before .extend .result) .len) (c .before .before .before .before .before .before .before .before .before .before .before .before .before .before .before .before .before .before .before .before .before .before .before .before .before .before .args .node .position .trail) (omega arith) ((c .before .before .before .before .before .before .before .before .before .before .before .before .before .before .before .before .before .before .before .before .before .before .before .before .before .before .pre .1 .0) .trail), node-above (c .before .before .before .before .before .before .before .before .before .before .before .before .before .before .before .before .before .before .before .before .before .before .before .before .before .before .args .store .now) (c .before .before .before .before .before .before .before .before .before .before .before .before .before .before .before .before .before .before .before .before .before .before .before .before .before .before .args .node .level) (c .before .before .before .before .before .before .before .before .before .before .before .before .before .before .before .before .before .before .before .before .before .before .before .before .before .before .args .node .num) ((c .before .before .before .before .before .before .before .before .before .before .before .before .before .before .before .extend .result) .len) ((c .before .before .before .before .before .before .before .before .before .before .before .before .before .before .before .before .before .before .before .before .before .before .before .before .before .before .pre .1 .0) .reads), c .before .before .before .before .before .before .before .before .before .before .note-above .ensures .fits)
 
 dump-node-sub-below : (t : ℕ) → dump-node-lts.Need-sub-below (
   common-length-reads.Asked,
@@ -1319,10 +1212,8 @@ dump-node-sub-below : (t : ℕ) → dump-node-lts.Need-sub-below (
   append-pairs-reads.Learnt,
   read-child-reads.Asked,
   read-child-reads.Learnt,
-  lengthen-trail-reads.Asked,
-  lengthen-trail-reads.Learnt,
-  note-own-reads.Asked,
-  note-own-reads.Learnt,
+  enter-reads.Asked,
+  enter-reads.Learnt,
   dump-children-below t,
   dump-children.Post,
   insert-puts-reads.Asked,
@@ -1345,10 +1236,8 @@ dump-node-sub-dump-children : (t : ℕ) → dump-node-lts.Need-sub-dump-children
   append-pairs-reads.Learnt,
   read-child-reads.Asked,
   read-child-reads.Learnt,
-  lengthen-trail-reads.Asked,
-  lengthen-trail-reads.Learnt,
-  note-own-reads.Asked,
-  note-own-reads.Learnt,
+  enter-reads.Asked,
+  enter-reads.Learnt,
   dump-children-below t,
   dump-children.Post,
   insert-puts-reads.Asked,
@@ -1356,7 +1245,7 @@ dump-node-sub-dump-children : (t : ℕ) → dump-node-lts.Need-sub-dump-children
   merge-rows-reads.Asked,
   merge-rows-reads.Learnt,
 ) (dump-node-at t) dump-node.Post
-dump-node-sub-dump-children t c = let q = c .before .before .before .before .before .before .before .before .before .before .before .before .before .before .before .before .before .before .before .before .before .before .before .before .before .before .before .before .before .before .pre .0 in let m = c .before .before .before .before .before .before .before .before .before .before .before .before .before .before .before .before .before .before .before .before .before .before .before .common-length .ensures .1 in let i = c .before .before .before .before .before .before .before .before .before .before .before .before .before .before .before .before .before .before .before .before .before .before .before .common-length .ensures .2 in let g = c .before .before .before .before .before .before .before .before .before .before .before .before .before .before .before .before .before .before .before .before .before .if1 .left in let x = c .before .before .before .before .before .before .before .before .before .before .before .before .before .before .before .before .before .before .before .extend .ensures .1 in let v = c .before .before .before .before .before .before .before .before .before .before .before .if2 .left in omega arith
+dump-node-sub-dump-children t c = let q = c .before .before .before .before .before .before .before .before .before .before .before .before .before .before .before .before .before .before .before .before .before .before .before .before .before .before .before .before .before .pre .0 in let m = c .before .before .before .before .before .before .before .before .before .before .before .before .before .before .before .before .before .before .before .before .before .before .common-length .ensures .1 in let i = c .before .before .before .before .before .before .before .before .before .before .before .before .before .before .before .before .before .before .before .before .before .before .common-length .ensures .2 in let g = c .before .before .before .before .before .before .before .before .before .before .before .before .before .before .before .before .before .before .before .before .if1 .left in let x = c .before .before .before .before .before .before .before .before .before .before .before .before .before .before .before .before .before .before .extend .ensures .1 in let v = c .before .before .before .before .before .before .before .before .before .before .if2 .left in omega arith
 
 dump-node-part-dump-children-start : (t : ℕ) → dump-node-lts.Need-part-dump-children-start (
   common-length-reads.Asked,
@@ -1371,10 +1260,8 @@ dump-node-part-dump-children-start : (t : ℕ) → dump-node-lts.Need-part-dump-
   append-pairs-reads.Learnt,
   read-child-reads.Asked,
   read-child-reads.Learnt,
-  lengthen-trail-reads.Asked,
-  lengthen-trail-reads.Learnt,
-  note-own-reads.Asked,
-  note-own-reads.Learnt,
+  enter-reads.Asked,
+  enter-reads.Learnt,
   dump-children-below t,
   dump-children.Post,
   insert-puts-reads.Asked,
@@ -1382,7 +1269,7 @@ dump-node-part-dump-children-start : (t : ℕ) → dump-node-lts.Need-part-dump-
   merge-rows-reads.Asked,
   merge-rows-reads.Learnt,
 ) (dump-node-at t) dump-node.Post
-dump-node-part-dump-children-start t c = let q = c .before .before .before .before .before .before .before .before .before .before .before .before .before .before .before .before .before .before .before .before .before .before .before .before .before .before .before .before .before .before .pre .0 in let m = c .before .before .before .before .before .before .before .before .before .before .before .before .before .before .before .before .before .before .before .before .before .before .before .common-length .ensures .1 in let i = c .before .before .before .before .before .before .before .before .before .before .before .before .before .before .before .before .before .before .before .before .before .before .before .common-length .ensures .2 in let g = c .before .before .before .before .before .before .before .before .before .before .before .before .before .before .before .before .before .before .before .before .before .if1 .left in let x = c .before .before .before .before .before .before .before .before .before .before .before .before .before .before .before .before .before .before .before .extend .ensures .1 in let v = c .before .before .before .before .before .before .before .before .before .before .before .if2 .left in omega arith
+dump-node-part-dump-children-start t c = let q = c .before .before .before .before .before .before .before .before .before .before .before .before .before .before .before .before .before .before .before .before .before .before .before .before .before .before .before .before .before .pre .0 in let m = c .before .before .before .before .before .before .before .before .before .before .before .before .before .before .before .before .before .before .before .before .before .before .common-length .ensures .1 in let i = c .before .before .before .before .before .before .before .before .before .before .before .before .before .before .before .before .before .before .before .before .before .before .common-length .ensures .2 in let g = c .before .before .before .before .before .before .before .before .before .before .before .before .before .before .before .before .before .before .before .before .if1 .left in let x = c .before .before .before .before .before .before .before .before .before .before .before .before .before .before .before .before .before .before .extend .ensures .1 in let v = c .before .before .before .before .before .before .before .before .before .before .if2 .left in omega arith
 
 dump-node-part-dump-children-end : (t : ℕ) → dump-node-lts.Need-part-dump-children-end (
   common-length-reads.Asked,
@@ -1397,10 +1284,8 @@ dump-node-part-dump-children-end : (t : ℕ) → dump-node-lts.Need-part-dump-ch
   append-pairs-reads.Learnt,
   read-child-reads.Asked,
   read-child-reads.Learnt,
-  lengthen-trail-reads.Asked,
-  lengthen-trail-reads.Learnt,
-  note-own-reads.Asked,
-  note-own-reads.Learnt,
+  enter-reads.Asked,
+  enter-reads.Learnt,
   dump-children-below t,
   dump-children.Post,
   insert-puts-reads.Asked,
@@ -1423,10 +1308,8 @@ dump-node-dump-children-requires : (t : ℕ) → dump-node-lts.Need-dump-childre
   append-pairs-reads.Learnt,
   read-child-reads.Asked,
   read-child-reads.Learnt,
-  lengthen-trail-reads.Asked,
-  lengthen-trail-reads.Learnt,
-  note-own-reads.Asked,
-  note-own-reads.Learnt,
+  enter-reads.Asked,
+  enter-reads.Learnt,
   dump-children-below t,
   dump-children.Post,
   insert-puts-reads.Asked,
@@ -1434,7 +1317,7 @@ dump-node-dump-children-requires : (t : ℕ) → dump-node-lts.Need-dump-childre
   merge-rows-reads.Asked,
   merge-rows-reads.Learnt,
 ) (dump-node-at t) dump-node.Post
-dump-node-dump-children-requires t c κs = let q = (c .before .before .before .before .before .before .before .before .before .before .before .before .before .before .before .before .before .before .before .before .before .before .before .before .before .before .before .before .before .before .before .before .pre .0) in let v = (c .before .before .before .before .before .before .before .before .before .before .before .before .before .if2 .left) in let w = node-inside (c .before .before .before .before .before .before .before .before .before .before .before .before .before .before .before .before .before .before .before .before .before .before .before .before .before .before .before .before .before .before .before .before .args .store .now) (c .before .before .before .before .before .before .before .before .before .before .before .before .before .before .before .before .before .before .before .before .before .before .before .before .before .before .before .before .before .before .before .before .args .node .num) (c .before .before .before .before .before .before .before .before .before .before .before .before .before .before .before .before .before .before .before .before .before .before .before .before .before .before .before .before .before .before .before .before .args .node .level) ((c .before .before .before .before .before .before .before .before .before .before .before .before .before .before .before .before .before .before .before .before .before .before .before .before .before .before .before .before .before .before .before .before .pre .1 .0) .reads) in let hs = here-short t (c .before .before .before .before .before .before .before .before .before .before .before .before .before .before .before .before .before .before .before .before .before) in let nc = first-next t (c .before .before .before .before .before .before .before .before .before) in let z = here-length t (c .before .before .before .before .before .before .before .before .before .before .before .before .before .before .before .before .before .before .before .before .before) in let d = nc .ends in (omega arith, (branches-ready (c .before .before .before .before .before .before .before .before .before .before .before .before .before .before .before .before .before .before .before .before .before .before .before .before .before .before .before .before .before .before .before .before .args .store .now) (c .before .before .before .before .before .before .before .before .before .before .before .before .before .before .before .before .before .before .before .before .before .before .before .before .before .before .before .before .before .before .before .before .args .node .level) (c .before .before .before .before .before .before .before .before .before .before .before .before .before .before .before .before .before .before .before .before .before .before .before .before .before .before .before .before .before .before .before .before .args .node .num) (c .before .before .before .before .before .before .before .before .before .before .before .before .before .before .before .before .before .before .before .before .before .before .before .before .before .before .before .before .before .before .before .before .args .node .position .prefix) (c .before .before .before .before .before .before .before .before .before .before .before .before .before .before .before .before .before .before .before .before .before .before .before .before .before .before .before .before .before .before .before .before .args .node .position .trail) (c .before .before .before .before .before .before .before .before .before .before .before .before .before .before .before .before .before .before .before .before .before .before .before .before .before .before .before .before .before .before .before .before .pre .1 .0) (c .before .before .before .before .before .before .before .before .before .before .before .before .before .before .before .before .before .before .before .before .before .before .before .before .before .before .before .before .before .before .before .before .args .lo .now) (c .before .before .before .before .before .before .before .before .before .before .before .before .before .before .before .before .before .before .before .before .before .before .before .before .before .before .before .before .before .before .before .before .args .hi .now) (c .before .before .before .before .before .before .before .before .before .before .before .before .before .before .before .before .before .before .before .before .before .before .before .before .before .common-length .result) (c .before .before .before .before .before .before .before .before .before .before .before .before .before .before .before .before .before .before .before .before .before .before .before .before .before .common-length .ensures .0) (c .before .before .before .before .before .before .before .before .before .before .before .before .before .before .before .before .before .before .before .before .before .extend .result) (c .before .before .before .before .before .before .before .before .before .before .before .before .before .before .before .before .before .before .before .before .before .extend .ensures .0) (c .before .before .before .before .before .before .before .before .before .before .before .before .before .before .u16-at .result) _ (c .before .before .before .before .before .before .before .before .before .before .before .before .before .before .u16-at .ensures .0) refl (omega arith) (c .before .before .before .before .before .before .before .before .before .before .first .given .0 .0) (c .before .before .before .before .before .before .before .before .before .before .first .given .0 .1 .0) (c .before .before .before .before .before .before .before .before .before .before .first .given .0 .1 .1 .0) nc (c .before .before .before .before .before .before .before .before .lengthen-trail .result) (c .before .before .before .before .before .before .before .before .lengthen-trail .ensures) (omega arith) (omega arith), sound-branches (c .before .before .before .before .before .before .before .before .before .before .before .before .before .before .before .before .before .before .before .before .before .before .before .before .before .before .before .before .before .before .before .before .args .store .now) (c .before .before .before .before .before .before .before .before .before .before .before .before .before .before .before .before .before .before .before .before .before .before .before .before .before .before .before .before .before .before .before .before .args .node .level) (c .before .before .before .before .before .before .before .before .before .before .before .before .before .before .before .before .before .before .before .before .before .before .before .before .before .before .before .before .before .before .before .before .args .node .num) (c .before .before .before .before .before .before .before .before .before .before .before .before .before .before .before .before .before .before .before .before .before .before .before .before .before .before .before .before .before .before .before .before .args .node .position .prefix) (c .before .before .before .before .before .before .before .before .before .before .before .before .before .before .before .before .before .before .before .before .before .before .before .before .before .before .before .before .before .before .before .before .args .node .position .trail) (c .before .before .before .before .before .before .before .before .before .before .before .before .before .before .before .before .before .before .before .before .before .before .before .before .before .before .before .before .before .before .before .before .pre .1 .0) (c .before .before .before .before .before .before .before .before .before .before .before .before .before .before .before .before .before .before .before .before .before .before .before .before .before .before .before .before .before .before .before .before .args .lo .now) (c .before .before .before .before .before .before .before .before .before .before .before .before .before .before .before .before .before .before .before .before .before .before .before .before .before .before .before .before .before .before .before .before .args .hi .now) (c .before .before .before .before .before .before .before .before .before .before .before .before .before .before .before .before .before .before .before .before .before .before .before .before .before .before .before .before .before .before .before .before .pre .1 .1) (c .before .before .before .before .before .before .before .before .before .before .before .before .before .before .before .before .before .before .before .before .before .before .before .before .before .before .before .before .before .before .before .before .args .area .now) (c .before .before .before .before .before .before .before .before .before .before .before .before .before .before .before .before .before .before .before .before .before .before .before .before .before .before .before .before .before .before .before .before .args .m) (c .before .before .before .before .before .before .before .before .before .before .before .before .before .before .before .before .before .before .before .before .before .before .before .before .before .before .before .before .before .before .before .before .pre .1 .2) (c .before .before .before .before .before .before .before .before .before .before .before .before .before .before .before .before .before .before .before .before .before .before .before .before .before .common-length .result) (c .before .before .before .before .before .before .before .before .before .before .before .before .before .before .before .before .before .before .before .before .before .before .before .before .before .common-length .ensures .0) (c .before .before .before .before .before .before .before .before .before .before .before .before .before .before .before .before .before .before .before .before .before .extend .result) (c .before .before .before .before .before .before .before .before .before .before .before .before .before .before .before .before .before .before .before .before .before .extend .ensures .0) (c .before .before .before .before .before .before .before .before .before .before .before .before .before .before .u16-at .result) (c .before .before .before .before .before .before .before .before .before .before .before .before .before .before .u16-at .ensures .0) (omega arith) (c .before .before .before .before .before .before .before .before .before .before .first .given .0 .0) (c .before .before .before .before .before .before .before .before .before .before .first .given .0 .1 .0) (c .before .before .before .before .before .before .before .before .before .before .first .given .0 .1 .1 .0) nc, branches-room (c .before .before .before .before .before .before .before .before .before .before .before .before .before .before .before .before .before .before .before .before .before .before .before .before .before .before .before .before .before .before .before .before .args .store .now) (c .before .before .before .before .before .before .before .before .before .before .before .before .before .before .before .before .before .before .before .before .before .before .before .before .before .before .before .before .before .before .before .before .args .node .level) (c .before .before .before .before .before .before .before .before .before .before .before .before .before .before .before .before .before .before .before .before .before .before .before .before .before .before .before .before .before .before .before .before .args .node .num) (c .before .before .before .before .before .before .before .before .before .before .before .before .before .before .before .before .before .before .before .before .before .before .before .before .before .before .before .before .before .before .before .before .args .node .position .prefix) (c .before .before .before .before .before .before .before .before .before .before .before .before .before .before .before .before .before .before .before .before .before .before .before .before .before .before .before .before .before .before .before .before .args .node .position .trail) (c .before .before .before .before .before .before .before .before .before .before .before .before .before .before .before .before .before .before .before .before .before .before .before .before .before .before .before .before .before .before .before .before .pre .1 .0) (c .before .before .before .before .before .before .before .before .before .before .before .before .before .before .before .before .before .before .before .before .before .before .before .before .before .before .before .before .before .before .before .before .args .lo .now) (c .before .before .before .before .before .before .before .before .before .before .before .before .before .before .before .before .before .before .before .before .before .before .before .before .before .before .before .before .before .before .before .before .args .hi .now) (c .before .before .before .before .before .before .before .before .before .before .before .before .before .before .before .before .before .before .before .before .before .before .before .before .before .before .before .before .before .before .before .before .pre .1 .1) (c .before .before .before .before .before .before .before .before .before .before .before .before .before .before .before .before .before .before .before .before .before .before .before .before .before .before .before .before .before .before .before .before .args .area .now) (c .before .before .before .before .before .before .before .before .before .before .before .before .before .before .before .before .before .before .before .before .before .before .before .before .before .before .before .before .before .before .before .before .args .m) (c .before .before .before .before .before .before .before .before .before .before .before .before .before .before .before .before .before .before .before .before .before .before .before .before .before .before .before .before .before .before .before .before .pre .1 .2) (c .before .before .before .before .before .before .before .before .before .before .before .before .before .before .before .before .before .before .before .before .before .before .before .before .before .common-length .result) (c .before .before .before .before .before .before .before .before .before .before .before .before .before .before .before .before .before .before .before .before .before .before .before .before .before .common-length .ensures .0) (c .before .before .before .before .before .before .before .before .before .before .before .before .before .before .before .before .before .before .before .before .before .extend .result) (c .before .before .before .before .before .before .before .before .before .before .before .before .before .before .before .before .before .before .before .before .before .extend .ensures .0) (c .before .before .before .before .before .before .before .before .before .before .before .before .before .before .u16-at .result) (c .before .before .before .before .before .before .before .before .before .before .before .before .before .before .u16-at .ensures .0) (omega arith) (c .before .before .before .before .before .before .before .before .before .before .first .given .0 .0) (c .before .before .before .before .before .before .before .before .before .before .first .given .0 .1 .0) (c .before .before .before .before .before .before .before .before .before .before .first .given .0 .1 .1 .0) nc (c .before .before .before .before .before .before .before .before .lengthen-trail .result) (c .before .before .before .before .before .before .before .before .lengthen-trail .ensures) (omega arith), branches-sound (c .before .before .before .before .before .before .before .before .before .before .before .before .before .before .before .before .before .before .before .before .before .before .before .before .before .before .before .before .before .before .before .before .args .node .position .prefix) (c .before .before .before .before .before .before .before .before .before .before .before .before .before .before .before .before .before .before .before .before .before .before .before .before .before .before .before .before .before .before .before .before .args .lo .now) (c .before .before .before .before .before .before .before .before .before .before .before .before .before .before .before .before .before .before .before .before .before .before .before .before .before .before .before .before .before .before .before .before .args .hi .now) (c .before .before .before .before .before .before .before .before .before .before .before .before .before .before .before .before .before .before .before .before .before .before .before .before .before .common-length .result) (c .before .before .before .before .before .before .before .before .before .before .before .before .before .before .before .before .before .before .before .before .before .before .before .before .before .common-length .ensures .0) (c .before .before .before .before .before .before .before .before .before .before .before .before .before .before .before .before .before .before .before .before .before .extend .result) (c .before .before .before .before .before .before .before .before .before .before .before .before .before .before .before .before .before .before .before .before .before .extend .ensures .0) (c .before .before .before .before .before .before .before .before .before .before .before .before .before .before .before .before .before .before .before .before .before .before .before .before .before .before .before .before .before .before .before .before .args .store .now) (c .before .before .before .before .before .before .before .before .before .before .before .before .before .before .before .before .before .before .before .before .before .before .before .before .before .before .before .before .before .before .before .before .args .node .level) (c .before .before .before .before .before .before .before .before .before .before .before .before .before .before .before .before .before .before .before .before .before .before .before .before .before .before .before .before .before .before .before .before .args .node .num) (c .before .before .before .before .before .before .before .before .before .before .before .before .before .before .before .before .before .before .before .before .before .before .before .before .before .before .before .before .before .before .before .before .pre .1 .0 .reads) (c .before .before .before .before .before .before .before .before .before .before .before .before .before .before .before .before .before .before .before .before .before .before .before .before .before .before .before .before .before .before .before .before .pre .1 .1) (c .before .before .before .before .before .before .before .before .before .before .before .before .before .before .u16-at .result) (c .before .before .before .before .before .before .before .before .before .before .before .before .before .before .u16-at .ensures .0) (omega arith) _ _ _ nc _ _ _ (told-joined _ _ _ _ _ _ (c .before .before .before .before .before .before .before .before .before .before .before .before .before .before .before .before .before .before .before .before .before .extend .result) _ _ _ _ (omega arith) (c .before .before .before .before .before .before .before .before .lengthen-trail .ensures) (c .before .before .before .before .before .before .before .before .before .before .before .before .before .before .before .before .note-above .ensures) (c .before .before .before .before .note-own .ensures))))
+dump-node-dump-children-requires t c κs = let q = (c .before .before .before .before .before .before .before .before .before .before .before .before .before .before .before .before .before .before .before .before .before .before .before .before .before .before .before .before .before .before .before .pre .0) in let v = (c .before .before .before .before .before .before .before .before .before .before .before .before .if2 .left) in let w = node-inside (c .before .before .before .before .before .before .before .before .before .before .before .before .before .before .before .before .before .before .before .before .before .before .before .before .before .before .before .before .before .before .before .args .store .now) (c .before .before .before .before .before .before .before .before .before .before .before .before .before .before .before .before .before .before .before .before .before .before .before .before .before .before .before .before .before .before .before .args .node .num) (c .before .before .before .before .before .before .before .before .before .before .before .before .before .before .before .before .before .before .before .before .before .before .before .before .before .before .before .before .before .before .before .args .node .level) ((c .before .before .before .before .before .before .before .before .before .before .before .before .before .before .before .before .before .before .before .before .before .before .before .before .before .before .before .before .before .before .before .pre .1 .0) .reads) in let hs = here-short t (c .before .before .before .before .before .before .before .before .before .before .before .before .before .before .before .before .before .before .before .before) in let nc = first-next t (c .before .before .before .before .before .before .before .before) in let z = here-length t (c .before .before .before .before .before .before .before .before .before .before .before .before .before .before .before .before .before .before .before .before) in let d = nc .ends in (omega arith, rw (c .before .before .before .before .enter .ensures .0) (branches-ready (c .before .before .before .before .before .before .before .before .before .before .before .before .before .before .before .before .before .before .before .before .before .before .before .before .before .before .before .before .before .before .before .args .store .now) (c .before .before .before .before .before .before .before .before .before .before .before .before .before .before .before .before .before .before .before .before .before .before .before .before .before .before .before .before .before .before .before .args .node .level) (c .before .before .before .before .before .before .before .before .before .before .before .before .before .before .before .before .before .before .before .before .before .before .before .before .before .before .before .before .before .before .before .args .node .num) (c .before .before .before .before .before .before .before .before .before .before .before .before .before .before .before .before .before .before .before .before .before .before .before .before .before .before .before .before .before .before .before .args .node .position .prefix) (c .before .before .before .before .before .before .before .before .before .before .before .before .before .before .before .before .before .before .before .before .before .before .before .before .before .before .before .before .before .before .before .args .node .position .trail) (c .before .before .before .before .before .before .before .before .before .before .before .before .before .before .before .before .before .before .before .before .before .before .before .before .before .before .before .before .before .before .before .pre .1 .0) (c .before .before .before .before .before .before .before .before .before .before .before .before .before .before .before .before .before .before .before .before .before .before .before .before .before .before .before .before .before .before .before .args .lo .now) (c .before .before .before .before .before .before .before .before .before .before .before .before .before .before .before .before .before .before .before .before .before .before .before .before .before .before .before .before .before .before .before .args .hi .now) (c .before .before .before .before .before .before .before .before .before .before .before .before .before .before .before .before .before .before .before .before .before .before .before .before .common-length .result) (c .before .before .before .before .before .before .before .before .before .before .before .before .before .before .before .before .before .before .before .before .before .before .before .before .common-length .ensures .0) (c .before .before .before .before .before .before .before .before .before .before .before .before .before .before .before .before .before .before .before .before .extend .result) (c .before .before .before .before .before .before .before .before .before .before .before .before .before .before .before .before .before .before .before .before .extend .ensures .0) (c .before .before .before .before .before .before .before .before .before .before .before .before .before .u16-at .result) _ (c .before .before .before .before .before .before .before .before .before .before .before .before .before .u16-at .ensures .0) refl (omega arith) (c .before .before .before .before .before .before .before .before .before .first .given .0 .0) (c .before .before .before .before .before .before .before .before .before .first .given .0 .1 .0) (c .before .before .before .before .before .before .before .before .before .first .given .0 .1 .1 .0) nc (c .before .before .before .before .enter .result .trail) (c .before .before .before .before .enter .ensures .1) (omega arith) (omega arith), sound-branches (c .before .before .before .before .before .before .before .before .before .before .before .before .before .before .before .before .before .before .before .before .before .before .before .before .before .before .before .before .before .before .before .args .store .now) (c .before .before .before .before .before .before .before .before .before .before .before .before .before .before .before .before .before .before .before .before .before .before .before .before .before .before .before .before .before .before .before .args .node .level) (c .before .before .before .before .before .before .before .before .before .before .before .before .before .before .before .before .before .before .before .before .before .before .before .before .before .before .before .before .before .before .before .args .node .num) (c .before .before .before .before .before .before .before .before .before .before .before .before .before .before .before .before .before .before .before .before .before .before .before .before .before .before .before .before .before .before .before .args .node .position .prefix) (c .before .before .before .before .before .before .before .before .before .before .before .before .before .before .before .before .before .before .before .before .before .before .before .before .before .before .before .before .before .before .before .args .node .position .trail) (c .before .before .before .before .before .before .before .before .before .before .before .before .before .before .before .before .before .before .before .before .before .before .before .before .before .before .before .before .before .before .before .pre .1 .0) (c .before .before .before .before .before .before .before .before .before .before .before .before .before .before .before .before .before .before .before .before .before .before .before .before .before .before .before .before .before .before .before .args .lo .now) (c .before .before .before .before .before .before .before .before .before .before .before .before .before .before .before .before .before .before .before .before .before .before .before .before .before .before .before .before .before .before .before .args .hi .now) (c .before .before .before .before .before .before .before .before .before .before .before .before .before .before .before .before .before .before .before .before .before .before .before .before .before .before .before .before .before .before .before .pre .1 .1) (c .before .before .before .before .before .before .before .before .before .before .before .before .before .before .before .before .before .before .before .before .before .before .before .before .before .before .before .before .before .before .before .args .area .now) (c .before .before .before .before .before .before .before .before .before .before .before .before .before .before .before .before .before .before .before .before .before .before .before .before .before .before .before .before .before .before .before .args .m) (c .before .before .before .before .before .before .before .before .before .before .before .before .before .before .before .before .before .before .before .before .before .before .before .before .before .before .before .before .before .before .before .pre .1 .2) (c .before .before .before .before .before .before .before .before .before .before .before .before .before .before .before .before .before .before .before .before .before .before .before .before .common-length .result) (c .before .before .before .before .before .before .before .before .before .before .before .before .before .before .before .before .before .before .before .before .before .before .before .before .common-length .ensures .0) (c .before .before .before .before .before .before .before .before .before .before .before .before .before .before .before .before .before .before .before .before .extend .result) (c .before .before .before .before .before .before .before .before .before .before .before .before .before .before .before .before .before .before .before .before .extend .ensures .0) (c .before .before .before .before .before .before .before .before .before .before .before .before .before .u16-at .result) (c .before .before .before .before .before .before .before .before .before .before .before .before .before .u16-at .ensures .0) (omega arith) (c .before .before .before .before .before .before .before .before .before .first .given .0 .0) (c .before .before .before .before .before .before .before .before .before .first .given .0 .1 .0) (c .before .before .before .before .before .before .before .before .before .first .given .0 .1 .1 .0) nc, branches-room (c .before .before .before .before .before .before .before .before .before .before .before .before .before .before .before .before .before .before .before .before .before .before .before .before .before .before .before .before .before .before .before .args .store .now) (c .before .before .before .before .before .before .before .before .before .before .before .before .before .before .before .before .before .before .before .before .before .before .before .before .before .before .before .before .before .before .before .args .node .level) (c .before .before .before .before .before .before .before .before .before .before .before .before .before .before .before .before .before .before .before .before .before .before .before .before .before .before .before .before .before .before .before .args .node .num) (c .before .before .before .before .before .before .before .before .before .before .before .before .before .before .before .before .before .before .before .before .before .before .before .before .before .before .before .before .before .before .before .args .node .position .prefix) (c .before .before .before .before .before .before .before .before .before .before .before .before .before .before .before .before .before .before .before .before .before .before .before .before .before .before .before .before .before .before .before .args .node .position .trail) (c .before .before .before .before .before .before .before .before .before .before .before .before .before .before .before .before .before .before .before .before .before .before .before .before .before .before .before .before .before .before .before .pre .1 .0) (c .before .before .before .before .before .before .before .before .before .before .before .before .before .before .before .before .before .before .before .before .before .before .before .before .before .before .before .before .before .before .before .args .lo .now) (c .before .before .before .before .before .before .before .before .before .before .before .before .before .before .before .before .before .before .before .before .before .before .before .before .before .before .before .before .before .before .before .args .hi .now) (c .before .before .before .before .before .before .before .before .before .before .before .before .before .before .before .before .before .before .before .before .before .before .before .before .before .before .before .before .before .before .before .pre .1 .1) (c .before .before .before .before .before .before .before .before .before .before .before .before .before .before .before .before .before .before .before .before .before .before .before .before .before .before .before .before .before .before .before .args .area .now) (c .before .before .before .before .before .before .before .before .before .before .before .before .before .before .before .before .before .before .before .before .before .before .before .before .before .before .before .before .before .before .before .args .m) (c .before .before .before .before .before .before .before .before .before .before .before .before .before .before .before .before .before .before .before .before .before .before .before .before .before .before .before .before .before .before .before .pre .1 .2) (c .before .before .before .before .before .before .before .before .before .before .before .before .before .before .before .before .before .before .before .before .before .before .before .before .common-length .result) (c .before .before .before .before .before .before .before .before .before .before .before .before .before .before .before .before .before .before .before .before .before .before .before .before .common-length .ensures .0) (c .before .before .before .before .before .before .before .before .before .before .before .before .before .before .before .before .before .before .before .before .extend .result) (c .before .before .before .before .before .before .before .before .before .before .before .before .before .before .before .before .before .before .before .before .extend .ensures .0) (c .before .before .before .before .before .before .before .before .before .before .before .before .before .u16-at .result) (c .before .before .before .before .before .before .before .before .before .before .before .before .before .u16-at .ensures .0) (omega arith) (c .before .before .before .before .before .before .before .before .before .first .given .0 .0) (c .before .before .before .before .before .before .before .before .before .first .given .0 .1 .0) (c .before .before .before .before .before .before .before .before .before .first .given .0 .1 .1 .0) nc (c .before .before .before .before .enter .result .trail) (c .before .before .before .before .enter .ensures .1) (omega arith), branches-sound (c .before .before .before .before .before .before .before .before .before .before .before .before .before .before .before .before .before .before .before .before .before .before .before .before .before .before .before .before .before .before .before .args .node .position .prefix) (c .before .before .before .before .before .before .before .before .before .before .before .before .before .before .before .before .before .before .before .before .before .before .before .before .before .before .before .before .before .before .before .args .lo .now) (c .before .before .before .before .before .before .before .before .before .before .before .before .before .before .before .before .before .before .before .before .before .before .before .before .before .before .before .before .before .before .before .args .hi .now) (c .before .before .before .before .before .before .before .before .before .before .before .before .before .before .before .before .before .before .before .before .before .before .before .before .common-length .result) (c .before .before .before .before .before .before .before .before .before .before .before .before .before .before .before .before .before .before .before .before .before .before .before .before .common-length .ensures .0) (c .before .before .before .before .before .before .before .before .before .before .before .before .before .before .before .before .before .before .before .before .extend .result) (c .before .before .before .before .before .before .before .before .before .before .before .before .before .before .before .before .before .before .before .before .extend .ensures .0) (c .before .before .before .before .before .before .before .before .before .before .before .before .before .before .before .before .before .before .before .before .before .before .before .before .before .before .before .before .before .before .before .args .store .now) (c .before .before .before .before .before .before .before .before .before .before .before .before .before .before .before .before .before .before .before .before .before .before .before .before .before .before .before .before .before .before .before .args .node .level) (c .before .before .before .before .before .before .before .before .before .before .before .before .before .before .before .before .before .before .before .before .before .before .before .before .before .before .before .before .before .before .before .args .node .num) (c .before .before .before .before .before .before .before .before .before .before .before .before .before .before .before .before .before .before .before .before .before .before .before .before .before .before .before .before .before .before .before .pre .1 .0 .reads) (c .before .before .before .before .before .before .before .before .before .before .before .before .before .before .before .before .before .before .before .before .before .before .before .before .before .before .before .before .before .before .before .pre .1 .1) (c .before .before .before .before .before .before .before .before .before .before .before .before .before .u16-at .result) (c .before .before .before .before .before .before .before .before .before .before .before .before .before .u16-at .ensures .0) (omega arith) _ _ _ nc _ _ _ (told-joined _ _ _ _ _ _ (c .before .before .before .before .before .before .before .before .before .before .before .before .before .before .before .before .before .before .before .before .extend .result) _ _ _ _ (omega arith) (c .before .before .before .before .enter .ensures .1) (c .before .before .before .before .before .before .before .before .before .before .before .before .before .before .before .note-above .ensures) (c .before .before .before .before .enter .ensures .2))))
 
 dump-node-insert-puts-requires : (t : ℕ) → dump-node-lts.Need-insert-puts-requires (
   common-length-reads.Asked,
@@ -1449,10 +1332,8 @@ dump-node-insert-puts-requires : (t : ℕ) → dump-node-lts.Need-insert-puts-re
   append-pairs-reads.Learnt,
   read-child-reads.Asked,
   read-child-reads.Learnt,
-  lengthen-trail-reads.Asked,
-  lengthen-trail-reads.Learnt,
-  note-own-reads.Asked,
-  note-own-reads.Learnt,
+  enter-reads.Asked,
+  enter-reads.Learnt,
   dump-children-below t,
   dump-children.Post,
   insert-puts-reads.Asked,
@@ -1460,7 +1341,7 @@ dump-node-insert-puts-requires : (t : ℕ) → dump-node-lts.Need-insert-puts-re
   merge-rows-reads.Asked,
   merge-rows-reads.Learnt,
 ) (dump-node-at t) dump-node.Post
-dump-node-insert-puts-requires t c κs = let w = node-inside (c .before .before .before .before .before .before .before .before .before .before .before .before .before .before .before .before .before .before .before .before .before .before .before .before .before .before .before .before .before .before .before .before .before .before .before .before .args .store .now) (c .before .before .before .before .before .before .before .before .before .before .before .before .before .before .before .before .before .before .before .before .before .before .before .before .before .before .before .before .before .before .before .before .before .before .before .before .args .node .num) (c .before .before .before .before .before .before .before .before .before .before .before .before .before .before .before .before .before .before .before .before .before .before .before .before .before .before .before .before .before .before .before .before .before .before .before .before .args .node .level) ((c .before .before .before .before .before .before .before .before .before .before .before .before .before .before .before .before .before .before .before .before .before .before .before .before .before .before .before .before .before .before .before .before .before .before .before .before .pre .1 .0) .reads) in let hs = here-short t (c .before .before .before .before .before .before .before .before .before .before .before .before .before .before .before .before .before .before .before .before .before .before .before .before .before) in let ul = (c .before .before .before .before .before .before .before .before .before .before .before .before .before .before .before .before .before .before .u16-at .ensures .0) in let nc = first-next t (c .before .before .before .before .before .before .before .before .before .before .before .before .before) in let z = here-length t (c .before .before .before .before .before .before .before .before .before .before .before .before .before .before .before .before .before .before .before .before .before .before .before .before .before) in (omega arith, omega arith, trail-wider (c .before .before .before .before .before .before .before .before .before .before .before .before .before .before .before .before .before .before .before .before .before .before .before .before .before .before .before .before .before .before .before .before .before .before .before .before .args .store .now) ((c .before .before .before .before .before .before .before .before .before .before .before .before .before .before .before .before .before .before .before .before .before .before .before .before .before .before .before .before .before .before .before .before .before .before .before .before .args .node .position .prefix) .len) ((c .before .before .before .before .before .before .before .before .before .before .before .before .before .before .before .before .before .before .before .before .before .before .before .before .before .extend .result) .len) (c .before .before .before .before .before .before .before .before .before .before .before .before .before .before .before .before .before .before .before .before .before .before .before .before .before .before .before .before .before .before .before .before .before .before .before .before .args .node .position .trail) (omega arith) ((c .before .before .before .before .before .before .before .before .before .before .before .before .before .before .before .before .before .before .before .before .before .before .before .before .before .before .before .before .before .before .before .before .before .before .before .before .pre .1 .0) .trail), puts-open (c .before .before .before .before .before .before .before .before .before .before .before .before .before .before .before .before .before .before .before .before .before .before .before .before .before .before .before .before .before .before .before .before .before .before .before .before .args .store .now) (c .before .before .before .before .before .before .before .before .before .before .before .before .before .before .before .before .before .before .before .before .before .before .before .before .before .before .before .before .before .before .before .before .before .before .before .before .args .node .level) (c .before .before .before .before .before .before .before .before .before .before .before .before .before .before .before .before .before .before .before .before .before .before .before .before .before .before .before .before .before .before .before .before .before .before .before .before .args .node .num) (c .before .before .before .before .before .before .before .before .before .before .before .before .before .before .before .before .before .before .before .before .before .before .before .before .before .before .before .before .before .before .before .before .before .before .before .before .args .node .position .prefix) (c .before .before .before .before .before .before .before .before .before .before .before .before .before .before .before .before .before .before .before .before .before .before .before .before .before .before .before .before .before .before .before .before .before .before .before .before .args .node .position .trail) (c .before .before .before .before .before .before .before .before .before .before .before .before .before .before .before .before .before .before .before .before .before .before .before .before .before .before .before .before .before .before .before .before .before .before .before .before .pre .1 .0) (c .before .before .before .before .before .before .before .before .before .before .before .before .before .before .before .before .before .before .before .before .before .before .before .before .before .before .before .before .before .before .before .before .before .before .before .before .args .lo .now) (c .before .before .before .before .before .before .before .before .before .before .before .before .before .before .before .before .before .before .before .before .before .before .before .before .before .before .before .before .before .before .before .before .before .before .before .before .args .hi .now) (c .before .before .before .before .before .before .before .before .before .before .before .before .before .before .before .before .before .before .before .before .before .before .before .before .before .before .before .before .before .before .before .before .before .before .before .before .pre .1 .1) (c .before .before .before .before .before .before .before .before .before .before .before .before .before .before .before .before .before .before .before .before .before .before .before .before .before .before .before .before .before .before .before .before .before .before .before .before .args .area .now) (c .before .before .before .before .before .before .before .before .before .before .before .before .before .before .before .before .before .before .before .before .before .before .before .before .before .before .before .before .before .before .before .before .before .before .before .before .args .m) (c .before .before .before .before .before .before .before .before .before .before .before .before .before .before .before .before .before .before .before .before .before .before .before .before .before .before .before .before .before .before .before .before .before .before .before .before .pre .1 .2) (c .before .before .before .before .before .before .before .before .before .before .before .before .before .before .before .before .before .before .before .before .before .before .before .before .before .before .before .before .before .common-length .result) (c .before .before .before .before .before .before .before .before .before .before .before .before .before .before .before .before .before .before .before .before .before .before .before .before .before .before .before .before .before .common-length .ensures .0) (c .before .before .before .before .before .before .before .before .before .before .before .before .before .before .before .before .before .before .before .before .before .before .before .before .before .extend .result) (c .before .before .before .before .before .before .before .before .before .before .before .before .before .before .before .before .before .before .before .before .before .before .before .before .before .extend .ensures .0) (c .before .before .before .before .before .before .before .before .before .before .before .before .before .before .before .before .before .before .u16-at .result) (c .before .before .before .before .before .before .before .before .before .before .before .before .before .before .before .before .before .before .u16-at .ensures .0) (omega arith) (c .before .before .before .before .before .before .before .before .before .before .before .before .before .before .first .given .0 .0) (c .before .before .before .before .before .before .before .before .before .before .before .before .before .before .first .given .0 .1 .0) (c .before .before .before .before .before .before .before .before .before .before .before .before .before .before .first .given .0 .1 .1 .0) nc (c .before .before .before .before .before .before .before .before .before .before .before .before .lengthen-trail .result) (c .before .before .before .before .before .before .before .before .before .before .before .before .lengthen-trail .ensures) (omega arith) _ _ (c .before .before .before .dump-children .ensures))
+dump-node-insert-puts-requires t c κs = let w = node-inside (c .before .before .before .before .before .before .before .before .before .before .before .before .before .before .before .before .before .before .before .before .before .before .before .before .before .before .before .before .before .before .before .before .before .before .before .args .store .now) (c .before .before .before .before .before .before .before .before .before .before .before .before .before .before .before .before .before .before .before .before .before .before .before .before .before .before .before .before .before .before .before .before .before .before .before .args .node .num) (c .before .before .before .before .before .before .before .before .before .before .before .before .before .before .before .before .before .before .before .before .before .before .before .before .before .before .before .before .before .before .before .before .before .before .before .args .node .level) ((c .before .before .before .before .before .before .before .before .before .before .before .before .before .before .before .before .before .before .before .before .before .before .before .before .before .before .before .before .before .before .before .before .before .before .before .pre .1 .0) .reads) in let hs = here-short t (c .before .before .before .before .before .before .before .before .before .before .before .before .before .before .before .before .before .before .before .before .before .before .before .before) in let ul = (c .before .before .before .before .before .before .before .before .before .before .before .before .before .before .before .before .before .u16-at .ensures .0) in let nc = first-next t (c .before .before .before .before .before .before .before .before .before .before .before .before) in let z = here-length t (c .before .before .before .before .before .before .before .before .before .before .before .before .before .before .before .before .before .before .before .before .before .before .before .before) in (omega arith, omega arith, trail-wider (c .before .before .before .before .before .before .before .before .before .before .before .before .before .before .before .before .before .before .before .before .before .before .before .before .before .before .before .before .before .before .before .before .before .before .before .args .store .now) ((c .before .before .before .before .before .before .before .before .before .before .before .before .before .before .before .before .before .before .before .before .before .before .before .before .before .before .before .before .before .before .before .before .before .before .before .args .node .position .prefix) .len) ((c .before .before .before .before .before .before .before .before .before .before .before .before .before .before .before .before .before .before .before .before .before .before .before .before .extend .result) .len) (c .before .before .before .before .before .before .before .before .before .before .before .before .before .before .before .before .before .before .before .before .before .before .before .before .before .before .before .before .before .before .before .before .before .before .before .args .node .position .trail) (omega arith) ((c .before .before .before .before .before .before .before .before .before .before .before .before .before .before .before .before .before .before .before .before .before .before .before .before .before .before .before .before .before .before .before .before .before .before .before .pre .1 .0) .trail), puts-open (c .before .before .before .before .before .before .before .before .before .before .before .before .before .before .before .before .before .before .before .before .before .before .before .before .before .before .before .before .before .before .before .before .before .before .before .args .store .now) (c .before .before .before .before .before .before .before .before .before .before .before .before .before .before .before .before .before .before .before .before .before .before .before .before .before .before .before .before .before .before .before .before .before .before .before .args .node .level) (c .before .before .before .before .before .before .before .before .before .before .before .before .before .before .before .before .before .before .before .before .before .before .before .before .before .before .before .before .before .before .before .before .before .before .before .args .node .num) (c .before .before .before .before .before .before .before .before .before .before .before .before .before .before .before .before .before .before .before .before .before .before .before .before .before .before .before .before .before .before .before .before .before .before .before .args .node .position .prefix) (c .before .before .before .before .before .before .before .before .before .before .before .before .before .before .before .before .before .before .before .before .before .before .before .before .before .before .before .before .before .before .before .before .before .before .before .args .node .position .trail) (c .before .before .before .before .before .before .before .before .before .before .before .before .before .before .before .before .before .before .before .before .before .before .before .before .before .before .before .before .before .before .before .before .before .before .before .pre .1 .0) (c .before .before .before .before .before .before .before .before .before .before .before .before .before .before .before .before .before .before .before .before .before .before .before .before .before .before .before .before .before .before .before .before .before .before .before .args .lo .now) (c .before .before .before .before .before .before .before .before .before .before .before .before .before .before .before .before .before .before .before .before .before .before .before .before .before .before .before .before .before .before .before .before .before .before .before .args .hi .now) (c .before .before .before .before .before .before .before .before .before .before .before .before .before .before .before .before .before .before .before .before .before .before .before .before .before .before .before .before .before .before .before .before .before .before .before .pre .1 .1) (c .before .before .before .before .before .before .before .before .before .before .before .before .before .before .before .before .before .before .before .before .before .before .before .before .before .before .before .before .before .before .before .before .before .before .before .args .area .now) (c .before .before .before .before .before .before .before .before .before .before .before .before .before .before .before .before .before .before .before .before .before .before .before .before .before .before .before .before .before .before .before .before .before .before .before .args .m) (c .before .before .before .before .before .before .before .before .before .before .before .before .before .before .before .before .before .before .before .before .before .before .before .before .before .before .before .before .before .before .before .before .before .before .before .pre .1 .2) (c .before .before .before .before .before .before .before .before .before .before .before .before .before .before .before .before .before .before .before .before .before .before .before .before .before .before .before .before .common-length .result) (c .before .before .before .before .before .before .before .before .before .before .before .before .before .before .before .before .before .before .before .before .before .before .before .before .before .before .before .before .common-length .ensures .0) (c .before .before .before .before .before .before .before .before .before .before .before .before .before .before .before .before .before .before .before .before .before .before .before .before .extend .result) (c .before .before .before .before .before .before .before .before .before .before .before .before .before .before .before .before .before .before .before .before .before .before .before .before .extend .ensures .0) (c .before .before .before .before .before .before .before .before .before .before .before .before .before .before .before .before .before .u16-at .result) (c .before .before .before .before .before .before .before .before .before .before .before .before .before .before .before .before .before .u16-at .ensures .0) (omega arith) (c .before .before .before .before .before .before .before .before .before .before .before .before .before .first .given .0 .0) (c .before .before .before .before .before .before .before .before .before .before .before .before .before .first .given .0 .1 .0) (c .before .before .before .before .before .before .before .before .before .before .before .before .before .first .given .0 .1 .1 .0) nc (c .before .before .before .before .before .before .before .before .enter .result .trail) (c .before .before .before .before .before .before .before .before .enter .ensures .1) (omega arith) _ _ (rw (c .before .before .before .before .before .before .before .before .enter .ensures .0) at (c .before .before .before .dump-children .ensures)))
 
 dump-node-merge-rows-requires : (t : ℕ) → dump-node-lts.Need-merge-rows-requires (
   common-length-reads.Asked,
@@ -1475,10 +1356,8 @@ dump-node-merge-rows-requires : (t : ℕ) → dump-node-lts.Need-merge-rows-requ
   append-pairs-reads.Learnt,
   read-child-reads.Asked,
   read-child-reads.Learnt,
-  lengthen-trail-reads.Asked,
-  lengthen-trail-reads.Learnt,
-  note-own-reads.Asked,
-  note-own-reads.Learnt,
+  enter-reads.Asked,
+  enter-reads.Learnt,
   dump-children-below t,
   dump-children.Post,
   insert-puts-reads.Asked,
@@ -1486,7 +1365,7 @@ dump-node-merge-rows-requires : (t : ℕ) → dump-node-lts.Need-merge-rows-requ
   merge-rows-reads.Asked,
   merge-rows-reads.Learnt,
 ) (dump-node-at t) dump-node.Post
-dump-node-merge-rows-requires t c κs = let v = (c .before .before .before .before .before .before .before .before .before .before .before .before .before .before .before .before .before .before .before .before .before .if2 .left) in let hs = here-short t (c .before .before .before .before .before .before .before .before .before .before .before .before .before .before .before .before .before .before .before .before .before .before .before .before .before .before .before .before .before) in let nc = first-next t (c .before .before .before .before .before .before .before .before .before .before .before .before .before .before .before .before .before) in let z = here-length t (c .before .before .before .before .before .before .before .before .before .before .before .before .before .before .before .before .before .before .before .before .before .before .before .before .before .before .before .before .before) in puts-apart (c .before .before .before .before .before .before .before .before .before .before .before .before .before .before .before .before .before .before .before .before .before .before .before .before .before .before .before .before .before .before .before .before .before .before .before .before .before .before .before .before .args .store .now) (c .before .before .before .before .before .before .before .before .before .before .before .before .before .before .before .before .before .before .before .before .before .before .before .before .before .before .before .before .before .before .before .before .before .before .before .before .before .before .before .before .args .node .level) (c .before .before .before .before .before .before .before .before .before .before .before .before .before .before .before .before .before .before .before .before .before .before .before .before .before .before .before .before .before .before .before .before .before .before .before .before .before .before .before .before .args .node .num) (c .before .before .before .before .before .before .before .before .before .before .before .before .before .before .before .before .before .before .before .before .before .before .before .before .before .before .before .before .before .before .before .before .before .before .before .before .before .before .before .before .args .node .position .prefix) (c .before .before .before .before .before .before .before .before .before .before .before .before .before .before .before .before .before .before .before .before .before .before .before .before .before .before .before .before .before .before .before .before .before .before .before .before .before .before .before .before .args .node .position .trail) (c .before .before .before .before .before .before .before .before .before .before .before .before .before .before .before .before .before .before .before .before .before .before .before .before .before .before .before .before .before .before .before .before .before .before .before .before .before .before .before .before .pre .1 .0) (c .before .before .before .before .before .before .before .before .before .before .before .before .before .before .before .before .before .before .before .before .before .before .before .before .before .before .before .before .before .before .before .before .before .before .before .before .before .before .before .before .args .lo .now) (c .before .before .before .before .before .before .before .before .before .before .before .before .before .before .before .before .before .before .before .before .before .before .before .before .before .before .before .before .before .before .before .before .before .before .before .before .before .before .before .before .args .hi .now) (c .before .before .before .before .before .before .before .before .before .before .before .before .before .before .before .before .before .before .before .before .before .before .before .before .before .before .before .before .before .before .before .before .before .before .before .before .before .before .before .before .pre .1 .1) (c .before .before .before .before .before .before .before .before .before .before .before .before .before .before .before .before .before .before .before .before .before .before .before .before .before .before .before .before .before .before .before .before .before .before .before .before .before .before .before .before .args .area .now) (c .before .before .before .before .before .before .before .before .before .before .before .before .before .before .before .before .before .before .before .before .before .before .before .before .before .before .before .before .before .before .before .before .before .before .before .before .before .before .before .before .args .m) (c .before .before .before .before .before .before .before .before .before .before .before .before .before .before .before .before .before .before .before .before .before .before .before .before .before .before .before .before .before .before .before .before .before .before .before .before .before .before .before .before .pre .1 .2) (c .before .before .before .before .before .before .before .before .before .before .before .before .before .before .before .before .before .before .before .before .before .before .before .before .before .before .before .before .before .before .before .before .before .common-length .result) (c .before .before .before .before .before .before .before .before .before .before .before .before .before .before .before .before .before .before .before .before .before .before .before .before .before .before .before .before .before .before .before .before .before .common-length .ensures .0) (c .before .before .before .before .before .before .before .before .before .before .before .before .before .before .before .before .before .before .before .before .before .before .before .before .before .before .before .before .before .extend .result) (c .before .before .before .before .before .before .before .before .before .before .before .before .before .before .before .before .before .before .before .before .before .before .before .before .before .before .before .before .before .extend .ensures .0) (c .before .before .before .before .before .before .before .before .before .before .before .before .before .before .before .before .before .before .before .before .before .before .u16-at .result) (c .before .before .before .before .before .before .before .before .before .before .before .before .before .before .before .before .before .before .before .before .before .before .u16-at .ensures .0) (omega arith) (c .before .before .before .before .before .before .before .before .before .before .before .before .before .before .before .before .before .before .first .given .0 .0) (c .before .before .before .before .before .before .before .before .before .before .before .before .before .before .before .before .before .before .first .given .0 .1 .0) (c .before .before .before .before .before .before .before .before .before .before .before .before .before .before .before .before .before .before .first .given .0 .1 .1 .0) nc (c .before .before .before .before .before .before .before .before .before .before .before .before .before .before .before .before .lengthen-trail .result) (c .before .before .before .before .before .before .before .before .before .before .before .before .before .before .before .before .lengthen-trail .ensures) (omega arith) _ _ (c .before .before .before .before .before .before .before .dump-children .ensures) _ _ (c .before .before .before .insert-puts .ensures)
+dump-node-merge-rows-requires t c κs = let v = (c .before .before .before .before .before .before .before .before .before .before .before .before .before .before .before .before .before .before .before .before .if2 .left) in let hs = here-short t (c .before .before .before .before .before .before .before .before .before .before .before .before .before .before .before .before .before .before .before .before .before .before .before .before .before .before .before .before) in let nc = first-next t (c .before .before .before .before .before .before .before .before .before .before .before .before .before .before .before .before) in let z = here-length t (c .before .before .before .before .before .before .before .before .before .before .before .before .before .before .before .before .before .before .before .before .before .before .before .before .before .before .before .before) in puts-apart (c .before .before .before .before .before .before .before .before .before .before .before .before .before .before .before .before .before .before .before .before .before .before .before .before .before .before .before .before .before .before .before .before .before .before .before .before .before .before .before .args .store .now) (c .before .before .before .before .before .before .before .before .before .before .before .before .before .before .before .before .before .before .before .before .before .before .before .before .before .before .before .before .before .before .before .before .before .before .before .before .before .before .before .args .node .level) (c .before .before .before .before .before .before .before .before .before .before .before .before .before .before .before .before .before .before .before .before .before .before .before .before .before .before .before .before .before .before .before .before .before .before .before .before .before .before .before .args .node .num) (c .before .before .before .before .before .before .before .before .before .before .before .before .before .before .before .before .before .before .before .before .before .before .before .before .before .before .before .before .before .before .before .before .before .before .before .before .before .before .before .args .node .position .prefix) (c .before .before .before .before .before .before .before .before .before .before .before .before .before .before .before .before .before .before .before .before .before .before .before .before .before .before .before .before .before .before .before .before .before .before .before .before .before .before .before .args .node .position .trail) (c .before .before .before .before .before .before .before .before .before .before .before .before .before .before .before .before .before .before .before .before .before .before .before .before .before .before .before .before .before .before .before .before .before .before .before .before .before .before .before .pre .1 .0) (c .before .before .before .before .before .before .before .before .before .before .before .before .before .before .before .before .before .before .before .before .before .before .before .before .before .before .before .before .before .before .before .before .before .before .before .before .before .before .before .args .lo .now) (c .before .before .before .before .before .before .before .before .before .before .before .before .before .before .before .before .before .before .before .before .before .before .before .before .before .before .before .before .before .before .before .before .before .before .before .before .before .before .before .args .hi .now) (c .before .before .before .before .before .before .before .before .before .before .before .before .before .before .before .before .before .before .before .before .before .before .before .before .before .before .before .before .before .before .before .before .before .before .before .before .before .before .before .pre .1 .1) (c .before .before .before .before .before .before .before .before .before .before .before .before .before .before .before .before .before .before .before .before .before .before .before .before .before .before .before .before .before .before .before .before .before .before .before .before .before .before .before .args .area .now) (c .before .before .before .before .before .before .before .before .before .before .before .before .before .before .before .before .before .before .before .before .before .before .before .before .before .before .before .before .before .before .before .before .before .before .before .before .before .before .before .args .m) (c .before .before .before .before .before .before .before .before .before .before .before .before .before .before .before .before .before .before .before .before .before .before .before .before .before .before .before .before .before .before .before .before .before .before .before .before .before .before .before .pre .1 .2) (c .before .before .before .before .before .before .before .before .before .before .before .before .before .before .before .before .before .before .before .before .before .before .before .before .before .before .before .before .before .before .before .before .common-length .result) (c .before .before .before .before .before .before .before .before .before .before .before .before .before .before .before .before .before .before .before .before .before .before .before .before .before .before .before .before .before .before .before .before .common-length .ensures .0) (c .before .before .before .before .before .before .before .before .before .before .before .before .before .before .before .before .before .before .before .before .before .before .before .before .before .before .before .before .extend .result) (c .before .before .before .before .before .before .before .before .before .before .before .before .before .before .before .before .before .before .before .before .before .before .before .before .before .before .before .before .extend .ensures .0) (c .before .before .before .before .before .before .before .before .before .before .before .before .before .before .before .before .before .before .before .before .before .u16-at .result) (c .before .before .before .before .before .before .before .before .before .before .before .before .before .before .before .before .before .before .before .before .before .u16-at .ensures .0) (omega arith) (c .before .before .before .before .before .before .before .before .before .before .before .before .before .before .before .before .before .first .given .0 .0) (c .before .before .before .before .before .before .before .before .before .before .before .before .before .before .before .before .before .first .given .0 .1 .0) (c .before .before .before .before .before .before .before .before .before .before .before .before .before .before .before .before .before .first .given .0 .1 .1 .0) nc (c .before .before .before .before .before .before .before .before .before .before .before .before .enter .result .trail) (c .before .before .before .before .before .before .before .before .before .before .before .before .enter .ensures .1) (omega arith) _ _ (rw (c .before .before .before .before .before .before .before .before .before .before .before .before .enter .ensures .0) at (c .before .before .before .before .before .before .before .dump-children .ensures)) _ _ (c .before .before .before .insert-puts .ensures)
 
 dump-node-same-length-2 : (t : ℕ) → dump-node-lts.Need-same-length-2 (
   common-length-reads.Asked,
@@ -1501,10 +1380,8 @@ dump-node-same-length-2 : (t : ℕ) → dump-node-lts.Need-same-length-2 (
   append-pairs-reads.Learnt,
   read-child-reads.Asked,
   read-child-reads.Learnt,
-  lengthen-trail-reads.Asked,
-  lengthen-trail-reads.Learnt,
-  note-own-reads.Asked,
-  note-own-reads.Learnt,
+  enter-reads.Asked,
+  enter-reads.Learnt,
   dump-children-below t,
   dump-children.Post,
   insert-puts-reads.Asked,
@@ -1527,10 +1404,8 @@ dump-node-returns-4 : (t : ℕ) → dump-node-lts.Need-returns-4 (
   append-pairs-reads.Learnt,
   read-child-reads.Asked,
   read-child-reads.Learnt,
-  lengthen-trail-reads.Asked,
-  lengthen-trail-reads.Learnt,
-  note-own-reads.Asked,
-  note-own-reads.Learnt,
+  enter-reads.Asked,
+  enter-reads.Learnt,
   dump-children-below t,
   dump-children.Post,
   insert-puts-reads.Asked,
@@ -1538,7 +1413,7 @@ dump-node-returns-4 : (t : ℕ) → dump-node-lts.Need-returns-4 (
   merge-rows-reads.Asked,
   merge-rows-reads.Learnt,
 ) (dump-node-at t) dump-node.Post
-dump-node-returns-4 t c = let v = (c .before .before .before .before .before .before .before .before .before .before .before .before .before .before .before .before .before .before .before .before .before .before .before .before .if2 .left) in let hs = here-short t (c .before .before .before .before .before .before .before .before .before .before .before .before .before .before .before .before .before .before .before .before .before .before .before .before .before .before .before .before .before .before .before .before) in let nc = first-next t (c .before .before .before .before .before .before .before .before .before .before .before .before .before .before .before .before .before .before .before .before) in let z = here-length t (c .before .before .before .before .before .before .before .before .before .before .before .before .before .before .before .before .before .before .before .before .before .before .before .before .before .before .before .before .before .before .before .before) in node-inner (c .before .before .before .before .before .before .before .before .before .before .before .before .before .before .before .before .before .before .before .before .before .before .before .before .before .before .before .before .before .before .before .before .before .before .before .before .before .before .before .before .before .before .before .args .store .now) (c .before .before .before .before .before .before .before .before .before .before .before .before .before .before .before .before .before .before .before .before .before .before .before .before .before .before .before .before .before .before .before .before .before .before .before .before .before .before .before .before .before .before .before .args .node .level) (c .before .before .before .before .before .before .before .before .before .before .before .before .before .before .before .before .before .before .before .before .before .before .before .before .before .before .before .before .before .before .before .before .before .before .before .before .before .before .before .before .before .before .before .args .node .num) (c .before .before .before .before .before .before .before .before .before .before .before .before .before .before .before .before .before .before .before .before .before .before .before .before .before .before .before .before .before .before .before .before .before .before .before .before .before .before .before .before .before .before .before .args .node .position .prefix) (c .before .before .before .before .before .before .before .before .before .before .before .before .before .before .before .before .before .before .before .before .before .before .before .before .before .before .before .before .before .before .before .before .before .before .before .before .before .before .before .before .before .before .before .args .node .position .trail) (c .before .before .before .before .before .before .before .before .before .before .before .before .before .before .before .before .before .before .before .before .before .before .before .before .before .before .before .before .before .before .before .before .before .before .before .before .before .before .before .before .before .before .before .pre .1 .0) (c .before .before .before .before .before .before .before .before .before .before .before .before .before .before .before .before .before .before .before .before .before .before .before .before .before .before .before .before .before .before .before .before .before .before .before .before .before .before .before .before .before .before .before .args .lo .now) (c .before .before .before .before .before .before .before .before .before .before .before .before .before .before .before .before .before .before .before .before .before .before .before .before .before .before .before .before .before .before .before .before .before .before .before .before .before .before .before .before .before .before .before .args .hi .now) (c .before .before .before .before .before .before .before .before .before .before .before .before .before .before .before .before .before .before .before .before .before .before .before .before .before .before .before .before .before .before .before .before .before .before .before .before .before .before .before .before .before .before .before .pre .1 .1) (c .before .before .before .before .before .before .before .before .before .before .before .before .before .before .before .before .before .before .before .before .before .before .before .before .before .before .before .before .before .before .before .before .before .before .before .before .before .before .before .before .before .before .before .args .area .now) (c .before .before .before .before .before .before .before .before .before .before .before .before .before .before .before .before .before .before .before .before .before .before .before .before .before .before .before .before .before .before .before .before .before .before .before .before .before .before .before .before .before .before .before .args .m) (c .before .before .before .before .before .before .before .before .before .before .before .before .before .before .before .before .before .before .before .before .before .before .before .before .before .before .before .before .before .before .before .before .before .before .before .before .before .before .before .before .before .before .before .pre .1 .2) (c .before .before .before .before .before .before .before .before .before .before .before .before .before .before .before .before .before .before .before .before .before .before .before .before .before .before .before .before .before .before .before .before .before .before .before .before .common-length .result) (c .before .before .before .before .before .before .before .before .before .before .before .before .before .before .before .before .before .before .before .before .before .before .before .before .before .before .before .before .before .before .before .before .before .before .before .before .common-length .ensures .0) (c .before .before .before .before .before .before .before .before .before .before .before .before .before .before .before .before .before .before .before .before .before .before .before .before .before .before .before .before .before .before .before .before .extend .result) (c .before .before .before .before .before .before .before .before .before .before .before .before .before .before .before .before .before .before .before .before .before .before .before .before .before .before .before .before .before .before .before .before .extend .ensures .0) (c .before .before .before .before .before .before .before .before .before .before .before .before .before .before .before .before .before .before .before .before .before .before .before .before .before .u16-at .result) (c .before .before .before .before .before .before .before .before .before .before .before .before .before .before .before .before .before .before .before .before .before .before .before .before .before .u16-at .ensures .0) (omega arith) (c .before .before .before .before .before .before .before .before .before .before .before .before .before .before .before .before .before .before .before .before .before .first .given .0 .0) (c .before .before .before .before .before .before .before .before .before .before .before .before .before .before .before .before .before .before .before .before .before .first .given .0 .1 .0) (c .before .before .before .before .before .before .before .before .before .before .before .before .before .before .before .before .before .before .before .before .before .first .given .0 .1 .1 .0) nc (c .before .before .before .before .before .before .before .before .before .before .before .before .before .before .before .before .before .before .before .lengthen-trail .result) (c .before .before .before .before .before .before .before .before .before .before .before .before .before .before .before .before .before .before .before .lengthen-trail .ensures) (omega arith) _ _ (c .before .before .before .before .before .before .before .before .before .before .dump-children .ensures) _ _ (c .before .before .before .before .before .before .insert-puts .ensures) _ (c .before .before .merge-rows .kept .0) (c .before .before .merge-rows .ensures)
+dump-node-returns-4 t c = let v = (c .before .before .before .before .before .before .before .before .before .before .before .before .before .before .before .before .before .before .before .before .before .before .before .if2 .left) in let hs = here-short t (c .before .before .before .before .before .before .before .before .before .before .before .before .before .before .before .before .before .before .before .before .before .before .before .before .before .before .before .before .before .before .before) in let nc = first-next t (c .before .before .before .before .before .before .before .before .before .before .before .before .before .before .before .before .before .before .before) in let z = here-length t (c .before .before .before .before .before .before .before .before .before .before .before .before .before .before .before .before .before .before .before .before .before .before .before .before .before .before .before .before .before .before .before) in node-inner (c .before .before .before .before .before .before .before .before .before .before .before .before .before .before .before .before .before .before .before .before .before .before .before .before .before .before .before .before .before .before .before .before .before .before .before .before .before .before .before .before .before .before .args .store .now) (c .before .before .before .before .before .before .before .before .before .before .before .before .before .before .before .before .before .before .before .before .before .before .before .before .before .before .before .before .before .before .before .before .before .before .before .before .before .before .before .before .before .before .args .node .level) (c .before .before .before .before .before .before .before .before .before .before .before .before .before .before .before .before .before .before .before .before .before .before .before .before .before .before .before .before .before .before .before .before .before .before .before .before .before .before .before .before .before .before .args .node .num) (c .before .before .before .before .before .before .before .before .before .before .before .before .before .before .before .before .before .before .before .before .before .before .before .before .before .before .before .before .before .before .before .before .before .before .before .before .before .before .before .before .before .before .args .node .position .prefix) (c .before .before .before .before .before .before .before .before .before .before .before .before .before .before .before .before .before .before .before .before .before .before .before .before .before .before .before .before .before .before .before .before .before .before .before .before .before .before .before .before .before .before .args .node .position .trail) (c .before .before .before .before .before .before .before .before .before .before .before .before .before .before .before .before .before .before .before .before .before .before .before .before .before .before .before .before .before .before .before .before .before .before .before .before .before .before .before .before .before .before .pre .1 .0) (c .before .before .before .before .before .before .before .before .before .before .before .before .before .before .before .before .before .before .before .before .before .before .before .before .before .before .before .before .before .before .before .before .before .before .before .before .before .before .before .before .before .before .args .lo .now) (c .before .before .before .before .before .before .before .before .before .before .before .before .before .before .before .before .before .before .before .before .before .before .before .before .before .before .before .before .before .before .before .before .before .before .before .before .before .before .before .before .before .before .args .hi .now) (c .before .before .before .before .before .before .before .before .before .before .before .before .before .before .before .before .before .before .before .before .before .before .before .before .before .before .before .before .before .before .before .before .before .before .before .before .before .before .before .before .before .before .pre .1 .1) (c .before .before .before .before .before .before .before .before .before .before .before .before .before .before .before .before .before .before .before .before .before .before .before .before .before .before .before .before .before .before .before .before .before .before .before .before .before .before .before .before .before .before .args .area .now) (c .before .before .before .before .before .before .before .before .before .before .before .before .before .before .before .before .before .before .before .before .before .before .before .before .before .before .before .before .before .before .before .before .before .before .before .before .before .before .before .before .before .before .args .m) (c .before .before .before .before .before .before .before .before .before .before .before .before .before .before .before .before .before .before .before .before .before .before .before .before .before .before .before .before .before .before .before .before .before .before .before .before .before .before .before .before .before .before .pre .1 .2) (c .before .before .before .before .before .before .before .before .before .before .before .before .before .before .before .before .before .before .before .before .before .before .before .before .before .before .before .before .before .before .before .before .before .before .before .common-length .result) (c .before .before .before .before .before .before .before .before .before .before .before .before .before .before .before .before .before .before .before .before .before .before .before .before .before .before .before .before .before .before .before .before .before .before .before .common-length .ensures .0) (c .before .before .before .before .before .before .before .before .before .before .before .before .before .before .before .before .before .before .before .before .before .before .before .before .before .before .before .before .before .before .before .extend .result) (c .before .before .before .before .before .before .before .before .before .before .before .before .before .before .before .before .before .before .before .before .before .before .before .before .before .before .before .before .before .before .before .extend .ensures .0) (c .before .before .before .before .before .before .before .before .before .before .before .before .before .before .before .before .before .before .before .before .before .before .before .before .u16-at .result) (c .before .before .before .before .before .before .before .before .before .before .before .before .before .before .before .before .before .before .before .before .before .before .before .before .u16-at .ensures .0) (omega arith) (c .before .before .before .before .before .before .before .before .before .before .before .before .before .before .before .before .before .before .before .before .first .given .0 .0) (c .before .before .before .before .before .before .before .before .before .before .before .before .before .before .before .before .before .before .before .before .first .given .0 .1 .0) (c .before .before .before .before .before .before .before .before .before .before .before .before .before .before .before .before .before .before .before .before .first .given .0 .1 .1 .0) nc (c .before .before .before .before .before .before .before .before .before .before .before .before .before .before .before .enter .result .trail) (c .before .before .before .before .before .before .before .before .before .before .before .before .before .before .before .enter .ensures .1) (omega arith) _ _ (rw (c .before .before .before .before .before .before .before .before .before .before .before .before .before .before .before .enter .ensures .0) at (c .before .before .before .before .before .before .before .before .before .before .dump-children .ensures)) _ _ (c .before .before .before .before .before .before .insert-puts .ensures) _ (c .before .before .merge-rows .kept .0) (c .before .before .merge-rows .ensures)
 
 pub +dump-children+dump-node-spec : {M : Type 1} → statement M
 +dump-children+dump-node-spec = close μ-dump-children μ-dump-node (λ t. dump-children-lts.spec (
@@ -1583,10 +1458,8 @@ pub +dump-children+dump-node-spec : {M : Type 1} → statement M
       append-pairs-reads.Learnt,
       read-child-reads.Asked,
       read-child-reads.Learnt,
-      lengthen-trail-reads.Asked,
-      lengthen-trail-reads.Learnt,
-      note-own-reads.Asked,
-      note-own-reads.Learnt,
+      enter-reads.Asked,
+      enter-reads.Learnt,
       dump-children-below t,
       dump-children.Post,
       insert-puts-reads.Asked,
@@ -1625,15 +1498,14 @@ pub +dump-children+dump-node-spec : {M : Type 1} → statement M
     (dump-node-enum-known-first t)
     (dump-node-enum-told t)
     (dump-node-returns-3 t)
-    (dump-node-lengthen-trail-requires t)
-    (dump-node-sub-note-own t)
-    (dump-node-part-note-own-start t)
-    (dump-node-part-note-own-end t)
-    (dump-node-sub-note-own-2 t)
-    (dump-node-part-note-own-start-2 t)
-    (dump-node-part-note-own-end-2 t)
-    (dump-node-slice-aggregate-note-own t)
-    (dump-node-note-own-requires t)
+    (dump-node-sub-enter t)
+    (dump-node-part-enter-start t)
+    (dump-node-part-enter-end t)
+    (dump-node-sub-enter-2 t)
+    (dump-node-part-enter-start-2 t)
+    (dump-node-part-enter-end-2 t)
+    (dump-node-slice-aggregate-enter t)
+    (dump-node-enter-requires t)
     (dump-node-sub-below t)
     (dump-node-sub-dump-children t)
     (dump-node-part-dump-children-start t)

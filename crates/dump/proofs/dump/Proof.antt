@@ -1,9 +1,11 @@
--- The dump from the root: an empty prefix, an empty trail, and the pivots of the root (specs/RootSteps).
+-- The dump from the root, with an empty prefix and an empty trail: by its puts where all its messages are puts (specs/RootPuts), else as
+-- any node with the pivots of the root (specs/RootSteps).
 use Rattle.dump.specs.RootSteps.{dump-long, dump-ready, dump-sound, dump-room, dump-done}
+use Rattle.dump.specs.RootPuts.{root-inside}
 use Rattle.live.specs.NotedSteps.{root-told}
 use borrow.Author.Needs.{needs}
 use native.Mathlib.Omega.{arith}
-use mathlib.Core.Path.{refl}
+use mathlib.Core.Path.{refl, sym, _∙_}
 use Rattle.dump.proofs.dump.Statement.{statement}
 use Rattle.dump.proofs.dump.Tie as tie
 
@@ -12,6 +14,18 @@ u16-at-requires c κs = let l = dump-long (c .before .before .args .store .now) 
 
 u16-at-requires-2 : tie.Need-u16-at-requires-2
 u16-at-requires-2 c κs = let l = dump-long (c .before .before .before .args .store .now) (c .before .before .before .pre .0) in omega arith
+
+only-puts-requires : tie.Need-only-puts-requires
+only-puts-requires c κs = root-inside (c .before .before .before .before .before .args .store .now) (c .before .before .before .before .before .pre .0) _ _ (c .before .before .u16-at .ensures .0) (c .before .u16-at2 .ensures .0)
+
+dump-putting-requires : tie.Need-dump-putting-requires
+dump-putting-requires c κs = (record { num = c .before .before .before .before .before .u16-at .ensures .0; level = c .before .before .before .before .u16-at2 .ensures .0; prefix = refl; trail = refl; noted = refl }, c .before .before .before .before .before .before .before .before .pre .0, c .before .before .before .before .before .before .before .before .pre .1, omega arith, sym (c .before .before .only-puts .ensures) ∙ c .before .if2 .taken)
+
+same-length : tie.Need-same-length
+same-length c = search needs
+
+returns : tie.Need-returns
+returns c = c .before .before .dump-putting .ensures
 
 sub-dump-node : tie.Need-sub-dump-node
 sub-dump-node c = search needs
@@ -26,13 +40,13 @@ slice-aggregate-dump-node : tie.Need-slice-aggregate-dump-node
 slice-aggregate-dump-node c = search needs
 
 dump-node-requires : tie.Need-dump-node-requires
-dump-node-requires c κs = (dump-ready (c .before .before .before .before .before .before .before .before .before .args .store .now) (c .before .before .before .before .before .before .before .before .before .pre .0) _ _ (c .before .before .before .before .before .before .u16-at .ensures .0) (c .before .before .before .before .before .u16-at2 .ensures .0) _ refl _ refl, dump-sound (c .before .before .before .before .before .before .before .before .before .args .store .now) (c .before .before .before .before .before .before .before .before .before .pre .0) _ _ (c .before .before .before .before .before .before .u16-at .ensures .0) (c .before .before .before .before .before .u16-at2 .ensures .0) _ refl _ _ refl refl, dump-room (c .before .before .before .before .before .before .before .before .before .args .store .now) (c .before .before .before .before .before .before .before .before .before .pre .0) _ _ (c .before .before .before .before .before .before .u16-at .ensures .0) (c .before .before .before .before .before .u16-at2 .ensures .0) _ refl _ _ refl refl _ refl _ (c .before .before .before .before .before .before .before .before .before .pre .1), root-told _ _ _ _ _ _ refl)
+dump-node-requires c κs = (dump-ready (c .before .before .before .before .before .before .before .before .before .before .args .store .now) (c .before .before .before .before .before .before .before .before .before .before .pre .0) _ _ (c .before .before .before .before .before .before .before .u16-at .ensures .0) (c .before .before .before .before .before .before .u16-at2 .ensures .0) _ refl _ refl, dump-sound (c .before .before .before .before .before .before .before .before .before .before .args .store .now) (c .before .before .before .before .before .before .before .before .before .before .pre .0) _ _ (c .before .before .before .before .before .before .before .u16-at .ensures .0) (c .before .before .before .before .before .before .u16-at2 .ensures .0) _ refl _ _ refl refl, dump-room (c .before .before .before .before .before .before .before .before .before .before .args .store .now) (c .before .before .before .before .before .before .before .before .before .before .pre .0) _ _ (c .before .before .before .before .before .before .before .u16-at .ensures .0) (c .before .before .before .before .before .before .u16-at2 .ensures .0) _ refl _ _ refl refl _ refl _ (c .before .before .before .before .before .before .before .before .before .before .pre .1), root-told _ _ _ _ _ _ refl)
 
-same-length : tie.Need-same-length
-same-length c = search needs
+same-length-2 : tie.Need-same-length-2
+same-length-2 c = search needs
 
-returns : tie.Need-returns
-returns c = dump-done (c .before .before .before .before .before .before .before .before .before .before .before .before .args .store .now) (c .before .before .before .before .before .before .before .before .before .before .before .before .pre .0) _ _ (c .before .before .before .before .before .before .before .before .before .u16-at .ensures .0) (c .before .before .before .before .before .before .before .before .u16-at2 .ensures .0) _ refl _ _ refl refl _ refl _ _ _ (c .before .before .dump-node .ensures)
+returns-2 : tie.Need-returns-2
+returns-2 c = dump-done (c .before .before .before .before .before .before .before .before .before .before .before .before .before .args .store .now) (c .before .before .before .before .before .before .before .before .before .before .before .before .before .pre .0) _ _ (c .before .before .before .before .before .before .before .before .before .before .u16-at .ensures .0) (c .before .before .before .before .before .before .before .before .before .u16-at2 .ensures .0) _ refl _ _ refl refl _ refl _ _ _ (c .before .before .dump-node .ensures)
 
 pub dump-spec : {M : Type 1} → statement M
 dump-spec =
@@ -40,10 +54,14 @@ dump-spec =
     (tie.spec
     u16-at-requires
     u16-at-requires-2
+    only-puts-requires
+    dump-putting-requires
+    same-length
+    returns
     sub-dump-node
     part-dump-node-start
     part-dump-node-end
     slice-aggregate-dump-node
     dump-node-requires
-    same-length
-    returns)
+    same-length-2
+    returns-2)

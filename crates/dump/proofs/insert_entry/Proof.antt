@@ -20,10 +20,10 @@ insert-message-requires : tie.Need-insert-message-requires
 insert-message-requires c κs = ((c .before .before .before .before .before .before .pre .0), (c .before .before .before .before .before .before .pre .1), (c .before .before .before .before .before .before .pre .2), subst (EntryWithin 0 (length (c .before .before .before .before .before .before .args .store .now))) (c .before .before .e .given .1) (c .before .before .before .before .before .before .pre .3), open-as _ _ _ _ _ _ _ _ (ap (λ x. entryIn (c .before .before .before .before .before .before .args .store .now) x) (c .before .before .e .given .1)) (c .before .before .before .before .before .before .pre .4))
 
 returns : tie.Need-returns
-returns c = placed-same _ _ _ _ ((c .before .before .before .before .pre .4) .fit) ((c .before .before .before .before .pre .4) .ahead) (after-pair (c .before .before .before .before .args .store .now) _ _ _ _ _ _ _ (c .enum-told .given .1))
+returns c = placed-same _ _ _ _ ((c .before .before .before .before .pre .4) .fit) ((c .before .before .before .before .pre .4) .ahead) (after-pair (c .before .before .before .before .args .store .now) _ _ _ _ _ _ (c .enum-told .given .1))
 
 returns-2 : tie.Need-returns-2
-returns-2 c = placed-same _ _ _ _ ((c .before .before .before .before .pre .4) .fit) ((c .before .before .before .before .pre .4) .ahead) (after-child (c .before .before .before .before .args .store .now) _ _ _ _ _ _ _ (c .enum-told2 .given .1))
+returns-2 c = placed-same _ _ _ _ ((c .before .before .before .before .pre .4) .fit) ((c .before .before .before .before .pre .4) .ahead) (after-child (c .before .before .before .before .args .store .now) _ _ _ _ _ _ (c .enum-told2 .given .1))
 
 same-length : tie.Need-same-length
 same-length c = search needs

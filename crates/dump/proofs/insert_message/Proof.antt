@@ -27,10 +27,10 @@ returns : tie.Need-returns
 returns c = placed-as _ _ _ _ _ _ _ _ _ _ (ap (λ x. defined.message (messageIn (c .before .before .before .before .before .before .before .before .before .args .store .now) x)) (c .before .before .before .before .before .given .given .1)) (c .before .before .insert-put .ensures)
 
 returns-2 : tie.Need-returns-2
-returns-2 c = placed-same _ _ _ _ ((c .before .before .before .before .pre .4) .fit) ((c .before .before .before .before .pre .4) .ahead) (after-drop (c .before .before .before .before .args .store .now) _ _ _ _ _ _ (c .enum-told .given .1))
+returns-2 c = placed-same _ _ _ _ ((c .before .before .before .before .pre .4) .fit) ((c .before .before .before .before .pre .4) .ahead) (after-drop (c .before .before .before .before .args .store .now) _ _ _ _ _ (c .enum-told .given .1))
 
 returns-3 : tie.Need-returns-3
-returns-3 c = placed-same _ _ _ _ ((c .before .before .before .before .pre .4) .fit) ((c .before .before .before .before .pre .4) .ahead) (after-clear (c .before .before .before .before .args .store .now) _ _ _ _ _ _ (c .enum-told2 .given .1))
+returns-3 c = placed-same _ _ _ _ ((c .before .before .before .before .pre .4) .fit) ((c .before .before .before .before .pre .4) .ahead) (after-clear (c .before .before .before .before .args .store .now) _ _ _ _ _ (c .enum-told2 .given .1))
 
 pub insert-message-spec : {M : Type 1} → statement M
 insert-message-spec =

@@ -1,16 +1,16 @@
 -- Rows put into a table that rises: puts of different paths change places, so parts of the rows may go in one after the other, and the last
 -- row of some that rise goes in at its place, with what stands before it for the others. Relies on the laws of tables (`laws`) and of ranks.
-use Prim.Native.Nat.{ℕ, suc, _+_, _<_}
+use Prim.Native.Nat.{ℕ, suc, _+_, _<_, _≤_}
 use mathlib.Core.Path.{_≡_, refl, sym, ap, _∙_}
 use mathlib.Core.List.{List, [], _∷_, _++_}
-use mathlib.Core.Bool.{Bool, true, false}
-use mathlib.Core.Option.{none, Option·none-ne-some}
+use mathlib.Core.Bool.{Bool, true, false, cond, false≢true}
+use mathlib.Core.Option.{Option, none, Option·none-ne-some}
 use native.Mathlib.Omega.{arith}
 use lib.ListN.{length, length-append}
 use Rattle.image.specs.Bytes.{same, before}
-use Rattle.image.specs.Table.{Row, find, withRow, putAll, everyKey, leads, rising}
+use Rattle.image.specs.Table.{Row, find, isSome, withRow, putAll, everyKey, leads, rising}
 use Rattle.octets.specs.Order.{and-left, and-right, same-eq, before-trans, before-not-same, before-total}
-use Rattle.laws.specs.Tables.{find-nil, find-yes, find-no, find-with, find-with-other, find-append-none, put-length}
+use Rattle.laws.specs.Tables.{find-nil, find-yes, find-no, find-with, find-with-other, find-append-none, find-put-other, with-length, put-length}
 use Rattle.laws.specs.Rising.{both, rising-with, find-leads, table-ext}
 use Rattle.laws.specs.Filter.{rises-all}
 use Rattle.laws.specs.PushDown.{with-first}
@@ -70,22 +70,37 @@ lacks p r u e = go (same p (r .key)) refl
     go false a = (a, sym (find-no p r u a) ∙ e)
 
 -- a path that the rows do not have is put in after them or before them, or comes in among them
-put-through : (p v : List ℕ) (u t : List Row) → find p u ≡ none → rising t ≡ true → withRow p v (putAll u t) ≡ putAll u (withRow p v t)
+pub put-through : (p v : List ℕ) (u t : List Row) → find p u ≡ none → rising t ≡ true → withRow p v (putAll u t) ≡ putAll u (withRow p v t)
 unfolding putAll
 put-through p v [] t e h = refl
 put-through p v (r ∷ u) t e h =
     let a = lacks p r u e in
     with-swap p v (r .key) (r .value) (putAll u t) (a .0) (rising-put u t h) ∙ ap (withRow (r .key) (r .value)) (put-through p v u t (a .1) h)
 
-pub put-among : (p v : List ℕ) (u t : List Row) → find p u ≡ none → rising t ≡ true → withRow p v (putAll u t) ≡ putAll (withRow p v u) t
-unfolding putAll withRow
-put-among p v [] t e h = refl
-put-among p v (r ∷ u) t e h = go (before (r .key) p) refl (lacks p r u e .0) (put-among p v u t (lacks p r u e .1) h)
+-- a path put in twice has the last value
+with-again : (p v w : List ℕ) (t : List Row) → rising t ≡ true → withRow p v (withRow p w t) ≡ withRow p v t
+with-again p v w t e =
+    table-ext (withRow p v (withRow p w t)) (withRow p v t) (rising-with p v (withRow p w t) (rising-with p w t e)) (rising-with p v t e) (λ x. go x (same x p) refl)
   where
-    go : (x : Bool) → before (r .key) p ≡ x → same p (r .key) ≡ false → withRow p v (putAll u t) ≡ putAll (withRow p v u) t
+    go : (x : List ℕ) (y : Bool) → same x p ≡ y → find x (withRow p v (withRow p w t)) ≡ find x (withRow p v t)
+    go x true a =
+        let s : x ≡ p = same-eq x p a in
+        ap (λ k. find k (withRow p v (withRow p w t))) s ∙ find-with p v (withRow p w t) ∙ sym (ap (λ k. find k (withRow p v t)) s ∙ find-with p v t)
+    go x false a = find-with-other x p v (withRow p w t) a ∙ find-with-other x p w t a ∙ sym (find-with-other x p v t a)
+
+-- any path is put in after the rows, or comes in among them
+pub put-among : (p v : List ℕ) (u t : List Row) → rising t ≡ true → withRow p v (putAll u t) ≡ putAll (withRow p v u) t
+unfolding putAll withRow
+put-among p v [] t h = refl
+put-among p v (r ∷ u) t h = go (before (r .key) p) refl (same p (r .key)) refl (put-among p v u t h)
+  where
+    go : (x : Bool) → before (r .key) p ≡ x → (y : Bool) → same p (r .key) ≡ y → withRow p v (putAll u t) ≡ putAll (withRow p v u) t
         → withRow p v (withRow (r .key) (r .value) (putAll u t)) ≡ putAll (withRow p v (r ∷ u)) t
-    go true b n ih = rw b (with-swap p v (r .key) (r .value) (putAll u t) n (rising-put u t h) ∙ ap (withRow (r .key) (r .value)) ih)
-    go false b n ih = rw (b, n)
+    go true b y n ih =
+        rw b (with-swap p v (r .key) (r .value) (putAll u t) (before-not-same (r .key) p b) (rising-put u t h) ∙ ap (withRow (r .key) (r .value)) ih)
+    go false b true n ih =
+        rw (b, n) (ap (λ k. withRow p v (withRow k (r .value) (putAll u t))) (sym (same-eq p (r .key) n)) ∙ with-again p v (r .value) (putAll u t) (rising-put u t h))
+    go false b false n ih = rw (b, n)
 
 -- ROWS IN TWO PARTS
 put-append : (a b t : List Row) → putAll (a ++ b) t ≡ putAll a (putAll b t)
@@ -123,6 +138,38 @@ with-new p v (r ∷ t) e h = go (before (r .key) p) refl (same p (r .key)) refl 
         find-no p r t (before-not-same (r .key) p a) ∙ ih (omega arith)
     go false a true b ih = let l : suc (length t) < suc (length t) = rw (a, b) at h in absurd (omega arith)
     go false a false b ih = find-leads p (r ∷ t) e (before-total p (r .key) b a)
+
+pub none-lacks : (o : Option (List ℕ)) → o ≡ none → isSome o ≡ false
+unfolding isSome
+none-lacks o e = rw e
+
+-- rows whose number is as large as it can be have no path of the table
+pub apart-none : (p : List ℕ) (u t : List Row) → rising t ≡ true → length (putAll u t) ≡ length u + length t → isSome (find p t) ≡ true → find p u ≡ none
+unfolding putAll
+apart-none p [] t e n f = find-nil p
+apart-none p (r ∷ u) t e n f =
+    let a = with-length (r .key) (r .value) (putAll u t) in
+    let b = put-length u t in
+    let c : find (r .key) (putAll u t) ≡ none = with-new (r .key) (r .value) (putAll u t) (rising-put u t e) (omega arith) in
+    go (same p (r .key)) refl (apart-none p u t e (omega arith) f) c
+  where
+    go : (x : Bool) → same p (r .key) ≡ x → find p u ≡ none → find (r .key) (putAll u t) ≡ none → find p (r ∷ u) ≡ none
+    go true s g c =
+        let z : find p t ≡ none = sym (find-put-other p u t g) ∙ ap (λ k. find k (putAll u t)) (same-eq p (r .key) s) ∙ c in
+        absurd (false≢true (sym (none-lacks (find p t) z) ∙ f))
+    go false s g c = find-no p r u s ∙ g
+
+-- a put makes the rows no fewer
+pub with-more : (p v : List ℕ) (t : List Row) → length t ≤ length (withRow p v t)
+unfolding withRow
+with-more p v [] = omega arith
+with-more p v (r ∷ t) = go (before (r .key) p) (same p (r .key)) (with-more p v t)
+  where
+    go : (x y : Bool) → length t ≤ length (withRow p v t)
+        → suc (length t) ≤ length (cond x (r ∷ withRow p v t) (cond y (record { key = p; value = v } ∷ t) (record { key = p; value = v } ∷ r ∷ t)))
+    go true y ih = omega arith
+    go false true ih = omega arith
+    go false false ih = omega arith
 
 -- THE LAST OF ROWS THAT RISE: the table's rows before its place take the others
 put-before : (us : List Row) (u : Row) (a b : List Row) → everyKey (λ q. before q (u .key)) us ≡ true → rising (u ∷ b) ≡ true

@@ -8,9 +8,10 @@ use mathlib.Core.Option.{none, Option·none-ne-some}
 use native.Mathlib.Omega.{arith}
 use lib.ListN.{length}
 use Rattle.image.specs.Bytes.{same, before}
-use Rattle.image.specs.Table.{Row, find, withRow, leads, rising}
-use Rattle.octets.specs.Order.{and-left, and-right, before-trans, before-not-same}
-use Rattle.laws.specs.Tables.{find-yes, find-no}
+use Rattle.image.specs.Table.{Row, find, isSome, withRow, leads, rising}
+use Rattle.octets.specs.Order.{and-left, and-right, before-trans, before-not-same, before-total}
+use Rattle.laws.specs.Tables.{find-nil, find-yes, find-no}
+use Rattle.laws.specs.Rising.{find-leads}
 use Rattle.packed.specs.Rows.Area.{rowAt, rowsOf}
 use Rattle.packed.specs.Rows.Steps.{rows-length}
 use Rattle.dump.specs.Insertion.Insertion.{rank}
@@ -118,3 +119,56 @@ with-at p v (r ∷ t) u e f = go (before (r .key) p) refl (with-at p v t u)
         let q = rank-passes p r (t ++ u) a in
         rw a (ap (λ l. r ∷ l) (ih (omega arith) (sym (find-no p r (t ++ u) (before-not-same (r .key) p a)) ∙ f)))
     go false a ih = let q = rank-stops p r (t ++ u) a in absurd (omega arith)
+
+-- a rank among rows passes the first of those before it
+rank-past : (p : List ℕ) (r : Row) (t : List Row) (n : ℕ) → rank p (r ∷ t) ≡ suc n → (before (r .key) p ≡ true) × (rank p t ≡ n)
+rank-past p r t n e = go (before (r .key) p) refl
+  where
+    go : (x : Bool) → before (r .key) p ≡ x → (before (r .key) p ≡ true) × (rank p t ≡ n)
+    go true a = let q = rank-passes p r t a in (a, omega arith)
+    go false a = let q = rank-stops p r t a in absurd (omega arith)
+
+-- a path whose place is behind all rows is none of theirs
+pub absent-end : (p : List ℕ) (t : List Row) → rank p t ≡ length t → find p t ≡ none
+absent-end p [] e = find-nil p
+absent-end p (r ∷ t) e =
+    let a = rank-past p r t (length t) e in
+    find-no p r t (before-not-same (r .key) p (a .0)) ∙ absent-end p t (a .1)
+
+-- the row at a path's place has another path: the path is none of theirs
+pub absent-at : (p : List ℕ) (t : List Row) (r : Row) (u : List Row) → rising (t ++ (r ∷ u)) ≡ true → rank p (t ++ (r ∷ u)) ≡ length t → same p (r .key) ≡ false
+    → find p (t ++ (r ∷ u)) ≡ none
+unfolding rising
+absent-at p [] r u e k n = go (before (r .key) p) refl
+  where
+    go : (x : Bool) → before (r .key) p ≡ x → find p (r ∷ u) ≡ none
+    go true a = let q = rank-passes p r u a in absurd (omega arith)
+    go false a = find-leads p (r ∷ u) (unfold rising in e) (leads-first (before-total p (r .key) n a))
+      where
+        leads-first : before p (r .key) ≡ true → leads p (r ∷ u) ≡ true
+        leads-first h = unfold leads in h
+absent-at p (q ∷ t) r u e k n =
+    let a = rank-past p q (t ++ (r ∷ u)) (length t) k in
+    find-no p q (t ++ (r ∷ u)) (before-not-same (q .key) p (a .0)) ∙ absent-at p t r u (and-right (leads (q .key) (t ++ (r ∷ u))) _ e) (a .1) n
+
+-- it has the path: its value is replaced
+pub with-over : (p v : List ℕ) (t : List Row) (r : Row) (u : List Row) → rank p (t ++ (r ∷ u)) ≡ length t → same p (r .key) ≡ true
+    → withRow p v (t ++ (r ∷ u)) ≡ t ++ (record { key = p; value = v } ∷ u)
+unfolding withRow
+with-over p v [] r u k n = go (before (r .key) p) refl
+  where
+    go : (x : Bool) → before (r .key) p ≡ x → withRow p v (r ∷ u) ≡ record { key = p; value = v } ∷ u
+    go true a = let q = rank-passes p r u a in absurd (omega arith)
+    go false a = rw (a, n)
+with-over p v (q ∷ t) r u k n =
+    let a = rank-past p q (t ++ (r ∷ u)) (length t) k in
+    rw (a .0) (ap (λ l. q ∷ l) (with-over p v t r u (a .1) n))
+
+pub found-at : (p : List ℕ) (t : List Row) (r : Row) (u : List Row) → same p (r .key) ≡ true → isSome (find p (t ++ (r ∷ u))) ≡ true
+unfolding isSome
+found-at p [] r u n = ap isSome (find-yes p r u n)
+found-at p (q ∷ t) r u n = go (same p (q .key)) refl (found-at p t r u n)
+  where
+    go : (x : Bool) → same p (q .key) ≡ x → isSome (find p (t ++ (r ∷ u))) ≡ true → isSome (find p (q ∷ (t ++ (r ∷ u)))) ≡ true
+    go true a ih = ap isSome (find-yes p q (t ++ (r ∷ u)) a)
+    go false a ih = ap isSome (find-no p q (t ++ (r ∷ u)) a) ∙ ih

@@ -6,11 +6,13 @@ use mathlib.Core.List.{List, [], _∷_, _++_}
 use mathlib.Core.Bool.{Bool, true, false}
 use native.Mathlib.Omega.{arith}
 use lib.ListN.{length, take, drop, getD, length-append, length-drop}
-use lib.Seq.{length-take-le, take-take, drop-drop, drop-append-le, take-append-le, drop-append-add}
+use lib.Seq.{length-take-le, take-take, drop-drop, drop-append-le, take-append-le, drop-append-add, take-append-seam, drop-append-seam}
 use lib.Dec.{leb}
 use borrow.Author.Tests.{leb-true, leb-false}
 use Rattle.octets.specs.Put.{put}
+use Rattle.image.specs.Table.{Row}
 use Rattle.packed.specs.Rows.Area.{rowAt, rowsOf, RowsFit}
+use Rattle.packed.specs.Rows.Steps.{rows-length}
 use Rattle.packed.specs.Build.PutLaws.{put-before, put-same, byte-at}
 use Rattle.dump.specs.Insertion.Insertion.{slot}
 
@@ -95,6 +97,23 @@ rows-between area i j k h l =
     let z : k - i ≡ j - i + (k - j) = omega arith in
     let o : i + (j - i) ≡ j = omega arith in
     ap (λ n. rowsOf n area i) z ∙ rows-split (j - i) (k - j) area i ∙ ap (λ t. rowsOf (j - i) area i ++ rowsOf (k - j) area t) o
+
+-- equal lists whose first parts are of one length
+fronts : {A : Type 0} (a b c d : List A) → a ++ b ≡ c ++ d → length a ≡ length c → (a ≡ c) × (b ≡ d)
+fronts a b c d e l = (
+  sym (take-append-seam a b) ∙ ap (take (length a)) e ∙ ap (λ n. take n (c ++ d)) l ∙ take-append-seam c d,
+  sym (drop-append-seam a b) ∙ ap (drop (length a)) e ∙ ap (λ n. drop n (c ++ d)) l ∙ drop-append-seam c d,
+)
+
+-- r rows whose first ones are those of another area: so they stand, and the rest follows
+pub rows-parts : (first r : ℕ) (a b : List ℕ) (t : List Row) → first ≤ r → rowsOf r b 0 ≡ rowsOf first a 0 ++ t
+    → (rowsOf first b 0 ≡ rowsOf first a 0) × (rowsOf (r - first) b first ≡ t)
+rows-parts first r a b t h e =
+    let z : r ≡ first + (r - first) = omega arith in
+    let o : 0 + first ≡ first = omega arith in
+    let w : rowsOf first b 0 ++ rowsOf (r - first) b first ≡ rowsOf first a 0 ++ t
+    = ap (λ j. rowsOf first b 0 ++ rowsOf (r - first) b j) (sym o) ∙ sym (rows-split first (r - first) b 0) ∙ ap (λ n. rowsOf n b 0) (sym z) ∙ e in
+    fronts (rowsOf first b 0) (rowsOf (r - first) b first) (rowsOf first a 0) t w (rows-length first b 0 ∙ sym (rows-length first a 0))
 
 -- the rows of one area from t on are those of another from u on
 rows-alike : (k : ℕ) (a b : List ℕ) (t u : ℕ) → ((q : ℕ) → q < k → rowAt a (t + q) ≡ rowAt b (u + q)) → rowsOf k a t ≡ rowsOf k b u

@@ -11,12 +11,12 @@ use Rattle.edit.proofs.apply_change.Statement.{statement}
 use Rattle.edit.proofs.apply_change.Tie as tie
 
 entry-size-requires : tie.Need-entry-size-requires
-entry-size-requires c κs = let z = size-small (c .before .before .before .before .args .change) _ _ (c .before .before .before .before .pre .2 .formed) (c .before .before .before .before .pre .2 .fits) in (z .1, z .2)
+entry-size-requires c κs = let z = size-small (c .before .before .before .before .args .edit .change) _ _ (c .before .before .before .before .pre .2 .formed) (c .before .before .before .before .pre .2 .fits) in (z .1, z .2)
 
 make-room-requires : tie.Need-make-room-requires
 make-room-requires c κs =
-    let z = size-small (c .before .before .before .before .before .before .before .args .change) _ _ (c .before .before .before .before .before .before .before .pre .2 .formed) (c .before .before .before .before .before .before .before .pre .2 .fits) in
-    (c .before .before .before .before .before .before .before .pre .0, subst (λ k. k + c .before .before .before .before .before .before .before .args .reserve ≤ 1016) (sym (c .before .before .entry-size .ensures)) (let r = c .before .before .before .before .before .before .before .pre .1 in omega (arith, z .0)))
+    let z = size-small (c .before .before .before .before .before .before .before .args .edit .change) _ _ (c .before .before .before .before .before .before .before .pre .2 .formed) (c .before .before .before .before .before .before .before .pre .2 .fits) in
+    (c .before .before .before .before .before .before .before .pre .0, subst (λ k. k + c .before .before .before .before .before .before .before .args .edit .terms .reserve ≤ 1016) (sym (c .before .before .entry-size .ensures)) (let r = c .before .before .before .before .before .before .before .pre .1 .small in omega (arith, z .0)), c .before .before .before .before .before .before .before .pre .1 .marks)
 
 add-requires : tie.Need-add-requires
 add-requires c κs = (
@@ -33,10 +33,10 @@ write-count-requires c κs =
     let a = c .before .before .before .before .before .before .before .before .before .before .before .before .before .before .before .before .before .args in
     let r = c .before .before .before .before .before .before .before .before .before .make-room .ensures in
     let m = c .before .before .before .add .ensures in (
-      still-whole _ _ _ [] (a .work .now) _ (a .path .now) (a .value .now) (a .change) _ _ (p .0 .whole) (p .0 .is-sound) (p .2) r m,
+      still-whole _ _ _ [] (a .work .now) _ (a .path .now) (a .value .now) (a .edit .change) _ _ (p .0 .whole) (p .0 .is-sound) (p .2) r m,
       m .but-live,
-      few-rows _ _ _ [] (a .work .now) _ (a .path .now) (a .value .now) (a .change) _ _ (p .0 .whole) (p .0 .is-sound) (p .2) r m,
-      λ h. known-after _ _ _ _ (p .3) (new-table _ _ _ [] (a .work .now) _ (a .path .now) (a .value .now) (a .change) _ _ (p .0 .whole) (p .0 .is-sound) (p .2) r m) h,
+      few-rows _ _ _ [] (a .work .now) _ (a .path .now) (a .value .now) (a .edit .change) _ _ (p .0 .whole) (p .0 .is-sound) (p .2) r m,
+      λ h. known-after _ _ _ _ (p .3) (new-table _ _ _ [] (a .work .now) _ (a .path .now) (a .value .now) (a .edit .change) _ _ (p .0 .whole) (p .0 .is-sound) (p .2) r m) h,
     )
 
 same-length : tie.Need-same-length
@@ -49,7 +49,7 @@ returns : tie.Need-returns
 returns c =
     let p = c .before .before .before .before .before .before .before .before .before .before .before .before .before .before .before .before .before .before .before .before .pre in
     let a = c .before .before .before .before .before .before .before .before .before .before .before .before .before .before .before .before .before .before .before .before .args in
-    edited _ _ _ _ (a .work .now) _ (a .path .now) (a .value .now) (a .change) _ _ (p .0 .whole) (p .0 .is-sound) (p .2) (c .before .before .before .before .before .before .before .before .before .before .before .before .make-room .ensures) (c .before .before .before .before .before .before .add .ensures) (c .before .before .write-count .ensures)
+    edited _ _ _ _ (a .work .now) _ (a .path .now) (a .value .now) (a .edit .change) _ _ (p .0 .whole) (p .0 .is-sound) (p .2) (c .before .before .before .before .before .before .before .before .before .before .before .before .make-room .ensures) (c .before .before .before .before .before .before .add .ensures) (c .before .before .write-count .ensures)
 
 pub apply-change-spec : {M : Type 1} → statement M
 apply-change-spec = tie.close (tie.spec entry-size-requires make-room-requires add-requires write-count-requires same-length same-length-2 returns)

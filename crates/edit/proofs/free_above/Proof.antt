@@ -1,7 +1,7 @@
 -- `free_above` meets its contract: no message at the root, a level left, and a node that the marks leave free. Relies on specs/Room.
 use native.Mathlib.Omega.{arith}
 use Rattle.laws.specs.ButLive.{sound-but-live}
-use Rattle.edit.specs.Room.{above-none, above-found, nodes-are, few-nodes}
+use Rattle.edit.specs.Room.{marked-here, above-none, above-found, nodes-are, few-nodes}
 use borrow.Author.Needs.{needs}
 use Rattle.edit.proofs.free_above.Statement.{statement}
 use Rattle.edit.proofs.free_above.Tie as tie
@@ -18,14 +18,20 @@ u16-at-requires c κs = omega (arith, few-nodes _ (c .before .before .before .pr
 returns-2 : tie.Need-returns-2
 returns-2 c = above-none _
 
-mark-nodes-requires : tie.Need-mark-nodes-requires
-mark-nodes-requires c κs = (c .before .before .before .before .before .before .pre .0, c .before .before .before .before .before .before .pre .1)
-
 first-free-requires : tie.Need-first-free-requires
-first-free-requires c κs = let w = few-nodes _ (c .before .before .before .before .before .before .before .before .pre .0) in omega (arith, w .0)
+first-free-requires c κs = let w = few-nodes _ (c .before .before .before .before .before .before .pre .0) in omega (arith, w .0)
 
 returns-3 : tie.Need-returns-3
-returns-3 c = above-found _ _ _ _ _ (c .before .before .mark-nodes .ensures .0) (nodes-are _) (c .before .before .before .before .before .u16-at .ensures .0) (omega arith) (c .first-free .ensures)
+returns-3 c = above-found _ _ _ _ _ (marked-here _ _ _ (c .before .before .before .before .before .before .before .pre .2) (c .before .if3 .taken)) (nodes-are _) (c .before .before .before .u16-at .ensures .0) (omega arith) (c .first-free .ensures)
+
+mark-nodes-requires : tie.Need-mark-nodes-requires
+mark-nodes-requires c κs = (c .before .before .before .before .before .before .before .pre .0, c .before .before .before .before .before .before .before .pre .1)
+
+first-free-requires-2 : tie.Need-first-free-requires-2
+first-free-requires-2 c κs = let w = few-nodes _ (c .before .before .before .before .before .before .before .before .before .pre .0) in omega (arith, w .0)
+
+returns-4 : tie.Need-returns-4
+returns-4 c = above-found _ _ _ _ _ (c .before .before .mark-nodes .ensures .0) (nodes-are _) (c .before .before .before .before .before .before .u16-at .ensures .0) (omega arith) (c .first-free2 .ensures)
 
 pub free-above-spec : {M : Type 1} → statement M
 free-above-spec =
@@ -35,6 +41,8 @@ free-above-spec =
     returns
     u16-at-requires
     returns-2
-    mark-nodes-requires
     first-free-requires
-    returns-3)
+    returns-3
+    mark-nodes-requires
+    first-free-requires-2
+    returns-4)

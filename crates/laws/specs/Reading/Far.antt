@@ -14,34 +14,34 @@ use Rattle.laws.specs.LookupTable.{not-low, under-high}
 use Rattle.laws.specs.Reading.Seek.{better, holds, wanted}
 use Rattle.octets.specs.Beginnings.{begins-not-before}
 
--- It is fair where the child ends at or before P or Q, or starts past all that begins with P, or starts at the best or later.
+-- It is fair where the child ends at or before `below` or `after`, or starts past all that begins with `below`, or starts at the best or later.
 unfoldable pub farFrom : List ℕ → List ℕ → List ℕ → List ℕ → Option (List ℕ) → Bool
-farFrom P Q lo hi best =
-    not (before P hi) || not (before Q hi) || (before P lo && not (begins P lo)) || not (better best lo)
+farFrom below after lo hi best =
+    not (before below hi) || not (before after hi) || (before below lo && not (begins below lo)) || not (better best lo)
 
--- what lies between P and an extension of it begins with it
-begins-shared : (P k : List ℕ) → begins P k ≡ true → shared P k ≡ P
+-- what lies between `below` and an extension of it begins with it
+begins-shared : (below k : List ℕ) → begins below k ≡ true → shared below k ≡ below
 unfolding begins shared
 begins-shared [] k e = refl
-begins-shared (a ∷ P) [] e = absurd (false≢true e)
-begins-shared (a ∷ P) (b ∷ k) e = rw (and-left (eqb a b) (begins P k) e) (ap (λ l. a ∷ l) (begins-shared P k (and-right (eqb a b) _ e)))
+begins-shared (a ∷ below) [] e = absurd (false≢true e)
+begins-shared (a ∷ below) (b ∷ k) e = rw (and-left (eqb a b) (begins below k) e) (ap (λ l. a ∷ l) (begins-shared below k (and-right (eqb a b) _ e)))
 
-between : (P k lo : List ℕ) → begins P k ≡ true → before lo P ≡ false → before k lo ≡ false → begins P lo ≡ true
-between P k lo e a b = go (before lo k) refl
+between : (below k lo : List ℕ) → begins below k ≡ true → before lo below ≡ false → before k lo ≡ false → begins below lo ≡ true
+between below k lo e a b = go (before lo k) refl
   where
-    go : (x : Bool) → before lo k ≡ x → begins P lo ≡ true
-    go true c = rw (begins-shared P k e) at (between-begins P k lo a c)
+    go : (x : Bool) → before lo k ≡ x → begins below lo ≡ true
+    go true c = rw (begins-shared below k e) at (between-begins below k lo a c)
     go false c = rw (one-key lo k c b) e
 
 or-cases : (a b : Bool) → a || b ≡ true → (a ≡ true) ⊎ (b ≡ true)
 or-cases true b e = inl refl
 or-cases false b e = inr e
 
-unwanted : (P Q : List ℕ) (best : Option (List ℕ)) (k : List ℕ) → (begins P k ≡ true → before Q k ≡ true → better best k ≡ true → ⊥) → not (wanted P Q best k) ≡ true
+unwanted : (below after : List ℕ) (best : Option (List ℕ)) (k : List ℕ) → (begins below k ≡ true → before after k ≡ true → better best k ≡ true → ⊥) → not (wanted below after best k) ≡ true
 unfolding wanted
-unwanted P Q best k h = go (begins P k) refl (before Q k) refl (better best k) refl
+unwanted below after best k h = go (begins below k) refl (before after k) refl (better best k) refl
   where
-    go : (x : Bool) → begins P k ≡ x → (y : Bool) → before Q k ≡ y → (z : Bool) → better best k ≡ z → not (begins P k && before Q k && better best k) ≡ true
+    go : (x : Bool) → begins below k ≡ x → (y : Bool) → before after k ≡ y → (z : Bool) → better best k ≡ z → not (begins below k && before after k && better best k) ≡ true
     go true a true b true c = absurd (h a b c)
     go true a true b false c = rw (a, b, c)
     go true a false b z c = rw (a, b)
@@ -60,9 +60,9 @@ better-low (some m) lo k a b = go (before lo m) refl
 beyond : (m k hi : List ℕ) → before k hi ≡ true → before m hi ≡ false → before k m ≡ true
 beyond m k hi a b = before-le k hi m a b
 
-pub far-fair : (P Q lo hi : List ℕ) (best : Option (List ℕ)) → farFrom P Q lo hi best ≡ true → (k : List ℕ) → holds lo hi k ≡ true → not (wanted P Q best k) ≡ true
+pub far-fair : (below after lo hi : List ℕ) (best : Option (List ℕ)) → farFrom below after lo hi best ≡ true → (k : List ℕ) → holds lo hi k ≡ true → not (wanted below after best k) ≡ true
 unfolding farFrom holds
-far-fair P Q lo hi best s k h = unwanted P Q best k (λ a b c. go a b c (or-cases _ _ s))
+far-fair below after lo hi best s k h = unwanted below after best k (λ a b c. go a b c (or-cases _ _ s))
   where
     low : before k lo ≡ false
     low = not-low lo hi k (and-right (wellFormed k) _ h)
@@ -70,17 +70,17 @@ far-fair P Q lo hi best s k h = unwanted P Q best k (λ a b c. go a b c (or-case
     high : before k hi ≡ true
     high = under-high lo hi k (and-right (wellFormed k) _ h)
 
-    first : begins P k ≡ true → before Q k ≡ true → (not (before P hi) ≡ true) ⊎ (not (before Q hi) ≡ true) → ⊥
-    first a b (inl x) = not-so (beyond P k hi high (not-true (before P hi) x)) (begins-not-before P k a)
-    first a b (inr x) = not-so (before-trans k Q k (beyond Q k hi high (not-true (before Q hi) x)) b) (before-irrefl k)
+    first : begins below k ≡ true → before after k ≡ true → (not (before below hi) ≡ true) ⊎ (not (before after hi) ≡ true) → ⊥
+    first a b (inl x) = not-so (beyond below k hi high (not-true (before below hi) x)) (begins-not-before below k a)
+    first a b (inr x) = not-so (before-trans k after k (beyond after k hi high (not-true (before after hi) x)) b) (before-irrefl k)
 
-    second : begins P k ≡ true → before Q k ≡ true → (not (before P hi) || not (before Q hi) ≡ true) ⊎ (before P lo && not (begins P lo) ≡ true) → ⊥
+    second : begins below k ≡ true → before after k ≡ true → (not (before below hi) || not (before after hi) ≡ true) ⊎ (before below lo && not (begins below lo) ≡ true) → ⊥
     second a b (inl x) = first a b (or-cases _ _ x)
     second a b (inr x) =
-        not-so (between P k lo a (before-asym P lo (and-left (before P lo) (not (begins P lo)) x)) low)
-        (not-true (begins P lo) (and-right (before P lo) _ x))
+        not-so (between below k lo a (before-asym below lo (and-left (before below lo) (not (begins below lo)) x)) low)
+        (not-true (begins below lo) (and-right (before below lo) _ x))
 
-    go : begins P k ≡ true → before Q k ≡ true → better best k ≡ true
-        → (not (before P hi) || not (before Q hi) || (before P lo && not (begins P lo)) ≡ true) ⊎ (not (better best lo) ≡ true) → ⊥
+    go : begins below k ≡ true → before after k ≡ true → better best k ≡ true
+        → (not (before below hi) || not (before after hi) || (before below lo && not (begins below lo)) ≡ true) ⊎ (not (better best lo) ≡ true) → ⊥
     go a b c (inl x) = second a b (or-cases _ _ x)
     go a b c (inr x) = not-so (better-low best lo k low c) (not-true (better best lo) x)

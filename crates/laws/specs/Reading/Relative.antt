@@ -1,7 +1,7 @@
 -- Lookup told from inside a node: pivots and path without the bytes that the node lifts. And the same on the bytes of an image.
 use borrow.Author.Tests.{ltb-true}
 use Prim.Native.Nat.{ℕ, _<_}
-use mathlib.Core.Path.{_≡_, refl, ap, _∙_}
+use mathlib.Core.Path.{_≡_, refl, sym, ap, _∙_}
 use mathlib.Core.List.{List, [], _∷_, _++_, append-nil}
 use mathlib.Core.Bool.{Bool, true, false, _&&_, cond, false≢true}
 use mathlib.Core.Option.{Option, none}
@@ -74,10 +74,10 @@ branchHigh hi [] = hi
 branchHigh hi (k ∷ ks) = k .pivot
 
 -- the same under a prefix that both pivots have
-pub high-joined : (under : ℕ → Tree) (X hi : List ℕ) (ks : List Branch) → highOf X (X ++ hi) (forestOf under ks) ≡ X ++ branchHigh hi ks
+pub high-joined : (under : ℕ → Tree) (prefix hi : List ℕ) (ks : List Branch) → highOf prefix (prefix ++ hi) (forestOf under ks) ≡ prefix ++ branchHigh hi ks
 unfolding highOf forestOf branchHigh
-high-joined under X hi [] = refl
-high-joined under X hi (k ∷ ks) = refl
+high-joined under prefix hi [] = refl
+high-joined under prefix hi (k ∷ ks) = refl
 
 pub high-at : (under : ℕ → Tree) (hi : List ℕ) (ks : List Branch) → highOf [] hi (forestOf under ks) ≡ branchHigh hi ks
 high-at under hi ks = high-joined under [] hi ks
@@ -136,3 +136,12 @@ unfolding usable numberOf
 number-under n (unread i) u = absurd (false≢true u)
 number-under n (leaf i rs) u = ltb-true i n u
 number-under n (interior i f ms) u = ltb-true i n (and-left _ _ u)
+
+-- of children that can be read, the first and the later ones can
+pub first-usable : (n : ℕ) (under : ℕ → Tree) (k : Branch) (ks : List Branch) → usableIn n (forestOf under (k ∷ ks)) ≡ true → usable n (under (k .number)) ≡ true
+unfolding usableIn forestOf
+first-usable n under k ks u = and-left _ _ u
+
+pub later-usable : (n : ℕ) (under : ℕ → Tree) (k : Branch) (ks us : List Branch) → ks ≡ us → usableIn n (forestOf under (k ∷ ks)) ≡ true → usableIn n (forestOf under us) ≡ true
+unfolding usableIn forestOf
+later-usable n under k ks us e u = ap (λ l. usableIn n (forestOf under l)) (sym e) ∙ and-right (usable n (under (k .number))) _ u

@@ -1,7 +1,7 @@
--- Next as one walk over a tree: it carries the best path so far, and takes a pair's or a put's path if it is below P, after Q, before the
+-- Next as one walk over a tree: it carries the best path so far, and takes a pair's or a put's path if it is below `below`, after `since`, before the
 -- best, and present. A child may be skipped if no path that it can hold is wanted.
 use Prim.Native.Nat.{ℕ}
-use mathlib.Core.Path.{_≡_, refl, sym}
+use mathlib.Core.Path.{_≡_, refl, sym, ap, _∙_}
 use mathlib.Core.List.{List, [], _∷_, _++_}
 use mathlib.Core.Logic.{_⊎_, inl, inr}
 use mathlib.Core.Bool.{Bool, true, false, _&&_, _||_, not, cond, false≢true, true≢false}
@@ -13,7 +13,7 @@ use Rattle.image.specs.Table.{Row, find, isSome, without, withoutBelow, underPr
 use Rattle.image.specs.Image.{Tree, unread, leaf, interior, Forest, end, tree}
 use Rattle.image.specs.Meaning.{highOf, apply, applyAll, rows, rowsIn}
 use Rattle.image.specs.Sound.{soundTree, soundForest, soundMessage, soundMessages}
-use Rattle.octets.specs.Order.{and-left, and-right, not-so, not-true, same-eq, before-trans, before-irrefl, before-le}
+use Rattle.octets.specs.Order.{and-left, and-right, and-assoc, not-so, not-true, same-eq, before-trans, before-irrefl, before-le}
 use Rattle.laws.specs.Tables.{find-nil, find-no, find-with-other, find-without, find-without-other, find-cleared, find-spared, find-append-none}
 use Rattle.laws.specs.Rising.{both}
 use Rattle.laws.specs.LookupTable.{parts, inner, not-low, under-high, does-own}
@@ -46,13 +46,13 @@ unfoldable pub better : Option (List ℕ) → List ℕ → Bool
 better none k = true
 better (some b) k = before k b
 
--- below P, after Q, before the best so far
+-- below `below`, after `since`, before the best so far
 unfoldable pub wanted : List ℕ → List ℕ → Option (List ℕ) → List ℕ → Bool
-wanted P Q best k = begins P k && before Q k && better best k
+wanted below since best k = begins below k && before since k && better best k
 
-module _ (present : List ℕ → Bool) (P Q : List ℕ) where
+module _ (present : List ℕ → Bool) (below since : List ℕ) where
   unfoldable pub try : Option (List ℕ) → List ℕ → Option (List ℕ)
-  try best k = cond (wanted P Q best k && present k) (some k) best
+  try best k = cond (wanted below since best k && present k) (some k) best
 
   unfoldable pub walk : Option (List ℕ) → List (List ℕ) → Option (List ℕ)
   walk best [] = best
@@ -64,10 +64,10 @@ unfoldable pub every : (List ℕ → Bool) → List (List ℕ) → Bool
 every test [] = true
 every test (k ∷ ks) = test k && every test ks
 
-every-append : (test : List ℕ → Bool) (a b : List (List ℕ)) → every test a ≡ true → every test b ≡ true → every test (a ++ b) ≡ true
+pub every-append : (test : List ℕ → Bool) (a b : List (List ℕ)) → every test (a ++ b) ≡ every test a && every test b
 unfolding every
-every-append test [] b e f = f
-every-append test (k ∷ a) b e f = both (and-left (test k) (every test a) e) (every-append test a b (and-right (test k) _ e) f)
+every-append test [] b = refl
+every-append test (k ∷ a) b = ap (λ x. test k && x) (every-append test a b) ∙ sym (and-assoc (test k) (every test a) (every test b))
 
 pub every-impl : (test other : List ℕ → Bool) (h : (k : List ℕ) → test k ≡ true → other k ≡ true) (a : List (List ℕ)) → every test a ≡ true → every other a ≡ true
 unfolding every
@@ -124,28 +124,28 @@ mutual
   keys-hold (leaf i rs) lo hi e = leaf-hold i rs lo hi e
   keys-hold (interior i f ms) lo hi e =
       every-append (holds lo hi) (keysIn f (shared lo hi) hi) (putsOf (shared lo hi) ms)
-      (keys-hold-in f (shared lo hi) lo hi (inner i f ms lo hi e .branches)) (puts-hold lo hi ms (inner i f ms lo hi e .wait))
+      ∙ both (keys-hold-in f (shared lo hi) lo hi (inner i f ms lo hi e .branches)) (puts-hold lo hi ms (inner i f ms lo hi e .wait))
 
   pub keys-hold-in : (f : Forest) (lifted lo hi : List ℕ) → soundForest f lifted lo hi ≡ true → every (holds lo hi) (keysIn f lifted hi) ≡ true
   keys-hold-in end lifted lo hi e = nil-hold lo hi
   keys-hold-in (tree s t f) lifted lo hi e =
       every-append (holds lo hi) (keys t (lifted ++ s) (highOf lifted hi f)) (keysIn f lifted hi)
-      (every-impl (holds (lifted ++ s) (highOf lifted hi f)) (holds lo hi) (λ k h. widen s t f lifted lo hi k e h) (keys t (lifted ++ s) (highOf lifted hi f))
+      ∙ both (every-impl (holds (lifted ++ s) (highOf lifted hi f)) (holds lo hi) (λ k h. widen s t f lifted lo hi k e h) (keys t (lifted ++ s) (highOf lifted hi f))
       (keys-hold t (lifted ++ s) (highOf lifted hi f) (parts s t f lifted lo hi e .first)))
       (keys-hold-in f lifted lo hi (parts s t f lifted lo hi e .later))
 
 -- 2. Skipping changes nothing.
-module _ (present : List ℕ → Bool) (P Q : List ℕ) where
-  pub walk-append : (best : Option (List ℕ)) (a b : List (List ℕ)) → walk present P Q best (a ++ b) ≡ walk present P Q (walk present P Q best a) b
+module _ (present : List ℕ → Bool) (below since : List ℕ) where
+  pub walk-append : (best : Option (List ℕ)) (a b : List (List ℕ)) → walk present below since best (a ++ b) ≡ walk present below since (walk present below since best a) b
   unfolding walk
   walk-append best [] b = refl
-  walk-append best (k ∷ a) b = walk-append (try present P Q best k) a b
+  walk-append best (k ∷ a) b = walk-append (try present below since best k) a b
 
-  pub walk-none : (best : Option (List ℕ)) (a : List (List ℕ)) → every (λ k. not (wanted P Q best k)) a ≡ true → walk present P Q best a ≡ best
+  pub walk-none : (best : Option (List ℕ)) (a : List (List ℕ)) → every (λ k. not (wanted below since best k)) a ≡ true → walk present below since best a ≡ best
   unfolding walk try every
   walk-none best [] e = refl
   walk-none best (k ∷ a) e =
-      rw (not-true (wanted P Q best k) (and-left _ _ e)) (walk-none best a (and-right (not (wanted P Q best k)) _ e))
+      rw (not-true (wanted below since best k) (and-left _ _ e)) (walk-none best a (and-right (not (wanted below since best k)) _ e))
 
 -- 3. Every present path stands in an entry.
 unfoldable pub isKey : List ℕ → List (List ℕ) → Bool
@@ -176,7 +176,7 @@ unfolding isKey
 key-right k [] b e = e
 key-right k (m ∷ a) b e = or-right (same k m) (isKey k (a ++ b)) (key-right k a b e)
 
-not-present : (k : List ℕ) (t : List Row) → find k t ≡ none → present k t ≡ false
+pub not-present : (k : List ℕ) (t : List Row) → find k t ≡ none → present k t ≡ false
 unfolding present isSome
 not-present k t e = rw e
 
@@ -261,35 +261,35 @@ mutual
       (λ h. stands t (lifted ++ s) (highOf lifted hi f) k h) (λ h. stands-in f lifted hi k h) e
 
 -- 4. The walk over all keys ends at the least path that fits.
-module _ (P Q : List ℕ) (T : List Row) where
+module _ (below since : List ℕ) (T : List Row) where
   abbrev there : List ℕ → Bool
   there k = present k T
 
   -- the best so far fits
   data Good : Option (List ℕ) → Type 0 where
     nobody : Good none
-    someone : {k : List ℕ} → Fits P Q T k → Good (some k)
+    someone : {k : List ℕ} → Fits below since T k → Good (some k)
 
-  try-yes : (best : Option (List ℕ)) (k : List ℕ) → wanted P Q best k && present k T ≡ true → try there P Q best k ≡ some k
+  try-yes : (best : Option (List ℕ)) (k : List ℕ) → wanted below since best k && present k T ≡ true → try there below since best k ≡ some k
   unfolding try
   try-yes best k e = rw e
 
-  try-no : (best : Option (List ℕ)) (k : List ℕ) → wanted P Q best k && present k T ≡ false → try there P Q best k ≡ best
+  try-no : (best : Option (List ℕ)) (k : List ℕ) → wanted below since best k && present k T ≡ false → try there below since best k ≡ best
   unfolding try
   try-no best k e = rw e
 
-  fits : (best : Option (List ℕ)) (k : List ℕ) → wanted P Q best k && present k T ≡ true → Fits P Q T k
+  fits : (best : Option (List ℕ)) (k : List ℕ) → wanted below since best k && present k T ≡ true → Fits below since T k
   unfolding wanted present
   fits best k e =
-      let a : begins P k && before Q k && better best k ≡ true = and-left _ _ e in
-      let b : begins P k && before Q k ≡ true = and-left _ _ a in
-      record { present = and-right (begins P k && before Q k && better best k) _ e; under = and-left _ _ b; after = and-right (begins P k) _ b }
+      let a : begins below k && before since k && better best k ≡ true = and-left _ _ e in
+      let b : begins below k && before since k ≡ true = and-left _ _ a in
+      record { present = and-right (begins below k && before since k && better best k) _ e; under = and-left _ _ b; after = and-right (begins below k) _ b }
 
-  is-better : (best : Option (List ℕ)) (k : List ℕ) → wanted P Q best k && present k T ≡ true → better best k ≡ true
+  is-better : (best : Option (List ℕ)) (k : List ℕ) → wanted below since best k && present k T ≡ true → better best k ≡ true
   unfolding wanted
-  is-better best k e = and-right (begins P k && before Q k) _ (and-left (begins P k && before Q k && better best k) (present k T) e)
+  is-better best k e = and-right (begins below k && before since k) _ (and-left (begins below k && before since k && better best k) (present k T) e)
 
-  not-better : (best : Option (List ℕ)) (k : List ℕ) → Fits P Q T k → wanted P Q best k && present k T ≡ false → better best k ≡ false
+  not-better : (best : Option (List ℕ)) (k : List ℕ) → Fits below since T k → wanted below since best k && present k T ≡ false → better best k ≡ false
   unfolding wanted present
   not-better best k f e = go (better best k) refl
     where
@@ -297,17 +297,17 @@ module _ (P Q : List ℕ) (T : List Row) where
       go true b = not-so (both (both (both (f .under) (f .after)) b) (f .present)) e
       go false b = b
 
-  try-good : (best : Option (List ℕ)) (k : List ℕ) → Good best → Good (try there P Q best k)
-  try-good best k g = go (wanted P Q best k && present k T) refl
+  try-good : (best : Option (List ℕ)) (k : List ℕ) → Good best → Good (try there below since best k)
+  try-good best k g = go (wanted below since best k && present k T) refl
     where
-      go : (x : Bool) → wanted P Q best k && present k T ≡ x → Good (try there P Q best k)
+      go : (x : Bool) → wanted below since best k && present k T ≡ x → Good (try there below since best k)
       go true e = rw (try-yes best k e) (someone (fits best k e))
       go false e = rw (try-no best k e) g
 
-  walk-good : (best : Option (List ℕ)) (ks : List (List ℕ)) → Good best → Good (walk there P Q best ks)
+  walk-good : (best : Option (List ℕ)) (ks : List (List ℕ)) → Good best → Good (walk there below since best ks)
   unfolding walk
   walk-good best [] g = g
-  walk-good best (k ∷ ks) g = walk-good (try there P Q best k) ks (try-good best k g)
+  walk-good best (k ∷ ks) g = walk-good (try there below since best k) ks (try-good best k g)
 
   -- what is not before the best is not before a better one
   stays-low : (best : Option (List ℕ)) (k m : List ℕ) → better best k ≡ true → better best m ≡ false → better (some k) m ≡ false
@@ -319,51 +319,51 @@ module _ (P Q : List ℕ) (T : List Row) where
       go true h = not-so (before-trans m k b h a) e
       go false h = h
 
-  try-low : (best : Option (List ℕ)) (k m : List ℕ) → better best m ≡ false → better (try there P Q best k) m ≡ false
-  try-low best k m e = go (wanted P Q best k && present k T) refl
+  try-low : (best : Option (List ℕ)) (k m : List ℕ) → better best m ≡ false → better (try there below since best k) m ≡ false
+  try-low best k m e = go (wanted below since best k && present k T) refl
     where
-      go : (x : Bool) → wanted P Q best k && present k T ≡ x → better (try there P Q best k) m ≡ false
+      go : (x : Bool) → wanted below since best k && present k T ≡ x → better (try there below since best k) m ≡ false
       go true h = rw (try-yes best k h) (stays-low best k m (is-better best k h) e)
       go false h = rw (try-no best k h) e
 
-  walk-low : (best : Option (List ℕ)) (ks : List (List ℕ)) (m : List ℕ) → better best m ≡ false → better (walk there P Q best ks) m ≡ false
+  walk-low : (best : Option (List ℕ)) (ks : List (List ℕ)) (m : List ℕ) → better best m ≡ false → better (walk there below since best ks) m ≡ false
   unfolding walk
   walk-low best [] m e = e
-  walk-low best (k ∷ ks) m e = walk-low (try there P Q best k) ks m (try-low best k m e)
+  walk-low best (k ∷ ks) m e = walk-low (try there below since best k) ks m (try-low best k m e)
 
   better-irrefl : (k : List ℕ) → better (some k) k ≡ false
   unfolding better
   better-irrefl k = before-irrefl k
 
-  try-met : (best : Option (List ℕ)) (k : List ℕ) → Fits P Q T k → better (try there P Q best k) k ≡ false
-  try-met best k f = go (wanted P Q best k && present k T) refl
+  try-met : (best : Option (List ℕ)) (k : List ℕ) → Fits below since T k → better (try there below since best k) k ≡ false
+  try-met best k f = go (wanted below since best k && present k T) refl
     where
-      go : (x : Bool) → wanted P Q best k && present k T ≡ x → better (try there P Q best k) k ≡ false
+      go : (x : Bool) → wanted below since best k && present k T ≡ x → better (try there below since best k) k ≡ false
       go true h = rw (try-yes best k h) (better-irrefl k)
       go false h = rw (try-no best k h) (not-better best k f h)
 
-  walk-met : (best : Option (List ℕ)) (ks : List (List ℕ)) (m : List ℕ) → Fits P Q T m → isKey m ks ≡ true → better (walk there P Q best ks) m ≡ false
+  walk-met : (best : Option (List ℕ)) (ks : List (List ℕ)) (m : List ℕ) → Fits below since T m → isKey m ks ≡ true → better (walk there below since best ks) m ≡ false
   unfolding walk isKey
   walk-met best [] m f e = absurd (false≢true e)
-  walk-met best (k ∷ ks) m f e = go (same m k) refl (walk-met (try there P Q best k) ks m f)
+  walk-met best (k ∷ ks) m f e = go (same m k) refl (walk-met (try there below since best k) ks m f)
     where
-      go : (x : Bool) → same m k ≡ x → (isKey m ks ≡ true → better (walk there P Q (try there P Q best k) ks) m ≡ false) → better (walk there P Q (try there P Q best k) ks) m ≡ false
-      go true s ih = walk-low (try there P Q best k) ks m (rw (← same-eq m k s) (try-met best m f))
+      go : (x : Bool) → same m k ≡ x → (isKey m ks ≡ true → better (walk there below since (try there below since best k) ks) m ≡ false) → better (walk there below since (try there below since best k) ks) m ≡ false
+      go true s ih = walk-low (try there below since best k) ks m (rw (← same-eq m k s) (try-met best m f))
       go false s ih = ih (rw s at e)
 
-  ends-at : (r : Option (List ℕ)) → rising T ≡ true → Good r → ((m : List ℕ) → Fits P Q T m → better r m ≡ false) → r ≡ leastAfter P Q T
+  ends-at : (r : Option (List ℕ)) → rising T ≡ true → Good r → ((m : List ℕ) → Fits below since T m → better r m ≡ false) → r ≡ leastAfter below since T
   unfolding better
-  ends-at none e g h = sym (least-none P Q T e (λ k f. true≢false (h k f)))
-  ends-at (some b) e (someone f) h = sym (least-is P Q T b e f h)
+  ends-at none e g h = sym (least-none below since T e (λ k f. true≢false (h k f)))
+  ends-at (some b) e (someone f) h = sym (least-is below since T b e f h)
 
   pub walk-least : (ks : List (List ℕ)) → rising T ≡ true → ((k : List ℕ) → present k T ≡ true → isKey k ks ≡ true)
-      → walk there P Q none ks ≡ leastAfter P Q T
+      → walk there below since none ks ≡ leastAfter below since T
   unfolding present
   walk-least ks e h =
-      ends-at (walk there P Q none ks) e (walk-good none ks nobody) (λ m f. walk-met none ks m f (h m (f .present)))
+      ends-at (walk there below since none ks) e (walk-good none ks nobody) (λ m f. walk-met none ks m f (h m (f .present)))
 
 -- the walk depends on the test of presence only by its answers
-pub walk-same : (a b : List ℕ → Bool) (P Q : List ℕ) → ((k : List ℕ) → a k ≡ b k) → (best : Option (List ℕ)) (ks : List (List ℕ)) → walk a P Q best ks ≡ walk b P Q best ks
+pub walk-same : (a b : List ℕ → Bool) (below since : List ℕ) → ((k : List ℕ) → a k ≡ b k) → (best : Option (List ℕ)) (ks : List (List ℕ)) → walk a below since best ks ≡ walk b below since best ks
 unfolding walk try
-walk-same a b P Q h best [] = refl
-walk-same a b P Q h best (k ∷ ks) = rw (h k) (walk-same a b P Q h (try b P Q best k) ks)
+walk-same a b below since h best [] = refl
+walk-same a b below since h best (k ∷ ks) = rw (h k) (walk-same a b below since h (try b below since best k) ks)

@@ -21,8 +21,8 @@ use Rattle.laws.specs.Reading.Far.{farFrom, far-fair}
 use Rattle.laws.specs.Reading.Seek.{keysOf, putsOf, keys, keysIn, walk, every-impl, holds, keys-hold, wanted, walk-none, present, walk-least, walk-same, stands}
 
 unfoldable pub under : List ℕ → List (List ℕ) → List (List ℕ)
-under X [] = []
-under X (k ∷ ks) = (X ++ k) ∷ under X ks
+under prefix [] = []
+under prefix (k ∷ ks) = (prefix ++ k) ∷ under prefix ks
 
 unfoldable mutual
   pub keysHere : Tree → List ℕ → List (List ℕ)
@@ -35,42 +35,42 @@ unfoldable mutual
   keysBranches (tree s t f) hi =
       under (shared s (highOf [] hi f)) (keysHere t (drop (lifts s (highOf [] hi f)) (highOf [] hi f))) ++ keysBranches f hi
 
-pub under-append : (X : List ℕ) (a b : List (List ℕ)) → under X (a ++ b) ≡ under X a ++ under X b
+pub under-append : (prefix : List ℕ) (a b : List (List ℕ)) → under prefix (a ++ b) ≡ under prefix a ++ under prefix b
 unfolding under
-under-append X [] b = refl
-under-append X (k ∷ a) b = ap (λ l. (X ++ k) ∷ l) (under-append X a b)
+under-append prefix [] b = refl
+under-append prefix (k ∷ a) b = ap (λ l. (prefix ++ k) ∷ l) (under-append prefix a b)
 
-pub under-under : (X Y : List ℕ) (a : List (List ℕ)) → under (X ++ Y) a ≡ under X (under Y a)
+pub under-under : (prefix Y : List ℕ) (a : List (List ℕ)) → under (prefix ++ Y) a ≡ under prefix (under Y a)
 unfolding under
-under-under X Y [] = refl
-under-under X Y (k ∷ a) = ap₂ (λ x l. x ∷ l) (append-assoc X Y k) (under-under X Y a)
+under-under prefix Y [] = refl
+under-under prefix Y (k ∷ a) = ap₂ (λ x l. x ∷ l) (append-assoc prefix Y k) (under-under prefix Y a)
 
-rows-under : (X : List ℕ) (rs : List Row) → keysOf (underPrefix X rs) ≡ under X (keysOf rs)
+rows-under : (prefix : List ℕ) (rs : List Row) → keysOf (underPrefix prefix rs) ≡ under prefix (keysOf rs)
 unfolding keysOf underPrefix under
-rows-under X [] = refl
-rows-under X (r ∷ rs) = ap (λ l. (X ++ r .key) ∷ l) (rows-under X rs)
+rows-under prefix [] = refl
+rows-under prefix (r ∷ rs) = ap (λ l. (prefix ++ r .key) ∷ l) (rows-under prefix rs)
 
-puts-under : (X : List ℕ) (ms : List Message) → putsOf X ms ≡ under X (putsOf [] ms)
+puts-under : (prefix : List ℕ) (ms : List Message) → putsOf prefix ms ≡ under prefix (putsOf [] ms)
 unfolding putsOf under
-puts-under X [] = refl
-puts-under X (puts s v ∷ ms) = ap (λ l. (X ++ s) ∷ l) (puts-under X ms)
-puts-under X (drops s ∷ ms) = puts-under X ms
-puts-under X (clears s ∷ ms) = puts-under X ms
+puts-under prefix [] = refl
+puts-under prefix (puts s v ∷ ms) = ap (λ l. (prefix ++ s) ∷ l) (puts-under prefix ms)
+puts-under prefix (drops s ∷ ms) = puts-under prefix ms
+puts-under prefix (clears s ∷ ms) = puts-under prefix ms
 
-nil-under : (X : List ℕ) → [] ≡ under X []
+nil-under : (prefix : List ℕ) → [] ≡ under prefix []
 unfolding under
-nil-under X = refl
+nil-under prefix = refl
 
-pub high-under : (X hi : List ℕ) (f : Forest) → highOf X (X ++ hi) f ≡ X ++ highOf [] hi f
+pub high-under : (prefix hi : List ℕ) (f : Forest) → highOf prefix (prefix ++ hi) f ≡ prefix ++ highOf [] hi f
 unfolding highOf
-high-under X hi end = refl
-high-under X hi (tree s t f) = refl
+high-under prefix hi end = refl
+high-under prefix hi (tree s t f) = refl
 
-pub child-under : (X s h : List ℕ) (t : Tree)
-    → under (shared (X ++ s) (X ++ h)) (keysHere t (drop (lifts (X ++ s) (X ++ h)) (X ++ h))) ≡ under X (under (shared s h) (keysHere t (drop (lifts s h) h)))
+pub child-under : (prefix s h : List ℕ) (t : Tree)
+    → under (shared (prefix ++ s) (prefix ++ h)) (keysHere t (drop (lifts (prefix ++ s) (prefix ++ h)) (prefix ++ h))) ≡ under prefix (under (shared s h) (keysHere t (drop (lifts s h) h)))
 unfolding lifts
-child-under X s h t =
-    rw (shared-append X s h, length-append X (shared s h), drop-append-add X h (length (shared s h))) (under-under X (shared s h) (keysHere t (drop (length (shared s h)) h)))
+child-under prefix s h t =
+    rw (shared-append prefix s h, length-append prefix (shared s h), drop-append-add prefix h (length (shared s h))) (under-under prefix (shared s h) (keysHere t (drop (length (shared s h)) h)))
 
 pub high-split : (lo hi : List ℕ) → shared lo hi ++ drop (lifts lo hi) hi ≡ hi
 unfolding lifts
@@ -88,20 +88,20 @@ mutual
       (puts-under (shared lo hi) ms)
       ∙ sym (under-append (shared lo hi) (keysBranches f (drop (lifts lo hi) hi)) (putsOf [] ms))
 
-  pub keys-branches : (f : Forest) (X hi : List ℕ) → keysIn f X (X ++ hi) ≡ under X (keysBranches f hi)
-  keys-branches end X hi = nil-under X
-  keys-branches (tree s t f) X hi =
-      rw (high-under X hi f)
-      (ap₂ (λ a b. a ++ b) (keys-here t (X ++ s) (X ++ highOf [] hi f) ∙ child-under X s (highOf [] hi f) t) (keys-branches f X hi)
-      ∙ sym (under-append X (under (shared s (highOf [] hi f)) (keysHere t (drop (lifts s (highOf [] hi f)) (highOf [] hi f)))) (keysBranches f hi)))
+  pub keys-branches : (f : Forest) (prefix hi : List ℕ) → keysIn f prefix (prefix ++ hi) ≡ under prefix (keysBranches f hi)
+  keys-branches end prefix hi = nil-under prefix
+  keys-branches (tree s t f) prefix hi =
+      rw (high-under prefix hi f)
+      (ap₂ (λ a b. a ++ b) (keys-here t (prefix ++ s) (prefix ++ highOf [] hi f) ∙ child-under prefix s (highOf [] hi f) t) (keys-branches f prefix hi)
+      ∙ sym (under-append prefix (under (shared s (highOf [] hi f)) (keysHere t (drop (lifts s (highOf [] hi f)) (highOf [] hi f)))) (keysBranches f hi)))
 
 -- a child of a sound node that is skipped leaves the best as it was
-pub skip-here : (there : List ℕ → Bool) (P Q X s h : List ℕ) (t : Tree) (best : Option (List ℕ)) → soundTree t (X ++ s) (X ++ h) ≡ true
-    → farFrom P Q (X ++ s) (X ++ h) best ≡ true → walk there P Q best (under X (under (shared s h) (keysHere t (drop (lifts s h) h)))) ≡ best
-skip-here there P Q X s h t best e f =
-    ap (λ ks. walk there P Q best ks) (sym (child-under X s h t) ∙ sym (keys-here t (X ++ s) (X ++ h)))
-    ∙ walk-none there P Q best (keys t (X ++ s) (X ++ h))
-    (every-impl (holds (X ++ s) (X ++ h)) (λ k. not (wanted P Q best k)) (λ k q. far-fair P Q (X ++ s) (X ++ h) best f k q) (keys t (X ++ s) (X ++ h)) (keys-hold t (X ++ s) (X ++ h) e))
+pub skip-here : (there : List ℕ → Bool) (below after prefix s h : List ℕ) (t : Tree) (best : Option (List ℕ)) → soundTree t (prefix ++ s) (prefix ++ h) ≡ true
+    → farFrom below after (prefix ++ s) (prefix ++ h) best ≡ true → walk there below after best (under prefix (under (shared s h) (keysHere t (drop (lifts s h) h)))) ≡ best
+skip-here there below after prefix s h t best e f =
+    ap (λ ks. walk there below after best ks) (sym (child-under prefix s h t) ∙ sym (keys-here t (prefix ++ s) (prefix ++ h)))
+    ∙ walk-none there below after best (keys t (prefix ++ s) (prefix ++ h))
+    (every-impl (holds (prefix ++ s) (prefix ++ h)) (λ k. not (wanted below after best k)) (λ k q. far-fair below after (prefix ++ s) (prefix ++ h) best f k q) (keys t (prefix ++ s) (prefix ++ h)) (keys-hold t (prefix ++ s) (prefix ++ h) e))
 
 -- what is present among the rows that pass a test is present, and passes it
 present-keep : (test : List ℕ → Bool) (k : List ℕ) (t : List Row) → test k && present k t ≡ present k (keep test t)
@@ -117,11 +117,11 @@ present-keep test k (r ∷ t) = go (same k (r .key)) refl (test (r .key)) refl (
     go false s false e ih = rw (e, s) ih
 
 -- at the root: of the present paths that pass a test
-pub next-here : (test : List ℕ → Bool) (P Q : List ℕ) (t : Tree) (hi : List ℕ) → soundTree t [] hi ≡ true
-    → walk (λ k. test k && present k (rows t [] hi)) P Q none (under [] (keysHere t hi)) ≡ leastAfter P Q (keep test (rows t [] hi))
+pub next-here : (test : List ℕ → Bool) (below after : List ℕ) (t : Tree) (hi : List ℕ) → soundTree t [] hi ≡ true
+    → walk (λ k. test k && present k (rows t [] hi)) below after none (under [] (keysHere t hi)) ≡ leastAfter below after (keep test (rows t [] hi))
 unfolding lifts shared
-next-here test P Q t hi e =
-    ap (λ ks. walk (λ k. test k && present k (rows t [] hi)) P Q none ks) (sym (keys-here t [] hi))
-    ∙ walk-same (λ k. test k && present k (rows t [] hi)) (λ k. present k (keep test (rows t [] hi))) P Q (λ k. present-keep test k (rows t [] hi)) none (keys t [] hi)
-    ∙ walk-least P Q (keep test (rows t [] hi)) (keys t [] hi) (keep-rises test (rows t [] hi) (rows-rise t [] hi e))
+next-here test below after t hi e =
+    ap (λ ks. walk (λ k. test k && present k (rows t [] hi)) below after none ks) (sym (keys-here t [] hi))
+    ∙ walk-same (λ k. test k && present k (rows t [] hi)) (λ k. present k (keep test (rows t [] hi))) below after (λ k. present-keep test k (rows t [] hi)) none (keys t [] hi)
+    ∙ walk-least below after (keep test (rows t [] hi)) (keys t [] hi) (keep-rises test (rows t [] hi) (rows-rise t [] hi e))
     (λ k h. stands t [] hi k (and-right (test k) _ (present-keep test k (rows t [] hi) ∙ h)))

@@ -42,29 +42,29 @@ unfoldable mutual
       && soundHere t (feed sh (shared s (highOf [] hi f))) (drop (lifts s (highOf [] hi f)) s) (drop (lifts s (highOf [] hi f)) (highOf [] hi f))
       && soundBranches f sh lo hi
 
--- with the same bytes X in front of everything
-module _ (X : List ℕ) where
-  owns-under : (lo hi q : List ℕ) → owns (X ++ lo) (X ++ hi) (X ++ q) ≡ owns lo hi q
+-- with the same bytes `prefix` in front of everything
+module _ (prefix : List ℕ) where
+  owns-under : (lo hi q : List ℕ) → owns (prefix ++ lo) (prefix ++ hi) (prefix ++ q) ≡ owns lo hi q
   unfolding owns
-  owns-under lo hi q = rw (before-append X q lo, before-append X q hi)
+  owns-under lo hi q = rw (before-append prefix q lo, before-append prefix q hi)
 
-  keys-shape : (rs : List Row) → everyKey wellFormed (underPrefix X rs) ≡ everyKey (goesOn (feed fresh X)) rs
+  keys-shape : (rs : List Row) → everyKey wellFormed (underPrefix prefix rs) ≡ everyKey (goesOn (feed fresh prefix)) rs
   unfolding everyKey underPrefix
   keys-shape [] = refl
-  keys-shape (r ∷ rs) = ap₂ (λ a b. a && b) (sym (shape-is X (r .key))) (keys-shape rs)
+  keys-shape (r ∷ rs) = ap₂ (λ a b. a && b) (sym (shape-is prefix (r .key))) (keys-shape rs)
 
-  keys-owned : (lo hi : List ℕ) (rs : List Row) → everyKey (owns (X ++ lo) (X ++ hi)) (underPrefix X rs) ≡ everyKey (owns lo hi) rs
+  keys-owned : (lo hi : List ℕ) (rs : List Row) → everyKey (owns (prefix ++ lo) (prefix ++ hi)) (underPrefix prefix rs) ≡ everyKey (owns lo hi) rs
   unfolding everyKey underPrefix
   keys-owned lo hi [] = refl
   keys-owned lo hi (r ∷ rs) = ap₂ (λ a b. a && b) (owns-under lo hi (r .key)) (keys-owned lo hi rs)
 
-  high-under : (hi : List ℕ) (f : Forest) → highOf X (X ++ hi) f ≡ X ++ highOf [] hi f
+  high-under : (hi : List ℕ) (f : Forest) → highOf prefix (prefix ++ hi) f ≡ prefix ++ highOf [] hi f
   unfolding highOf
   high-under hi end = refl
   high-under hi (tree s t f) = refl
 
-  drop-under : (l q : List ℕ) → drop (length (X ++ l)) (X ++ q) ≡ drop (length l) q
-  drop-under l q = rw (length-append X l) (drop-append-add X q (length l))
+  drop-under : (l q : List ℕ) → drop (length (prefix ++ l)) (prefix ++ q) ≡ drop (length l) q
+  drop-under l q = rw (length-append prefix l) (drop-append-add prefix q (length l))
 
 and3 : {a b c x y z : Bool} → a ≡ x → b ≡ y → c ≡ z → a && b && c ≡ x && y && z
 and3 p q r = ap₂ (λ u v. u && v) (ap₂ (λ u v. u && v) p q) r
@@ -72,39 +72,39 @@ and3 p q r = ap₂ (λ u v. u && v) (ap₂ (λ u v. u && v) p q) r
 and4 : {a b c d x y z w : Bool} → a ≡ x → b ≡ y → c ≡ z → d ≡ w → a && b && c && d ≡ x && y && z && w
 and4 p q r t = ap₂ (λ u v. u && v) (and3 p q r) t
 
-message-here : (lo hi X lo′ hi′ : List ℕ) → shared lo hi ≡ X → X ++ lo′ ≡ lo → X ++ hi′ ≡ hi → (m : Message) → soundMessage lo hi m ≡ messageHere (feed fresh X) lo′ hi′ m
+message-here : (lo hi prefix lo′ hi′ : List ℕ) → shared lo hi ≡ prefix → prefix ++ lo′ ≡ lo → prefix ++ hi′ ≡ hi → (m : Message) → soundMessage lo hi m ≡ messageHere (feed fresh prefix) lo′ hi′ m
 unfolding soundMessage messageHere
-message-here lo hi X lo′ hi′ e a b (puts s v) =
-    rw e (and3 (sym (shape-is X s)) (ap₂ (λ p q. owns p q (X ++ s)) (sym a) (sym b) ∙ owns-under X lo′ hi′ s) refl)
-message-here lo hi X lo′ hi′ e a b (drops s) =
-    rw e (ap₂ (λ u v. u && v) (sym (shape-is X s)) (ap₂ (λ p q. owns p q (X ++ s)) (sym a) (sym b) ∙ owns-under X lo′ hi′ s))
-message-here lo hi X lo′ hi′ e a b (clears s) = rw e (ap (λ u. same s [] || u) (sym (shape-is X s)))
+message-here lo hi prefix lo′ hi′ e a b (puts s v) =
+    rw e (and3 (sym (shape-is prefix s)) (ap₂ (λ p q. owns p q (prefix ++ s)) (sym a) (sym b) ∙ owns-under prefix lo′ hi′ s) refl)
+message-here lo hi prefix lo′ hi′ e a b (drops s) =
+    rw e (ap₂ (λ u v. u && v) (sym (shape-is prefix s)) (ap₂ (λ p q. owns p q (prefix ++ s)) (sym a) (sym b) ∙ owns-under prefix lo′ hi′ s))
+message-here lo hi prefix lo′ hi′ e a b (clears s) = rw e (ap (λ u. same s [] || u) (sym (shape-is prefix s)))
 
-messages-here : (lo hi X lo′ hi′ : List ℕ) → shared lo hi ≡ X → X ++ lo′ ≡ lo → X ++ hi′ ≡ hi → (ms : List Message) → soundMessages lo hi ms ≡ messagesHere (feed fresh X) lo′ hi′ ms
+messages-here : (lo hi prefix lo′ hi′ : List ℕ) → shared lo hi ≡ prefix → prefix ++ lo′ ≡ lo → prefix ++ hi′ ≡ hi → (ms : List Message) → soundMessages lo hi ms ≡ messagesHere (feed fresh prefix) lo′ hi′ ms
 unfolding soundMessages messagesHere
-messages-here lo hi X lo′ hi′ e a b [] = refl
-messages-here lo hi X lo′ hi′ e a b (m ∷ ms) = ap₂ (λ u v. u && v) (message-here lo hi X lo′ hi′ e a b m) (messages-here lo hi X lo′ hi′ e a b ms)
+messages-here lo hi prefix lo′ hi′ e a b [] = refl
+messages-here lo hi prefix lo′ hi′ e a b (m ∷ ms) = ap₂ (λ u v. u && v) (message-here lo hi prefix lo′ hi′ e a b m) (messages-here lo hi prefix lo′ hi′ e a b ms)
 
-pivot-here : (X lo lo′ : List ℕ) → X ++ lo′ ≡ lo → (f : Forest) → firstPivot X lo f ≡ firstPivot [] lo′ f
+pivot-here : (prefix lo lo′ : List ℕ) → prefix ++ lo′ ≡ lo → (f : Forest) → firstPivot prefix lo f ≡ firstPivot [] lo′ f
 unfolding firstPivot
-pivot-here X lo lo′ a end = refl
-pivot-here X lo lo′ a (tree s t f) = ap (λ l. same (X ++ s) l) (sym a) ∙ same-append X s lo′
+pivot-here prefix lo lo′ a end = refl
+pivot-here prefix lo lo′ a (tree s t f) = ap (λ l. same (prefix ++ s) l) (sym a) ∙ same-append prefix s lo′
 
-child-here : (X s h : List ℕ) (t : Tree)
-    → soundHere t (feed fresh (shared (X ++ s) (X ++ h))) (drop (lifts (X ++ s) (X ++ h)) (X ++ s)) (drop (lifts (X ++ s) (X ++ h)) (X ++ h))
-    ≡ soundHere t (feed (feed fresh X) (shared s h)) (drop (lifts s h) s) (drop (lifts s h) h)
+child-here : (prefix s h : List ℕ) (t : Tree)
+    → soundHere t (feed fresh (shared (prefix ++ s) (prefix ++ h))) (drop (lifts (prefix ++ s) (prefix ++ h)) (prefix ++ s)) (drop (lifts (prefix ++ s) (prefix ++ h)) (prefix ++ h))
+    ≡ soundHere t (feed (feed fresh prefix) (shared s h)) (drop (lifts s h) s) (drop (lifts s h) h)
 unfolding lifts
-child-here X s h t =
-    rw (shared-append X s h, feed-append fresh X (shared s h), drop-under X (shared s h) s, drop-under X (shared s h) h)
+child-here prefix s h t =
+    rw (shared-append prefix s h, feed-append fresh prefix (shared s h), drop-under prefix (shared s h) s, drop-under prefix (shared s h) h)
 
 left-split : (lo hi : List ℕ) → shared lo hi ++ drop (lifts lo hi) lo ≡ lo
 unfolding lifts
 left-split lo hi = begins-split (shared lo hi) lo (shared-left lo hi)
 
-leaf-here : (i : ℕ) (rs : List Row) (lo hi X lo′ hi′ : List ℕ) → shared lo hi ≡ X → X ++ lo′ ≡ lo → X ++ hi′ ≡ hi → soundTree (leaf i rs) lo hi ≡ soundHere (leaf i rs) (feed fresh X) lo′ hi′
+leaf-here : (i : ℕ) (rs : List Row) (lo hi prefix lo′ hi′ : List ℕ) → shared lo hi ≡ prefix → prefix ++ lo′ ≡ lo → prefix ++ hi′ ≡ hi → soundTree (leaf i rs) lo hi ≡ soundHere (leaf i rs) (feed fresh prefix) lo′ hi′
 unfolding soundTree soundHere
-leaf-here i rs lo hi X lo′ hi′ e a b =
-    rw e (and4 (keys-shape X rs) (ap₂ (λ p q. everyKey (owns p q) (underPrefix X rs)) (sym a) (sym b) ∙ keys-owned X lo′ hi′ rs) refl refl)
+leaf-here i rs lo hi prefix lo′ hi′ e a b =
+    rw e (and4 (keys-shape prefix rs) (ap₂ (λ p q. everyKey (owns p q) (underPrefix prefix rs)) (sym a) (sym b) ∙ keys-owned prefix lo′ hi′ rs) refl refl)
 
 mutual
   unfolding soundTree soundForest soundHere soundBranches
@@ -118,13 +118,13 @@ mutual
       (ap₂ (λ a b. soundForest f (shared lo hi) a b) (sym (left-split lo hi)) (sym (right-split lo hi)) ∙ sound-branches f (shared lo hi) (drop (lifts lo hi) lo) (drop (lifts lo hi) hi))
       (messages-here lo hi (shared lo hi) (drop (lifts lo hi) lo) (drop (lifts lo hi) hi) refl (left-split lo hi) (right-split lo hi) ms)
 
-  pub sound-branches : (f : Forest) (X lo hi : List ℕ) → soundForest f X (X ++ lo) (X ++ hi) ≡ soundBranches f (feed fresh X) lo hi
-  sound-branches end X lo hi = refl
-  sound-branches (tree s t f) X lo hi =
-      rw (high-under X hi f)
-      (and4 (owns-under X lo hi s) (before-append X s (highOf [] hi f))
-      (sound-here t (X ++ s) (X ++ highOf [] hi f) ∙ child-here X s (highOf [] hi f) t)
-      (sound-branches f X lo hi))
+  pub sound-branches : (f : Forest) (prefix lo hi : List ℕ) → soundForest f prefix (prefix ++ lo) (prefix ++ hi) ≡ soundBranches f (feed fresh prefix) lo hi
+  sound-branches end prefix lo hi = refl
+  sound-branches (tree s t f) prefix lo hi =
+      rw (high-under prefix hi f)
+      (and4 (owns-under prefix lo hi s) (before-append prefix s (highOf [] hi f))
+      (sound-here t (prefix ++ s) (prefix ++ highOf [] hi f) ∙ child-here prefix s (highOf [] hi f) t)
+      (sound-branches f prefix lo hi))
 
 -- at the root
 pub sound-root : (t : Tree) (hi : List ℕ) → soundTree t [] hi ≡ soundHere t fresh [] hi

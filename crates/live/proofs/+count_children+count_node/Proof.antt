@@ -7,7 +7,7 @@ use mathlib.Core.List.{_∷_}
 use mathlib.Core.Path.{_≡_}
 use mathlib.Core.Bool.{true}
 use Rattle.image.specs.Image.{treeAt, nodesOf, forestOf}
-use Rattle.laws.specs.Reading.Relative.{usableIn}
+use Rattle.laws.specs.Reading.Relative.{usableIn, later-usable}
 use Rattle.node.specs.Places.{part, Within}
 use Rattle.node.specs.Entries.{listed}
 use Rattle.node.specs.Search.Own.{branch, branchesAmong}
@@ -15,9 +15,9 @@ use Rattle.lookup.specs.Look.{node-inside}
 use Rattle.live.specs.PathBuffers.{pathIn}
 use Rattle.live.specs.Live.{liveBranches}
 use Rattle.octets.specs.Cap.{cap}
-use Rattle.live.specs.Walk.{passing, NextChild}
-use Rattle.live.specs.Steps.{trail-wider, pends-child, pends-end}
-use Rattle.live.specs.WalkLaws.{walk-start, walk-last, walk-on, later-usable}
+use Rattle.live.specs.Walk.{passing}
+use Rattle.live.specs.Steps.{trail-wider}
+use Rattle.live.specs.WalkLaws.{walk-start, walk-last, walk-on}
 use Rattle.live.specs.NodeSteps.{node-long, node-leaf, node-bare, branches-ready, node-inner, node-above, child-ready}
 use Rattle.live.specs.Noted.{SoundBranches}
 use Rattle.live.specs.NotedSteps.{handed, told-joined, leaf-told, branches-sound, last-sound, last-told, next-sound, next-told, later-sound}
@@ -38,16 +38,16 @@ use Rattle.live.proofs.count_node.Kinds as count-node-kinds
 use Rattle.live.proofs.+count_children+count_node.Lts-count_node as count-node-lts
 use Rattle.live.proofs.count_entries.Reads as count-entries-reads
 use Rattle.live.proofs.count_leaf.Reads as count-leaf-reads
-use Rattle.live.proofs.lengthen_trail.Reads as lengthen-trail-reads
 use Rattle.live.proofs.note_above.Reads as note-above-reads
-use Rattle.live.proofs.note_own.Reads as note-own-reads
+use Rattle.live.proofs.enter.Reads as enter-reads
 use Rattle.live.proofs.path_buffer.extend.Reads as extend-reads
-use Rattle.live.proofs.read_child.Reads as read-child-reads
+use Rattle.node.proofs.search.read_child.Reads as read-child-reads
 use Rattle.octets.proofs.capped_sum.Reads as capped-sum-reads
 use Rattle.octets.proofs.common_length.Reads as common-length-reads
 use Rattle.octets.proofs.u16_at.Reads as u16-at-reads
 use Rattle.live.proofs.+count_children+count_node.{statement}
 use Rattle.live.proofs.+count_children+count_node.Tie.{close}
+use Rattle.node.specs.Search.Child.{NextChild, pends-child, pends-end}
 
 abbrev μ-count-children : Measures 3 count-children-kinds.ps ℕ
 μ-count-children κs a = a .1 .0 .level * 2 + 1
@@ -114,10 +114,8 @@ here-length : (t : ℕ) (c : count-node-lts.After-extend (
   count-entries-reads.Learnt,
   read-child-reads.Asked,
   read-child-reads.Learnt,
-  lengthen-trail-reads.Asked,
-  lengthen-trail-reads.Learnt,
-  note-own-reads.Asked,
-  note-own-reads.Learnt,
+  enter-reads.Asked,
+  enter-reads.Learnt,
   count-children-below t,
   count-children.Post,
   capped-sum-reads.Asked,
@@ -140,10 +138,8 @@ first-next : (t : ℕ) (c : count-node-lts.After-known-told (
   count-entries-reads.Learnt,
   read-child-reads.Asked,
   read-child-reads.Learnt,
-  lengthen-trail-reads.Asked,
-  lengthen-trail-reads.Learnt,
-  note-own-reads.Asked,
-  note-own-reads.Learnt,
+  enter-reads.Asked,
+  enter-reads.Learnt,
   count-children-below t,
   count-children.Post,
   capped-sum-reads.Asked,
@@ -374,10 +370,8 @@ count-node-common-length-requires : (t : ℕ) → count-node-lts.Need-common-len
   count-entries-reads.Learnt,
   read-child-reads.Asked,
   read-child-reads.Learnt,
-  lengthen-trail-reads.Asked,
-  lengthen-trail-reads.Learnt,
-  note-own-reads.Asked,
-  note-own-reads.Learnt,
+  enter-reads.Asked,
+  enter-reads.Learnt,
   count-children-below t,
   count-children.Post,
   capped-sum-reads.Asked,
@@ -400,10 +394,8 @@ count-node-sub-room : (t : ℕ) → count-node-lts.Need-sub-room (
   count-entries-reads.Learnt,
   read-child-reads.Asked,
   read-child-reads.Learnt,
-  lengthen-trail-reads.Asked,
-  lengthen-trail-reads.Learnt,
-  note-own-reads.Asked,
-  note-own-reads.Learnt,
+  enter-reads.Asked,
+  enter-reads.Learnt,
   count-children-below t,
   count-children.Post,
   capped-sum-reads.Asked,
@@ -426,10 +418,8 @@ count-node-returns : (t : ℕ) → count-node-lts.Need-returns (
   count-entries-reads.Learnt,
   read-child-reads.Asked,
   read-child-reads.Learnt,
-  lengthen-trail-reads.Asked,
-  lengthen-trail-reads.Learnt,
-  note-own-reads.Asked,
-  note-own-reads.Learnt,
+  enter-reads.Asked,
+  enter-reads.Learnt,
   count-children-below t,
   count-children.Post,
   capped-sum-reads.Asked,
@@ -452,10 +442,8 @@ count-node-sub-extend : (t : ℕ) → count-node-lts.Need-sub-extend (
   count-entries-reads.Learnt,
   read-child-reads.Asked,
   read-child-reads.Learnt,
-  lengthen-trail-reads.Asked,
-  lengthen-trail-reads.Learnt,
-  note-own-reads.Asked,
-  note-own-reads.Learnt,
+  enter-reads.Asked,
+  enter-reads.Learnt,
   count-children-below t,
   count-children.Post,
   capped-sum-reads.Asked,
@@ -478,10 +466,8 @@ count-node-part-extend-start : (t : ℕ) → count-node-lts.Need-part-extend-sta
   count-entries-reads.Learnt,
   read-child-reads.Asked,
   read-child-reads.Learnt,
-  lengthen-trail-reads.Asked,
-  lengthen-trail-reads.Learnt,
-  note-own-reads.Asked,
-  note-own-reads.Learnt,
+  enter-reads.Asked,
+  enter-reads.Learnt,
   count-children-below t,
   count-children.Post,
   capped-sum-reads.Asked,
@@ -504,10 +490,8 @@ count-node-part-extend-end : (t : ℕ) → count-node-lts.Need-part-extend-end (
   count-entries-reads.Learnt,
   read-child-reads.Asked,
   read-child-reads.Learnt,
-  lengthen-trail-reads.Asked,
-  lengthen-trail-reads.Learnt,
-  note-own-reads.Asked,
-  note-own-reads.Learnt,
+  enter-reads.Asked,
+  enter-reads.Learnt,
   count-children-below t,
   count-children.Post,
   capped-sum-reads.Asked,
@@ -530,10 +514,8 @@ count-node-extend-requires : (t : ℕ) → count-node-lts.Need-extend-requires (
   count-entries-reads.Learnt,
   read-child-reads.Asked,
   read-child-reads.Learnt,
-  lengthen-trail-reads.Asked,
-  lengthen-trail-reads.Learnt,
-  note-own-reads.Asked,
-  note-own-reads.Learnt,
+  enter-reads.Asked,
+  enter-reads.Learnt,
   count-children-below t,
   count-children.Post,
   capped-sum-reads.Asked,
@@ -556,10 +538,8 @@ count-node-sub-note-above : (t : ℕ) → count-node-lts.Need-sub-note-above (
   count-entries-reads.Learnt,
   read-child-reads.Asked,
   read-child-reads.Learnt,
-  lengthen-trail-reads.Asked,
-  lengthen-trail-reads.Learnt,
-  note-own-reads.Asked,
-  note-own-reads.Learnt,
+  enter-reads.Asked,
+  enter-reads.Learnt,
   count-children-below t,
   count-children.Post,
   capped-sum-reads.Asked,
@@ -582,10 +562,8 @@ count-node-part-note-above-start : (t : ℕ) → count-node-lts.Need-part-note-a
   count-entries-reads.Learnt,
   read-child-reads.Asked,
   read-child-reads.Learnt,
-  lengthen-trail-reads.Asked,
-  lengthen-trail-reads.Learnt,
-  note-own-reads.Asked,
-  note-own-reads.Learnt,
+  enter-reads.Asked,
+  enter-reads.Learnt,
   count-children-below t,
   count-children.Post,
   capped-sum-reads.Asked,
@@ -608,10 +586,8 @@ count-node-part-note-above-end : (t : ℕ) → count-node-lts.Need-part-note-abo
   count-entries-reads.Learnt,
   read-child-reads.Asked,
   read-child-reads.Learnt,
-  lengthen-trail-reads.Asked,
-  lengthen-trail-reads.Learnt,
-  note-own-reads.Asked,
-  note-own-reads.Learnt,
+  enter-reads.Asked,
+  enter-reads.Learnt,
   count-children-below t,
   count-children.Post,
   capped-sum-reads.Asked,
@@ -634,10 +610,8 @@ count-node-sub-note-above-2 : (t : ℕ) → count-node-lts.Need-sub-note-above-2
   count-entries-reads.Learnt,
   read-child-reads.Asked,
   read-child-reads.Learnt,
-  lengthen-trail-reads.Asked,
-  lengthen-trail-reads.Learnt,
-  note-own-reads.Asked,
-  note-own-reads.Learnt,
+  enter-reads.Asked,
+  enter-reads.Learnt,
   count-children-below t,
   count-children.Post,
   capped-sum-reads.Asked,
@@ -660,10 +634,8 @@ count-node-part-note-above-start-2 : (t : ℕ) → count-node-lts.Need-part-note
   count-entries-reads.Learnt,
   read-child-reads.Asked,
   read-child-reads.Learnt,
-  lengthen-trail-reads.Asked,
-  lengthen-trail-reads.Learnt,
-  note-own-reads.Asked,
-  note-own-reads.Learnt,
+  enter-reads.Asked,
+  enter-reads.Learnt,
   count-children-below t,
   count-children.Post,
   capped-sum-reads.Asked,
@@ -686,10 +658,8 @@ count-node-part-note-above-end-2 : (t : ℕ) → count-node-lts.Need-part-note-a
   count-entries-reads.Learnt,
   read-child-reads.Asked,
   read-child-reads.Learnt,
-  lengthen-trail-reads.Asked,
-  lengthen-trail-reads.Learnt,
-  note-own-reads.Asked,
-  note-own-reads.Learnt,
+  enter-reads.Asked,
+  enter-reads.Learnt,
   count-children-below t,
   count-children.Post,
   capped-sum-reads.Asked,
@@ -712,10 +682,8 @@ count-node-sub-note-above-3 : (t : ℕ) → count-node-lts.Need-sub-note-above-3
   count-entries-reads.Learnt,
   read-child-reads.Asked,
   read-child-reads.Learnt,
-  lengthen-trail-reads.Asked,
-  lengthen-trail-reads.Learnt,
-  note-own-reads.Asked,
-  note-own-reads.Learnt,
+  enter-reads.Asked,
+  enter-reads.Learnt,
   count-children-below t,
   count-children.Post,
   capped-sum-reads.Asked,
@@ -738,10 +706,8 @@ count-node-part-note-above-start-3 : (t : ℕ) → count-node-lts.Need-part-note
   count-entries-reads.Learnt,
   read-child-reads.Asked,
   read-child-reads.Learnt,
-  lengthen-trail-reads.Asked,
-  lengthen-trail-reads.Learnt,
-  note-own-reads.Asked,
-  note-own-reads.Learnt,
+  enter-reads.Asked,
+  enter-reads.Learnt,
   count-children-below t,
   count-children.Post,
   capped-sum-reads.Asked,
@@ -764,10 +730,8 @@ count-node-part-note-above-end-3 : (t : ℕ) → count-node-lts.Need-part-note-a
   count-entries-reads.Learnt,
   read-child-reads.Asked,
   read-child-reads.Learnt,
-  lengthen-trail-reads.Asked,
-  lengthen-trail-reads.Learnt,
-  note-own-reads.Asked,
-  note-own-reads.Learnt,
+  enter-reads.Asked,
+  enter-reads.Learnt,
   count-children-below t,
   count-children.Post,
   capped-sum-reads.Asked,
@@ -790,10 +754,8 @@ count-node-slice-aggregate-note-above : (t : ℕ) → count-node-lts.Need-slice-
   count-entries-reads.Learnt,
   read-child-reads.Asked,
   read-child-reads.Learnt,
-  lengthen-trail-reads.Asked,
-  lengthen-trail-reads.Learnt,
-  note-own-reads.Asked,
-  note-own-reads.Learnt,
+  enter-reads.Asked,
+  enter-reads.Learnt,
   count-children-below t,
   count-children.Post,
   capped-sum-reads.Asked,
@@ -816,10 +778,8 @@ count-node-note-above-requires : (t : ℕ) → count-node-lts.Need-note-above-re
   count-entries-reads.Learnt,
   read-child-reads.Asked,
   read-child-reads.Learnt,
-  lengthen-trail-reads.Asked,
-  lengthen-trail-reads.Learnt,
-  note-own-reads.Asked,
-  note-own-reads.Learnt,
+  enter-reads.Asked,
+  enter-reads.Learnt,
   count-children-below t,
   count-children.Post,
   capped-sum-reads.Asked,
@@ -842,10 +802,8 @@ count-node-mul-at : (t : ℕ) → count-node-lts.Need-mul-at (
   count-entries-reads.Learnt,
   read-child-reads.Asked,
   read-child-reads.Learnt,
-  lengthen-trail-reads.Asked,
-  lengthen-trail-reads.Learnt,
-  note-own-reads.Asked,
-  note-own-reads.Learnt,
+  enter-reads.Asked,
+  enter-reads.Learnt,
   count-children-below t,
   count-children.Post,
   capped-sum-reads.Asked,
@@ -868,10 +826,8 @@ count-node-u16-at-requires : (t : ℕ) → count-node-lts.Need-u16-at-requires (
   count-entries-reads.Learnt,
   read-child-reads.Asked,
   read-child-reads.Learnt,
-  lengthen-trail-reads.Asked,
-  lengthen-trail-reads.Learnt,
-  note-own-reads.Asked,
-  note-own-reads.Learnt,
+  enter-reads.Asked,
+  enter-reads.Learnt,
   count-children-below t,
   count-children.Post,
   capped-sum-reads.Asked,
@@ -894,10 +850,8 @@ count-node-add-from : (t : ℕ) → count-node-lts.Need-add-from (
   count-entries-reads.Learnt,
   read-child-reads.Asked,
   read-child-reads.Learnt,
-  lengthen-trail-reads.Asked,
-  lengthen-trail-reads.Learnt,
-  note-own-reads.Asked,
-  note-own-reads.Learnt,
+  enter-reads.Asked,
+  enter-reads.Learnt,
   count-children-below t,
   count-children.Post,
   capped-sum-reads.Asked,
@@ -920,10 +874,8 @@ count-node-add-end : (t : ℕ) → count-node-lts.Need-add-end (
   count-entries-reads.Learnt,
   read-child-reads.Asked,
   read-child-reads.Learnt,
-  lengthen-trail-reads.Asked,
-  lengthen-trail-reads.Learnt,
-  note-own-reads.Asked,
-  note-own-reads.Learnt,
+  enter-reads.Asked,
+  enter-reads.Learnt,
   count-children-below t,
   count-children.Post,
   capped-sum-reads.Asked,
@@ -946,10 +898,8 @@ count-node-count-leaf-requires : (t : ℕ) → count-node-lts.Need-count-leaf-re
   count-entries-reads.Learnt,
   read-child-reads.Asked,
   read-child-reads.Learnt,
-  lengthen-trail-reads.Asked,
-  lengthen-trail-reads.Learnt,
-  note-own-reads.Asked,
-  note-own-reads.Learnt,
+  enter-reads.Asked,
+  enter-reads.Learnt,
   count-children-below t,
   count-children.Post,
   capped-sum-reads.Asked,
@@ -972,10 +922,8 @@ count-node-returns-2 : (t : ℕ) → count-node-lts.Need-returns-2 (
   count-entries-reads.Learnt,
   read-child-reads.Asked,
   read-child-reads.Learnt,
-  lengthen-trail-reads.Asked,
-  lengthen-trail-reads.Learnt,
-  note-own-reads.Asked,
-  note-own-reads.Learnt,
+  enter-reads.Asked,
+  enter-reads.Learnt,
   count-children-below t,
   count-children.Post,
   capped-sum-reads.Asked,
@@ -998,10 +946,8 @@ count-node-count-entries-requires : (t : ℕ) → count-node-lts.Need-count-entr
   count-entries-reads.Learnt,
   read-child-reads.Asked,
   read-child-reads.Learnt,
-  lengthen-trail-reads.Asked,
-  lengthen-trail-reads.Learnt,
-  note-own-reads.Asked,
-  note-own-reads.Learnt,
+  enter-reads.Asked,
+  enter-reads.Learnt,
   count-children-below t,
   count-children.Post,
   capped-sum-reads.Asked,
@@ -1024,10 +970,8 @@ count-node-read-child-requires : (t : ℕ) → count-node-lts.Need-read-child-re
   count-entries-reads.Learnt,
   read-child-reads.Asked,
   read-child-reads.Learnt,
-  lengthen-trail-reads.Asked,
-  lengthen-trail-reads.Learnt,
-  note-own-reads.Asked,
-  note-own-reads.Learnt,
+  enter-reads.Asked,
+  enter-reads.Learnt,
   count-children-below t,
   count-children.Post,
   capped-sum-reads.Asked,
@@ -1050,10 +994,8 @@ count-node-enum-known-first : (t : ℕ) → count-node-lts.Need-enum-known-first
   count-entries-reads.Learnt,
   read-child-reads.Asked,
   read-child-reads.Learnt,
-  lengthen-trail-reads.Asked,
-  lengthen-trail-reads.Learnt,
-  note-own-reads.Asked,
-  note-own-reads.Learnt,
+  enter-reads.Asked,
+  enter-reads.Learnt,
   count-children-below t,
   count-children.Post,
   capped-sum-reads.Asked,
@@ -1076,10 +1018,8 @@ count-node-enum-told : (t : ℕ) → count-node-lts.Need-enum-told (
   count-entries-reads.Learnt,
   read-child-reads.Asked,
   read-child-reads.Learnt,
-  lengthen-trail-reads.Asked,
-  lengthen-trail-reads.Learnt,
-  note-own-reads.Asked,
-  note-own-reads.Learnt,
+  enter-reads.Asked,
+  enter-reads.Learnt,
   count-children-below t,
   count-children.Post,
   capped-sum-reads.Asked,
@@ -1102,10 +1042,8 @@ count-node-returns-3 : (t : ℕ) → count-node-lts.Need-returns-3 (
   count-entries-reads.Learnt,
   read-child-reads.Asked,
   read-child-reads.Learnt,
-  lengthen-trail-reads.Asked,
-  lengthen-trail-reads.Learnt,
-  note-own-reads.Asked,
-  note-own-reads.Learnt,
+  enter-reads.Asked,
+  enter-reads.Learnt,
   count-children-below t,
   count-children.Post,
   capped-sum-reads.Asked,
@@ -1113,7 +1051,7 @@ count-node-returns-3 : (t : ℕ) → count-node-lts.Need-returns-3 (
 ) (count-node-at t) count-node.Post
 count-node-returns-3 t c = let w = node-inside (c .before .before .before .before .before .before .before .before .before .before .before .before .before .before .before .before .before .before .before .before .before .before .args .store .now) (c .before .before .before .before .before .before .before .before .before .before .before .before .before .before .before .before .before .before .before .before .before .before .args .node .num) (c .before .before .before .before .before .before .before .before .before .before .before .before .before .before .before .before .before .before .before .before .before .before .args .node .level) ((c .before .before .before .before .before .before .before .before .before .before .before .before .before .before .before .before .before .before .before .before .before .before .pre .1 .0) .reads) in (node-bare (c .before .before .before .before .before .before .before .before .before .before .before .before .before .before .before .before .before .before .before .before .before .before .args .store .now) (c .before .before .before .before .before .before .before .before .before .before .before .before .before .before .before .before .before .before .before .before .before .before .args .node .level) (c .before .before .before .before .before .before .before .before .before .before .before .before .before .before .before .before .before .before .before .before .before .before .args .node .num) (c .before .before .before .before .before .before .before .before .before .before .before .before .before .before .before .before .before .before .before .before .before .before .args .node .position .prefix) (c .before .before .before .before .before .before .before .before .before .before .before .before .before .before .before .before .before .before .before .before .before .before .args .node .position .trail) (c .before .before .before .before .before .before .before .before .before .before .before .before .before .before .before .before .before .before .before .before .before .before .pre .1 .0) (c .before .before .before .before .before .before .before .before .before .before .before .before .before .before .before .before .before .before .before .before .before .before .args .lo .now) (c .before .before .before .before .before .before .before .before .before .before .before .before .before .before .before .before .before .before .before .before .before .before .args .hi .now) (c .before .before .before .before .before .before .before .before .before .before .before .before .before .before .before .before .common-length .result) (c .before .before .before .before .before .before .before .before .before .before .before .before .before .before .before .before .common-length .ensures .0) (c .before .before .before .before .before .before .before .before .before .before .before .before .extend .result) (c .before .before .before .before .before .before .before .before .before .before .before .before .extend .ensures .0) (c .before .before .before .before .before .u16-at .result) (c .before .before .before .count-entries .result) (c .before .before .before .before .before .u16-at .ensures .0) (c .before .before .before .count-entries .ensures .0) (omega arith) (omega arith) (pends-end _ _ _ _ (c .before .before .read-child .ensures) (c .enum-told .given .1)), omega arith)
 
-count-node-lengthen-trail-requires : (t : ℕ) → count-node-lts.Need-lengthen-trail-requires (
+count-node-sub-enter : (t : ℕ) → count-node-lts.Need-sub-enter (
   common-length-reads.Asked,
   common-length-reads.Learnt,
   extend-reads.Asked,
@@ -1128,18 +1066,16 @@ count-node-lengthen-trail-requires : (t : ℕ) → count-node-lts.Need-lengthen-
   count-entries-reads.Learnt,
   read-child-reads.Asked,
   read-child-reads.Learnt,
-  lengthen-trail-reads.Asked,
-  lengthen-trail-reads.Learnt,
-  note-own-reads.Asked,
-  note-own-reads.Learnt,
+  enter-reads.Asked,
+  enter-reads.Learnt,
   count-children-below t,
   count-children.Post,
   capped-sum-reads.Asked,
   capped-sum-reads.Learnt,
 ) (count-node-at t) count-node.Post
-count-node-lengthen-trail-requires t c κs = let q = c .before .before .before .before .before .before .before .before .before .before .before .before .before .before .before .before .before .before .before .before .before .before .before .pre .0 in let m = c .before .before .before .before .before .before .before .before .before .before .before .before .before .before .before .before .before .common-length .ensures .1 in let i = c .before .before .before .before .before .before .before .before .before .before .before .before .before .before .before .before .before .common-length .ensures .2 in let g = c .before .before .before .before .before .before .before .before .before .before .before .before .before .before .before .if1 .left in let x = c .before .before .before .before .before .before .before .before .before .before .before .before .before .extend .ensures .1 in let v = c .before .before .before .before .before .if2 .left in let l : length (take ((c .before .before .before .before .before .before .before .before .before .before .before .before .before .before .before .before .before .common-length .result) - 0) (c .before .before .before .before .before .before .before .before .before .before .before .before .before .before .before .before .before .before .before .before .before .before .before .args .lo .now)) ≡ (c .before .before .before .before .before .before .before .before .before .before .before .before .before .before .before .before .before .common-length .result) - 0 = length-take-le ((c .before .before .before .before .before .before .before .before .before .before .before .before .before .before .before .before .before .common-length .result) - 0) (c .before .before .before .before .before .before .before .before .before .before .before .before .before .before .before .before .before .before .before .before .before .before .before .args .lo .now) (omega arith) in let d = (c .before .before .before .before .before .before .before .before .before .before .before .before .before .before .before .before .before .before .before .before .before .before .before .pre .1 .0) .deep in (omega arith, trail-wider (c .before .before .before .before .before .before .before .before .before .before .before .before .before .before .before .before .before .before .before .before .before .before .before .args .store .now) ((c .before .before .before .before .before .before .before .before .before .before .before .before .before .before .before .before .before .before .before .before .before .before .before .args .node .position .prefix) .len) ((c .before .before .before .before .before .before .before .before .before .before .before .before .before .extend .result) .len) (c .before .before .before .before .before .before .before .before .before .before .before .before .before .before .before .before .before .before .before .before .before .before .before .args .node .position .trail) (omega arith) ((c .before .before .before .before .before .before .before .before .before .before .before .before .before .before .before .before .before .before .before .before .before .before .before .pre .1 .0) .trail), node-above (c .before .before .before .before .before .before .before .before .before .before .before .before .before .before .before .before .before .before .before .before .before .before .before .args .store .now) (c .before .before .before .before .before .before .before .before .before .before .before .before .before .before .before .before .before .before .before .before .before .before .before .args .node .level) (c .before .before .before .before .before .before .before .before .before .before .before .before .before .before .before .before .before .before .before .before .before .before .before .args .node .num) ((c .before .before .before .before .before .before .before .before .before .before .before .before .before .extend .result) .len) ((c .before .before .before .before .before .before .before .before .before .before .before .before .before .before .before .before .before .before .before .before .before .before .before .pre .1 .0) .reads))
+count-node-sub-enter t c = let q = c .before .before .before .before .before .before .before .before .before .before .before .before .before .before .before .before .before .before .before .before .before .before .before .pre .0 in let m = c .before .before .before .before .before .before .before .before .before .before .before .before .before .before .before .before .before .common-length .ensures .1 in let i = c .before .before .before .before .before .before .before .before .before .before .before .before .before .before .before .before .before .common-length .ensures .2 in let g = c .before .before .before .before .before .before .before .before .before .before .before .before .before .before .before .if1 .left in let x = c .before .before .before .before .before .before .before .before .before .before .before .before .before .extend .ensures .1 in let v = c .before .before .before .before .before .if2 .left in omega arith
 
-count-node-sub-note-own : (t : ℕ) → count-node-lts.Need-sub-note-own (
+count-node-part-enter-start : (t : ℕ) → count-node-lts.Need-part-enter-start (
   common-length-reads.Asked,
   common-length-reads.Learnt,
   extend-reads.Asked,
@@ -1154,18 +1090,16 @@ count-node-sub-note-own : (t : ℕ) → count-node-lts.Need-sub-note-own (
   count-entries-reads.Learnt,
   read-child-reads.Asked,
   read-child-reads.Learnt,
-  lengthen-trail-reads.Asked,
-  lengthen-trail-reads.Learnt,
-  note-own-reads.Asked,
-  note-own-reads.Learnt,
+  enter-reads.Asked,
+  enter-reads.Learnt,
   count-children-below t,
   count-children.Post,
   capped-sum-reads.Asked,
   capped-sum-reads.Learnt,
 ) (count-node-at t) count-node.Post
-count-node-sub-note-own t c = let q = c .before .before .before .before .before .before .before .before .before .before .before .before .before .before .before .before .before .before .before .before .before .before .before .before .pre .0 in let m = c .before .before .before .before .before .before .before .before .before .before .before .before .before .before .before .before .before .before .common-length .ensures .1 in let i = c .before .before .before .before .before .before .before .before .before .before .before .before .before .before .before .before .before .before .common-length .ensures .2 in let g = c .before .before .before .before .before .before .before .before .before .before .before .before .before .before .before .before .if1 .left in let x = c .before .before .before .before .before .before .before .before .before .before .before .before .before .before .extend .ensures .1 in let v = c .before .before .before .before .before .before .if2 .left in omega arith
+count-node-part-enter-start t c = let q = c .before .before .before .before .before .before .before .before .before .before .before .before .before .before .before .before .before .before .before .before .before .before .before .pre .0 in let m = c .before .before .before .before .before .before .before .before .before .before .before .before .before .before .before .before .before .common-length .ensures .1 in let i = c .before .before .before .before .before .before .before .before .before .before .before .before .before .before .before .before .before .common-length .ensures .2 in let g = c .before .before .before .before .before .before .before .before .before .before .before .before .before .before .before .if1 .left in let x = c .before .before .before .before .before .before .before .before .before .before .before .before .before .extend .ensures .1 in let v = c .before .before .before .before .before .if2 .left in omega arith
 
-count-node-part-note-own-start : (t : ℕ) → count-node-lts.Need-part-note-own-start (
+count-node-part-enter-end : (t : ℕ) → count-node-lts.Need-part-enter-end (
   common-length-reads.Asked,
   common-length-reads.Learnt,
   extend-reads.Asked,
@@ -1180,18 +1114,16 @@ count-node-part-note-own-start : (t : ℕ) → count-node-lts.Need-part-note-own
   count-entries-reads.Learnt,
   read-child-reads.Asked,
   read-child-reads.Learnt,
-  lengthen-trail-reads.Asked,
-  lengthen-trail-reads.Learnt,
-  note-own-reads.Asked,
-  note-own-reads.Learnt,
+  enter-reads.Asked,
+  enter-reads.Learnt,
   count-children-below t,
   count-children.Post,
   capped-sum-reads.Asked,
   capped-sum-reads.Learnt,
 ) (count-node-at t) count-node.Post
-count-node-part-note-own-start t c = let q = c .before .before .before .before .before .before .before .before .before .before .before .before .before .before .before .before .before .before .before .before .before .before .before .before .pre .0 in let m = c .before .before .before .before .before .before .before .before .before .before .before .before .before .before .before .before .before .before .common-length .ensures .1 in let i = c .before .before .before .before .before .before .before .before .before .before .before .before .before .before .before .before .before .before .common-length .ensures .2 in let g = c .before .before .before .before .before .before .before .before .before .before .before .before .before .before .before .before .if1 .left in let x = c .before .before .before .before .before .before .before .before .before .before .before .before .before .before .extend .ensures .1 in let v = c .before .before .before .before .before .before .if2 .left in omega arith
+count-node-part-enter-end t c = search needs
 
-count-node-part-note-own-end : (t : ℕ) → count-node-lts.Need-part-note-own-end (
+count-node-sub-enter-2 : (t : ℕ) → count-node-lts.Need-sub-enter-2 (
   common-length-reads.Asked,
   common-length-reads.Learnt,
   extend-reads.Asked,
@@ -1206,18 +1138,16 @@ count-node-part-note-own-end : (t : ℕ) → count-node-lts.Need-part-note-own-e
   count-entries-reads.Learnt,
   read-child-reads.Asked,
   read-child-reads.Learnt,
-  lengthen-trail-reads.Asked,
-  lengthen-trail-reads.Learnt,
-  note-own-reads.Asked,
-  note-own-reads.Learnt,
+  enter-reads.Asked,
+  enter-reads.Learnt,
   count-children-below t,
   count-children.Post,
   capped-sum-reads.Asked,
   capped-sum-reads.Learnt,
 ) (count-node-at t) count-node.Post
-count-node-part-note-own-end t c = search needs
+count-node-sub-enter-2 t c = let q = c .before .before .before .before .before .before .before .before .before .before .before .before .before .before .before .before .before .before .before .before .before .before .before .before .pre .0 in let m = c .before .before .before .before .before .before .before .before .before .before .before .before .before .before .before .before .before .before .common-length .ensures .1 in let i = c .before .before .before .before .before .before .before .before .before .before .before .before .before .before .before .before .before .before .common-length .ensures .2 in let g = c .before .before .before .before .before .before .before .before .before .before .before .before .before .before .before .before .if1 .left in let x = c .before .before .before .before .before .before .before .before .before .before .before .before .before .before .extend .ensures .1 in let v = c .before .before .before .before .before .before .if2 .left in omega arith
 
-count-node-sub-note-own-2 : (t : ℕ) → count-node-lts.Need-sub-note-own-2 (
+count-node-part-enter-start-2 : (t : ℕ) → count-node-lts.Need-part-enter-start-2 (
   common-length-reads.Asked,
   common-length-reads.Learnt,
   extend-reads.Asked,
@@ -1232,18 +1162,16 @@ count-node-sub-note-own-2 : (t : ℕ) → count-node-lts.Need-sub-note-own-2 (
   count-entries-reads.Learnt,
   read-child-reads.Asked,
   read-child-reads.Learnt,
-  lengthen-trail-reads.Asked,
-  lengthen-trail-reads.Learnt,
-  note-own-reads.Asked,
-  note-own-reads.Learnt,
+  enter-reads.Asked,
+  enter-reads.Learnt,
   count-children-below t,
   count-children.Post,
   capped-sum-reads.Asked,
   capped-sum-reads.Learnt,
 ) (count-node-at t) count-node.Post
-count-node-sub-note-own-2 t c = let q = c .before .before .before .before .before .before .before .before .before .before .before .before .before .before .before .before .before .before .before .before .before .before .before .before .before .pre .0 in let m = c .before .before .before .before .before .before .before .before .before .before .before .before .before .before .before .before .before .before .before .common-length .ensures .1 in let i = c .before .before .before .before .before .before .before .before .before .before .before .before .before .before .before .before .before .before .before .common-length .ensures .2 in let g = c .before .before .before .before .before .before .before .before .before .before .before .before .before .before .before .before .before .if1 .left in let x = c .before .before .before .before .before .before .before .before .before .before .before .before .before .before .before .extend .ensures .1 in let v = c .before .before .before .before .before .before .before .if2 .left in omega arith
+count-node-part-enter-start-2 t c = let q = c .before .before .before .before .before .before .before .before .before .before .before .before .before .before .before .before .before .before .before .before .before .before .before .before .pre .0 in let m = c .before .before .before .before .before .before .before .before .before .before .before .before .before .before .before .before .before .before .common-length .ensures .1 in let i = c .before .before .before .before .before .before .before .before .before .before .before .before .before .before .before .before .before .before .common-length .ensures .2 in let g = c .before .before .before .before .before .before .before .before .before .before .before .before .before .before .before .before .if1 .left in let x = c .before .before .before .before .before .before .before .before .before .before .before .before .before .before .extend .ensures .1 in let v = c .before .before .before .before .before .before .if2 .left in omega arith
 
-count-node-part-note-own-start-2 : (t : ℕ) → count-node-lts.Need-part-note-own-start-2 (
+count-node-part-enter-end-2 : (t : ℕ) → count-node-lts.Need-part-enter-end-2 (
   common-length-reads.Asked,
   common-length-reads.Learnt,
   extend-reads.Asked,
@@ -1258,18 +1186,16 @@ count-node-part-note-own-start-2 : (t : ℕ) → count-node-lts.Need-part-note-o
   count-entries-reads.Learnt,
   read-child-reads.Asked,
   read-child-reads.Learnt,
-  lengthen-trail-reads.Asked,
-  lengthen-trail-reads.Learnt,
-  note-own-reads.Asked,
-  note-own-reads.Learnt,
+  enter-reads.Asked,
+  enter-reads.Learnt,
   count-children-below t,
   count-children.Post,
   capped-sum-reads.Asked,
   capped-sum-reads.Learnt,
 ) (count-node-at t) count-node.Post
-count-node-part-note-own-start-2 t c = let q = c .before .before .before .before .before .before .before .before .before .before .before .before .before .before .before .before .before .before .before .before .before .before .before .before .before .pre .0 in let m = c .before .before .before .before .before .before .before .before .before .before .before .before .before .before .before .before .before .before .before .common-length .ensures .1 in let i = c .before .before .before .before .before .before .before .before .before .before .before .before .before .before .before .before .before .before .before .common-length .ensures .2 in let g = c .before .before .before .before .before .before .before .before .before .before .before .before .before .before .before .before .before .if1 .left in let x = c .before .before .before .before .before .before .before .before .before .before .before .before .before .before .before .extend .ensures .1 in let v = c .before .before .before .before .before .before .before .if2 .left in omega arith
+count-node-part-enter-end-2 t c = search needs
 
-count-node-part-note-own-end-2 : (t : ℕ) → count-node-lts.Need-part-note-own-end-2 (
+count-node-slice-aggregate-enter : (t : ℕ) → count-node-lts.Need-slice-aggregate-enter (
   common-length-reads.Asked,
   common-length-reads.Learnt,
   extend-reads.Asked,
@@ -1284,18 +1210,16 @@ count-node-part-note-own-end-2 : (t : ℕ) → count-node-lts.Need-part-note-own
   count-entries-reads.Learnt,
   read-child-reads.Asked,
   read-child-reads.Learnt,
-  lengthen-trail-reads.Asked,
-  lengthen-trail-reads.Learnt,
-  note-own-reads.Asked,
-  note-own-reads.Learnt,
+  enter-reads.Asked,
+  enter-reads.Learnt,
   count-children-below t,
   count-children.Post,
   capped-sum-reads.Asked,
   capped-sum-reads.Learnt,
 ) (count-node-at t) count-node.Post
-count-node-part-note-own-end-2 t c = search needs
+count-node-slice-aggregate-enter t c = search needs
 
-count-node-slice-aggregate-note-own : (t : ℕ) → count-node-lts.Need-slice-aggregate-note-own (
+count-node-enter-requires : (t : ℕ) → count-node-lts.Need-enter-requires (
   common-length-reads.Asked,
   common-length-reads.Learnt,
   extend-reads.Asked,
@@ -1310,42 +1234,14 @@ count-node-slice-aggregate-note-own : (t : ℕ) → count-node-lts.Need-slice-ag
   count-entries-reads.Learnt,
   read-child-reads.Asked,
   read-child-reads.Learnt,
-  lengthen-trail-reads.Asked,
-  lengthen-trail-reads.Learnt,
-  note-own-reads.Asked,
-  note-own-reads.Learnt,
+  enter-reads.Asked,
+  enter-reads.Learnt,
   count-children-below t,
   count-children.Post,
   capped-sum-reads.Asked,
   capped-sum-reads.Learnt,
 ) (count-node-at t) count-node.Post
-count-node-slice-aggregate-note-own t c = search needs
-
-count-node-note-own-requires : (t : ℕ) → count-node-lts.Need-note-own-requires (
-  common-length-reads.Asked,
-  common-length-reads.Learnt,
-  extend-reads.Asked,
-  extend-reads.Learnt,
-  note-above-reads.Asked,
-  note-above-reads.Learnt,
-  u16-at-reads.Asked,
-  u16-at-reads.Learnt,
-  count-leaf-reads.Asked,
-  count-leaf-reads.Learnt,
-  count-entries-reads.Asked,
-  count-entries-reads.Learnt,
-  read-child-reads.Asked,
-  read-child-reads.Learnt,
-  lengthen-trail-reads.Asked,
-  lengthen-trail-reads.Learnt,
-  note-own-reads.Asked,
-  note-own-reads.Learnt,
-  count-children-below t,
-  count-children.Post,
-  capped-sum-reads.Asked,
-  capped-sum-reads.Learnt,
-) (count-node-at t) count-node.Post
-count-node-note-own-requires t c κs = let w = node-inside (c .before .before .before .before .before .before .before .before .before .before .before .before .before .before .before .before .before .before .before .before .before .before .before .before .before .before .before .args .store .now) (c .before .before .before .before .before .before .before .before .before .before .before .before .before .before .before .before .before .before .before .before .before .before .before .before .before .before .before .args .node .num) (c .before .before .before .before .before .before .before .before .before .before .before .before .before .before .before .before .before .before .before .before .before .before .before .before .before .before .before .args .node .level) ((c .before .before .before .before .before .before .before .before .before .before .before .before .before .before .before .before .before .before .before .before .before .before .before .before .before .before .before .pre .1 .0) .reads) in (w .0, w .1, c .before .before .before .before .before .before .before .before .before .before .before .before .note-above .ensures .fits)
+count-node-enter-requires t c κs = let q = c .before .before .before .before .before .before .before .before .before .before .before .before .before .before .before .before .before .before .before .before .before .before .before .before .before .before .pre .0 in let m = c .before .before .before .before .before .before .before .before .before .before .before .before .before .before .before .before .before .before .before .before .common-length .ensures .1 in let i = c .before .before .before .before .before .before .before .before .before .before .before .before .before .before .before .before .before .before .before .before .common-length .ensures .2 in let g = c .before .before .before .before .before .before .before .before .before .before .before .before .before .before .before .before .before .before .if1 .left in let x = c .before .before .before .before .before .before .before .before .before .before .before .before .before .before .before .before .extend .ensures .1 in let v = c .before .before .before .before .before .before .before .before .if2 .left in let l : length (take ((c .before .before .before .before .before .before .before .before .before .before .before .before .before .before .before .before .before .before .before .before .common-length .result) - 0) (c .before .before .before .before .before .before .before .before .before .before .before .before .before .before .before .before .before .before .before .before .before .before .before .before .before .before .args .lo .now)) ≡ (c .before .before .before .before .before .before .before .before .before .before .before .before .before .before .before .before .before .before .before .before .common-length .result) - 0 = length-take-le ((c .before .before .before .before .before .before .before .before .before .before .before .before .before .before .before .before .before .before .before .before .common-length .result) - 0) (c .before .before .before .before .before .before .before .before .before .before .before .before .before .before .before .before .before .before .before .before .before .before .before .before .before .before .args .lo .now) (omega arith) in let d = (c .before .before .before .before .before .before .before .before .before .before .before .before .before .before .before .before .before .before .before .before .before .before .before .before .before .before .pre .1 .0) .deep in (omega arith, trail-wider (c .before .before .before .before .before .before .before .before .before .before .before .before .before .before .before .before .before .before .before .before .before .before .before .before .before .before .args .store .now) ((c .before .before .before .before .before .before .before .before .before .before .before .before .before .before .before .before .before .before .before .before .before .before .before .before .before .before .args .node .position .prefix) .len) ((c .before .before .before .before .before .before .before .before .before .before .before .before .before .before .before .before .extend .result) .len) (c .before .before .before .before .before .before .before .before .before .before .before .before .before .before .before .before .before .before .before .before .before .before .before .before .before .before .args .node .position .trail) (omega arith) ((c .before .before .before .before .before .before .before .before .before .before .before .before .before .before .before .before .before .before .before .before .before .before .before .before .before .before .pre .1 .0) .trail), node-above (c .before .before .before .before .before .before .before .before .before .before .before .before .before .before .before .before .before .before .before .before .before .before .before .before .before .before .args .store .now) (c .before .before .before .before .before .before .before .before .before .before .before .before .before .before .before .before .before .before .before .before .before .before .before .before .before .before .args .node .level) (c .before .before .before .before .before .before .before .before .before .before .before .before .before .before .before .before .before .before .before .before .before .before .before .before .before .before .args .node .num) ((c .before .before .before .before .before .before .before .before .before .before .before .before .before .before .before .before .extend .result) .len) ((c .before .before .before .before .before .before .before .before .before .before .before .before .before .before .before .before .before .before .before .before .before .before .before .before .before .before .pre .1 .0) .reads), c .before .before .before .before .before .before .before .before .before .before .before .note-above .ensures .fits)
 
 count-node-sub-below : (t : ℕ) → count-node-lts.Need-sub-below (
   common-length-reads.Asked,
@@ -1362,10 +1258,8 @@ count-node-sub-below : (t : ℕ) → count-node-lts.Need-sub-below (
   count-entries-reads.Learnt,
   read-child-reads.Asked,
   read-child-reads.Learnt,
-  lengthen-trail-reads.Asked,
-  lengthen-trail-reads.Learnt,
-  note-own-reads.Asked,
-  note-own-reads.Learnt,
+  enter-reads.Asked,
+  enter-reads.Learnt,
   count-children-below t,
   count-children.Post,
   capped-sum-reads.Asked,
@@ -1388,16 +1282,14 @@ count-node-sub-count-children : (t : ℕ) → count-node-lts.Need-sub-count-chil
   count-entries-reads.Learnt,
   read-child-reads.Asked,
   read-child-reads.Learnt,
-  lengthen-trail-reads.Asked,
-  lengthen-trail-reads.Learnt,
-  note-own-reads.Asked,
-  note-own-reads.Learnt,
+  enter-reads.Asked,
+  enter-reads.Learnt,
   count-children-below t,
   count-children.Post,
   capped-sum-reads.Asked,
   capped-sum-reads.Learnt,
 ) (count-node-at t) count-node.Post
-count-node-sub-count-children t c = let q = c .before .before .before .before .before .before .before .before .before .before .before .before .before .before .before .before .before .before .before .before .before .before .before .before .before .before .before .before .before .pre .0 in let m = c .before .before .before .before .before .before .before .before .before .before .before .before .before .before .before .before .before .before .before .before .before .before .before .common-length .ensures .1 in let i = c .before .before .before .before .before .before .before .before .before .before .before .before .before .before .before .before .before .before .before .before .before .before .before .common-length .ensures .2 in let g = c .before .before .before .before .before .before .before .before .before .before .before .before .before .before .before .before .before .before .before .before .before .if1 .left in let x = c .before .before .before .before .before .before .before .before .before .before .before .before .before .before .before .before .before .before .before .extend .ensures .1 in let v = c .before .before .before .before .before .before .before .before .before .before .before .if2 .left in omega arith
+count-node-sub-count-children t c = let q = c .before .before .before .before .before .before .before .before .before .before .before .before .before .before .before .before .before .before .before .before .before .before .before .before .before .before .before .before .pre .0 in let m = c .before .before .before .before .before .before .before .before .before .before .before .before .before .before .before .before .before .before .before .before .before .before .common-length .ensures .1 in let i = c .before .before .before .before .before .before .before .before .before .before .before .before .before .before .before .before .before .before .before .before .before .before .common-length .ensures .2 in let g = c .before .before .before .before .before .before .before .before .before .before .before .before .before .before .before .before .before .before .before .before .if1 .left in let x = c .before .before .before .before .before .before .before .before .before .before .before .before .before .before .before .before .before .before .extend .ensures .1 in let v = c .before .before .before .before .before .before .before .before .before .before .if2 .left in omega arith
 
 count-node-part-count-children-start : (t : ℕ) → count-node-lts.Need-part-count-children-start (
   common-length-reads.Asked,
@@ -1414,16 +1306,14 @@ count-node-part-count-children-start : (t : ℕ) → count-node-lts.Need-part-co
   count-entries-reads.Learnt,
   read-child-reads.Asked,
   read-child-reads.Learnt,
-  lengthen-trail-reads.Asked,
-  lengthen-trail-reads.Learnt,
-  note-own-reads.Asked,
-  note-own-reads.Learnt,
+  enter-reads.Asked,
+  enter-reads.Learnt,
   count-children-below t,
   count-children.Post,
   capped-sum-reads.Asked,
   capped-sum-reads.Learnt,
 ) (count-node-at t) count-node.Post
-count-node-part-count-children-start t c = let q = c .before .before .before .before .before .before .before .before .before .before .before .before .before .before .before .before .before .before .before .before .before .before .before .before .before .before .before .before .before .pre .0 in let m = c .before .before .before .before .before .before .before .before .before .before .before .before .before .before .before .before .before .before .before .before .before .before .before .common-length .ensures .1 in let i = c .before .before .before .before .before .before .before .before .before .before .before .before .before .before .before .before .before .before .before .before .before .before .before .common-length .ensures .2 in let g = c .before .before .before .before .before .before .before .before .before .before .before .before .before .before .before .before .before .before .before .before .before .if1 .left in let x = c .before .before .before .before .before .before .before .before .before .before .before .before .before .before .before .before .before .before .before .extend .ensures .1 in let v = c .before .before .before .before .before .before .before .before .before .before .before .if2 .left in omega arith
+count-node-part-count-children-start t c = let q = c .before .before .before .before .before .before .before .before .before .before .before .before .before .before .before .before .before .before .before .before .before .before .before .before .before .before .before .before .pre .0 in let m = c .before .before .before .before .before .before .before .before .before .before .before .before .before .before .before .before .before .before .before .before .before .before .common-length .ensures .1 in let i = c .before .before .before .before .before .before .before .before .before .before .before .before .before .before .before .before .before .before .before .before .before .before .common-length .ensures .2 in let g = c .before .before .before .before .before .before .before .before .before .before .before .before .before .before .before .before .before .before .before .before .if1 .left in let x = c .before .before .before .before .before .before .before .before .before .before .before .before .before .before .before .before .before .before .extend .ensures .1 in let v = c .before .before .before .before .before .before .before .before .before .before .if2 .left in omega arith
 
 count-node-part-count-children-end : (t : ℕ) → count-node-lts.Need-part-count-children-end (
   common-length-reads.Asked,
@@ -1440,10 +1330,8 @@ count-node-part-count-children-end : (t : ℕ) → count-node-lts.Need-part-coun
   count-entries-reads.Learnt,
   read-child-reads.Asked,
   read-child-reads.Learnt,
-  lengthen-trail-reads.Asked,
-  lengthen-trail-reads.Learnt,
-  note-own-reads.Asked,
-  note-own-reads.Learnt,
+  enter-reads.Asked,
+  enter-reads.Learnt,
   count-children-below t,
   count-children.Post,
   capped-sum-reads.Asked,
@@ -1466,17 +1354,15 @@ count-node-count-children-requires : (t : ℕ) → count-node-lts.Need-count-chi
   count-entries-reads.Learnt,
   read-child-reads.Asked,
   read-child-reads.Learnt,
-  lengthen-trail-reads.Asked,
-  lengthen-trail-reads.Learnt,
-  note-own-reads.Asked,
-  note-own-reads.Learnt,
+  enter-reads.Asked,
+  enter-reads.Learnt,
   count-children-below t,
   count-children.Post,
   capped-sum-reads.Asked,
   capped-sum-reads.Learnt,
 ) (count-node-at t) count-node.Post
-count-node-count-children-requires t c κs = let q = c .before .before .before .before .before .before .before .before .before .before .before .before .before .before .before .before .before .before .before .before .before .before .before .before .before .before .before .before .before .before .before .pre .0 in let m = c .before .before .before .before .before .before .before .before .before .before .before .before .before .before .before .before .before .before .before .before .before .before .before .before .before .common-length .ensures .1 in let g = c .before .before .before .before .before .before .before .before .before .before .before .before .before .before .before .before .before .before .before .before .before .before .before .if1 .left in let x = c .before .before .before .before .before .before .before .before .before .before .before .before .before .before .before .before .before .before .before .before .before .extend .ensures .1 in let v = c .before .before .before .before .before .before .before .before .before .before .before .before .before .if2 .left in let w = node-inside (c .before .before .before .before .before .before .before .before .before .before .before .before .before .before .before .before .before .before .before .before .before .before .before .before .before .before .before .before .before .before .before .args .store .now) (c .before .before .before .before .before .before .before .before .before .before .before .before .before .before .before .before .before .before .before .before .before .before .before .before .before .before .before .before .before .before .before .args .node .num) (c .before .before .before .before .before .before .before .before .before .before .before .before .before .before .before .before .before .before .before .before .before .before .before .before .before .before .before .before .before .before .before .args .node .level) ((c .before .before .before .before .before .before .before .before .before .before .before .before .before .before .before .before .before .before .before .before .before .before .before .before .before .before .before .before .before .before .before .pre .1 .0) .reads) in let l : length (take ((c .before .before .before .before .before .before .before .before .before .before .before .before .before .before .before .before .before .before .before .before .before .before .before .before .before .common-length .result) - 0) (c .before .before .before .before .before .before .before .before .before .before .before .before .before .before .before .before .before .before .before .before .before .before .before .before .before .before .before .before .before .before .before .args .lo .now)) ≡ (c .before .before .before .before .before .before .before .before .before .before .before .before .before .before .before .before .before .before .before .before .before .before .before .before .before .common-length .result) - 0 = length-take-le ((c .before .before .before .before .before .before .before .before .before .before .before .before .before .before .before .before .before .before .before .before .before .before .before .before .before .common-length .result) - 0) (c .before .before .before .before .before .before .before .before .before .before .before .before .before .before .before .before .before .before .before .before .before .before .before .before .before .before .before .before .before .before .before .args .lo .now) (omega arith) in let r = (c .before .before .before .before .before .before .before .before .before .before .before .before .before .before .before .before .before .before .before .before .before .before .before .before .before .before .before .before .before .before .before .pre .1 .0) .room in let n = first-next t (c .before .before .before .before .before .before .before .before) in
-    (omega arith, (branches-ready (c .before .before .before .before .before .before .before .before .before .before .before .before .before .before .before .before .before .before .before .before .before .before .before .before .before .before .before .before .before .before .before .args .store .now) (c .before .before .before .before .before .before .before .before .before .before .before .before .before .before .before .before .before .before .before .before .before .before .before .before .before .before .before .before .before .before .before .args .node .level) (c .before .before .before .before .before .before .before .before .before .before .before .before .before .before .before .before .before .before .before .before .before .before .before .before .before .before .before .before .before .before .before .args .node .num) (c .before .before .before .before .before .before .before .before .before .before .before .before .before .before .before .before .before .before .before .before .before .before .before .before .before .before .before .before .before .before .before .args .node .position .prefix) (c .before .before .before .before .before .before .before .before .before .before .before .before .before .before .before .before .before .before .before .before .before .before .before .before .before .before .before .before .before .before .before .args .node .position .trail) (c .before .before .before .before .before .before .before .before .before .before .before .before .before .before .before .before .before .before .before .before .before .before .before .before .before .before .before .before .before .before .before .pre .1 .0) (c .before .before .before .before .before .before .before .before .before .before .before .before .before .before .before .before .before .before .before .before .before .before .before .before .before .before .before .before .before .before .before .args .lo .now) (c .before .before .before .before .before .before .before .before .before .before .before .before .before .before .before .before .before .before .before .before .before .before .before .before .before .before .before .before .before .before .before .args .hi .now) (c .before .before .before .before .before .before .before .before .before .before .before .before .before .before .before .before .before .before .before .before .before .before .before .before .before .common-length .result) (c .before .before .before .before .before .before .before .before .before .before .before .before .before .before .before .before .before .before .before .before .before .before .before .before .before .common-length .ensures .0) (c .before .before .before .before .before .before .before .before .before .before .before .before .before .before .before .before .before .before .before .before .before .extend .result) (c .before .before .before .before .before .before .before .before .before .before .before .before .before .before .before .before .before .before .before .before .before .extend .ensures .0) (c .before .before .before .before .before .before .before .before .before .before .before .before .before .before .u16-at .result) (c .before .before .before .before .before .before .before .before .before .before .before .before .count-entries .result) (c .before .before .before .before .before .before .before .before .before .before .before .before .before .before .u16-at .ensures .0) (c .before .before .before .before .before .before .before .before .before .before .before .before .count-entries .ensures .0) (omega arith) (c .before .before .before .before .before .before .before .before .before .first .given .0 .0) (c .before .before .before .before .before .before .before .before .before .first .given .0 .1 .0) (c .before .before .before .before .before .before .before .before .before .first .given .0 .1 .1 .0) (first-next t (c .before .before .before .before .before .before .before .before)) (c .before .before .before .before .before .before .before .lengthen-trail .result) (c .before .before .before .before .before .before .before .lengthen-trail .ensures) (omega arith) (omega arith), branches-sound (c .before .before .before .before .before .before .before .before .before .before .before .before .before .before .before .before .before .before .before .before .before .before .before .before .before .before .before .before .before .before .before .args .node .position .prefix) (c .before .before .before .before .before .before .before .before .before .before .before .before .before .before .before .before .before .before .before .before .before .before .before .before .before .before .before .before .before .before .before .args .lo .now) (c .before .before .before .before .before .before .before .before .before .before .before .before .before .before .before .before .before .before .before .before .before .before .before .before .before .before .before .before .before .before .before .args .hi .now) (c .before .before .before .before .before .before .before .before .before .before .before .before .before .before .before .before .before .before .before .before .before .before .before .before .before .common-length .result) (c .before .before .before .before .before .before .before .before .before .before .before .before .before .before .before .before .before .before .before .before .before .before .before .before .before .common-length .ensures .0) (c .before .before .before .before .before .before .before .before .before .before .before .before .before .before .before .before .before .before .before .before .before .extend .result) (c .before .before .before .before .before .before .before .before .before .before .before .before .before .before .before .before .before .before .before .before .before .extend .ensures .0) (c .before .before .before .before .before .before .before .before .before .before .before .before .before .before .before .before .before .before .before .before .before .before .before .before .before .before .before .before .before .before .before .args .store .now) (c .before .before .before .before .before .before .before .before .before .before .before .before .before .before .before .before .before .before .before .before .before .before .before .before .before .before .before .before .before .before .before .args .node .level) (c .before .before .before .before .before .before .before .before .before .before .before .before .before .before .before .before .before .before .before .before .before .before .before .before .before .before .before .before .before .before .before .args .node .num) (c .before .before .before .before .before .before .before .before .before .before .before .before .before .before .before .before .before .before .before .before .before .before .before .before .before .before .before .before .before .before .before .pre .1 .0 .reads) (c .before .before .before .before .before .before .before .before .before .before .before .before .before .before .before .before .before .before .before .before .before .before .before .before .before .before .before .before .before .before .before .pre .1 .1) (c .before .before .before .before .before .before .before .before .before .before .before .before .before .before .u16-at .result) (c .before .before .before .before .before .before .before .before .before .before .before .before .before .before .u16-at .ensures .0) (omega arith) _ _ _ (first-next t (c .before .before .before .before .before .before .before .before)) _ _ _ (told-joined _ _ _ _ _ _ (c .before .before .before .before .before .before .before .before .before .before .before .before .before .before .before .before .before .before .before .before .before .extend .result) _ _ _ _ (let h = here-length t (c .before .before .before .before .before .before .before .before .before .before .before .before .before .before .before .before .before .before .before .before .before) in omega arith) (c .before .before .before .before .before .before .before .lengthen-trail .ensures) (c .before .before .before .before .before .before .before .before .before .before .before .before .before .before .before .before .note-above .ensures) (c .before .before .before .note-own .ensures))))
+count-node-count-children-requires t c κs = let q = c .before .before .before .before .before .before .before .before .before .before .before .before .before .before .before .before .before .before .before .before .before .before .before .before .before .before .before .before .before .before .pre .0 in let m = c .before .before .before .before .before .before .before .before .before .before .before .before .before .before .before .before .before .before .before .before .before .before .before .before .common-length .ensures .1 in let g = c .before .before .before .before .before .before .before .before .before .before .before .before .before .before .before .before .before .before .before .before .before .before .if1 .left in let x = c .before .before .before .before .before .before .before .before .before .before .before .before .before .before .before .before .before .before .before .before .extend .ensures .1 in let v = c .before .before .before .before .before .before .before .before .before .before .before .before .if2 .left in let w = node-inside (c .before .before .before .before .before .before .before .before .before .before .before .before .before .before .before .before .before .before .before .before .before .before .before .before .before .before .before .before .before .before .args .store .now) (c .before .before .before .before .before .before .before .before .before .before .before .before .before .before .before .before .before .before .before .before .before .before .before .before .before .before .before .before .before .before .args .node .num) (c .before .before .before .before .before .before .before .before .before .before .before .before .before .before .before .before .before .before .before .before .before .before .before .before .before .before .before .before .before .before .args .node .level) ((c .before .before .before .before .before .before .before .before .before .before .before .before .before .before .before .before .before .before .before .before .before .before .before .before .before .before .before .before .before .before .pre .1 .0) .reads) in let l : length (take ((c .before .before .before .before .before .before .before .before .before .before .before .before .before .before .before .before .before .before .before .before .before .before .before .before .common-length .result) - 0) (c .before .before .before .before .before .before .before .before .before .before .before .before .before .before .before .before .before .before .before .before .before .before .before .before .before .before .before .before .before .before .args .lo .now)) ≡ (c .before .before .before .before .before .before .before .before .before .before .before .before .before .before .before .before .before .before .before .before .before .before .before .before .common-length .result) - 0 = length-take-le ((c .before .before .before .before .before .before .before .before .before .before .before .before .before .before .before .before .before .before .before .before .before .before .before .before .common-length .result) - 0) (c .before .before .before .before .before .before .before .before .before .before .before .before .before .before .before .before .before .before .before .before .before .before .before .before .before .before .before .before .before .before .args .lo .now) (omega arith) in let r = (c .before .before .before .before .before .before .before .before .before .before .before .before .before .before .before .before .before .before .before .before .before .before .before .before .before .before .before .before .before .before .pre .1 .0) .room in let n = first-next t (c .before .before .before .before .before .before .before) in let e = n .ends in let u = c .before .before .before .before .before .before .before .before .before .before .before .before .before .u16-at .ensures .0 in
+    (omega arith, rw (c .before .before .before .enter .ensures .0) (branches-ready (c .before .before .before .before .before .before .before .before .before .before .before .before .before .before .before .before .before .before .before .before .before .before .before .before .before .before .before .before .before .before .args .store .now) (c .before .before .before .before .before .before .before .before .before .before .before .before .before .before .before .before .before .before .before .before .before .before .before .before .before .before .before .before .before .before .args .node .level) (c .before .before .before .before .before .before .before .before .before .before .before .before .before .before .before .before .before .before .before .before .before .before .before .before .before .before .before .before .before .before .args .node .num) (c .before .before .before .before .before .before .before .before .before .before .before .before .before .before .before .before .before .before .before .before .before .before .before .before .before .before .before .before .before .before .args .node .position .prefix) (c .before .before .before .before .before .before .before .before .before .before .before .before .before .before .before .before .before .before .before .before .before .before .before .before .before .before .before .before .before .before .args .node .position .trail) (c .before .before .before .before .before .before .before .before .before .before .before .before .before .before .before .before .before .before .before .before .before .before .before .before .before .before .before .before .before .before .pre .1 .0) (c .before .before .before .before .before .before .before .before .before .before .before .before .before .before .before .before .before .before .before .before .before .before .before .before .before .before .before .before .before .before .args .lo .now) (c .before .before .before .before .before .before .before .before .before .before .before .before .before .before .before .before .before .before .before .before .before .before .before .before .before .before .before .before .before .before .args .hi .now) (c .before .before .before .before .before .before .before .before .before .before .before .before .before .before .before .before .before .before .before .before .before .before .before .before .common-length .result) (c .before .before .before .before .before .before .before .before .before .before .before .before .before .before .before .before .before .before .before .before .before .before .before .before .common-length .ensures .0) (c .before .before .before .before .before .before .before .before .before .before .before .before .before .before .before .before .before .before .before .before .extend .result) (c .before .before .before .before .before .before .before .before .before .before .before .before .before .before .before .before .before .before .before .before .extend .ensures .0) (c .before .before .before .before .before .before .before .before .before .before .before .before .before .u16-at .result) (c .before .before .before .before .before .before .before .before .before .before .before .count-entries .result) (c .before .before .before .before .before .before .before .before .before .before .before .before .before .u16-at .ensures .0) (c .before .before .before .before .before .before .before .before .before .before .before .count-entries .ensures .0) (omega arith) (c .before .before .before .before .before .before .before .before .first .given .0 .0) (c .before .before .before .before .before .before .before .before .first .given .0 .1 .0) (c .before .before .before .before .before .before .before .before .first .given .0 .1 .1 .0) (first-next t (c .before .before .before .before .before .before .before)) (c .before .before .before .enter .result .trail) (c .before .before .before .enter .ensures .1) (omega arith) (omega arith), branches-sound (c .before .before .before .before .before .before .before .before .before .before .before .before .before .before .before .before .before .before .before .before .before .before .before .before .before .before .before .before .before .before .args .node .position .prefix) (c .before .before .before .before .before .before .before .before .before .before .before .before .before .before .before .before .before .before .before .before .before .before .before .before .before .before .before .before .before .before .args .lo .now) (c .before .before .before .before .before .before .before .before .before .before .before .before .before .before .before .before .before .before .before .before .before .before .before .before .before .before .before .before .before .before .args .hi .now) (c .before .before .before .before .before .before .before .before .before .before .before .before .before .before .before .before .before .before .before .before .before .before .before .before .common-length .result) (c .before .before .before .before .before .before .before .before .before .before .before .before .before .before .before .before .before .before .before .before .before .before .before .before .common-length .ensures .0) (c .before .before .before .before .before .before .before .before .before .before .before .before .before .before .before .before .before .before .before .before .extend .result) (c .before .before .before .before .before .before .before .before .before .before .before .before .before .before .before .before .before .before .before .before .extend .ensures .0) (c .before .before .before .before .before .before .before .before .before .before .before .before .before .before .before .before .before .before .before .before .before .before .before .before .before .before .before .before .before .before .args .store .now) (c .before .before .before .before .before .before .before .before .before .before .before .before .before .before .before .before .before .before .before .before .before .before .before .before .before .before .before .before .before .before .args .node .level) (c .before .before .before .before .before .before .before .before .before .before .before .before .before .before .before .before .before .before .before .before .before .before .before .before .before .before .before .before .before .before .args .node .num) (c .before .before .before .before .before .before .before .before .before .before .before .before .before .before .before .before .before .before .before .before .before .before .before .before .before .before .before .before .before .before .pre .1 .0 .reads) (c .before .before .before .before .before .before .before .before .before .before .before .before .before .before .before .before .before .before .before .before .before .before .before .before .before .before .before .before .before .before .pre .1 .1) (c .before .before .before .before .before .before .before .before .before .before .before .before .before .u16-at .result) (c .before .before .before .before .before .before .before .before .before .before .before .before .before .u16-at .ensures .0) (omega arith) _ _ _ (first-next t (c .before .before .before .before .before .before .before)) _ _ _ (told-joined _ _ _ _ _ _ (c .before .before .before .before .before .before .before .before .before .before .before .before .before .before .before .before .before .before .before .before .extend .result) _ _ _ _ (let h = here-length t (c .before .before .before .before .before .before .before .before .before .before .before .before .before .before .before .before .before .before .before .before) in omega arith) (c .before .before .before .enter .ensures .1) (c .before .before .before .before .before .before .before .before .before .before .before .before .before .before .before .note-above .ensures) (c .before .before .before .enter .ensures .2))))
 
 count-node-capped-sum-requires : (t : ℕ) → count-node-lts.Need-capped-sum-requires (
   common-length-reads.Asked,
@@ -1493,10 +1379,8 @@ count-node-capped-sum-requires : (t : ℕ) → count-node-lts.Need-capped-sum-re
   count-entries-reads.Learnt,
   read-child-reads.Asked,
   read-child-reads.Learnt,
-  lengthen-trail-reads.Asked,
-  lengthen-trail-reads.Learnt,
-  note-own-reads.Asked,
-  note-own-reads.Learnt,
+  enter-reads.Asked,
+  enter-reads.Learnt,
   count-children-below t,
   count-children.Post,
   capped-sum-reads.Asked,
@@ -1519,18 +1403,16 @@ count-node-returns-4 : (t : ℕ) → count-node-lts.Need-returns-4 (
   count-entries-reads.Learnt,
   read-child-reads.Asked,
   read-child-reads.Learnt,
-  lengthen-trail-reads.Asked,
-  lengthen-trail-reads.Learnt,
-  note-own-reads.Asked,
-  note-own-reads.Learnt,
+  enter-reads.Asked,
+  enter-reads.Learnt,
   count-children-below t,
   count-children.Post,
   capped-sum-reads.Asked,
   capped-sum-reads.Learnt,
 ) (count-node-at t) count-node.Post
-count-node-returns-4 t c = let q = c .before .before .before .before .before .before .before .before .before .before .before .before .before .before .before .before .before .before .before .before .before .before .before .before .before .before .before .before .before .before .before .before .before .pre .0 in let m = c .before .before .before .before .before .before .before .before .before .before .before .before .before .before .before .before .before .before .before .before .before .before .before .before .before .before .before .common-length .ensures .1 in let g = c .before .before .before .before .before .before .before .before .before .before .before .before .before .before .before .before .before .before .before .before .before .before .before .before .before .if1 .left in let x = c .before .before .before .before .before .before .before .before .before .before .before .before .before .before .before .before .before .before .before .before .before .before .before .extend .ensures .1 in let v = c .before .before .before .before .before .before .before .before .before .before .before .before .before .before .before .if2 .left in let l : length (take ((c .before .before .before .before .before .before .before .before .before .before .before .before .before .before .before .before .before .before .before .before .before .before .before .before .before .before .before .common-length .result) - 0) (c .before .before .before .before .before .before .before .before .before .before .before .before .before .before .before .before .before .before .before .before .before .before .before .before .before .before .before .before .before .before .before .before .before .args .lo .now)) ≡ (c .before .before .before .before .before .before .before .before .before .before .before .before .before .before .before .before .before .before .before .before .before .before .before .before .before .before .before .common-length .result) - 0 = length-take-le ((c .before .before .before .before .before .before .before .before .before .before .before .before .before .before .before .before .before .before .before .before .before .before .before .before .before .before .before .common-length .result) - 0) (c .before .before .before .before .before .before .before .before .before .before .before .before .before .before .before .before .before .before .before .before .before .before .before .before .before .before .before .before .before .before .before .before .before .args .lo .now) (omega arith) in let r = (c .before .before .before .before .before .before .before .before .before .before .before .before .before .before .before .before .before .before .before .before .before .before .before .before .before .before .before .before .before .before .before .before .before .pre .1 .0) .room in
-    let h = here-length t (c .before .before .before .before .before .before .before .before .before .before .before .before .before .before .before .before .before .before .before .before .before .before .before) in
-    (node-inner (c .before .before .before .before .before .before .before .before .before .before .before .before .before .before .before .before .before .before .before .before .before .before .before .before .before .before .before .before .before .before .before .before .before .args .store .now) (c .before .before .before .before .before .before .before .before .before .before .before .before .before .before .before .before .before .before .before .before .before .before .before .before .before .before .before .before .before .before .before .before .before .args .node .level) (c .before .before .before .before .before .before .before .before .before .before .before .before .before .before .before .before .before .before .before .before .before .before .before .before .before .before .before .before .before .before .before .before .before .args .node .num) (c .before .before .before .before .before .before .before .before .before .before .before .before .before .before .before .before .before .before .before .before .before .before .before .before .before .before .before .before .before .before .before .before .before .args .node .position .prefix) (c .before .before .before .before .before .before .before .before .before .before .before .before .before .before .before .before .before .before .before .before .before .before .before .before .before .before .before .before .before .before .before .before .before .args .node .position .trail) (c .before .before .before .before .before .before .before .before .before .before .before .before .before .before .before .before .before .before .before .before .before .before .before .before .before .before .before .before .before .before .before .before .before .pre .1 .0) (c .before .before .before .before .before .before .before .before .before .before .before .before .before .before .before .before .before .before .before .before .before .before .before .before .before .before .before .before .before .before .before .before .before .args .lo .now) (c .before .before .before .before .before .before .before .before .before .before .before .before .before .before .before .before .before .before .before .before .before .before .before .before .before .before .before .before .before .before .before .before .before .args .hi .now) (c .before .before .before .before .before .before .before .before .before .before .before .before .before .before .before .before .before .before .before .before .before .before .before .before .before .before .before .common-length .result) (c .before .before .before .before .before .before .before .before .before .before .before .before .before .before .before .before .before .before .before .before .before .before .before .before .before .before .before .common-length .ensures .0) (c .before .before .before .before .before .before .before .before .before .before .before .before .before .before .before .before .before .before .before .before .before .before .before .extend .result) (c .before .before .before .before .before .before .before .before .before .before .before .before .before .before .before .before .before .before .before .before .before .before .before .extend .ensures .0) (c .before .before .before .before .before .before .before .before .before .before .before .before .before .before .before .before .u16-at .result) (c .before .before .before .before .before .before .before .before .before .before .before .before .before .before .count-entries .result) (c .before .before .before .before .before .before .before .before .before .before .before .before .before .before .before .before .u16-at .ensures .0) (c .before .before .before .before .before .before .before .before .before .before .before .before .before .before .count-entries .ensures .0) (omega arith) (c .before .before .before .before .before .before .before .before .before .before .before .first .given .0 .0) (c .before .before .before .before .before .before .before .before .before .before .before .first .given .0 .1 .0) (c .before .before .before .before .before .before .before .before .before .before .before .first .given .0 .1 .1 .0) (first-next t (c .before .before .before .before .before .before .before .before .before .before)) (c .before .before .before .before .before .before .before .before .before .lengthen-trail .result) (c .before .before .before .before .before .before .before .before .before .lengthen-trail .ensures) (c .before .count-children .result) _ (omega arith) (c .before .count-children .ensures .0) (c .capped-sum .ensures .0), c .capped-sum .ensures .1)
+count-node-returns-4 t c = let q = c .before .before .before .before .before .before .before .before .before .before .before .before .before .before .before .before .before .before .before .before .before .before .before .before .before .before .before .before .before .before .before .before .pre .0 in let m = c .before .before .before .before .before .before .before .before .before .before .before .before .before .before .before .before .before .before .before .before .before .before .before .before .before .before .common-length .ensures .1 in let g = c .before .before .before .before .before .before .before .before .before .before .before .before .before .before .before .before .before .before .before .before .before .before .before .before .if1 .left in let x = c .before .before .before .before .before .before .before .before .before .before .before .before .before .before .before .before .before .before .before .before .before .before .extend .ensures .1 in let v = c .before .before .before .before .before .before .before .before .before .before .before .before .before .before .if2 .left in let l : length (take ((c .before .before .before .before .before .before .before .before .before .before .before .before .before .before .before .before .before .before .before .before .before .before .before .before .before .before .common-length .result) - 0) (c .before .before .before .before .before .before .before .before .before .before .before .before .before .before .before .before .before .before .before .before .before .before .before .before .before .before .before .before .before .before .before .before .args .lo .now)) ≡ (c .before .before .before .before .before .before .before .before .before .before .before .before .before .before .before .before .before .before .before .before .before .before .before .before .before .before .common-length .result) - 0 = length-take-le ((c .before .before .before .before .before .before .before .before .before .before .before .before .before .before .before .before .before .before .before .before .before .before .before .before .before .before .common-length .result) - 0) (c .before .before .before .before .before .before .before .before .before .before .before .before .before .before .before .before .before .before .before .before .before .before .before .before .before .before .before .before .before .before .before .before .args .lo .now) (omega arith) in let r = (c .before .before .before .before .before .before .before .before .before .before .before .before .before .before .before .before .before .before .before .before .before .before .before .before .before .before .before .before .before .before .before .before .pre .1 .0) .room in
+    let h = here-length t (c .before .before .before .before .before .before .before .before .before .before .before .before .before .before .before .before .before .before .before .before .before .before) in
+    (node-inner (c .before .before .before .before .before .before .before .before .before .before .before .before .before .before .before .before .before .before .before .before .before .before .before .before .before .before .before .before .before .before .before .before .args .store .now) (c .before .before .before .before .before .before .before .before .before .before .before .before .before .before .before .before .before .before .before .before .before .before .before .before .before .before .before .before .before .before .before .before .args .node .level) (c .before .before .before .before .before .before .before .before .before .before .before .before .before .before .before .before .before .before .before .before .before .before .before .before .before .before .before .before .before .before .before .before .args .node .num) (c .before .before .before .before .before .before .before .before .before .before .before .before .before .before .before .before .before .before .before .before .before .before .before .before .before .before .before .before .before .before .before .before .args .node .position .prefix) (c .before .before .before .before .before .before .before .before .before .before .before .before .before .before .before .before .before .before .before .before .before .before .before .before .before .before .before .before .before .before .before .before .args .node .position .trail) (c .before .before .before .before .before .before .before .before .before .before .before .before .before .before .before .before .before .before .before .before .before .before .before .before .before .before .before .before .before .before .before .before .pre .1 .0) (c .before .before .before .before .before .before .before .before .before .before .before .before .before .before .before .before .before .before .before .before .before .before .before .before .before .before .before .before .before .before .before .before .args .lo .now) (c .before .before .before .before .before .before .before .before .before .before .before .before .before .before .before .before .before .before .before .before .before .before .before .before .before .before .before .before .before .before .before .before .args .hi .now) (c .before .before .before .before .before .before .before .before .before .before .before .before .before .before .before .before .before .before .before .before .before .before .before .before .before .before .common-length .result) (c .before .before .before .before .before .before .before .before .before .before .before .before .before .before .before .before .before .before .before .before .before .before .before .before .before .before .common-length .ensures .0) (c .before .before .before .before .before .before .before .before .before .before .before .before .before .before .before .before .before .before .before .before .before .before .extend .result) (c .before .before .before .before .before .before .before .before .before .before .before .before .before .before .before .before .before .before .before .before .before .before .extend .ensures .0) (c .before .before .before .before .before .before .before .before .before .before .before .before .before .before .before .u16-at .result) (c .before .before .before .before .before .before .before .before .before .before .before .before .before .count-entries .result) (c .before .before .before .before .before .before .before .before .before .before .before .before .before .before .before .u16-at .ensures .0) (c .before .before .before .before .before .before .before .before .before .before .before .before .before .count-entries .ensures .0) (omega arith) (c .before .before .before .before .before .before .before .before .before .before .first .given .0 .0) (c .before .before .before .before .before .before .before .before .before .before .first .given .0 .1 .0) (c .before .before .before .before .before .before .before .before .before .before .first .given .0 .1 .1 .0) (first-next t (c .before .before .before .before .before .before .before .before .before)) (c .before .before .before .before .before .enter .result .trail) (c .before .before .before .before .before .enter .ensures .1) (c .before .count-children .result) _ (omega arith) (rw (c .before .before .before .before .before .enter .ensures .0) at (c .before .count-children .ensures .0)) (c .capped-sum .ensures .0), c .capped-sum .ensures .1)
 
 pub +count-children+count-node-spec : {M : Type 1} → statement M
 +count-children+count-node-spec =
@@ -1581,10 +1463,8 @@ pub +count-children+count-node-spec : {M : Type 1} → statement M
       count-entries-reads.Learnt,
       read-child-reads.Asked,
       read-child-reads.Learnt,
-      lengthen-trail-reads.Asked,
-      lengthen-trail-reads.Learnt,
-      note-own-reads.Asked,
-      note-own-reads.Learnt,
+      enter-reads.Asked,
+      enter-reads.Learnt,
       count-children-below t,
       count-children.Post,
       capped-sum-reads.Asked,
@@ -1621,15 +1501,14 @@ pub +count-children+count-node-spec : {M : Type 1} → statement M
     (count-node-enum-known-first t)
     (count-node-enum-told t)
     (count-node-returns-3 t)
-    (count-node-lengthen-trail-requires t)
-    (count-node-sub-note-own t)
-    (count-node-part-note-own-start t)
-    (count-node-part-note-own-end t)
-    (count-node-sub-note-own-2 t)
-    (count-node-part-note-own-start-2 t)
-    (count-node-part-note-own-end-2 t)
-    (count-node-slice-aggregate-note-own t)
-    (count-node-note-own-requires t)
+    (count-node-sub-enter t)
+    (count-node-part-enter-start t)
+    (count-node-part-enter-end t)
+    (count-node-sub-enter-2 t)
+    (count-node-part-enter-start-2 t)
+    (count-node-part-enter-end-2 t)
+    (count-node-slice-aggregate-enter t)
+    (count-node-enter-requires t)
     (count-node-sub-below t)
     (count-node-sub-count-children t)
     (count-node-part-count-children-start t)

@@ -130,18 +130,18 @@ module _ (s notes key : List ℕ) where
   quiet-step zero h = absurd (omega arith)
   quiet-step (suc i) h = let e : suc i - 1 ≡ i = omega arith in rw e
 
-  pub latest-one : (i : ℕ) (r P : Bool) → 0 < i → P ≡ quiet s notes i key → r ≡ noteCovers s (getD notes (i - 1) 0) key → r ≡ true → false ≡ P
-  latest-one i r P h inv e t =
+  pub latest-one : (i : ℕ) (r answer : Bool) → 0 < i → answer ≡ quiet s notes i key → r ≡ noteCovers s (getD notes (i - 1) 0) key → r ≡ true → false ≡ answer
+  latest-one i r answer h inv e t =
       sym (inv ∙ quiet-step i h ∙ ap (λ x. quiet s notes (i - 1) key && not x) (sym e ∙ t) ∙ and-false (quiet s notes (i - 1) key))
 
-  pub passed-one : (i : ℕ) (r P : Bool) → 0 < i → P ≡ quiet s notes i key → r ≡ noteCovers s (getD notes (i - 1) 0) key → r ≡ false → P ≡ quiet s notes (i - 1) key
-  passed-one i r P h inv e t =
+  pub passed-one : (i : ℕ) (r answer : Bool) → 0 < i → answer ≡ quiet s notes i key → r ≡ noteCovers s (getD notes (i - 1) 0) key → r ≡ false → answer ≡ quiet s notes (i - 1) key
+  passed-one i r answer h inv e t =
       inv ∙ quiet-step i h ∙ ap (λ x. quiet s notes (i - 1) key && not x) (sym e ∙ t) ∙ and-true (quiet s notes (i - 1) key)
 
-  pub passed-all : (i : ℕ) (P : Bool) → i ≤ 0 → P ≡ quiet s notes i key → true ≡ P
+  pub passed-all : (i : ℕ) (answer : Bool) → i ≤ 0 → answer ≡ quiet s notes i key → true ≡ answer
   unfolding quiet
-  passed-all zero P h inv = sym inv
-  passed-all (suc i) P h inv = absurd (omega arith)
+  passed-all zero answer h inv = sym inv
+  passed-all (suc i) answer h inv = absurd (omega arith)
 
 -- what a message is to the keys of a leaf
 nil-begins : (q : List ℕ) → begins [] q ≡ true

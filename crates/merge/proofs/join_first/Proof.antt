@@ -9,8 +9,7 @@ use Prim.Native.Nat.{_≤_, _-_}
 use Rattle.node.specs.Search.Own.{branch, branchesAmong}
 use Rattle.node.specs.Entries.{listed}
 use Rattle.node.specs.Places.{Within, part}
-use Rattle.live.specs.Steps.{pends-child, pends-end}
-use Rattle.live.specs.Walk.{NextChild}
+use Rattle.node.specs.Search.Child.{pends-child, pends-end, NextChild}
 use Rattle.merge.specs.Laws.Joined.{firstJoined, anyFits}
 use Rattle.merge.specs.JoinSteps.{room-stays, short-part, first-none, first-one, first-last, first-here, first-on, branches-two}
 use Rattle.merge.proofs.join_first.Statement.{statement}

@@ -2,7 +2,7 @@
 -- Relies on specs/NodeSteps.
 use borrow.Author.Needs.{needs}
 use native.Mathlib.Omega.{arith}
-use Rattle.packed.specs.Form.Tidy.{zerosOf}
+use Rattle.laws.specs.Page.{zerosOf}
 use Rattle.merge.specs.NodeSteps.{node-in, room, once-done}
 use Rattle.merge.proofs.mend_once.Statement.{statement}
 use Rattle.merge.proofs.mend_once.Tie as tie

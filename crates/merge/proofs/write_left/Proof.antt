@@ -2,7 +2,7 @@
 -- Relies on specs/EmitSteps.
 use borrow.Author.Needs.{needs}
 use native.Mathlib.Omega.{arith}
-use Rattle.packed.specs.Form.Tidy.{zerosOf}
+use Rattle.laws.specs.Page.{zerosOf}
 use Rattle.merge.specs.EmitSteps.{both-join, both-small, left-written}
 use Rattle.merge.proofs.write_left.Statement.{statement}
 use Rattle.merge.proofs.write_left.Tie as tie

@@ -2,7 +2,7 @@
 -- Relies on specs/EmitSteps.
 use borrow.Author.Needs.{needs}
 use native.Mathlib.Omega.{arith}
-use Rattle.packed.specs.Form.Tidy.{zerosOf}
+use Rattle.laws.specs.Page.{zerosOf}
 use Rattle.node.specs.Entries.{listed}
 use Rattle.merge.specs.Laws.Weights.{without-fits}
 use Rattle.merge.specs.EmitSteps.{without-written}

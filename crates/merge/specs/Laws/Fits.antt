@@ -179,8 +179,8 @@ node-total n s i level used u =
     let c : leb (u16 s (i * 1024)) 1016 ≡ true = le-leb (u16 s (i * 1024)) 1016 (node-inside s i level u .1) in
     ap (λ x. cond x (weights n (listing s i) used) 1017) (both b c) ∙ ap (λ es. weights n es used) (lists-tree s i level u)
 
--- TWO NEIGHBOURS with the pivots P ++ lo, P ++ mid, P ++ hi
-module _ (P lo mid hi : List ℕ) (rises : before lo mid ≡ true) (goes : before mid hi ≡ true) where
+-- TWO NEIGHBOURS with the pivots `prefix` ++ lo, `prefix` ++ mid, `prefix` ++ hi
+module _ (prefix lo mid hi : List ℕ) (rises : before lo mid ≡ true) (goes : before mid hi ≡ true) where
   mid-begins : begins (shared lo hi) mid ≡ true
   mid-begins = owned-begins lo hi mid (does-own lo hi mid (before-asym lo mid rises) goes)
 
@@ -190,29 +190,29 @@ module _ (P lo mid hi : List ℕ) (rises : before lo mid ≡ true) (goes : befor
   right-less : length (shared lo hi) ≤ length (shared mid hi)
   right-less = begins-length (shared lo hi) (shared mid hi) (shared-most (shared lo hi) mid hi mid-begins (shared-right lo hi))
 
-  under-prefix : (own k : List ℕ) → length (shared lo hi) ≤ length own → drop (length (P ++ shared lo hi)) ((P ++ own) ++ k) ≡ drop (length (shared lo hi)) own ++ k
+  under-prefix : (own k : List ℕ) → length (shared lo hi) ≤ length own → drop (length (prefix ++ shared lo hi)) ((prefix ++ own) ++ k) ≡ drop (length (shared lo hi)) own ++ k
   under-prefix own k h =
-      ap₂ (λ n l. drop n l) (length-append P (shared lo hi)) (append-assoc P own k)
-      ∙ drop-append-add P (own ++ k) (length (shared lo hi)) ∙ drop-append-le (length (shared lo hi)) own k h
+      ap₂ (λ n l. drop n l) (length-append prefix (shared lo hi)) (append-assoc prefix own k)
+      ∙ drop-append-add prefix (own ++ k) (length (shared lo hi)) ∙ drop-append-le (length (shared lo hi)) own k h
 
-  pub left-grows : (k : List ℕ) → drop (length (shared (P ++ lo) (P ++ hi))) (shared (P ++ lo) (P ++ mid) ++ k) ≡ leftMore lo mid hi ++ k
+  pub left-grows : (k : List ℕ) → drop (length (shared (prefix ++ lo) (prefix ++ hi))) (shared (prefix ++ lo) (prefix ++ mid) ++ k) ≡ leftMore lo mid hi ++ k
   unfolding leftMore
-  left-grows k = ap₂ (λ a b. drop (length a) (b ++ k)) (shared-append P lo hi) (shared-append P lo mid) ∙ under-prefix (shared lo mid) k left-less
+  left-grows k = ap₂ (λ a b. drop (length a) (b ++ k)) (shared-append prefix lo hi) (shared-append prefix lo mid) ∙ under-prefix (shared lo mid) k left-less
 
-  pub right-grows : (k : List ℕ) → drop (length (shared (P ++ lo) (P ++ hi))) (shared (P ++ mid) (P ++ hi) ++ k) ≡ rightMore lo mid hi ++ k
+  pub right-grows : (k : List ℕ) → drop (length (shared (prefix ++ lo) (prefix ++ hi))) (shared (prefix ++ mid) (prefix ++ hi) ++ k) ≡ rightMore lo mid hi ++ k
   unfolding rightMore
-  right-grows k = ap₂ (λ a b. drop (length a) (b ++ k)) (shared-append P lo hi) (shared-append P mid hi) ∙ under-prefix (shared mid hi) k right-less
+  right-grows k = ap₂ (λ a b. drop (length a) (b ++ k)) (shared-append prefix lo hi) (shared-append prefix mid hi) ∙ under-prefix (shared mid hi) k right-less
 
   module _ (s : List ℕ) (level a b : ℕ) (few : nodesOf (length s) ≤ 1024) (ua : usable (nodesOf (length s)) (treeAt level s a) ≡ true)
       (ub : usable (nodesOf (length s)) (treeAt level s b) ≡ true) where
     abbrev J : List ℕ
-    J = shared (P ++ lo) (P ++ hi)
+    J = shared (prefix ++ lo) (prefix ++ hi)
 
     abbrev L₁ : List ℕ
-    L₁ = shared (P ++ lo) (P ++ mid)
+    L₁ = shared (prefix ++ lo) (prefix ++ mid)
 
     abbrev L₂ : List ℕ
-    L₂ = shared (P ++ mid) (P ++ hi)
+    L₂ = shared (prefix ++ mid) (prefix ++ hi)
 
     abbrev t : Tree
     t = treeAt level s a
@@ -286,7 +286,7 @@ module _ (P lo mid hi : List ℕ) (rises : before lo mid ≡ true) (goes : befor
     arrange true false c false e = refl
     arrange false b₁ c d e = refl
 
-    pub fits-would : pairFits s a b lo mid hi ≡ wouldFit t u (P ++ lo) (P ++ mid) (P ++ hi)
+    pub fits-would : pairFits s a b lo mid hi ≡ wouldFit t u (prefix ++ lo) (prefix ++ mid) (prefix ++ hi)
     unfolding wouldFit
     fits-would =
         fits-is ∙ go (noMessage t && treeShort J L₁ t) refl (noMessage u && treeShort J L₂ u) refl
@@ -299,9 +299,9 @@ module _ (P lo mid hi : List ℕ) (rises : before lo mid ≡ true) (goes : befor
         go false p y q = left-bad p ∙ sym (ap₂ (λ x z. x && z && leb (treeBytes J L₁ t + treeBytes J L₂ u) 1016) p q)
 
     -- what is written for both
-    pub both-merged : Pair t u → bothEntries s a b lo mid hi ≡ bytesOfAll (entriesFor (merged t u (P ++ lo) (P ++ mid) (P ++ hi)))
+    pub both-merged : Pair t u → bothEntries s a b lo mid hi ≡ bytesOfAll (entriesFor (merged t u (prefix ++ lo) (prefix ++ mid) (prefix ++ hi)))
     unfolding bothEntries
     both-merged p =
         ap₂ (λ x y. bytesOfAll (prefixedAll (leftMore lo mid hi) x) ++ bytesOfAll (prefixedAll (rightMore lo mid hi) y)) (lists-tree s a level ua) (lists-tree s b level ub)
         ∙ sym (bytes-append (prefixedAll (leftMore lo mid hi) (entriesFor t)) (prefixedAll (rightMore lo mid hi) (entriesFor u)))
-        ∙ ap bytesOfAll (merged-entries p (P ++ lo) (P ++ mid) (P ++ hi) (leftMore lo mid hi) (rightMore lo mid hi) left-grows right-grows)
+        ∙ ap bytesOfAll (merged-entries p (prefix ++ lo) (prefix ++ mid) (prefix ++ hi) (leftMore lo mid hi) (rightMore lo mid hi) left-grows right-grows)

@@ -129,8 +129,8 @@ module _ (s : List ℕ) (n : ℕ) (h : List ℕ) (m : Mendable s n h) where
   abbrev e : sound s ≡ true
   e = m .is-sound
 
-  abbrev P : List ℕ
-  P = shared (x .low) (x .high)
+  abbrev prefix : List ℕ
+  prefix = shared (x .low) (x .high)
 
   abbrev d : ℕ
   d = l s n x e p c
@@ -144,16 +144,16 @@ module _ (s : List ℕ) (n : ℕ) (h : List ℕ) (m : Mendable s n h) where
   pub own-high : ownHigh x ≡ h
   own-high = Option·some-injective (ownHigh x) h (sym (some-here (treeOf s) n (headerOf s .levels) [] lowest highest x (at-place s n x e p c) c) ∙ m .high)
 
-  high-whole : P ++ h ≡ x .high
-  high-whole = ap (λ z. P ++ z) (sym own-high) ∙ begins-split P (x .high) (shared-right (x .low) (x .high))
+  high-whole : prefix ++ h ≡ x .high
+  high-whole = ap (λ z. prefix ++ z) (sym own-high) ∙ begins-split prefix (x .high) (shared-right (x .low) (x .high))
 
   forest : forestOf (λ j. treeAt (suc d) s j) K ≡ x .children
   forest = forest-is s n x e p c
 
-  branches-sound : soundForest (x .children) P (x .low) (x .high) ≡ true
+  branches-sound : soundForest (x .children) prefix (x .low) (x .high) ≡ true
   unfolding goodPlace
   branches-sound =
-      and-left (soundForest (x .children) P (x .low) (x .high)) _
+      and-left (soundForest (x .children) prefix (x .low) (x .high)) _
       (place-test goodPlace n (reachable (treeOf s) (headerOf s .levels) lowest highest) x
       (places-good (treeOf s) (headerOf s .levels) lowest highest (whole-sound s n x e p c) (image-tall s (whole-sound s n x e p c))) (at-place s n x e p c))
 
@@ -165,7 +165,7 @@ module _ (s : List ℕ) (n : ℕ) (h : List ℕ) (m : Mendable s n h) where
 
   branches-usable : usableIn (nodesOf (length s)) (x .children) ≡ true
   branches-usable =
-      sound-usable-in (x .children) (nodesOf (length s)) P (x .low) (x .high) branches-sound
+      sound-usable-in (x .children) (nodesOf (length s)) prefix (x .low) (x .high) branches-sound
       (range-later (nodesOf (length s)) n (numbersIn (x .children)) (range-sub (nodesOf (length s)) (sub s n x e p c) (whole-range s n x e p c)))
 
   own-usable : usable (nodesOf (length s)) (treeAt (x .level) s n) ≡ true
@@ -191,8 +191,8 @@ module _ (s : List ℕ) (n : ℕ) (h : List ℕ) (m : Mendable s n h) where
   node-fits = let z = ap (λ es. length (bytesOfAll es)) (lists s n x e p c) in omega (arith, good-entries s n x e p c .0)
 
   -- the search
-  f-sound : soundForest (forestOf (λ j. treeAt (suc d) s j) K) P (x .low) (P ++ h) ≡ true
-  f-sound = ap₂ (λ f z. soundForest f P (x .low) z) forest high-whole ∙ branches-sound
+  f-sound : soundForest (forestOf (λ j. treeAt (suc d) s j) K) prefix (x .low) (prefix ++ h) ≡ true
+  f-sound = ap₂ (λ f z. soundForest f prefix (x .low) z) forest high-whole ∙ branches-sound
 
   f-usable : usableIn (nodesOf (length s)) (forestOf (λ j. treeAt (suc d) s j) K) ≡ true
   f-usable = ap (usableIn (nodesOf (length s))) forest ∙ branches-usable
@@ -200,43 +200,43 @@ module _ (s : List ℕ) (n : ℕ) (h : List ℕ) (m : Mendable s n h) where
   f-tall : tallIn (forestOf (λ j. treeAt (suc d) s j) K) (suc d) ≡ true
   f-tall = ap (λ f. tallIn f (suc d)) forest ∙ branches-tall
 
-  any-is : anyFits K h s ≡ not (unmergeable (x .children) P (x .high))
-  any-is = any-mergeable s d P h (x .low) few K f-sound f-usable ∙ ap₂ (λ f z. not (unmergeable f P z)) forest high-whole
+  any-is : anyFits K h s ≡ not (unmergeable (x .children) prefix (x .high))
+  any-is = any-mergeable s d prefix h (x .low) few K f-sound f-usable ∙ ap₂ (λ f z. not (unmergeable f prefix z)) forest high-whole
 
   -- NONE FITS: the rule holds
   pub none-fits : anyFits K h s ≡ false → unmergeableAt x ≡ true
   unfolding unmergeableAt
-  none-fits q = not-back (anyFits K h s) (unmergeable (x .children) P (x .high)) q any-is
+  none-fits q = not-back (anyFits K h s) (unmergeable (x .children) prefix (x .high)) q any-is
 
   -- TWO FIT: the step
   module _ (q : anyFits K h s ≡ true) (level : ℕ) (lv : level ≡ u16 s (n * 1024 + 4)) where
     abbrev k : ℕ
-    k = firstPair (x .children) P (x .high)
+    k = firstPair (x .children) prefix (x .high)
 
-    some-fit : unmergeable (x .children) P (x .high) ≡ false
-    some-fit = not-flip (anyFits K h s) (unmergeable (x .children) P (x .high)) q any-is
+    some-fit : unmergeable (x .children) prefix (x .high) ≡ false
+    some-fit = not-flip (anyFits K h s) (unmergeable (x .children) prefix (x .high)) q any-is
 
-    joined : pairAt k (x .children) P (x .high) ≡ true
-    joined = first-pair (x .children) P (x .high) (suc d) branches-tall some-fit
+    joined : pairAt k (x .children) prefix (x .high) ≡ true
+    joined = first-pair (x .children) prefix (x .high) (suc d) branches-tall some-fit
 
     heads-once : once (heads (x .children)) ≡ true
     heads-once = ap once (heads-are s n x e p c) ∙ branches-once s n x e p c
 
-    node-page : page 2 level (bytesOfAll (withoutChild (rightAt k (x .children)) (listing s n))) ≡ pageFor (suc (suc d)) (interior n (joinAt k (x .children) P (x .high)) (x .messages))
+    node-page : page 2 level (bytesOfAll (withoutChild (rightAt k (x .children)) (listing s n))) ≡ pageFor (suc (suc d)) (interior n (joinAt k (x .children) prefix (x .high)) (x .messages))
     unfolding pageFor pageOf
     node-page =
         ap₂ (λ v es. page 2 v (bytesOfAll (withoutChild (rightAt k (x .children)) es))) (lv ∙ stored-level s n x e p c ∙ level-is s n x e p c) own-entries
-        ∙ ap (λ es. page 2 (suc (suc d)) (bytesOfAll es)) (entries-join k (x .children) (x .messages) P (x .high) joined heads-once)
+        ∙ ap (λ es. page 2 (suc (suc d)) (bytesOfAll es)) (entries-join k (x .children) (x .messages) prefix (x .high) joined heads-once)
 
     abbrev bytes : List ℕ
     bytes = stepBytes s n x d k e (at-place s n x e p c) (level-is s n x e p c) joined
 
     wrote : firstJoined n level (listing s n) K h s ≡ bytes
     wrote =
-        first-joined s d P h (x .low) few n level (listing s n) K f-sound f-usable f-tall q
-        ∙ ap₂ (λ f z. writeNode (writeNode s (leftAt (firstPair f P z) f) (pageFor (suc d) (mergedAt (firstPair f P z) f P z))) n
-        (page 2 level (bytesOfAll (withoutChild (rightAt (firstPair f P z) f) (listing s n))))) forest high-whole
-        ∙ ap (writeNode (writeNode s (leftAt k (x .children)) (pageFor (suc d) (mergedAt k (x .children) P (x .high)))) n) node-page
+        first-joined s d prefix h (x .low) few n level (listing s n) K f-sound f-usable f-tall q
+        ∙ ap₂ (λ f z. writeNode (writeNode s (leftAt (firstPair f prefix z) f) (pageFor (suc d) (mergedAt (firstPair f prefix z) f prefix z))) n
+        (page 2 level (bytesOfAll (withoutChild (rightAt (firstPair f prefix z) f) (listing s n))))) forest high-whole
+        ∙ ap (writeNode (writeNode s (leftAt k (x .children)) (pageFor (suc d) (mergedAt k (x .children) prefix (x .high)))) n) node-page
 
     module _ (s′ : List ℕ) (is : s′ ≡ firstJoined n level (listing s n) K h s) where
       same : s′ ≡ bytes
@@ -272,7 +272,7 @@ module _ (s : List ℕ) (n : ℕ) (h : List ℕ) (m : Mendable s n h) where
 
       has-some : hasChildren (rechilded stepped x .children) ≡ true
       unfolding rechilded
-      has-some = stepped-some (x .children) P (x .high) c
+      has-some = stepped-some (x .children) prefix (x .high) c
 
       interior-still : isInterior (reachableAt n (reachableNodes s′)) ≡ true
       unfolding isInterior
@@ -290,7 +290,7 @@ module _ (s : List ℕ) (n : ℕ) (h : List ℕ) (m : Mendable s n h) where
       pub still-mendable : Mendable s′ n h
       still-mendable = record { whole = ap wholeNodes size-stays ∙ m .whole; is-sound = new-sound; reached = interior-still; high = still-high }
 
-      new-branches : branchCount (rechilded stepped x .children) ≡ branchCount (joinAt k (x .children) P (x .high))
+      new-branches : branchCount (rechilded stepped x .children) ≡ branchCount (joinAt k (x .children) prefix (x .high))
       unfolding rechilded stepped
       new-branches = refl
 
@@ -300,7 +300,7 @@ module _ (s : List ℕ) (n : ℕ) (h : List ℕ) (m : Mendable s n h) where
           ap branchCount (sym (forest-is s′ n (rechilded stepped x) new-sound place has-some))
           ∙ branch-count (λ j. treeAt (suc (l s′ n (rechilded stepped x) new-sound place has-some)) s′ j) (branchesAmong (listing s′ n)) in
           let b : branchCount (x .children) ≡ branchesLeft s n = ap branchCount (sym forest) ∙ branch-count (λ j. treeAt (suc d) s j) K in
-          let g = join-less (x .children) P (x .high) (suc d) branches-tall some-fit in
+          let g = join-less (x .children) prefix (x .high) (suc d) branches-tall some-fit in
           let r = new-branches in
           omega arith
 

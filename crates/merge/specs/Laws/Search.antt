@@ -175,18 +175,18 @@ entries-join (suc k) (tree s t (tree q u f)) ms lifted hi e o =
     let rest = entries-join k (tree q u f) ms lifted hi e (and-right (not (isIn (numberOf t) (heads (tree q u f)))) _ o) in
     rw far (ap (λ l. child (numberOf t) s ∷ l) rest)
 
--- THE SEARCH over the children of a node that lifts P and whose high pivot is P ++ h
-module _ (s : List ℕ) (l : ℕ) (P h low : List ℕ) (few : nodesOf (length s) ≤ 1024) where
+-- THE SEARCH over the children of a node that lifts `prefix` and whose high pivot is `prefix` ++ h
+module _ (s : List ℕ) (l : ℕ) (prefix h low : List ℕ) (few : nodesOf (length s) ≤ 1024) where
   abbrev under : ℕ → Tree
   under j = treeAt (suc l) s j
 
-  high-is : (ks : List Branch) → highOf P (P ++ h) (forestOf under ks) ≡ P ++ branchHigh h ks
+  high-is : (ks : List Branch) → highOf prefix (prefix ++ h) (forestOf under ks) ≡ prefix ++ branchHigh h ks
   unfolding highOf forestOf branchHigh
   high-is [] = refl
   high-is (k ∷ ks) = refl
 
   -- one pair
-  module _ (k q : Branch) (ks : List Branch) (sn : soundForest (forestOf under (k ∷ q ∷ ks)) P low (P ++ h) ≡ true) (us : usableIn (nodesOf (length s)) (forestOf under (k ∷ q ∷ ks)) ≡ true) where
+  module _ (k q : Branch) (ks : List Branch) (sn : soundForest (forestOf under (k ∷ q ∷ ks)) prefix low (prefix ++ h) ≡ true) (us : usableIn (nodesOf (length s)) (forestOf under (k ∷ q ∷ ks)) ≡ true) where
     abbrev t : Tree
     t = under (k .number)
 
@@ -198,13 +198,13 @@ module _ (s : List ℕ) (l : ℕ) (P h low : List ℕ) (few : nodesOf (length s)
 
     first-rises : before (k .pivot) (q .pivot) ≡ true
     unfolding forestOf highOf
-    first-rises = sym (before-append P (k .pivot) (q .pivot)) ∙ parts (k .pivot) t (tree (q .pivot) u f) P low (P ++ h) sn .rises
+    first-rises = sym (before-append prefix (k .pivot) (q .pivot)) ∙ parts (k .pivot) t (tree (q .pivot) u f) prefix low (prefix ++ h) sn .rises
 
     second-rises : before (q .pivot) (branchHigh h ks) ≡ true
     unfolding forestOf
     second-rises =
-        sym (before-append P (q .pivot) (branchHigh h ks)) ∙ ap (before (P ++ q .pivot)) (sym (high-is ks))
-        ∙ parts (q .pivot) u f P low (P ++ h) (parts (k .pivot) t (tree (q .pivot) u f) P low (P ++ h) sn .later) .rises
+        sym (before-append prefix (q .pivot) (branchHigh h ks)) ∙ ap (before (prefix ++ q .pivot)) (sym (high-is ks))
+        ∙ parts (q .pivot) u f prefix low (prefix ++ h) (parts (k .pivot) t (tree (q .pivot) u f) prefix low (prefix ++ h) sn .later) .rises
 
     left-usable : usable (nodesOf (length s)) t ≡ true
     unfolding forestOf usableIn
@@ -214,22 +214,22 @@ module _ (s : List ℕ) (l : ℕ) (P h low : List ℕ) (few : nodesOf (length s)
     unfolding forestOf usableIn
     right-usable = and-left (usable (nodesOf (length s)) u) _ (and-right (usable (nodesOf (length s)) t) _ us)
 
-    pub pair-would : pairFits s (k .number) (q .number) (k .pivot) (q .pivot) (branchHigh h ks) ≡ wouldFit t u (P ++ k .pivot) (P ++ q .pivot) (highOf P (P ++ h) f)
+    pub pair-would : pairFits s (k .number) (q .number) (k .pivot) (q .pivot) (branchHigh h ks) ≡ wouldFit t u (prefix ++ k .pivot) (prefix ++ q .pivot) (highOf prefix (prefix ++ h) f)
     pair-would =
-        fits-would P (k .pivot) (q .pivot) (branchHigh h ks) first-rises second-rises s (suc l) (k .number) (q .number) few left-usable right-usable
-        ∙ ap (wouldFit t u (P ++ k .pivot) (P ++ q .pivot)) (sym (high-is ks))
+        fits-would prefix (k .pivot) (q .pivot) (branchHigh h ks) first-rises second-rises s (suc l) (k .number) (q .number) few left-usable right-usable
+        ∙ ap (wouldFit t u (prefix ++ k .pivot) (prefix ++ q .pivot)) (sym (high-is ks))
 
     pub left-page : Pair t u → leftWritten s (k .number) (q .number) (k .pivot) (q .pivot) (branchHigh h ks)
-        ≡ writeNode s (numberOf t) (pageFor (suc l) (merged t u (P ++ k .pivot) (P ++ q .pivot) (highOf P (P ++ h) f)))
+        ≡ writeNode s (numberOf t) (pageFor (suc l) (merged t u (prefix ++ k .pivot) (prefix ++ q .pivot) (highOf prefix (prefix ++ h) f)))
     unfolding leftWritten
     left-page p =
         let d = head-of s (k .number) (suc l) left-usable in
-        let e : bothEntries s (k .number) (q .number) (k .pivot) (q .pivot) (branchHigh h ks) ≡ bytesOfAll (entriesFor (merged t u (P ++ k .pivot) (P ++ q .pivot) (highOf P (P ++ h) f))) =
-        both-merged P (k .pivot) (q .pivot) (branchHigh h ks) first-rises second-rises s (suc l) (k .number) (q .number) few left-usable right-usable p
-        ∙ ap (λ z. bytesOfAll (entriesFor (merged t u (P ++ k .pivot) (P ++ q .pivot) z))) (sym (high-is ks)) in
+        let e : bothEntries s (k .number) (q .number) (k .pivot) (q .pivot) (branchHigh h ks) ≡ bytesOfAll (entriesFor (merged t u (prefix ++ k .pivot) (prefix ++ q .pivot) (highOf prefix (prefix ++ h) f))) =
+        both-merged prefix (k .pivot) (q .pivot) (branchHigh h ks) first-rises second-rises s (suc l) (k .number) (q .number) few left-usable right-usable p
+        ∙ ap (λ z. bytesOfAll (entriesFor (merged t u (prefix ++ k .pivot) (prefix ++ q .pivot) z))) (sym (high-is ks)) in
         ap₂ (λ a b. writeNode s (k .number) (page a b (bothEntries s (k .number) (q .number) (k .pivot) (q .pivot) (branchHigh h ks)))) (d .kind) (d .level-is)
         ∙ ap (λ b. writeNode s (k .number) (page (kindFor t) (suc l) b)) e
-        ∙ ap₂ (λ a b. writeNode s a b) (sym (number-read (suc l) s (k .number))) (page-merged p (suc l) (P ++ k .pivot) (P ++ q .pivot) (highOf P (P ++ h) f))
+        ∙ ap₂ (λ a b. writeNode s a b) (sym (number-read (suc l) s (k .number))) (page-merged p (suc l) (prefix ++ k .pivot) (prefix ++ q .pivot) (highOf prefix (prefix ++ h) f))
 
   any-choice : (a b c d : Bool) → a ≡ b → c ≡ not d → cond a true c ≡ not (not b && d)
   any-choice true true c d e f = refl
@@ -241,13 +241,13 @@ module _ (s : List ℕ) (l : ℕ) (P h low : List ℕ) (few : nodesOf (length s)
   unfolding forestOf usableIn
   later-usable k ks us = and-right (usable (nodesOf (length s)) (under (k .number))) _ us
 
-  later-sound : (k : Branch) (ks : List Branch) → soundForest (forestOf under (k ∷ ks)) P low (P ++ h) ≡ true → soundForest (forestOf under ks) P low (P ++ h) ≡ true
+  later-sound : (k : Branch) (ks : List Branch) → soundForest (forestOf under (k ∷ ks)) prefix low (prefix ++ h) ≡ true → soundForest (forestOf under ks) prefix low (prefix ++ h) ≡ true
   unfolding forestOf
-  later-sound k ks sn = parts (k .pivot) (under (k .number)) (forestOf under ks) P low (P ++ h) sn .later
+  later-sound k ks sn = parts (k .pivot) (under (k .number)) (forestOf under ks) prefix low (prefix ++ h) sn .later
 
   -- there are such two just where the rule finds them
-  pub any-mergeable : (ks : List Branch) → soundForest (forestOf under ks) P low (P ++ h) ≡ true → usableIn (nodesOf (length s)) (forestOf under ks) ≡ true
-      → anyFits ks h s ≡ not (unmergeable (forestOf under ks) P (P ++ h))
+  pub any-mergeable : (ks : List Branch) → soundForest (forestOf under ks) prefix low (prefix ++ h) ≡ true → usableIn (nodesOf (length s)) (forestOf under ks) ≡ true
+      → anyFits ks h s ≡ not (unmergeable (forestOf under ks) prefix (prefix ++ h))
   unfolding anyFits unmergeable forestOf
   any-mergeable [] sn us = refl
   any-mergeable (k ∷ []) sn us = refl
@@ -258,30 +258,30 @@ module _ (s : List ℕ) (l : ℕ) (P h low : List ℕ) (few : nodesOf (length s)
   -- the store after the first two are joined
   module _ (n level : ℕ) (es : List Entry) where
     abbrev pub joinedAt : ℕ → Forest → List ℕ
-    joinedAt k f = writeNode (writeNode s (leftAt k f) (pageFor (suc l) (mergedAt k f P (P ++ h)))) n (page 2 level (bytesOfAll (withoutChild (rightAt k f) es)))
+    joinedAt k f = writeNode (writeNode s (leftAt k f) (pageFor (suc l) (mergedAt k f prefix (prefix ++ h)))) n (page 2 level (bytesOfAll (withoutChild (rightAt k f) es)))
 
     -- the two in front are joined, or the search goes on
     module _ (k q : Branch) (ks : List Branch) (kind : sameKind (under (k .number)) (under (q .number)) ≡ true) where
       abbrev full : Bool
-      full = wouldFit (under (k .number)) (under (q .number)) (P ++ k .pivot) (P ++ q .pivot) (highOf P (P ++ h) (forestOf under ks))
+      full = wouldFit (under (k .number)) (under (q .number)) (prefix ++ k .pivot) (prefix ++ q .pivot) (highOf prefix (prefix ++ h) (forestOf under ks))
 
       abbrev fits : Bool
       fits = pairFits s (k .number) (q .number) (k .pivot) (q .pivot) (branchHigh h ks)
 
       here : fits ≡ true → full ≡ true
           → (Pair (under (k .number)) (under (q .number)) → leftWritten s (k .number) (q .number) (k .pivot) (q .pivot) (branchHigh h ks)
-          ≡ writeNode s (numberOf (under (k .number))) (pageFor (suc l) (merged (under (k .number)) (under (q .number)) (P ++ k .pivot) (P ++ q .pivot) (highOf P (P ++ h) (forestOf under ks)))))
-          → firstJoined n level es (k ∷ q ∷ ks) h s ≡ joinedAt (firstPair (forestOf under (k ∷ q ∷ ks)) P (P ++ h)) (forestOf under (k ∷ q ∷ ks))
+          ≡ writeNode s (numberOf (under (k .number))) (pageFor (suc l) (merged (under (k .number)) (under (q .number)) (prefix ++ k .pivot) (prefix ++ q .pivot) (highOf prefix (prefix ++ h) (forestOf under ks)))))
+          → firstJoined n level es (k ∷ q ∷ ks) h s ≡ joinedAt (firstPair (forestOf under (k ∷ q ∷ ks)) prefix (prefix ++ h)) (forestOf under (k ∷ q ∷ ks))
       unfolding firstJoined firstPair forestOf joins leftAt mergedAt rightAt pairJoined nodeWithout
       here e w page-is =
           let p : Pair (under (k .number)) (under (q .number)) =
-          join-pair (under (k .number)) (under (q .number)) (P ++ k .pivot) (P ++ q .pivot) (highOf P (P ++ h) (forestOf under ks)) (unfold joins in both kind w) in
+          join-pair (under (k .number)) (under (q .number)) (prefix ++ k .pivot) (prefix ++ q .pivot) (highOf prefix (prefix ++ h) (forestOf under ks)) (unfold joins in both kind w) in
           rw (e, kind, w)
           (ap₂ (λ r b. writeNode r n (page 2 level (bytesOfAll (withoutChild b es)))) (page-is p) (sym (number-read (suc l) s (q .number))))
 
       there : fits ≡ false → full ≡ false
-          → firstJoined n level es (q ∷ ks) h s ≡ joinedAt (firstPair (forestOf under (q ∷ ks)) P (P ++ h)) (forestOf under (q ∷ ks))
-          → firstJoined n level es (k ∷ q ∷ ks) h s ≡ joinedAt (firstPair (forestOf under (k ∷ q ∷ ks)) P (P ++ h)) (forestOf under (k ∷ q ∷ ks))
+          → firstJoined n level es (q ∷ ks) h s ≡ joinedAt (firstPair (forestOf under (q ∷ ks)) prefix (prefix ++ h)) (forestOf under (q ∷ ks))
+          → firstJoined n level es (k ∷ q ∷ ks) h s ≡ joinedAt (firstPair (forestOf under (k ∷ q ∷ ks)) prefix (prefix ++ h)) (forestOf under (k ∷ q ∷ ks))
       unfolding firstJoined firstPair forestOf joins leftAt mergedAt rightAt
       there e w ih = rw (e, kind, w) ih
 
@@ -289,13 +289,13 @@ module _ (s : List ℕ) (l : ℕ) (P h low : List ℕ) (few : nodesOf (length s)
       unfolding anyFits
       rest-any e a = rw e at a
 
-    pub first-joined : (ks : List Branch) → soundForest (forestOf under ks) P low (P ++ h) ≡ true → usableIn (nodesOf (length s)) (forestOf under ks) ≡ true
-        → tallIn (forestOf under ks) (suc l) ≡ true → anyFits ks h s ≡ true → firstJoined n level es ks h s ≡ joinedAt (firstPair (forestOf under ks) P (P ++ h)) (forestOf under ks)
+    pub first-joined : (ks : List Branch) → soundForest (forestOf under ks) prefix low (prefix ++ h) ≡ true → usableIn (nodesOf (length s)) (forestOf under ks) ≡ true
+        → tallIn (forestOf under ks) (suc l) ≡ true → anyFits ks h s ≡ true → firstJoined n level es ks h s ≡ joinedAt (firstPair (forestOf under ks) prefix (prefix ++ h)) (forestOf under ks)
     unfolding anyFits forestOf
     first-joined [] sn us ta e = absurd (false≢true e)
     first-joined (k ∷ []) sn us ta e = absurd (false≢true e)
     first-joined (k ∷ q ∷ ks) sn us ta e =
-        go (wouldFit (under (k .number)) (under (q .number)) (P ++ k .pivot) (P ++ q .pivot) (highOf P (P ++ h) (forestOf under ks))) refl
+        go (wouldFit (under (k .number)) (under (q .number)) (prefix ++ k .pivot) (prefix ++ q .pivot) (highOf prefix (prefix ++ h) (forestOf under ks))) refl
         (λ w. first-joined (q ∷ ks) (later-sound k (q ∷ ks) sn) (later-usable k (q ∷ ks) us) (tall-later (k .pivot) (under (k .number)) (forestOf under (q ∷ ks)) (suc l) ta) w)
       where
         kind : sameKind (under (k .number)) (under (q .number)) ≡ true
@@ -303,8 +303,8 @@ module _ (s : List ℕ) (l : ℕ) (P h low : List ℕ) (few : nodesOf (length s)
             one-kind (under (k .number)) (under (q .number)) (suc l) (tall-first (k .pivot) (under (k .number)) (forestOf under (q ∷ ks)) (suc l) ta)
             (tall-first (q .pivot) (under (q .number)) (forestOf under ks) (suc l) (tall-later (k .pivot) (under (k .number)) (forestOf under (q ∷ ks)) (suc l) ta))
 
-        go : (x : Bool) → wouldFit (under (k .number)) (under (q .number)) (P ++ k .pivot) (P ++ q .pivot) (highOf P (P ++ h) (forestOf under ks)) ≡ x
-            → (anyFits (q ∷ ks) h s ≡ true → firstJoined n level es (q ∷ ks) h s ≡ joinedAt (firstPair (forestOf under (q ∷ ks)) P (P ++ h)) (forestOf under (q ∷ ks)))
-            → firstJoined n level es (k ∷ q ∷ ks) h s ≡ joinedAt (firstPair (forestOf under (k ∷ q ∷ ks)) P (P ++ h)) (forestOf under (k ∷ q ∷ ks))
+        go : (x : Bool) → wouldFit (under (k .number)) (under (q .number)) (prefix ++ k .pivot) (prefix ++ q .pivot) (highOf prefix (prefix ++ h) (forestOf under ks)) ≡ x
+            → (anyFits (q ∷ ks) h s ≡ true → firstJoined n level es (q ∷ ks) h s ≡ joinedAt (firstPair (forestOf under (q ∷ ks)) prefix (prefix ++ h)) (forestOf under (q ∷ ks)))
+            → firstJoined n level es (k ∷ q ∷ ks) h s ≡ joinedAt (firstPair (forestOf under (k ∷ q ∷ ks)) prefix (prefix ++ h)) (forestOf under (k ∷ q ∷ ks))
         go true w ih = here k q ks kind (pair-would k q ks sn us ∙ w) w (left-page k q ks sn us)
         go false w ih = there k q ks kind (pair-would k q ks sn us ∙ w) w (ih (rest-any k q ks kind (pair-would k q ks sn us ∙ w) e))

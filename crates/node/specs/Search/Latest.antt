@@ -98,17 +98,17 @@ pub latest-start : (s : List ℕ) (es : List defined.Entry) (rest : List ℕ) �
 unfolding latestIn
 latest-start s es rest = newer-nothing (newestAmong es rest)
 
-pub latest-step : (s : List ℕ) (best r : Latest) (e : Entry) (es ts : List defined.Entry) (rest : List ℕ) (X : Said) → es ≡ entryIn s e ∷ ts
-    → LatestIs s (said s best e rest) r → newer (latestIn s best) (newestAmong es rest) ≡ X → newer (latestIn s r) (newestAmong ts rest) ≡ X
+pub latest-step : (s : List ℕ) (best r : Latest) (e : Entry) (es ts : List defined.Entry) (rest : List ℕ) (answer : Said) → es ≡ entryIn s e ∷ ts
+    → LatestIs s (said s best e rest) r → newer (latestIn s best) (newestAmong es rest) ≡ answer → newer (latestIn s r) (newestAmong ts rest) ≡ answer
 unfolding newestAmong said
-latest-step s best r e es ts rest X q h inv =
-    let w : newer (latestIn s best) (newer (entrySays (entryIn s e) rest) (newestAmong ts rest)) ≡ X = rw q at inv in
+latest-step s best r e es ts rest answer q h inv =
+    let w : newer (latestIn s best) (newer (entrySays (entryIn s e) rest) (newestAmong ts rest)) ≡ answer = rw q at inv in
     rw (h .meant) (sym (newer-assoc (latestIn s best) (entrySays (entryIn s e) rest) (newestAmong ts rest)) ∙ w)
 
-pub latest-end : (s : List ℕ) (best : Latest) (es : List defined.Entry) (rest : List ℕ) (X : Said) → es ≡ []
-    → newer (latestIn s best) (newestAmong es rest) ≡ X → latestIn s best ≡ X
+pub latest-end : (s : List ℕ) (best : Latest) (es : List defined.Entry) (rest : List ℕ) (answer : Said) → es ≡ []
+    → newer (latestIn s best) (newestAmong es rest) ≡ answer → latestIn s best ≡ answer
 unfolding newestAmong newer
-latest-end s best es rest X q inv = rw q at inv
+latest-end s best es rest answer q inv = rw q at inv
 
 -- what the places of a message and of an entry keep to
 pub put-places : (n : ℕ) (m : Message) (p v : Place) → MessageWithin 0 n m → m ≡ Message.Put p v → Within 0 n p × Within 0 n v
@@ -175,12 +175,12 @@ quiet nothing g = refl
 quiet (says v) g = absurd (true≢false g)
 
 -- an entry that does not cover the rest may be passed
-pub uncovered-step : (s : List ℕ) (best : Latest) (b : Bool) (e : Entry) (es ts : List defined.Entry) (rest : List ℕ) (X : Said) → es ≡ entryIn s e ∷ ts
+pub uncovered-step : (s : List ℕ) (best : Latest) (b : Bool) (e : Entry) (es ts : List defined.Entry) (rest : List ℕ) (answer : Said) → es ≡ entryIn s e ∷ ts
     → b ≡ covers (entrySays (entryIn s e) rest) → b ≡ false
-    → newer (latestIn s best) (newestAmong es rest) ≡ X → newer (latestIn s best) (newestAmong ts rest) ≡ X
+    → newer (latestIn s best) (newestAmong es rest) ≡ answer → newer (latestIn s best) (newestAmong ts rest) ≡ answer
 unfolding newestAmong
-uncovered-step s best b e es ts rest X q h f inv =
-    let w : newer (latestIn s best) (newer (entrySays (entryIn s e) rest) (newestAmong ts rest)) ≡ X = rw q at inv in
+uncovered-step s best b e es ts rest answer q h f inv =
+    let w : newer (latestIn s best) (newer (entrySays (entryIn s e) rest) (newestAmong ts rest)) ≡ answer = rw q at inv in
     let z : entrySays (entryIn s e) rest ≡ nothing = quiet (entrySays (entryIn s e) rest) (sym h ∙ f) in
     let y : newer (entrySays (entryIn s e) rest) (newestAmong ts rest) ≡ newestAmong ts rest = ap (λ x. newer x (newestAmong ts rest)) z ∙ newer-nothing (newestAmong ts rest) in
     ap (newer (latestIn s best)) (sym y) ∙ w

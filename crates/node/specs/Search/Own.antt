@@ -109,22 +109,22 @@ module _ (s hi rest : List ℕ) (i : ℕ) (p : Place) where
   unfolding ownerOf ownerIn OwnerFits branchHigh
   last-no b e h = record { meant = rw (sym e ∙ h); fits = tt }
 
-  pub at-last : (ks : List image.Branch) (X : Option Range) (r : Owner) → ks ≡ [] → ownerOf (branch i (part s p) ∷ ks) hi rest ≡ X
-      → Owned s hi (ownerOf (branch i (part s p) ∷ []) hi rest) r → Owned s hi X r
-  at-last ks X r q inv o = record { meant = o .meant ∙ ap (λ l. ownerOf (branch i (part s p) ∷ l) hi rest) (sym q) ∙ inv; fits = o .fits }
+  pub at-last : (ks : List image.Branch) (answer : Option Range) (r : Owner) → ks ≡ [] → ownerOf (branch i (part s p) ∷ ks) hi rest ≡ answer
+      → Owned s hi (ownerOf (branch i (part s p) ∷ []) hi rest) r → Owned s hi answer r
+  at-last ks answer r q inv o = record { meant = o .meant ∙ ap (λ l. ownerOf (branch i (part s p) ∷ l) hi rest) (sym q) ∙ inv; fits = o .fits }
 
-  pub inner-yes : (k : ℕ) (t : Place) (ks us : List image.Branch) (X : Option Range) (b : Bool) → ks ≡ branch k (part s t) ∷ us → b ≡ owns (part s p) (part s t) rest → b ≡ true
-      → ownerOf (branch i (part s p) ∷ ks) hi rest ≡ X → Within 0 (length s) p → Within 0 (length s) t → Owned s hi X (Owner.Inner i p t)
+  pub inner-yes : (k : ℕ) (t : Place) (ks us : List image.Branch) (answer : Option Range) (b : Bool) → ks ≡ branch k (part s t) ∷ us → b ≡ owns (part s p) (part s t) rest → b ≡ true
+      → ownerOf (branch i (part s p) ∷ ks) hi rest ≡ answer → Within 0 (length s) p → Within 0 (length s) t → Owned s hi answer (Owner.Inner i p t)
   unfolding ownerOf ownerIn OwnerFits branchHigh
-  inner-yes k t ks us X b q e h inv w v =
-      let z : cond (owns (part s p) (part s t) rest) (some (range i (part s p) (part s t))) (ownerOf (branch k (part s t) ∷ us) hi rest) ≡ X = rw q at inv in
+  inner-yes k t ks us answer b q e h inv w v =
+      let z : cond (owns (part s p) (part s t) rest) (some (range i (part s p) (part s t))) (ownerOf (branch k (part s t) ∷ us) hi rest) ≡ answer = rw q at inv in
       record { meant = rw (sym e ∙ h) at z; fits = (w, v) }
 
-  pub inner-no : (k : ℕ) (t : Place) (ks us : List image.Branch) (X : Option Range) (b : Bool) → ks ≡ branch k (part s t) ∷ us → b ≡ owns (part s p) (part s t) rest → b ≡ false
-      → ownerOf (branch i (part s p) ∷ ks) hi rest ≡ X → ownerOf (branch k (part s t) ∷ us) hi rest ≡ X
+  pub inner-no : (k : ℕ) (t : Place) (ks us : List image.Branch) (answer : Option Range) (b : Bool) → ks ≡ branch k (part s t) ∷ us → b ≡ owns (part s p) (part s t) rest → b ≡ false
+      → ownerOf (branch i (part s p) ∷ ks) hi rest ≡ answer → ownerOf (branch k (part s t) ∷ us) hi rest ≡ answer
   unfolding ownerOf branchHigh
-  inner-no k t ks us X b q e h inv =
-      let z : cond (owns (part s p) (part s t) rest) (some (range i (part s p) (part s t))) (ownerOf (branch k (part s t) ∷ us) hi rest) ≡ X = rw q at inv in
+  inner-no k t ks us answer b q e h inv =
+      let z : cond (owns (part s p) (part s t) rest) (some (range i (part s p) (part s t))) (ownerOf (branch k (part s t) ∷ us) hi rest) ≡ answer = rw q at inv in
       rw (sym e ∙ h) at z
 
 pub nobody-is : (s hi rest : List ℕ) (ks : List image.Branch) → ks ≡ [] → Owned s hi (ownerOf ks hi rest) Owner.Nobody

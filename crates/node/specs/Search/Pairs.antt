@@ -47,9 +47,9 @@ pub value-is : (s : List ℕ) (x : Option (List ℕ)) (v : Place) → x ≡ some
 unfolding foundIn FoundFits
 value-is s x v h w = record { meant = sym h; fits = w }
 
-pub find-end : (es : List defined.Entry) (rest : List ℕ) (X : Option (List ℕ)) → es ≡ [] → findAmong es rest ≡ X → X ≡ none
+pub find-end : (es : List defined.Entry) (rest : List ℕ) (answer : Option (List ℕ)) → es ≡ [] → findAmong es rest ≡ answer → answer ≡ none
 unfolding findAmong
-find-end es rest X q inv = sym inv ∙ rw q
+find-end es rest answer q inv = sym inv ∙ rw q
 
 other-none : (e : Entry) (s rest : List ℕ) (ts : List defined.Entry) → pairIs e ≡ Pair.Other → findAmong (entryIn s e ∷ ts) rest ≡ none
 unfolding pairIs findAmong
@@ -57,9 +57,9 @@ other-none (Entry.Pair p v) s rest ts h = let z : _≡_ {A = ℕ} 0 1 = cc in ab
 other-none (Entry.Child i p) s rest ts h = refl
 other-none (Entry.Message m) s rest ts h = refl
 
-pub find-other : (e : Entry) (s : List ℕ) (es ts : List defined.Entry) (rest : List ℕ) (X : Option (List ℕ)) → es ≡ entryIn s e ∷ ts → pairIs e ≡ Pair.Other
-    → findAmong es rest ≡ X → X ≡ none
-find-other e s es ts rest X q h inv = sym inv ∙ ap (λ l. findAmong l rest) q ∙ other-none e s rest ts h
+pub find-other : (e : Entry) (s : List ℕ) (es ts : List defined.Entry) (rest : List ℕ) (answer : Option (List ℕ)) → es ≡ entryIn s e ∷ ts → pairIs e ≡ Pair.Other
+    → findAmong es rest ≡ answer → answer ≡ none
+find-other e s es ts rest answer q h inv = sym inv ∙ ap (λ l. findAmong l rest) q ∙ other-none e s rest ts h
 
 -- the entry is the pair
 pub pair-entry : (e : Entry) (p v : Place) → pairIs e ≡ Pair.Of p v → e ≡ Entry.Pair p v
@@ -71,18 +71,18 @@ pair-entry (Entry.Message m) q w h = let z : _≡_ {A = ℕ} 0 1 = cc in absurd 
 pub pair-places : (a b : ℕ) (e : Entry) (p v : Place) → pairIs e ≡ Pair.Of p v → EntryWithin a b e → Within a b p × Within a b v
 pair-places a b e p v h w = subst (EntryWithin a b) (pair-entry e p v h) w
 
-pub find-here : (e : Entry) (p v : Place) (s : List ℕ) (es ts : List defined.Entry) (rest : List ℕ) (X : Option (List ℕ)) (b : Bool) → es ≡ entryIn s e ∷ ts
-    → pairIs e ≡ Pair.Of p v → b ≡ same rest (part s p) → b ≡ true → findAmong es rest ≡ X → X ≡ some (part s v)
+pub find-here : (e : Entry) (p v : Place) (s : List ℕ) (es ts : List defined.Entry) (rest : List ℕ) (answer : Option (List ℕ)) (b : Bool) → es ≡ entryIn s e ∷ ts
+    → pairIs e ≡ Pair.Of p v → b ≡ same rest (part s p) → b ≡ true → findAmong es rest ≡ answer → answer ≡ some (part s v)
 unfolding findAmong
-find-here e p v s es ts rest X b q h f g inv =
-    let w : findAmong (defined.pair (part s p) (part s v) ∷ ts) rest ≡ X = rw (q, pair-entry e p v h) at inv in
+find-here e p v s es ts rest answer b q h f g inv =
+    let w : findAmong (defined.pair (part s p) (part s v) ∷ ts) rest ≡ answer = rw (q, pair-entry e p v h) at inv in
     sym w ∙ rw (sym f ∙ g)
 
-pub find-on : (e : Entry) (p v : Place) (s : List ℕ) (es ts : List defined.Entry) (rest : List ℕ) (X : Option (List ℕ)) (b : Bool) → es ≡ entryIn s e ∷ ts
-    → pairIs e ≡ Pair.Of p v → b ≡ same rest (part s p) → b ≡ false → findAmong es rest ≡ X → findAmong ts rest ≡ X
+pub find-on : (e : Entry) (p v : Place) (s : List ℕ) (es ts : List defined.Entry) (rest : List ℕ) (answer : Option (List ℕ)) (b : Bool) → es ≡ entryIn s e ∷ ts
+    → pairIs e ≡ Pair.Of p v → b ≡ same rest (part s p) → b ≡ false → findAmong es rest ≡ answer → findAmong ts rest ≡ answer
 unfolding findAmong
-find-on e p v s es ts rest X b q h f g inv =
-    let w : findAmong (defined.pair (part s p) (part s v) ∷ ts) rest ≡ X = rw (q, pair-entry e p v h) at inv in
+find-on e p v s es ts rest answer b q h f g inv =
+    let w : findAmong (defined.pair (part s p) (part s v) ∷ ts) rest ≡ answer = rw (q, pair-entry e p v h) at inv in
     rw (sym f ∙ g) at w
 
 pub pair-is : (e : Entry) (p v : Place) → e ≡ Entry.Pair p v → Pair.Of p v ≡ pairIs e

@@ -9,17 +9,17 @@ use Rattle.packed.proofs.build.Tie as tie
 u16-at-requires : tie.Need-u16-at-requires
 u16-at-requires c κs = let q = empty-ready (c .before .before .before .before .args .store .now) (c .before .before .before .before .args .area .now) (c .before .before .before .before .args .m) (c .before .before .before .before .args .numbers .now) (c .before .before .before .before .pre) in let z = q .some-number in omega arith
 
-write-empty-requires : tie.Need-write-empty-requires
-write-empty-requires c κs = let q = empty-ready (c .before .before .before .before .before .before .args .store .now) (c .before .before .before .before .before .before .args .area .now) (c .before .before .before .before .before .before .args .m) (c .before .before .before .before .before .before .args .numbers .now) (c .before .before .before .before .before .before .pre) in let n = c .before .u16-at .ensures .0 in let z = q .room in let y = q .small in (omega arith, omega arith)
+write-empty-leaf-requires : tie.Need-write-empty-leaf-requires
+write-empty-leaf-requires c κs = let q = empty-ready (c .before .before .before .before .before .before .args .store .now) (c .before .before .before .before .before .before .args .area .now) (c .before .before .before .before .before .before .args .m) (c .before .before .before .before .before .before .args .numbers .now) (c .before .before .before .before .before .before .pre) in let n = c .before .u16-at .ensures .0 in let z = q .room in let y = q .small in (omega arith, omega arith)
 
-write-head-requires : tie.Need-write-head-requires
-write-head-requires c κs = let q = empty-ready (c .before .before .before .before .before .before .before .before .before .before .args .store .now) (c .before .before .before .before .before .before .before .before .before .before .args .area .now) (c .before .before .before .before .before .before .before .before .before .before .args .m) (c .before .before .before .before .before .before .before .before .before .before .args .numbers .now) (c .before .before .before .before .before .before .before .before .before .before .pre) in let z = q .room in let y = q .small in (omega arith, omega arith, omega arith, omega arith, omega arith)
+write-header-requires : tie.Need-write-header-requires
+write-header-requires c κs = let q = empty-ready (c .before .before .before .before .before .before .before .before .before .before .args .store .now) (c .before .before .before .before .before .before .before .before .before .before .args .area .now) (c .before .before .before .before .before .before .before .before .before .before .args .m) (c .before .before .before .before .before .before .before .before .before .before .args .numbers .now) (c .before .before .before .before .before .before .before .before .before .before .pre) in let z = q .room in let y = q .small in (omega arith, omega arith, omega arith, omega arith, omega arith)
 
 same-length : tie.Need-same-length
 same-length c = search needs
 
 returns : tie.Need-returns
-returns c = build-empty (c .before .before .before .before .before .before .before .before .before .before .before .before .before .args .store .now) (c .before .before .before .before .before .before .before .before .before .before .before .before .before .args .area .now) (c .before .before .before .before .before .before .before .before .before .before .before .before .before .args .m) (c .before .before .before .before .before .before .before .before .before .before .before .before .before .args .numbers .now) (c .before .before .before .before .before .before .before .before .before .before .before .before .before .pre) (omega arith) _ _ (c .before .before .before .before .before .before .before .before .u16-at .result) (c .before .before .before .before .before .before .before .before .u16-at .ensures .0) (c .before .before .before .before .before .before .write-empty .ensures) (omega arith) (c .before .before .write-head .ensures)
+returns c = build-empty (c .before .before .before .before .before .before .before .before .before .before .before .before .before .args .store .now) (c .before .before .before .before .before .before .before .before .before .before .before .before .before .args .area .now) (c .before .before .before .before .before .before .before .before .before .before .before .before .before .args .m) (c .before .before .before .before .before .before .before .before .before .before .before .before .before .args .numbers .now) (c .before .before .before .before .before .before .before .before .before .before .before .before .before .pre) (omega arith) _ _ (c .before .before .before .before .before .before .before .before .u16-at .result) (c .before .before .before .before .before .before .before .before .u16-at .ensures .0) (c .before .before .before .before .before .before .write-empty-leaf .ensures) (omega arith) (c .before .before .write-header .ensures)
 
 write-leaves-requires : tie.Need-write-leaves-requires
 write-leaves-requires c κs = let q = leaves-ready (c .before .before .before .before .before .before .args .store .now) (c .before .before .before .before .before .before .args .area .now) (c .before .before .before .before .before .before .args .m) (c .before .before .before .before .before .before .args .numbers .now) (c .before .before .before .before .before .before .pre) (omega arith) in (q .fit, omega arith, q .few, q .enough, q .ranged, q .small)
@@ -34,8 +34,8 @@ write-above-requires c κs =
 mark-at-requires : tie.Need-mark-at-requires
 mark-at-requires c κs = let q = leaves-ready (c .before .before .before .before .before .before .before .before .before .before .before .before .before .before .before .before .before .before .before .args .store .now) (c .before .before .before .before .before .before .before .before .before .before .before .before .before .before .before .before .before .before .before .args .area .now) (c .before .before .before .before .before .before .before .before .before .before .before .before .before .before .before .before .before .before .before .args .m) (c .before .before .before .before .before .before .before .before .before .before .before .before .before .before .before .before .before .before .before .args .numbers .now) (c .before .before .before .before .before .before .before .before .before .before .before .before .before .before .before .before .before .before .before .pre) (omega arith) in let r = q .fit .room in (omega arith, omega arith)
 
-write-head-requires-2 : tie.Need-write-head-requires-2
-write-head-requires-2 c κs =
+write-header-requires-2 : tie.Need-write-header-requires-2
+write-header-requires-2 c κs =
     let q = leaves-ready (c .before .before .before .before .before .before .before .before .before .before .before .before .before .before .before .before .before .before .before .before .before .args .store .now) (c .before .before .before .before .before .before .before .before .before .before .before .before .before .before .before .before .before .before .before .before .before .args .area .now) (c .before .before .before .before .before .before .before .before .before .before .before .before .before .before .before .before .before .before .before .before .before .args .m) (c .before .before .before .before .before .before .before .before .before .before .before .before .before .before .before .before .before .before .before .before .before .args .numbers .now) (c .before .before .before .before .before .before .before .before .before .before .before .before .before .before .before .before .before .before .before .before .before .pre) (omega arith) in
     let z = q .small in
     let y = q .large in
@@ -52,21 +52,21 @@ same-length-3 c = search needs
 returns-2 : tie.Need-returns-2
 returns-2 c =
     build-last (c .before .before .before .before .before .before .before .before .before .before .before .before .before .before .before .before .before .before .before .before .before .before .before .before .args .store .now) (c .before .before .before .before .before .before .before .before .before .before .before .before .before .before .before .before .before .before .before .before .before .before .before .before .args .area .now) (c .before .before .before .before .before .before .before .before .before .before .before .before .before .before .before .before .before .before .before .before .before .before .before .before .args .m) (c .before .before .before .before .before .before .before .before .before .before .before .before .before .before .before .before .before .before .before .before .before .before .before .before .args .numbers .now) (c .before .before .before .before .before .before .before .before .before .before .before .before .before .before .before .before .before .before .before .before .before .before .before .before .pre) (omega arith) _ _ (c .before .before .before .before .before .before .before .before .before .before .before .before .before .before .before .before .before .write-leaves .result) (c .before .before .before .before .before .before .before .before .before .before .before .before .before .before .before .before .before .write-leaves .ensures) _ _ _ (c .before .before .before .before .mark-at .result) (c .before .before .before .before .before .before .before .before .before .before .write-above .result)
-    (c .before .before .before .before .before .before .before .before .before .before .write-above .ensures) (c .before .before .before .before .mark-at .ensures .0) (omega arith) (c .before .before .write-head2 .ensures)
+    (c .before .before .before .before .before .before .before .before .before .before .write-above .ensures) (c .before .before .before .before .mark-at .ensures .0) (omega arith) (c .before .before .write-header2 .ensures)
 
 pub build-spec : {M : Type 1} → statement M
 build-spec =
     tie.close
     (tie.spec
     u16-at-requires
-    write-empty-requires
-    write-head-requires
+    write-empty-leaf-requires
+    write-header-requires
     same-length
     returns
     write-leaves-requires
     write-above-requires
     mark-at-requires
-    write-head-requires-2
+    write-header-requires-2
     same-length-2
     same-length-3
     returns-2)

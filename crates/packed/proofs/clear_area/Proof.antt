@@ -1,7 +1,7 @@
 -- What the borrow checker leaves of `clear_area` to prove.
 -- Relies on specs/RowSteps.
 use Rattle.packed.specs.Build.RowSteps.{clear-first, clear-more}
-use Rattle.packed.specs.Form.Tidy.{zerosOf}
+use Rattle.laws.specs.Page.{zerosOf}
 use lib.ListN.{drop}
 use mathlib.Core.List.{_++_}
 use borrow.Author.Needs.{needs}

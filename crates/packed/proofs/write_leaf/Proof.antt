@@ -2,7 +2,7 @@
 -- Relies on specs/Build/PairLaws and specs/Build/PairSteps.
 use Rattle.packed.specs.Build.PairLaws.{bytes-of}
 use Rattle.packed.specs.Build.PairSteps.{leaf-written}
-use Rattle.packed.specs.Form.Tidy.{zerosOf}
+use Rattle.laws.specs.Page.{zerosOf}
 use native.Mathlib.Omega.{arith}
 use borrow.Author.Needs.{needs}
 use Rattle.packed.proofs.write_leaf.Statement.{statement}

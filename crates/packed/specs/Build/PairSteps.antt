@@ -8,14 +8,13 @@ use lib.ListN.{length}
 use Rattle.image.specs.Bytes.{u16Bytes}
 use Rattle.laws.specs.Encode.{bytesOfAll}
 use Rattle.packed.specs.Form.Packed.{shortRows}
-use Rattle.laws.specs.Page.{page, pairEntries}
+use Rattle.laws.specs.Page.{page, pairEntries, zerosOf}
 use Rattle.laws.specs.WriteNode.{writeNode}
-use Rattle.packed.specs.Form.Tidy.{zerosOf}
 use Rattle.packed.specs.Rows.Area.{rowsOf}
 use Rattle.packed.specs.Rows.Branches.{lowOfRow}
 use Rattle.packed.specs.Rows.Steps.{leafPage}
 use Rattle.octets.specs.Put.{put}
-use Rattle.packed.specs.Pages.Nodes.{page-written}
+use Rattle.node.specs.Pages.{page-written}
 use Rattle.packed.specs.Build.Pairs.{pairBytes, leafLifts, leafBytes}
 
 -- one leaf, written
@@ -24,9 +23,8 @@ pub leaf-written : (store store′ : List ℕ) (num m : ℕ) (area : List ℕ) (
     → store′ ≡ put store (num * 1024) (put (put (put p 0 (u16Bytes (e - 8))) 2 (u16Bytes 1)) 4 (u16Bytes 1))
     → store′ ≡ writeNode store num (leafPage m area i (lowOfRow area i) j)
 leaf-written store store′ num m area i j k kk h p e a b c =
-    let z : e - 8 ≡ length (pairBytes k (j - i) area i) = omega arith in
     let q : leafBytes m area i j ≡ length (pairBytes k (j - i) area i) = sized in
-    page-written store store′ p (pairBytes k (j - i) area i) num 1 1 (e - 8) a z (omega arith) c ∙ ap (writeNode store num) shown
+    page-written store store′ p num 1 1 e (pairBytes k (j - i) area i) (omega arith) a b c ∙ ap (writeNode store num) shown
   where
     sized : leafBytes m area i j ≡ length (pairBytes k (j - i) area i)
     sized = unfold leafBytes in ap (λ x. length (pairBytes x (j - i) area i)) (sym kk)

@@ -9,7 +9,7 @@ use lib.ListN.{length, take, drop, getD, set, length-append, length-drop, length
 use lib.Seq.{drop-drop, drop-append-add, take-at, set-split}
 use lib.Dec.{ltb}
 use borrow.Author.Tests.{ltb-true, ltb-false}
-use Rattle.packed.specs.Form.Tidy.{zerosOf}
+use Rattle.laws.specs.Page.{zerosOf}
 use Rattle.packed.specs.Rows.Area.{rowAt, rowsOf, RowsFit}
 use Rattle.octets.specs.Put.{put, put-one, put-put, put-size}
 use Rattle.packed.specs.Build.Rows.{RowPut}

@@ -44,25 +44,25 @@ unfoldable pub orderPages : List ℕ → List Row → List Page
 orderPages nums t = ownPages 1 (leaves nums t) ++ climbPages 7 1 (drop (length (leaves nums t)) nums) (leaves nums t)
 
 -- induction over a climb
-pub climb-rec : (P : ℕ → List ℕ → List Item → Built → List Page → Type 0)
-    → ((l : ℕ) (nums : List ℕ) (x : Item) → Level l (x ∷ []) → P l nums (x ∷ []) (record { root = x .node; levels = l }) [])
+pub climb-rec : (Holds : ℕ → List ℕ → List Item → Built → List Page → Type 0)
+    → ((l : ℕ) (nums : List ℕ) (x : Item) → Level l (x ∷ []) → Holds l nums (x ∷ []) (record { root = x .node; levels = l }) [])
     → ((l : ℕ) (nums : List ℕ) (xs : List Item) (b : Built) (ps : List Page) → Level l xs → length (raised nums xs) ≤ length nums
-    → P (suc l) (drop (length (raised nums xs)) nums) (raised nums xs) b ps → P l nums xs b (ownPages (suc l) (raised nums xs) ++ ps))
+    → Holds (suc l) (drop (length (raised nums xs)) nums) (raised nums xs) b ps → Holds l nums xs b (ownPages (suc l) (raised nums xs) ++ ps))
     → (f l : ℕ) (nums : List ℕ) (xs : List Item) → Level l xs → length xs ≤ room f → length xs ≤ 2 * length nums + 1
-    → P l nums xs (climb f l nums xs) (climbPages f l nums xs)
+    → Holds l nums xs (climb f l nums xs) (climbPages f l nums xs)
 unfolding climb climbPages room topOf
-climb-rec P one step zero l nums [] h r k = absurd (let q = h .some-node in omega arith)
-climb-rec P one step zero l nums (x ∷ []) h r k = one l nums x h
-climb-rec P one step zero l nums (x ∷ y ∷ zs) h r k = absurd (omega arith)
-climb-rec P one step (suc f) l nums [] h r k = absurd (let q = h .some-node in omega arith)
-climb-rec P one step (suc f) l nums (x ∷ []) h r k = one l nums x h
-climb-rec P one step (suc f) l nums (x ∷ y ∷ zs) h r k =
+climb-rec Holds one step zero l nums [] h r k = absurd (let q = h .some-node in omega arith)
+climb-rec Holds one step zero l nums (x ∷ []) h r k = one l nums x h
+climb-rec Holds one step zero l nums (x ∷ y ∷ zs) h r k = absurd (omega arith)
+climb-rec Holds one step (suc f) l nums [] h r k = absurd (let q = h .some-node in omega arith)
+climb-rec Holds one step (suc f) l nums (x ∷ []) h r k = one l nums x h
+climb-rec Holds one step (suc f) l nums (x ∷ y ∷ zs) h r k =
     let ys : List Item = raised nums (x ∷ y ∷ zs) in
     let m : ℕ = length ys in
     let few = few-raised nums l (x ∷ y ∷ zs) h in
     let some-node = some-raised nums (x ∷ y ∷ zs) (h .some-node) in
     step l nums (x ∷ y ∷ zs) (climb f (suc l) (drop m nums) ys) (climbPages f (suc l) (drop m nums) ys) h (omega arith)
-    (climb-rec P one step f (suc l) (drop m nums) ys (level-above nums l (x ∷ y ∷ zs) h) (omega arith) (rw (length-drop m nums) (omega arith)))
+    (climb-rec Holds one step f (suc l) (drop m nums) ys (level-above nums l (x ∷ y ∷ zs) h) (omega arith) (rw (length-drop m nums) (omega arith)))
 
 -- a level's own numbers are the next ones
 nodeLevel-own : (l : ℕ) (nums : List ℕ) (gs : List (Group Item)) → length gs ≤ length nums → pageNumbers (ownPages l (nodeLevel nums gs)) ≡ take (length gs) nums

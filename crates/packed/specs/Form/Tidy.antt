@@ -5,7 +5,7 @@ use mathlib.Core.Path.{_≡_, refl, sym, ap, ap₂, _∙_}
 use mathlib.Core.List.{List, [], _∷_, _++_}
 use mathlib.Core.Bool.{Bool, true, false, _&&_, _||_, not, false≢true, true≢false}
 use native.Mathlib.Omega.{arith}
-use lib.ListN.{length, take, drop, replicate, length-replicate, length-drop, take-append-drop}
+use lib.ListN.{length, take, drop, length-replicate, length-drop, take-append-drop}
 use lib.Seq.{drop-drop}
 use lib.Dec.{ltb, leb, eqb}
 use borrow.Author.Tests.{leb-true, ltb-true, eq-eqb, ne-eqb, eqb-true}
@@ -23,7 +23,7 @@ use Rattle.packed.specs.Form.Packed.{Built, packed, numbersFrom}
 use Rattle.packed.specs.Form.Leaves.{tabled}
 use Rattle.packed.specs.Form.Neat.{Neat, NeatIn}
 use Rattle.packed.specs.Form.Tower.{Packs, packs, once-and-range, from-range, from-once, from-length}
-use Rattle.laws.specs.Page.{page, page-length, pairEntries, childEntries, numberOf, headPage, head-length}
+use Rattle.laws.specs.Page.{page, page-length, pairEntries, childEntries, numberOf, headPage, head-length, zerosOf, drop-zeros, take-zeros}
 use Rattle.packed.specs.Form.Pages.{pairs-length, branches-length, Written, WrittenIn}
 use Rattle.packed.specs.Form.Stored.{written-stays, HoldsTree, image-tree, image-table, image-sound, image-tidied}
 
@@ -51,10 +51,7 @@ unfoldable pub writeAll : List Page → List ℕ → List ℕ
 writeAll [] image = image
 writeAll (p ∷ ps) image = writeAll ps (writeNode image (p .number) (p .bytes))
 
--- k zeros; a node, and a store of n nodes, of zeros
-unfoldable pub zerosOf : ℕ → List ℕ
-zerosOf k = replicate k 0
-
+-- a node, and a store of n nodes, of zeros
 abbrev pub blankNode : List ℕ
 blankNode = zerosOf 1024
 
@@ -202,28 +199,6 @@ zero-out n [] r = refl
 zero-out n (i ∷ is) r =
     let a : 1 ≤ i = leb-true 1 i (and-left _ _ (and-left _ _ r)) in
     rw (ne-eqb 0 i (λ q. omega arith)) (zero-out n is (and-right (leb 1 i && ltb i n) _ r))
-
--- zeros
-sub-zero : (m : ℕ) → m ≡ m - 0
-sub-zero m = omega arith
-
-zero-sub : (k : ℕ) → 0 ≡ 0 - suc k
-zero-sub k = omega arith
-
-suc-sub : (m k : ℕ) → m - k ≡ suc m - suc k
-suc-sub m k = omega arith
-
-pub drop-zeros : (k m : ℕ) → drop k (zerosOf m) ≡ zerosOf (m - k)
-unfolding zerosOf
-drop-zeros zero m = ap (λ i. replicate i 0) (sub-zero m)
-drop-zeros (suc k) zero = ap (λ i. replicate i 0) (zero-sub k)
-drop-zeros (suc k) (suc m) = drop-zeros k m ∙ ap (λ i. replicate i 0) (suc-sub m k)
-
-pub take-zeros : (k m : ℕ) → k ≤ m → take k (zerosOf m) ≡ zerosOf k
-unfolding zerosOf
-take-zeros zero m h = refl
-take-zeros (suc k) zero h = absurd (omega arith)
-take-zeros (suc k) (suc m) h = ap (λ l. 0 ∷ l) (take-zeros k m (omega arith))
 
 pub blank-length : (n : ℕ) → length (blank n) ≡ 1024 * n
 unfolding zerosOf

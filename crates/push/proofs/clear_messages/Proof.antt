@@ -1,6 +1,6 @@
 -- `clear_messages` meets its contract: the child entries and the first bytes make the new page.
 -- Relies on specs/NodeSteps.
-use Rattle.packed.specs.Form.Tidy.{zerosOf}
+use Rattle.laws.specs.Page.{zerosOf}
 use Rattle.push.specs.NodeSteps.{node-emptied}
 use borrow.Author.Needs.{needs}
 use Rattle.push.proofs.clear_messages.Statement.{statement}

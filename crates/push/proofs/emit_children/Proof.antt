@@ -12,8 +12,7 @@ use Rattle.node.specs.Places.{part}
 use Rattle.laws.specs.Encode.{bytesOf, child-size}
 use Rattle.image.specs.Entry.{child}
 use Rattle.octets.specs.Put.{put}
-use Rattle.live.specs.Steps.{pends-child, pends-end}
-use Rattle.live.specs.Walk.{NextChild}
+use Rattle.node.specs.Search.Child.{pends-child, pends-end, NextChild}
 use Rattle.push.specs.Laws.Written.{childBytes, smallNumbers}
 use Rattle.push.specs.WriteSteps.{line-fits, line-length, line-on, line-end, line-ends, children-cons, children-none, small-first, small-later, as-child}
 use Rattle.push.proofs.emit_children.Statement.{statement}

@@ -10,8 +10,7 @@ use Prim.Native.Nat.{_≤_, _-_}
 use Rattle.node.specs.Search.Own.{branch, branchesAmong}
 use Rattle.node.specs.Entries.{listed}
 use Rattle.node.specs.Places.{Within, part}
-use Rattle.live.specs.Steps.{pends-child, pends-end}
-use Rattle.live.specs.Walk.{NextChild}
+use Rattle.node.specs.Search.Child.{pends-child, pends-end, NextChild}
 use Rattle.image.specs.Sound.{once}
 use Rattle.push.specs.Laws.Written.{allHaveRoom, eachTakes, childTakes, branchNumbers}
 use Rattle.push.specs.ChildSteps.{takes-none, last-room, last-takes, next-room, next-once, next-rooms, next-takes}

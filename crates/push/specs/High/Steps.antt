@@ -23,10 +23,9 @@ use Rattle.node.specs.Entries.{listed}
 use Rattle.node.specs.declared.Place.{Place}
 use Rattle.node.specs.declared.Cursor.{Cursor}
 use Rattle.node.specs.Search.Own.{branch, branchesAmong}
-use Rattle.lookup.specs.Look.{listing, interior-at, inside-splits, part-rest}
+use Rattle.lookup.specs.Look.{listing, interior-at, inside-splits, part-rest, branches-usable}
 use Rattle.lookup.specs.Root.{root-is}
-use Rattle.live.specs.Walk.{NextChild}
-use Rattle.live.specs.WalkLaws.{branches-usable}
+use Rattle.node.specs.Search.Child.{NextChild}
 use Rattle.push.specs.Laws.High.{orElse, highHere, highIn}
 use Rattle.push.specs.High.Sought.{Held, Kept, Seen, SeekBranches}
 use Rattle.push.specs.declared.high.Sought.{Sought}
@@ -137,30 +136,30 @@ unfolding orElse
 or-none none = refl
 or-none (some h) = refl
 
-module _ (n : ℕ) (under : ℕ → Tree) (hi : List ℕ) (i : ℕ) (low : List ℕ) (ks : List Branch) (X : Option (List ℕ)) (inv : highIn n (forestOf under (branch i low ∷ ks)) hi ≡ X) where
-  last-is : ks ≡ [] → highHere n (under i) low hi ≡ X
+module _ (n : ℕ) (under : ℕ → Tree) (hi : List ℕ) (i : ℕ) (low : List ℕ) (ks : List Branch) (answer : Option (List ℕ)) (inv : highIn n (forestOf under (branch i low ∷ ks)) hi ≡ answer) where
+  last-is : ks ≡ [] → highHere n (under i) low hi ≡ answer
   unfolding highIn forestOf highOf
   last-is e = sym (or-none (highHere n (under i) low hi)) ∙ ap (λ l. highIn n (forestOf under (branch i low ∷ l)) hi) (sym e) ∙ inv
 
-  pub at-last : (r : Sought) (out : List ℕ) → ks ≡ [] → Seen (highHere n (under i) low hi) r out → Seen X r out
+  pub at-last : (r : Sought) (out : List ℕ) → ks ≡ [] → Seen (highHere n (under i) low hi) r out → Seen answer r out
   at-last r out e h = seen-as _ _ r out (last-is e) h
 
   module _ (k : ℕ) (p : List ℕ) (us : List Branch) (e : ks ≡ branch k p ∷ us) where
-    more-is : orElse (highHere n (under i) low p) (highIn n (forestOf under (branch k p ∷ us)) hi) ≡ X
+    more-is : orElse (highHere n (under i) low p) (highIn n (forestOf under (branch k p ∷ us)) hi) ≡ answer
     unfolding highIn forestOf highOf
     more-is = ap (λ l. highIn n (forestOf under (branch i low ∷ l)) hi) (sym e) ∙ inv
 
-    pub not-here : (r : Sought) (out : List ℕ) → Seen (highHere n (under i) low p) r out → r ≡ Sought.Missing → highIn n (forestOf under (branch k p ∷ us)) hi ≡ X
+    pub not-here : (r : Sought) (out : List ℕ) → Seen (highHere n (under i) low p) r out → r ≡ Sought.Missing → highIn n (forestOf under (branch k p ∷ us)) hi ≡ answer
     unfolding orElse
     not-here r out h q = ap (λ x. orElse x (highIn n (forestOf under (branch k p ∷ us)) hi)) (sym (missing-is _ r out h q)) ∙ more-is
 
-    found-here : (r : Sought) (m : ℕ) (out : List ℕ) → r ≡ Sought.Found m → Kept (highHere n (under i) low p) m out → Seen X r out
+    found-here : (r : Sought) (m : ℕ) (out : List ℕ) → r ≡ Sought.Found m → Kept (highHere n (under i) low p) m out → Seen answer r out
     unfolding orElse
     found-here r m out q w =
-        subst (λ z. Seen X z out) (sym q)
-        (seen-found X (w .high) m out (sym (ap (λ x. orElse x (highIn n (forestOf under (branch k p ∷ us)) hi)) (sym (w .is)) ∙ more-is)) (w .held))
+        subst (λ z. Seen answer z out) (sym q)
+        (seen-found answer (w .high) m out (sym (ap (λ x. orElse x (highIn n (forestOf under (branch k p ∷ us)) hi)) (sym (w .is)) ∙ more-is)) (w .held))
 
-    pub is-here : (r : Sought) (m : ℕ) (out : List ℕ) → Seen (highHere n (under i) low p) r out → r ≡ Sought.Found m → Seen X r out
+    pub is-here : (r : Sought) (m : ℕ) (out : List ℕ) → Seen (highHere n (under i) low p) r out → r ≡ Sought.Found m → Seen answer r out
     is-here r m out h q = found-here r m out q (found-is _ r m out h q)
 
 -- THE ROOT

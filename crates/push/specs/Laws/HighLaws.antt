@@ -45,26 +45,26 @@ unfolding healed.orElse orElse
 else-some none p x g k z e a b c = ap (λ w. orElse w k) (a refl) ∙ c e
 else-some (some y) p x g k z e a b c = ap (λ w. orElse w k) (b e)
 
--- what a node lifts, with the parent's prefix P in front of its pivots
-module _ (P lo hi : List ℕ) where
-  whole-lift : shared (P ++ lo) (P ++ hi) ≡ P ++ shared lo hi
-  whole-lift = shared-append P lo hi
+-- what a node lifts, with the parent's prefix `prefix` in front of its pivots
+module _ (prefix lo hi : List ℕ) where
+  whole-lift : shared (prefix ++ lo) (prefix ++ hi) ≡ prefix ++ shared lo hi
+  whole-lift = shared-append prefix lo hi
 
-  own-is : drop (length (shared (P ++ lo) (P ++ hi))) (P ++ hi) ≡ drop (lifts lo hi) hi
+  own-is : drop (length (shared (prefix ++ lo) (prefix ++ hi))) (prefix ++ hi) ≡ drop (lifts lo hi) hi
   unfolding lifts
-  own-is = ap (λ l. drop (length l) (P ++ hi)) whole-lift ∙ ap (λ n. drop n (P ++ hi)) (length-append P (shared lo hi)) ∙ drop-append-add P hi (length (shared lo hi))
+  own-is = ap (λ l. drop (length l) (prefix ++ hi)) whole-lift ∙ ap (λ n. drop n (prefix ++ hi)) (length-append prefix (shared lo hi)) ∙ drop-append-add prefix hi (length (shared lo hi))
 
-  high-is : P ++ hi ≡ (P ++ shared lo hi) ++ drop (lifts lo hi) hi
+  high-is : prefix ++ hi ≡ (prefix ++ shared lo hi) ++ drop (lifts lo hi) hi
   unfolding lifts
-  high-is = ap (λ l. P ++ l) (sym (begins-split (shared lo hi) hi (shared-right lo hi))) ∙ sym (append-assoc P (shared lo hi) (drop (length (shared lo hi)) hi))
+  high-is = ap (λ l. prefix ++ l) (sym (begins-split (shared lo hi) hi (shared-right lo hi))) ∙ sym (append-assoc prefix (shared lo hi) (drop (length (shared lo hi)) hi))
 
-  inside-is : (f : Forest) (level : ℕ) → reachableIn f level (shared (P ++ lo) (P ++ hi)) (P ++ hi) ≡ reachableIn f level (P ++ shared lo hi) ((P ++ shared lo hi) ++ drop (lifts lo hi) hi)
+  inside-is : (f : Forest) (level : ℕ) → reachableIn f level (shared (prefix ++ lo) (prefix ++ hi)) (prefix ++ hi) ≡ reachableIn f level (prefix ++ shared lo hi) ((prefix ++ shared lo hi) ++ drop (lifts lo hi) hi)
   inside-is f level = ap₂ (λ a b. reachableIn f level a b) whole-lift high-is
 
-high-of : (f : Forest) (P h : List ℕ) → highOf P (P ++ h) f ≡ P ++ highOf [] h f
+high-of : (f : Forest) (prefix h : List ℕ) → highOf prefix (prefix ++ h) f ≡ prefix ++ highOf [] h f
 unfolding highOf
-high-of end P h = refl
-high-of (tree s t f) P h = refl
+high-of end prefix h = refl
+high-of (tree s t f) prefix h = refl
 
 leaf-place : (n i : ℕ) (rs : List Row) (level : ℕ) (lo hi : List ℕ) (x : Reachable) (g : Option (List ℕ)) (z : List ℕ) → reachableAt n (reachable (leaf i rs) level lo hi) ≡ some x
     → hasChildren (x .children) ≡ true → g ≡ some z
@@ -85,43 +85,43 @@ no-place n x g z e = absurd (Option·none-ne-some x e)
 mutual
   unfolding reachable reachableIn reachableAt highHere highIn
 
-  none-here : (t : Tree) (n level : ℕ) (P lo hi : List ℕ) → reachableAt n (reachable t level (P ++ lo) (P ++ hi)) ≡ none → highHere n t lo hi ≡ none
-  none-here (unread i) n level P lo hi e = refl
-  none-here (leaf i rs) n level P lo hi e = refl
-  none-here (interior i f ms) n level P lo hi e =
-      cond-none (eqb n i) (record { number = i; level = level; low = P ++ lo; high = P ++ hi; messages = ms; children = f })
-      (reachableAt n (reachableIn f (level - 1) (shared (P ++ lo) (P ++ hi)) (P ++ hi))) (drop (lifts lo hi) hi) (highIn n f (drop (lifts lo hi) hi)) e
-      (λ q. none-in f n (level - 1) (P ++ shared lo hi) (drop (lifts lo hi) hi) (ap (reachableAt n) (sym (inside-is P lo hi f (level - 1))) ∙ q))
+  none-here : (t : Tree) (n level : ℕ) (prefix lo hi : List ℕ) → reachableAt n (reachable t level (prefix ++ lo) (prefix ++ hi)) ≡ none → highHere n t lo hi ≡ none
+  none-here (unread i) n level prefix lo hi e = refl
+  none-here (leaf i rs) n level prefix lo hi e = refl
+  none-here (interior i f ms) n level prefix lo hi e =
+      cond-none (eqb n i) (record { number = i; level = level; low = prefix ++ lo; high = prefix ++ hi; messages = ms; children = f })
+      (reachableAt n (reachableIn f (level - 1) (shared (prefix ++ lo) (prefix ++ hi)) (prefix ++ hi))) (drop (lifts lo hi) hi) (highIn n f (drop (lifts lo hi) hi)) e
+      (λ q. none-in f n (level - 1) (prefix ++ shared lo hi) (drop (lifts lo hi) hi) (ap (reachableAt n) (sym (inside-is prefix lo hi f (level - 1))) ∙ q))
 
-  none-in : (f : Forest) (n level : ℕ) (P h : List ℕ) → reachableAt n (reachableIn f level P (P ++ h)) ≡ none → highIn n f h ≡ none
-  none-in end n level P h e = refl
-  none-in (tree s t f) n level P h e =
-      else-none (reachableAt n (reachable t level (P ++ s) (highOf P (P ++ h) f))) (reachableAt n (reachableIn f level P (P ++ h)))
+  none-in : (f : Forest) (n level : ℕ) (prefix h : List ℕ) → reachableAt n (reachableIn f level prefix (prefix ++ h)) ≡ none → highIn n f h ≡ none
+  none-in end n level prefix h e = refl
+  none-in (tree s t f) n level prefix h e =
+      else-none (reachableAt n (reachable t level (prefix ++ s) (highOf prefix (prefix ++ h) f))) (reachableAt n (reachableIn f level prefix (prefix ++ h)))
       (highHere n t s (highOf [] h f)) (highIn n f h)
-      (sym (healed.place-append n (reachable t level (P ++ s) (highOf P (P ++ h) f)) (reachableIn f level P (P ++ h))) ∙ e)
-      (λ q. none-here t n level P s (highOf [] h f) (ap (λ z. reachableAt n (reachable t level (P ++ s) z)) (sym (high-of f P h)) ∙ q))
-      (λ q. none-in f n level P h q)
+      (sym (healed.place-append n (reachable t level (prefix ++ s) (highOf prefix (prefix ++ h) f)) (reachableIn f level prefix (prefix ++ h))) ∙ e)
+      (λ q. none-here t n level prefix s (highOf [] h f) (ap (λ z. reachableAt n (reachable t level (prefix ++ s) z)) (sym (high-of f prefix h)) ∙ q))
+      (λ q. none-in f n level prefix h q)
 
 mutual
   unfolding reachable reachableIn reachableAt highHere highIn
 
-  pub some-here : (t : Tree) (n level : ℕ) (P lo hi : List ℕ) (x : Reachable) → reachableAt n (reachable t level (P ++ lo) (P ++ hi)) ≡ some x → hasChildren (x .children) ≡ true
+  pub some-here : (t : Tree) (n level : ℕ) (prefix lo hi : List ℕ) (x : Reachable) → reachableAt n (reachable t level (prefix ++ lo) (prefix ++ hi)) ≡ some x → hasChildren (x .children) ≡ true
       → highHere n t lo hi ≡ some (ownHigh x)
-  some-here (unread i) n level P lo hi x e c = no-place n x none (ownHigh x) e
-  some-here (leaf i rs) n level P lo hi x e c = leaf-place n i rs level (P ++ lo) (P ++ hi) x none (ownHigh x) e c
-  some-here (interior i f ms) n level P lo hi x e c =
-      cond-some (eqb n i) (record { number = i; level = level; low = P ++ lo; high = P ++ hi; messages = ms; children = f }) x
-      (reachableAt n (reachableIn f (level - 1) (shared (P ++ lo) (P ++ hi)) (P ++ hi))) (drop (lifts lo hi) hi) (highIn n f (drop (lifts lo hi) hi)) (ownHigh x) e
-      (λ q. sym (own-is P lo hi) ∙ ap (λ (y : Reachable). ownHigh y) q)
-      (λ q. some-in f n (level - 1) (P ++ shared lo hi) (drop (lifts lo hi) hi) x (ap (reachableAt n) (sym (inside-is P lo hi f (level - 1))) ∙ q) c)
+  some-here (unread i) n level prefix lo hi x e c = no-place n x none (ownHigh x) e
+  some-here (leaf i rs) n level prefix lo hi x e c = leaf-place n i rs level (prefix ++ lo) (prefix ++ hi) x none (ownHigh x) e c
+  some-here (interior i f ms) n level prefix lo hi x e c =
+      cond-some (eqb n i) (record { number = i; level = level; low = prefix ++ lo; high = prefix ++ hi; messages = ms; children = f }) x
+      (reachableAt n (reachableIn f (level - 1) (shared (prefix ++ lo) (prefix ++ hi)) (prefix ++ hi))) (drop (lifts lo hi) hi) (highIn n f (drop (lifts lo hi) hi)) (ownHigh x) e
+      (λ q. sym (own-is prefix lo hi) ∙ ap (λ (y : Reachable). ownHigh y) q)
+      (λ q. some-in f n (level - 1) (prefix ++ shared lo hi) (drop (lifts lo hi) hi) x (ap (reachableAt n) (sym (inside-is prefix lo hi f (level - 1))) ∙ q) c)
 
-  some-in : (f : Forest) (n level : ℕ) (P h : List ℕ) (x : Reachable) → reachableAt n (reachableIn f level P (P ++ h)) ≡ some x → hasChildren (x .children) ≡ true
+  some-in : (f : Forest) (n level : ℕ) (prefix h : List ℕ) (x : Reachable) → reachableAt n (reachableIn f level prefix (prefix ++ h)) ≡ some x → hasChildren (x .children) ≡ true
       → highIn n f h ≡ some (ownHigh x)
-  some-in end n level P h x e c = no-place n x none (ownHigh x) e
-  some-in (tree s t f) n level P h x e c =
-      else-some (reachableAt n (reachable t level (P ++ s) (highOf P (P ++ h) f))) (reachableAt n (reachableIn f level P (P ++ h))) x
+  some-in end n level prefix h x e c = no-place n x none (ownHigh x) e
+  some-in (tree s t f) n level prefix h x e c =
+      else-some (reachableAt n (reachable t level (prefix ++ s) (highOf prefix (prefix ++ h) f))) (reachableAt n (reachableIn f level prefix (prefix ++ h))) x
       (highHere n t s (highOf [] h f)) (highIn n f h) (ownHigh x)
-      (sym (healed.place-append n (reachable t level (P ++ s) (highOf P (P ++ h) f)) (reachableIn f level P (P ++ h))) ∙ e)
-      (λ q. none-here t n level P s (highOf [] h f) (ap (λ z. reachableAt n (reachable t level (P ++ s) z)) (sym (high-of f P h)) ∙ q))
-      (λ q. some-here t n level P s (highOf [] h f) x (ap (λ z. reachableAt n (reachable t level (P ++ s) z)) (sym (high-of f P h)) ∙ q) c)
-      (λ q. some-in f n level P h x q c)
+      (sym (healed.place-append n (reachable t level (prefix ++ s) (highOf prefix (prefix ++ h) f)) (reachableIn f level prefix (prefix ++ h))) ∙ e)
+      (λ q. none-here t n level prefix s (highOf [] h f) (ap (λ z. reachableAt n (reachable t level (prefix ++ s) z)) (sym (high-of f prefix h)) ∙ q))
+      (λ q. some-here t n level prefix s (highOf [] h f) x (ap (λ z. reachableAt n (reachable t level (prefix ++ s) z)) (sym (high-of f prefix h)) ∙ q) c)
+      (λ q. some-in f n level prefix h x q c)

@@ -4,13 +4,14 @@
 use Prim.Native.Nat.{ℕ}
 use mathlib.Core.Path.{_≡_, refl, sym, ap₂, _∙_}
 use mathlib.Core.List.{List, [], _∷_}
-use mathlib.Core.Bool.{Bool, true, false, _&&_, not}
+use mathlib.Core.Bool.{Bool, true, _&&_, not}
 use lib.ListN.{length, drop}
 use Rattle.image.specs.Bytes.{begins}
 use Rattle.image.specs.Path.{wellFormed}
 use Rattle.image.specs.Table.{Row, everyKey, rowsBelow, withoutBelow, renamed, putAll, moved}
 use Rattle.octets.specs.Order.{and-left, and-right}
 use Rattle.laws.specs.Filter.{every-with, keep-passes}
+use Rattle.laws.specs.Rising.{both-ways}
 use Rattle.path.specs.Shape.{Shape, fresh, feed, goesOn, shape-is}
 use Rattle.slice.specs.Moving.MovedRows.{keep-other, renamed-formed}
 
@@ -21,11 +22,6 @@ restFits sh n key = goesOn sh (drop n key)
 -- all rows below `from` do
 unfoldable pub restsFit : Shape → List ℕ → List Row → Bool
 restsFit sh from t = everyKey (restFits sh (length from)) (rowsBelow from t)
-
-pub both-ways : (a b : Bool) → (a ≡ true → b ≡ true) → (b ≡ true → a ≡ true) → a ≡ b
-both-ways true b f g = sym (f refl)
-both-ways false true f g = g refl
-both-ways false false f g = refl
 
 renamed-rests : (from to : List ℕ) (t : List Row) → everyKey wellFormed (renamed from to t) ≡ everyKey (restFits (feed fresh to) (length from)) t
 unfolding everyKey renamed restFits

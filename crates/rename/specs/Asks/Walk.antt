@@ -17,7 +17,7 @@ use Rattle.laws.specs.Follow.{table-rises}
 use Rattle.path.specs.Shape as defined
 use Rattle.path.specs.Fed.{shapeIs}
 use Rattle.path.specs.declared.Shape.{Shape}
-use Rattle.seek.specs.declared.PathBuffer.{PathBuffer}
+use Rattle.node.specs.declared.PathBuffer.{PathBuffer}
 use Rattle.seek.specs.Buffer.{bufferIs}
 use Rattle.rebuild.specs.StoreTable.{table-formed}
 use Rattle.rename.specs.Asks.Judge.{restFits, restsFit, nine-is}

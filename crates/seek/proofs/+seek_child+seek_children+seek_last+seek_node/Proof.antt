@@ -1,6 +1,7 @@
 -- `seek::seek_child`, `seek::seek_children`, `seek::seek_last`, `seek::seek_node` meet the contract: one cycle of four functions. The level falls from a node to its
--- children; within a level, children come before last before child before node (specs/NodeSteps, specs/WalkLaws).
-use Rattle.seek.specs.NodeSteps.{skips-child, long-child, enters-ready, enters-child, last-child, last-ready, run-ends, inner-ready, later-ready, run-step, node-leaf, node-childless, node-ready, node-children}
+-- children; within a level, children come before last before child before node (specs/NodeSteps, specs/Candidates).
+use Rattle.seek.specs.NodeSteps.{skips-child, long-child, enters-child, last-child, run-ends, run-step, node-leaf, node-childless, node-children}
+use Rattle.seek.specs.Candidates.{enters-ready, last-ready, inner-ready, later-ready, node-ready}
 use Rattle.seek.specs.Walk.{walkIn, runPaths, BranchesReady}
 use Rattle.seek.specs.Buffer.{bufferIs}
 use Rattle.path.specs.Fed.{shapeIs}
@@ -265,7 +266,7 @@ seek-child-seek-node-requires : (t : ℕ) → seek-child-lts.Need-seek-node-requ
   seek-node-below t,
   seek-node.Post,
 ) (seek-child-at t) seek-child.Post
-seek-child-seek-node-requires t c κs = (omega arith, enters-ready (c .before .before .before .before .before .before .before .before .before .before .before .before .before .before .before .before .args .store .now) (c .before .before .before .before .before .before .before .before .before .before .before .before .before .before .before .before .args .pre .now) (c .before .before .before .before .before .before .before .before .before .before .before .before .before .before .before .before .args .low .now) (c .before .before .before .before .before .before .before .before .before .before .before .before .before .before .before .before .args .high .now) (c .before .before .before .before .before .before .before .before .before .before .before .before .before .before .before .before .args .child .level) (c .before .before .before .before .before .before .before .before .before .before .before .before .before .before .before .before .args .child .num) (c .before .before .before .before .before .before .before .before .before .before .before .before .before .before .before .before .pre .1) (shapeIs (c .before .before .before .before .before .before .before .before .before .before .before .before .before .before .before .before .args .child .shape)) (c .before .before .before .before .before .before .before .before .before .before .before .before .before .before .before .before .args .below .now) (c .before .before .before .before .before .before .before .before .before .before .before .before .before .before .before .before .args .after .now) (bufferIs (c .before .before .before .before .before .before .before .before .before .before .before .before .before .before .before .before .args .child .best)) (c .before .before .before .before .before .before .before .common-length .result) (c .before .before .before .before .before .before .before .common-length .ensures .0) (c .before .before .before .before .before .join .result) (c .before .before .before .before .before .join .ensures) (omega arith))
+seek-child-seek-node-requires t c κs = (omega arith, enters-ready (c .before .before .before .before .before .before .before .before .before .before .before .before .before .before .before .before .args .store .now) (c .before .before .before .before .before .before .before .before .before .before .before .before .before .before .before .before .args .pre .now) (c .before .before .before .before .before .before .before .before .before .before .before .before .before .before .before .before .args .low .now) (c .before .before .before .before .before .before .before .before .before .before .before .before .before .before .before .before .args .high .now) (c .before .before .before .before .before .before .before .before .before .before .before .before .before .before .before .before .args .child .level) (c .before .before .before .before .before .before .before .before .before .before .before .before .before .before .before .before .args .child .num) (c .before .before .before .before .before .before .before .before .before .before .before .before .before .before .before .before .pre .1) (c .before .before .before .before .before .before .before .common-length .result) (c .before .before .before .before .before .before .before .common-length .ensures .0) (c .before .before .before .before .before .join .result) (c .before .before .before .before .before .join .ensures) (omega arith))
 
 seek-child-returns-3 : (t : ℕ) → seek-child-lts.Need-returns-3 (
   is-far-reads.Asked,
@@ -348,7 +349,7 @@ seek-children-seek-last-requires : (t : ℕ) → seek-children-lts.Need-seek-las
   seek-child-below t,
   seek-child.Post,
 ) (seek-children-at t) seek-children.Post seek-children-Inv-loop seek-children-μ-loop
-seek-children-seek-last-requires t c κs = (omega arith, (omega arith, c .before .before .before .before .before .loop .inv .2, last-ready (c .before .before .before .before .before .before .before .before .before .before .before .before .before .args .store .now) (shapeIs (c .before .before .before .before .before .loop .v .shape)) (c .before .before .before .before .before .before .before .before .before .before .before .before .before .args .below .now) (c .before .before .before .before .before .before .before .before .before .before .before .before .before .args .after .now) (c .before .before .before .before .before .before .before .before .before .before .before .before .before .args .pre .now) (c .before .before .before .before .before .before .before .before .before .before .before .before .before .args .hi .now) (c .before .before .before .before .before .loop .v .level) (c .before .before .before .before .before .loop .v .num) (c .before .before .before .before .before .loop .low) (bufferIs (c .before .before .before .before .before .loop .v .best)) (listed (c .before .before .before .before .before .before .before .before .before .before .before .before .before .args .store .now) (c .before .before .before .before .before .loop .c .at) (c .before .before .before .before .before .loop .c .end)) (c .before .before .before .before .before .loop .inv .3) (branches-none _ (step-bad-is _ _ _ _ (c .before .before .step .ensures) (c .enum-told .given .1) .1))))
+seek-children-seek-last-requires t c κs = (omega arith, (omega arith, c .before .before .before .before .before .loop .inv .2, last-ready (c .before .before .before .before .before .before .before .before .before .before .before .before .before .args .store .now) (c .before .before .before .before .before .before .before .before .before .before .before .before .before .args .pre .now) (c .before .before .before .before .before .before .before .before .before .before .before .before .before .args .hi .now) (c .before .before .before .before .before .loop .v .level) (c .before .before .before .before .before .loop .v .num) (c .before .before .before .before .before .loop .low) (listed (c .before .before .before .before .before .before .before .before .before .before .before .before .before .args .store .now) (c .before .before .before .before .before .loop .c .at) (c .before .before .before .before .before .loop .c .end)) (c .before .before .before .before .before .loop .inv .3) (branches-none _ (step-bad-is _ _ _ _ (c .before .before .step .ensures) (c .enum-told .given .1) .1))))
 
 seek-children-returns : (t : ℕ) → seek-children-lts.Need-returns (
   step-reads.Asked,
@@ -410,7 +411,7 @@ seek-children-seek-last-requires-2 : (t : ℕ) → seek-children-lts.Need-seek-l
 ) (seek-children-at t) seek-children.Post seek-children-Inv-loop seek-children-μ-loop
 seek-children-seek-last-requires-2 t c κs =
     let n = step-read-is (c .before .before .before .before .before .before .before .before .before .before .before .before .before .before .before .before .before .args .store .now) (c .before .before .before .before .before .before .before .before .before .loop .c .at) (c .before .before .before .before .before .before .before .before .before .loop .c .end) _ (c .before .before .before .before .e .given .0 .0) (c .before .before .before .before .e .given .0 .1 .0) (c .before .before .before .before .before .before .step .ensures) (c .before .before .before .before .e .given .1) in
-    (omega arith, (omega arith, c .before .before .before .before .before .before .before .before .before .loop .inv .2, last-ready (c .before .before .before .before .before .before .before .before .before .before .before .before .before .before .before .before .before .args .store .now) (shapeIs (c .before .before .before .before .before .before .before .before .before .loop .v .shape)) (c .before .before .before .before .before .before .before .before .before .before .before .before .before .before .before .before .before .args .below .now) (c .before .before .before .before .before .before .before .before .before .before .before .before .before .before .before .before .before .args .after .now) (c .before .before .before .before .before .before .before .before .before .before .before .before .before .before .before .before .before .args .pre .now) (c .before .before .before .before .before .before .before .before .before .before .before .before .before .before .before .before .before .args .hi .now) (c .before .before .before .before .before .before .before .before .before .loop .v .level) (c .before .before .before .before .before .before .before .before .before .loop .v .num) (c .before .before .before .before .before .before .before .before .before .loop .low) (bufferIs (c .before .before .before .before .before .before .before .before .before .loop .v .best)) (listed (c .before .before .before .before .before .before .before .before .before .before .before .before .before .before .before .before .before .args .store .now) (c .before .before .before .before .before .before .before .before .before .loop .c .at) (c .before .before .before .before .before .before .before .before .before .loop .c .end)) (c .before .before .before .before .before .before .before .before .before .loop .inv .3) (branches-other (c .before .before .before .before .e .given .0 .0) (c .before .before .before .before .before .before .before .before .before .before .before .before .before .before .before .before .before .args .store .now) _ _ (n .lists) (sym (c .before .before .branch-of .ensures) ∙ c .enum-told2 .given .1))))
+    (omega arith, (omega arith, c .before .before .before .before .before .before .before .before .before .loop .inv .2, last-ready (c .before .before .before .before .before .before .before .before .before .before .before .before .before .before .before .before .before .args .store .now) (c .before .before .before .before .before .before .before .before .before .before .before .before .before .before .before .before .before .args .pre .now) (c .before .before .before .before .before .before .before .before .before .before .before .before .before .before .before .before .before .args .hi .now) (c .before .before .before .before .before .before .before .before .before .loop .v .level) (c .before .before .before .before .before .before .before .before .before .loop .v .num) (c .before .before .before .before .before .before .before .before .before .loop .low) (listed (c .before .before .before .before .before .before .before .before .before .before .before .before .before .before .before .before .before .args .store .now) (c .before .before .before .before .before .before .before .before .before .loop .c .at) (c .before .before .before .before .before .before .before .before .before .loop .c .end)) (c .before .before .before .before .before .before .before .before .before .loop .inv .3) (branches-other (c .before .before .before .before .e .given .0 .0) (c .before .before .before .before .before .before .before .before .before .before .before .before .before .before .before .before .before .args .store .now) _ _ (n .lists) (sym (c .before .before .branch-of .ensures) ∙ c .enum-told2 .given .1))))
 
 seek-children-returns-2 : (t : ℕ) → seek-children-lts.Need-returns-2 (
   step-reads.Asked,
@@ -519,7 +520,7 @@ seek-children-seek-child-requires : (t : ℕ) → seek-children-lts.Need-seek-ch
 ) (seek-children-at t) seek-children.Post seek-children-Inv-loop seek-children-μ-loop
 seek-children-seek-child-requires t c κs =
     let n = step-read-is (c .before .before .before .before .before .before .before .before .before .before .before .before .before .before .before .before .before .before .before .before .args .store .now) (c .before .before .before .before .before .before .before .before .before .before .before .before .loop .c .at) (c .before .before .before .before .before .before .before .before .before .before .before .before .loop .c .end) _ (c .before .before .before .before .before .before .before .e .given .0 .0) (c .before .before .before .before .before .before .before .e .given .0 .1 .0) (c .before .before .before .before .before .before .before .before .before .step .ensures) (c .before .before .before .before .before .before .before .e .given .1) in
-    (omega arith, inner-ready (c .before .before .before .before .before .before .before .before .before .before .before .before .before .before .before .before .before .before .before .before .args .store .now) (shapeIs (c .before .before .before .before .before .before .before .before .before .before .before .before .loop .v .shape)) (c .before .before .before .before .before .before .before .before .before .before .before .before .before .before .before .before .before .before .before .before .args .below .now) (c .before .before .before .before .before .before .before .before .before .before .before .before .before .before .before .before .before .before .before .before .args .after .now) (c .before .before .before .before .before .before .before .before .before .before .before .before .before .before .before .before .before .before .before .before .args .pre .now) (c .before .before .before .before .before .before .before .before .before .before .before .before .before .before .before .before .before .before .before .before .args .hi .now) (c .before .before .before .before .before .before .before .before .before .before .before .before .loop .v .level) (c .before .before .before .before .before .before .before .before .before .before .before .before .loop .v .num) (c .before .before .before .before .before .before .before .before .before .before .before .before .loop .low) (bufferIs (c .before .before .before .before .before .before .before .before .before .before .before .before .loop .v .best)) (listed (c .before .before .before .before .before .before .before .before .before .before .before .before .before .before .before .before .before .before .before .before .args .store .now) (c .before .before .before .before .before .before .before .before .before .before .before .before .loop .c .at) (c .before .before .before .before .before .before .before .before .before .before .before .before .loop .c .end)) (c .before .before .before .before .before .before .before .before .before .before .before .before .loop .inv .3) (c .before .before .before .before .before .before .before .e .given .0 .0) (c .before .before .before .k .given .0 .0) (c .before .before .before .k .given .0 .1 .0) (listed (c .before .before .before .before .before .before .before .before .before .before .before .before .before .before .before .before .before .before .before .before .args .store .now) (c .before .before .before .before .before .before .before .e .given .0 .1 .0 .at) (c .before .before .before .before .before .before .before .e .given .0 .1 .0 .end)) (n .lists) (sym (c .before .before .before .before .before .branch-of .ensures) ∙ c .before .before .before .k .given .1))
+    (omega arith, inner-ready (c .before .before .before .before .before .before .before .before .before .before .before .before .before .before .before .before .before .before .before .before .args .store .now) (c .before .before .before .before .before .before .before .before .before .before .before .before .before .before .before .before .before .before .before .before .args .pre .now) (c .before .before .before .before .before .before .before .before .before .before .before .before .before .before .before .before .before .before .before .before .args .hi .now) (c .before .before .before .before .before .before .before .before .before .before .before .before .loop .v .level) (c .before .before .before .before .before .before .before .before .before .before .before .before .loop .v .num) (c .before .before .before .before .before .before .before .before .before .before .before .before .loop .low) (listed (c .before .before .before .before .before .before .before .before .before .before .before .before .before .before .before .before .before .before .before .before .args .store .now) (c .before .before .before .before .before .before .before .before .before .before .before .before .loop .c .at) (c .before .before .before .before .before .before .before .before .before .before .before .before .loop .c .end)) (c .before .before .before .before .before .before .before .before .before .before .before .before .loop .inv .3) (c .before .before .before .before .before .before .before .e .given .0 .0) (c .before .before .before .k .given .0 .0) (c .before .before .before .k .given .0 .1 .0) (listed (c .before .before .before .before .before .before .before .before .before .before .before .before .before .before .before .before .before .before .before .before .args .store .now) (c .before .before .before .before .before .before .before .e .given .0 .1 .0 .at) (c .before .before .before .before .before .before .before .e .given .0 .1 .0 .end)) (n .lists) (sym (c .before .before .before .before .before .branch-of .ensures) ∙ c .before .before .before .k .given .1))
 
 seek-children-loop-less : (t : ℕ) → seek-children-lts.Need-loop-less (
   step-reads.Asked,
@@ -552,7 +553,7 @@ seek-children-loop-again t c =
       c .before .before .before .before .before .before .before .before .before .before .before .before .before .loop .inv .0,
       n .ends ∙ c .before .before .before .before .before .before .before .before .before .before .before .before .before .loop .inv .1,
       entry-wider (c .before .before .before .before .before .before .before .before .before .before .before .before .before .loop .c .at) (c .before .before .before .before .before .before .before .before .before .before .before .before .before .loop .c .end) 0 (length (c .before .before .before .before .before .before .before .before .before .before .before .before .before .before .before .before .before .before .before .before .before .args .store .now)) (Entry.Child (c .before .before .before .before .k .given .0 .0) (c .before .before .before .before .k .given .0 .1 .0)) (omega arith) b w,
-      later-ready (c .before .before .before .before .before .before .before .before .before .before .before .before .before .before .before .before .before .before .before .before .before .args .store .now) (shapeIs (c .before .before .before .before .before .before .before .before .before .before .before .before .before .loop .v .shape)) (c .before .before .before .before .before .before .before .before .before .before .before .before .before .before .before .before .before .before .before .before .before .args .below .now) (c .before .before .before .before .before .before .before .before .before .before .before .before .before .before .before .before .before .before .before .before .before .args .after .now) (c .before .before .before .before .before .before .before .before .before .before .before .before .before .before .before .before .before .before .before .before .before .args .pre .now) (c .before .before .before .before .before .before .before .before .before .before .before .before .before .before .before .before .before .before .before .before .before .args .hi .now) (c .before .before .before .before .before .before .before .before .before .before .before .before .before .loop .v .level) (c .before .before .before .before .before .before .before .before .before .before .before .before .before .loop .v .num) (c .before .before .before .before .before .before .before .before .before .before .before .before .before .loop .low) (bufferIs (c .before .before .before .before .before .before .before .before .before .before .before .before .before .loop .v .best)) (listed (c .before .before .before .before .before .before .before .before .before .before .before .before .before .before .before .before .before .before .before .before .before .args .store .now) (c .before .before .before .before .before .before .before .before .before .before .before .before .before .loop .c .at) (c .before .before .before .before .before .before .before .before .before .before .before .before .before .loop .c .end)) (c .before .before .before .before .before .before .before .before .before .before .before .before .before .loop .inv .3) (c .before .before .before .before .before .before .before .before .e .given .0 .0) (c .before .before .before .before .k .given .0 .0) (c .before .before .before .before .k .given .0 .1 .0) (listed (c .before .before .before .before .before .before .before .before .before .before .before .before .before .before .before .before .before .before .before .before .before .args .store .now) (c .before .before .before .before .before .before .before .before .e .given .0 .1 .0 .at) (c .before .before .before .before .before .before .before .before .e .given .0 .1 .0 .end)) (n .lists) (sym (c .before .before .before .before .before .before .branch-of .ensures) ∙ c .before .before .before .before .k .given .1),
+      later-ready (c .before .before .before .before .before .before .before .before .before .before .before .before .before .before .before .before .before .before .before .before .before .args .store .now) (c .before .before .before .before .before .before .before .before .before .before .before .before .before .before .before .before .before .before .before .before .before .args .pre .now) (c .before .before .before .before .before .before .before .before .before .before .before .before .before .before .before .before .before .before .before .before .before .args .hi .now) (c .before .before .before .before .before .before .before .before .before .before .before .before .before .loop .v .level) (c .before .before .before .before .before .before .before .before .before .before .before .before .before .loop .v .num) (c .before .before .before .before .before .before .before .before .before .before .before .before .before .loop .low) (listed (c .before .before .before .before .before .before .before .before .before .before .before .before .before .before .before .before .before .before .before .before .before .args .store .now) (c .before .before .before .before .before .before .before .before .before .before .before .before .before .loop .c .at) (c .before .before .before .before .before .before .before .before .before .before .before .before .before .loop .c .end)) (c .before .before .before .before .before .before .before .before .before .before .before .before .before .loop .inv .3) (c .before .before .before .before .before .before .before .before .e .given .0 .0) (c .before .before .before .before .k .given .0 .0) (c .before .before .before .before .k .given .0 .1 .0) (listed (c .before .before .before .before .before .before .before .before .before .before .before .before .before .before .before .before .before .before .before .before .before .args .store .now) (c .before .before .before .before .before .before .before .before .e .given .0 .1 .0 .at) (c .before .before .before .before .before .before .before .before .e .given .0 .1 .0 .end)) (n .lists) (sym (c .before .before .before .before .before .before .branch-of .ensures) ∙ c .before .before .before .before .k .given .1),
       run-step (c .before .before .before .before .before .before .before .before .before .before .before .before .before .before .before .before .before .before .before .before .before .args .store .now) (shapeIs (c .before .before .before .before .before .before .before .before .before .before .before .before .before .loop .v .shape)) (c .before .before .before .before .before .before .before .before .before .before .before .before .before .before .before .before .before .before .before .before .before .args .below .now) (c .before .before .before .before .before .before .before .before .before .before .before .before .before .before .before .before .before .before .before .before .before .args .after .now) (c .before .before .before .before .before .before .before .before .before .before .before .before .before .before .before .before .before .before .before .before .before .args .pre .now) (c .before .before .before .before .before .before .before .before .before .before .before .before .before .before .before .before .before .before .before .before .before .args .hi .now) (c .before .before .before .before .before .before .before .before .before .before .before .before .before .loop .v .level) (c .before .before .before .before .before .before .before .before .before .before .before .before .before .loop .v .num) (c .before .before .before .before .before .before .before .before .before .before .before .before .before .loop .low) (bufferIs (c .before .before .before .before .before .before .before .before .before .before .before .before .before .loop .v .best)) (listed (c .before .before .before .before .before .before .before .before .before .before .before .before .before .before .before .before .before .before .before .before .before .args .store .now) (c .before .before .before .before .before .before .before .before .before .before .before .before .before .loop .c .at) (c .before .before .before .before .before .before .before .before .before .before .before .before .before .loop .c .end)) (c .before .before .before .before .before .before .before .before .before .before .before .before .before .loop .inv .3) (c .before .before .before .before .before .before .before .before .e .given .0 .0) (c .before .before .before .before .k .given .0 .0) (c .before .before .before .before .k .given .0 .1 .0) (listed (c .before .before .before .before .before .before .before .before .before .before .before .before .before .before .before .before .before .before .before .before .before .args .store .now) (c .before .before .before .before .before .before .before .before .e .given .0 .1 .0 .at) (c .before .before .before .before .before .before .before .before .e .given .0 .1 .0 .end)) (n .lists) (sym (c .before .before .before .before .before .before .branch-of .ensures) ∙ c .before .before .before .before .k .given .1) _ (c .before .before .before .before .before .before .before .before .before .before .before .before .before .loop .inv .4) _ (c .seek-child .ensures),
       c .before .before .before .before .before .before .before .before .before .before .before .before .before .loop .inv .5,
     )
@@ -567,7 +568,7 @@ seek-children-seek-last-requires-3 : (t : ℕ) → seek-children-lts.Need-seek-l
   seek-child-below t,
   seek-child.Post,
 ) (seek-children-at t) seek-children.Post seek-children-Inv-loop seek-children-μ-loop
-seek-children-seek-last-requires-3 t c κs = (omega arith, (omega arith, c .before .before .loop .inv .2, last-ready (c .before .before .before .before .before .before .before .before .before .before .args .store .now) (shapeIs (c .before .before .loop .v .shape)) (c .before .before .before .before .before .before .before .before .before .before .args .below .now) (c .before .before .before .before .before .before .before .before .before .before .args .after .now) (c .before .before .before .before .before .before .before .before .before .before .args .pre .now) (c .before .before .before .before .before .before .before .before .before .before .args .hi .now) (c .before .before .loop .v .level) (c .before .before .loop .v .num) (c .before .before .loop .low) (bufferIs (c .before .before .loop .v .best)) (listed (c .before .before .before .before .before .before .before .before .before .before .args .store .now) (c .before .before .loop .c .at) (c .before .before .loop .c .end)) (c .before .before .loop .inv .3) (branches-none _ (listed-end _ _ _ (omega arith)))))
+seek-children-seek-last-requires-3 t c κs = (omega arith, (omega arith, c .before .before .loop .inv .2, last-ready (c .before .before .before .before .before .before .before .before .before .before .args .store .now) (c .before .before .before .before .before .before .before .before .before .before .args .pre .now) (c .before .before .before .before .before .before .before .before .before .before .args .hi .now) (c .before .before .loop .v .level) (c .before .before .loop .v .num) (c .before .before .loop .low) (listed (c .before .before .before .before .before .before .before .before .before .before .args .store .now) (c .before .before .loop .c .at) (c .before .before .loop .c .end)) (c .before .before .loop .inv .3) (branches-none _ (listed-end _ _ _ (omega arith)))))
 
 seek-children-returns-3 : (t : ℕ) → seek-children-lts.Need-returns-3 (
   step-reads.Asked,
@@ -885,7 +886,7 @@ seek-node-seek-children-requires t c κs =
     let w = node-inside (c .before .before .before .before .before .before .before .before .before .before .before .before .before .before .before .before .before .args .store .now) (c .before .before .before .before .before .before .before .before .before .before .before .before .before .before .before .before .before .args .node .num) (c .before .before .before .before .before .before .before .before .before .before .before .before .before .before .before .before .before .args .node .level) (c .before .before .before .before .before .before .before .before .before .before .before .before .before .before .before .before .before .pre .1 .usable) in
     let n = step-read-is _ _ _ _ (c .before .before .before .before .before .e .given .0 .0) (c .before .before .before .before .before .e .given .0 .1 .0) (c .before .before .before .before .before .before .before .step .ensures) (c .before .before .before .before .before .e .given .1) in
     let p = branch-place _ _ (c .before .before .before .before .before .e .given .0 .0) (c .before .k .given .0 .0) (c .before .k .given .0 .1 .0) (sym (c .before .before .before .branch-of .ensures) ∙ c .before .k .given .1) (n .reachable) in
-    (omega arith, (omega arith, record { low = omega arith; rises = omega arith; high = omega arith }, node-ready (c .before .before .before .before .before .before .before .before .before .before .before .before .before .before .before .before .before .args .store .now) (c .before .before .before .before .before .before .before .before .before .before .before .before .before .before .before .before .before .args .pre .now) (c .before .before .before .before .before .before .before .before .before .before .before .before .before .before .before .before .before .args .hi .now) (c .before .before .before .before .before .before .before .before .before .before .before .before .before .before .before .before .before .args .node .level) (c .before .before .before .before .before .before .before .before .before .before .before .before .before .before .before .before .before .args .node .num) (c .before .before .before .before .before .before .before .before .before .before .before .before .before .before .before .before .before .pre .1) (shapeIs (c .before .before .before .before .before .before .before .before .before .before .before .before .before .before .before .before .before .args .node .shape)) (c .before .before .before .before .before .before .before .before .before .before .before .before .before .before .before .before .before .args .below .now) (c .before .before .before .before .before .before .before .before .before .before .before .before .before .before .before .before .before .args .after .now) (bufferIs (c .before .before .before .before .before .before .before .before .before .before .before .before .before .before .before .before .before .args .node .best)) (c .before .before .before .before .before .before .before .before .before .u16-at .result) (c .before .before .before .before .before .before .before .before .before .u16-at .ensures .0) (omega arith) (c .before .before .before .before .before .e .given .0 .0) (c .before .k .given .0 .0) (c .before .k .given .0 .1 .0) (listed (c .before .before .before .before .before .before .before .before .before .before .before .before .before .before .before .before .before .args .store .now) (c .before .before .before .before .before .e .given .0 .1 .0 .at) (c .before .before .before .before .before .e .given .0 .1 .0 .end)) (n .lists) (sym (c .before .before .before .branch-of .ensures) ∙ c .before .k .given .1)))
+    (omega arith, (omega arith, record { low = omega arith; rises = omega arith; high = omega arith }, node-ready (c .before .before .before .before .before .before .before .before .before .before .before .before .before .before .before .before .before .args .store .now) (c .before .before .before .before .before .before .before .before .before .before .before .before .before .before .before .before .before .args .pre .now) (c .before .before .before .before .before .before .before .before .before .before .before .before .before .before .before .before .before .args .hi .now) (c .before .before .before .before .before .before .before .before .before .before .before .before .before .before .before .before .before .args .node .level) (c .before .before .before .before .before .before .before .before .before .before .before .before .before .before .before .before .before .args .node .num) (c .before .before .before .before .before .before .before .before .before .before .before .before .before .before .before .before .before .pre .1) (c .before .before .before .before .before .before .before .before .before .u16-at .result) (c .before .before .before .before .before .before .before .before .before .u16-at .ensures .0) (omega arith) (c .before .before .before .before .before .e .given .0 .0) (c .before .k .given .0 .0) (c .before .k .given .0 .1 .0) (listed (c .before .before .before .before .before .before .before .before .before .before .before .before .before .before .before .before .before .args .store .now) (c .before .before .before .before .before .e .given .0 .1 .0 .at) (c .before .before .before .before .before .e .given .0 .1 .0 .end)) (n .lists) (sym (c .before .before .before .branch-of .ensures) ∙ c .before .k .given .1)))
 
 seek-node-returns-4 : (t : ℕ) → seek-node-lts.Need-returns-4 (
   u16-at-reads.Asked,

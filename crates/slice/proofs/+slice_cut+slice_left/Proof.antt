@@ -1,11 +1,11 @@
 -- `slice_left` and `slice_cut` meet their contracts. The level falls from a node to its child. The page of a node is composed from the copy of the
 -- node, so that what the child writes does not matter to it. Relies on specs/LeftSteps.
 use Rattle.slice.specs.LeftSteps.{left-inside, left-level, left-new, left-short, leaf-fits, leaf-written, branches-small, inner-fits, child-asks, inner-written, strip-short, strip-high, strip-asks, strip-bare, strip-written, inner-asks, last-asks, inner-places, last-places, inner-at, last-at, between-at, nowhere-at}
-use Rattle.slice.specs.PairSteps.{page-written}
+use Rattle.node.specs.Pages.{page-written}
 use Rattle.lookup.specs.Look.{part-rest}
 use Rattle.node.specs.Places.{part}
 use Rattle.node.specs.Cut.{cut-length, cut-drop}
-use Rattle.packed.specs.Form.Tidy.{zerosOf}
+use Rattle.laws.specs.Page.{zerosOf}
 use mathlib.Core.Path.{sym}
 use Prim.Native.Nat.{_+_, _*_}
 use native.Mathlib.Omega.{arith}

@@ -32,15 +32,15 @@ use Rattle.slice.specs.Moving.Move.{leftPastR, rightPastR, leftR, midR, 
 use Rattle.octets.specs.Beginnings.{begins-append as begins-past}
 
 -- the swing of a path's range
-pub range-rows : (P Q : List ℕ) (t : Tree) → rows t Q (past Q) ≡ renamed P Q (rows t P (past P))
-range-rows P Q t =
-    ap (λ x. rows t x (past Q)) (sym (append-nil Q)) ∙ swing-rows P Q [] highest t ∙ ap (λ x. renamed P Q (rows t x (past P))) (append-nil P)
+pub range-rows : (source target : List ℕ) (t : Tree) → rows t target (past target) ≡ renamed source target (rows t source (past source))
+range-rows source target t =
+    ap (λ x. rows t x (past target)) (sym (append-nil target)) ∙ swing-rows source target [] highest t ∙ ap (λ x. renamed source target (rows t x (past source))) (append-nil source)
 
-pub range-good : {h : ℕ} (P Q : List ℕ) (t : Tree) → Good h t P (past P) → everyKey wellFormed (renamed P Q (rows t P (past P))) ≡ true → Good h t Q (past Q)
-range-good {h} P Q t g e =
-    subst (λ x. Good h t x (past Q)) (append-nil Q)
-    (swing-good P Q [] highest t (subst (λ x. Good h t x (past P)) (sym (append-nil P)) g)
-    (ap (λ x. everyKey wellFormed (renamed P Q (rows t x (past P)))) (append-nil P) ∙ e))
+pub range-good : {h : ℕ} (source target : List ℕ) (t : Tree) → Good h t source (past source) → everyKey wellFormed (renamed source target (rows t source (past source))) ≡ true → Good h t target (past target)
+range-good {h} source target t g e =
+    subst (λ x. Good h t x (past target)) (append-nil target)
+    (swing-good source target [] highest t (subst (λ x. Good h t x (past source)) (sym (append-nil source)) g)
+    (ap (λ x. everyKey wellFormed (renamed source target (rows t x (past source)))) (append-nil source) ∙ e))
 
 -- numbers, block by block
 pub spent-split : (fresh : ℕ → ℕ) (j a b c at at′ : ℕ) → c ≡ a + b → at′ ≡ a + at → spent fresh j c at ≡ spent fresh j a at + spent fresh j b at′

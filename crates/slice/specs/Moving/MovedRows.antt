@@ -178,8 +178,8 @@ module _ (p r : List ℕ) (W : List Row) (lt : before (past p) r ≡ true) (rise
   A : List Row
   A = partA p r W
 
-  P : List Row
-  P = partP p r W
+  rows-p : List Row
+  rows-p = partP p r W
 
   B : List Row
   B = partB p r W
@@ -190,8 +190,8 @@ module _ (p r : List ℕ) (W : List Row) (lt : before (past p) r ≡ true) (rise
   C : List Row
   C = partC p r W
 
-  whole : five A P B R C ≡ W
-  unfolding A P B R C
+  whole : five A rows-p B R C ≡ W
+  unfolding A rows-p B R C
   whole =
       let w1 : List Row = keep (upTo (past r)) W in
       let w2 : List Row = keep (upTo r) w1 in
@@ -223,12 +223,12 @@ module _ (p r : List ℕ) (W : List Row) (lt : before (past p) r ≡ true) (rise
   unfolding A
   up-A = passed (upTo p) _
 
-  since-P : everyKey (since p) P ≡ true
-  unfolding P
+  since-P : everyKey (since p) rows-p ≡ true
+  unfolding rows-p
   since-P = passed (since p) _
 
-  up-P : everyKey (upTo (past p)) P ≡ true
-  unfolding P
+  up-P : everyKey (upTo (past p)) rows-p ≡ true
+  unfolding rows-p
   up-P = kept (upTo (past p)) (since p) _ (passed (upTo (past p)) _)
 
   since-B : everyKey (since (past p)) B ≡ true
@@ -254,26 +254,26 @@ module _ (p r : List ℕ) (W : List Row) (lt : before (past p) r ≡ true) (rise
   since-C-p : everyKey (since (past p)) C ≡ true
   since-C-p = since-back (past p) (past r) C (before-trans (past p) r (past r) lt (before-past r)) since-C
 
-  below-p : rowsBelow p W ≡ P
+  below-p : rowsBelow p W ≡ rows-p
   below-p =
-      keep-below p W ∙ ap (keep (λ q. begins p q)) (sym whole) ∙ keep-five (λ q. begins p q) A P B R C
-      ∙ five-path (keep-none (λ q. begins p q) A (aside-left p A up-A)) (keep-all (λ q. begins p q) P (under-range p P since-P up-P))
+      keep-below p W ∙ ap (keep (λ q. begins p q)) (sym whole) ∙ keep-five (λ q. begins p q) A rows-p B R C
+      ∙ five-path (keep-none (λ q. begins p q) A (aside-left p A up-A)) (keep-all (λ q. begins p q) rows-p (under-range p rows-p since-P up-P))
       (keep-none (λ q. begins p q) B (aside-right p B formed-B since-B)) (keep-none (λ q. begins p q) R (aside-right p R formed-R (since-back (past p) r R lt since-R)))
       (keep-none (λ q. begins p q) C (aside-right p C formed-C since-C-p))
       ∙ append-nil _ ∙ append-nil _ ∙ append-nil _
 
   below-r : rowsBelow r W ≡ R
   below-r =
-      keep-below r W ∙ ap (keep (λ q. begins r q)) (sym whole) ∙ keep-five (λ q. begins r q) A P B R C
-      ∙ five-path (keep-none (λ q. begins r q) A (aside-left r A (up-on p r A p-r up-A))) (keep-none (λ q. begins r q) P (aside-left r P (up-on (past p) r P lt up-P)))
+      keep-below r W ∙ ap (keep (λ q. begins r q)) (sym whole) ∙ keep-five (λ q. begins r q) A rows-p B R C
+      ∙ five-path (keep-none (λ q. begins r q) A (aside-left r A (up-on p r A p-r up-A))) (keep-none (λ q. begins r q) rows-p (aside-left r rows-p (up-on (past p) r rows-p lt up-P)))
       (keep-none (λ q. begins r q) B (aside-left r B up-B)) (keep-all (λ q. begins r q) R (under-range r R since-R up-R))
       (keep-none (λ q. begins r q) C (aside-right r C formed-C since-C))
       ∙ append-nil _
 
-  left-p : (d : List Row) → Aside p d → withoutBelow p (five A P B d C) ≡ five A [] B d C
+  left-p : (d : List Row) → Aside p d → withoutBelow p (five A rows-p B d C) ≡ five A [] B d C
   left-p d a =
-      keep-other p (five A P B d C) ∙ keep-five (λ q. not (begins p q)) A P B d C
-      ∙ five-path (stays p A (aside-left p A up-A)) (gone p P (under-range p P since-P up-P)) (stays p B (aside-right p B formed-B since-B)) (stays p d a)
+      keep-other p (five A rows-p B d C) ∙ keep-five (λ q. not (begins p q)) A rows-p B d C
+      ∙ five-path (stays p A (aside-left p A up-A)) (gone p rows-p (under-range p rows-p since-P up-P)) (stays p B (aside-right p B formed-B since-B)) (stays p d a)
       (stays p C (aside-right p C formed-C since-C-p))
 
   left-r : (b : List Row) → Aside r b → withoutBelow r (five A b B R C) ≡ five A b B [] C
@@ -298,7 +298,7 @@ module _ (p r : List ℕ) (W : List Row) (lt : before (past p) r ≡ true) (rise
   left-r-p : withoutBelow p (withoutBelow r W) ≡ A ++ (B ++ C)
   left-r-p =
       ap (λ x. withoutBelow p (withoutBelow r x)) (sym whole)
-      ∙ ap (withoutBelow p) (left-r P (aside-left r P (up-on (past p) r P lt up-P)))
+      ∙ ap (withoutBelow p) (left-r rows-p (aside-left r rows-p (up-on (past p) r rows-p lt up-P)))
       ∙ left-p [] (nil-aside p) ∙ close
     where
       close : five A [] B [] C ≡ A ++ (B ++ C)
@@ -306,7 +306,7 @@ module _ (p r : List ℕ) (W : List Row) (lt : before (past p) r ≡ true) (rise
 
   -- a move to the right, and one to the left
   pub set-aside-p : rowsBelow p W ≡ partP p r W
-  unfolding P
+  unfolding rows-p
   set-aside-p = below-p
 
   pub set-aside-r : rowsBelow r W ≡ partR p r W
@@ -315,11 +315,11 @@ module _ (p r : List ℕ) (W : List Row) (lt : before (past p) r ≡ true) (rise
 
   pub moved-up : rising (renamed p r (partP p r W)) ≡ true → everyKey (owns r (past r)) (renamed p r (partP p r W)) ≡ true
       → moved p r W ≡ partA p r W ++ (partB p r W ++ (renamed p r (partP p r W) ++ partC p r W))
-  unfolding moved A P B C
+  unfolding moved A rows-p B C
   moved-up e o =
       ap₂ (λ x y. putAll (renamed p r x) y) below-p (left-p-r ∙ sym (append-assoc A B C))
-      ∙ put-between r (past r) (renamed p r P) (A ++ B) C e o (every-append (upTo r) A B (up-on p r A p-r up-A) up-B) since-C
-      ∙ append-assoc A B (renamed p r P ++ C)
+      ∙ put-between r (past r) (renamed p r rows-p) (A ++ B) C e o (every-append (upTo r) A B (up-on p r A p-r up-A) up-B) since-C
+      ∙ append-assoc A B (renamed p r rows-p ++ C)
 
   pub moved-down : rising (renamed r p (partR p r W)) ≡ true → everyKey (owns p (past p)) (renamed r p (partR p r W)) ≡ true
       → moved r p W ≡ partA p r W ++ (renamed r p (partR p r W) ++ (partB p r W ++ partC p r W))

@@ -28,79 +28,79 @@ every-right a [] u e = e
 every-right a (r ∷ t) u e = every-right a t u (and-right (a (r .key)) _ e)
 
 -- what does not depend on the bytes in front
-module _ (P : List ℕ) where
-  owned-shift : (lo hi : List ℕ) (t : List Row) → everyKey (owns (P ++ lo) (P ++ hi)) (underPrefix P t) ≡ everyKey (owns lo hi) t
+module _ (old : List ℕ) where
+  owned-shift : (lo hi : List ℕ) (t : List Row) → everyKey (owns (old ++ lo) (old ++ hi)) (underPrefix old t) ≡ everyKey (owns lo hi) t
   unfolding everyKey underPrefix
   owned-shift lo hi [] = refl
-  owned-shift lo hi (r ∷ t) = rw (owns-shift P lo hi (r .key), owned-shift lo hi t)
+  owned-shift lo hi (r ∷ t) = rw (owns-shift old lo hi (r .key), owned-shift lo hi t)
 
   leaf-shift : (lo hi : List ℕ) (t : List Row)
-      → everyKey (owns (P ++ lo) (P ++ hi)) (underPrefix (shared (P ++ lo) (P ++ hi)) t) ≡ everyKey (owns lo hi) (underPrefix (shared lo hi) t)
-  leaf-shift lo hi t = rw (shared-append P lo hi, under-under P (shared lo hi) t) (owned-shift lo hi (underPrefix (shared lo hi) t))
+      → everyKey (owns (old ++ lo) (old ++ hi)) (underPrefix (shared (old ++ lo) (old ++ hi)) t) ≡ everyKey (owns lo hi) (underPrefix (shared lo hi) t)
+  leaf-shift lo hi t = rw (shared-append old lo hi, under-under old (shared lo hi) t) (owned-shift lo hi (underPrefix (shared lo hi) t))
 
-  first-shift : (l lo : List ℕ) (f : Forest) → firstPivot (P ++ l) (P ++ lo) f ≡ firstPivot l lo f
+  first-shift : (l lo : List ℕ) (f : Forest) → firstPivot (old ++ l) (old ++ lo) f ≡ firstPivot l lo f
   unfolding firstPivot
   first-shift l lo end = refl
-  first-shift l lo (tree s t f) = rw (append-assoc P l s) (same-append P (l ++ s) lo)
+  first-shift l lo (tree s t f) = rw (append-assoc old l s) (same-append old (l ++ s) lo)
 
-  pivot-shift : (l lo hi s : List ℕ) → owns (P ++ lo) (P ++ hi) ((P ++ l) ++ s) ≡ owns lo hi (l ++ s)
-  pivot-shift l lo hi s = rw (append-assoc P l s) (owns-shift P lo hi (l ++ s))
+  pivot-shift : (l lo hi s : List ℕ) → owns (old ++ lo) (old ++ hi) ((old ++ l) ++ s) ≡ owns lo hi (l ++ s)
+  pivot-shift l lo hi s = rw (append-assoc old l s) (owns-shift old lo hi (l ++ s))
 
-  rise-shift : (l hi s : List ℕ) (f : Forest) → before ((P ++ l) ++ s) (highOf (P ++ l) (P ++ hi) f) ≡ before (l ++ s) (highOf l hi f)
-  rise-shift l hi s f = rw (append-assoc P l s, high-shift P l hi f) (before-append P (l ++ s) (highOf l hi f))
+  rise-shift : (l hi s : List ℕ) (f : Forest) → before ((old ++ l) ++ s) (highOf (old ++ l) (old ++ hi) f) ≡ before (l ++ s) (highOf l hi f)
+  rise-shift l hi s f = rw (append-assoc old l s, high-shift old l hi f) (before-append old (l ++ s) (highOf l hi f))
 
   branch-shift : (l hi s : List ℕ) (t : Tree) (f : Forest)
-      → soundTree t ((P ++ l) ++ s) (highOf (P ++ l) (P ++ hi) f) ≡ soundTree t (P ++ (l ++ s)) (P ++ highOf l hi f)
-  branch-shift l hi s t f = rw (append-assoc P l s, high-shift P l hi f)
+      → soundTree t ((old ++ l) ++ s) (highOf (old ++ l) (old ++ hi) f) ≡ soundTree t (old ++ (l ++ s)) (old ++ highOf l hi f)
+  branch-shift l hi s t f = rw (append-assoc old l s, high-shift old l hi f)
 
-  branch-rows : (l hi s : List ℕ) (t : Tree) (f : Forest) → rows t ((P ++ l) ++ s) (highOf (P ++ l) (P ++ hi) f) ≡ rows t (P ++ (l ++ s)) (P ++ highOf l hi f)
-  branch-rows l hi s t f = rw (append-assoc P l s, high-shift P l hi f)
+  branch-rows : (l hi s : List ℕ) (t : Tree) (f : Forest) → rows t ((old ++ l) ++ s) (highOf (old ++ l) (old ++ hi) f) ≡ rows t (old ++ (l ++ s)) (old ++ highOf l hi f)
+  branch-rows l hi s t f = rw (append-assoc old l s, high-shift old l hi f)
 
-module _ (P Q : List ℕ) where
-  swing-leaf : (i : ℕ) (rs : List Row) (lo hi : List ℕ) → soundTree (leaf i rs) (P ++ lo) (P ++ hi) ≡ true
-      → everyKey wellFormed (rows (leaf i rs) (Q ++ lo) (Q ++ hi)) ≡ true → soundTree (leaf i rs) (Q ++ lo) (Q ++ hi) ≡ true
+module _ (old new : List ℕ) where
+  swing-leaf : (i : ℕ) (rs : List Row) (lo hi : List ℕ) → soundTree (leaf i rs) (old ++ lo) (old ++ hi) ≡ true
+      → everyKey wellFormed (rows (leaf i rs) (new ++ lo) (new ++ hi)) ≡ true → soundTree (leaf i rs) (new ++ lo) (new ++ hi) ≡ true
   unfolding soundTree rows
   swing-leaf i rs lo hi e g =
-      let l : List ℕ = shared (P ++ lo) (P ++ hi) in
-      let o : everyKey (owns (P ++ lo) (P ++ hi)) (underPrefix l rs) ≡ true = and-right (everyKey wellFormed (underPrefix l rs)) _ (and-left _ _ (and-left _ _ e)) in
-      both (both (both g (leaf-shift Q lo hi rs ∙ sym (leaf-shift P lo hi rs) ∙ o))
-      (and-right (everyKey wellFormed (underPrefix l rs) && everyKey (owns (P ++ lo) (P ++ hi)) (underPrefix l rs)) _ (and-left _ _ e)))
-      (and-right (everyKey wellFormed (underPrefix l rs) && everyKey (owns (P ++ lo) (P ++ hi)) (underPrefix l rs) && rising rs) _ e)
+      let l : List ℕ = shared (old ++ lo) (old ++ hi) in
+      let o : everyKey (owns (old ++ lo) (old ++ hi)) (underPrefix l rs) ≡ true = and-right (everyKey wellFormed (underPrefix l rs)) _ (and-left _ _ (and-left _ _ e)) in
+      both (both (both g (leaf-shift new lo hi rs ∙ sym (leaf-shift old lo hi rs) ∙ o))
+      (and-right (everyKey wellFormed (underPrefix l rs) && everyKey (owns (old ++ lo) (old ++ hi)) (underPrefix l rs)) _ (and-left _ _ e)))
+      (and-right (everyKey wellFormed (underPrefix l rs) && everyKey (owns (old ++ lo) (old ++ hi)) (underPrefix l rs) && rising rs) _ e)
 
-  swing-inner : (i : ℕ) (f : Forest) (lo hi : List ℕ) → soundTree (interior i f []) (P ++ lo) (P ++ hi) ≡ true
-      → (soundForest f (P ++ shared lo hi) (P ++ lo) (P ++ hi) ≡ true → soundForest f (Q ++ shared lo hi) (Q ++ lo) (Q ++ hi) ≡ true)
-      → soundTree (interior i f []) (Q ++ lo) (Q ++ hi) ≡ true
+  swing-inner : (i : ℕ) (f : Forest) (lo hi : List ℕ) → soundTree (interior i f []) (old ++ lo) (old ++ hi) ≡ true
+      → (soundForest f (old ++ shared lo hi) (old ++ lo) (old ++ hi) ≡ true → soundForest f (new ++ shared lo hi) (new ++ lo) (new ++ hi) ≡ true)
+      → soundTree (interior i f []) (new ++ lo) (new ++ hi) ≡ true
   unfolding soundTree soundMessages
   swing-inner i f lo hi e on =
-      let l : List ℕ = shared (P ++ lo) (P ++ hi) in
-      let z : l ≡ P ++ shared lo hi = shared-append P lo hi in
-      let first : firstPivot l (P ++ lo) f ≡ true = and-left _ _ (and-left _ _ e) in
-      let branches : soundForest f l (P ++ lo) (P ++ hi) ≡ true = and-right (firstPivot l (P ++ lo) f) _ (and-left _ _ e) in
-      rw (shared-append Q lo hi)
-      (both (both (first-shift Q (shared lo hi) lo f ∙ sym (first-shift P (shared lo hi) lo f) ∙ ap (λ x. firstPivot x (P ++ lo) f) (sym z) ∙ first)
-      (on (ap (λ x. soundForest f x (P ++ lo) (P ++ hi)) (sym z) ∙ branches))) refl)
+      let l : List ℕ = shared (old ++ lo) (old ++ hi) in
+      let z : l ≡ old ++ shared lo hi = shared-append old lo hi in
+      let first : firstPivot l (old ++ lo) f ≡ true = and-left _ _ (and-left _ _ e) in
+      let branches : soundForest f l (old ++ lo) (old ++ hi) ≡ true = and-right (firstPivot l (old ++ lo) f) _ (and-left _ _ e) in
+      rw (shared-append new lo hi)
+      (both (both (first-shift new (shared lo hi) lo f ∙ sym (first-shift old (shared lo hi) lo f) ∙ ap (λ x. firstPivot x (old ++ lo) f) (sym z) ∙ first)
+      (on (ap (λ x. soundForest f x (old ++ lo) (old ++ hi)) (sym z) ∙ branches))) refl)
 
-  swing-branch : (s : List ℕ) (t : Tree) (f : Forest) (l lo hi : List ℕ) → soundForest (tree s t f) (P ++ l) (P ++ lo) (P ++ hi) ≡ true
-      → (soundTree t (P ++ (l ++ s)) (P ++ highOf l hi f) ≡ true → soundTree t (Q ++ (l ++ s)) (Q ++ highOf l hi f) ≡ true)
-      → (soundForest f (P ++ l) (P ++ lo) (P ++ hi) ≡ true → soundForest f (Q ++ l) (Q ++ lo) (Q ++ hi) ≡ true)
-      → soundForest (tree s t f) (Q ++ l) (Q ++ lo) (Q ++ hi) ≡ true
+  swing-branch : (s : List ℕ) (t : Tree) (f : Forest) (l lo hi : List ℕ) → soundForest (tree s t f) (old ++ l) (old ++ lo) (old ++ hi) ≡ true
+      → (soundTree t (old ++ (l ++ s)) (old ++ highOf l hi f) ≡ true → soundTree t (new ++ (l ++ s)) (new ++ highOf l hi f) ≡ true)
+      → (soundForest f (old ++ l) (old ++ lo) (old ++ hi) ≡ true → soundForest f (new ++ l) (new ++ lo) (new ++ hi) ≡ true)
+      → soundForest (tree s t f) (new ++ l) (new ++ lo) (new ++ hi) ≡ true
   unfolding soundForest
   swing-branch s t f l lo hi e here on =
-      let p : Parts s t f (P ++ l) (P ++ lo) (P ++ hi) = parts s t f (P ++ l) (P ++ lo) (P ++ hi) e in
-      both (both (both (pivot-shift Q l lo hi s ∙ sym (pivot-shift P l lo hi s) ∙ p .owned) (rise-shift Q l hi s f ∙ sym (rise-shift P l hi s f) ∙ p .rises))
-      (branch-shift Q l hi s t f ∙ here (sym (branch-shift P l hi s t f) ∙ p .first))) (on (p .later))
+      let p : Parts s t f (old ++ l) (old ++ lo) (old ++ hi) = parts s t f (old ++ l) (old ++ lo) (old ++ hi) e in
+      both (both (both (pivot-shift new l lo hi s ∙ sym (pivot-shift old l lo hi s) ∙ p .owned) (rise-shift new l hi s f ∙ sym (rise-shift old l hi s f) ∙ p .rises))
+      (branch-shift new l hi s t f ∙ here (sym (branch-shift old l hi s t f) ∙ p .first))) (on (p .later))
 
-  inner-rows : (i : ℕ) (f : Forest) (lo hi : List ℕ) → everyKey wellFormed (rows (interior i f []) (Q ++ lo) (Q ++ hi)) ≡ true
-      → everyKey wellFormed (rowsIn f (Q ++ shared lo hi) (Q ++ hi)) ≡ true
+  inner-rows : (i : ℕ) (f : Forest) (lo hi : List ℕ) → everyKey wellFormed (rows (interior i f []) (new ++ lo) (new ++ hi)) ≡ true
+      → everyKey wellFormed (rowsIn f (new ++ shared lo hi) (new ++ hi)) ≡ true
   unfolding rows applyAll
-  inner-rows i f lo hi e = ap (λ x. everyKey wellFormed (rowsIn f x (Q ++ hi))) (sym (shared-append Q lo hi)) ∙ e
+  inner-rows i f lo hi e = ap (λ x. everyKey wellFormed (rowsIn f x (new ++ hi))) (sym (shared-append new lo hi)) ∙ e
 
-  forest-rows : (s : List ℕ) (t : Tree) (f : Forest) (l hi : List ℕ) → everyKey wellFormed (rowsIn (tree s t f) (Q ++ l) (Q ++ hi)) ≡ true
-      → (everyKey wellFormed (rows t (Q ++ (l ++ s)) (Q ++ highOf l hi f)) ≡ true) × (everyKey wellFormed (rowsIn f (Q ++ l) (Q ++ hi)) ≡ true)
+  forest-rows : (s : List ℕ) (t : Tree) (f : Forest) (l hi : List ℕ) → everyKey wellFormed (rowsIn (tree s t f) (new ++ l) (new ++ hi)) ≡ true
+      → (everyKey wellFormed (rows t (new ++ (l ++ s)) (new ++ highOf l hi f)) ≡ true) × (everyKey wellFormed (rowsIn f (new ++ l) (new ++ hi)) ≡ true)
   unfolding rowsIn
   forest-rows s t f l hi e = (
-    ap (everyKey wellFormed) (sym (branch-rows Q l hi s t f)) ∙ every-left wellFormed (rows t ((Q ++ l) ++ s) (highOf (Q ++ l) (Q ++ hi) f)) (rowsIn f (Q ++ l) (Q ++ hi)) e,
-    every-right wellFormed (rows t ((Q ++ l) ++ s) (highOf (Q ++ l) (Q ++ hi) f)) (rowsIn f (Q ++ l) (Q ++ hi)) e,
+    ap (everyKey wellFormed) (sym (branch-rows new l hi s t f)) ∙ every-left wellFormed (rows t ((new ++ l) ++ s) (highOf (new ++ l) (new ++ hi) f)) (rowsIn f (new ++ l) (new ++ hi)) e,
+    every-right wellFormed (rows t ((new ++ l) ++ s) (highOf (new ++ l) (new ++ hi) f)) (rowsIn f (new ++ l) (new ++ hi)) e,
   )
 
   none-sound : (l lo hi : List ℕ) → soundForest end l lo hi ≡ true
@@ -110,35 +110,35 @@ module _ (P Q : List ℕ) where
   mutual
     unfolding still stillIn
 
-    pub swing-sound : (t : Tree) (lo hi : List ℕ) → still t ≡ true → soundTree t (P ++ lo) (P ++ hi) ≡ true
-        → everyKey wellFormed (rows t (Q ++ lo) (Q ++ hi)) ≡ true → soundTree t (Q ++ lo) (Q ++ hi) ≡ true
-    swing-sound (unread i) lo hi q e g = absurd (not-unread i (P ++ lo) (P ++ hi) e)
+    pub swing-sound : (t : Tree) (lo hi : List ℕ) → still t ≡ true → soundTree t (old ++ lo) (old ++ hi) ≡ true
+        → everyKey wellFormed (rows t (new ++ lo) (new ++ hi)) ≡ true → soundTree t (new ++ lo) (new ++ hi) ≡ true
+    swing-sound (unread i) lo hi q e g = absurd (not-unread i (old ++ lo) (old ++ hi) e)
     swing-sound (leaf i rs) lo hi q e g = swing-leaf i rs lo hi e g
     swing-sound (interior i f []) lo hi q e g =
         swing-inner i f lo hi e (λ h. swing-sound-in f (shared lo hi) lo hi q h (inner-rows i f lo hi g))
     swing-sound (interior i f (m ∷ ms)) lo hi q e g = absurd (false≢true q)
 
-    pub swing-sound-in : (f : Forest) (l lo hi : List ℕ) → stillIn f ≡ true → soundForest f (P ++ l) (P ++ lo) (P ++ hi) ≡ true
-        → everyKey wellFormed (rowsIn f (Q ++ l) (Q ++ hi)) ≡ true → soundForest f (Q ++ l) (Q ++ lo) (Q ++ hi) ≡ true
-    swing-sound-in end l lo hi q e g = none-sound (Q ++ l) (Q ++ lo) (Q ++ hi)
+    pub swing-sound-in : (f : Forest) (l lo hi : List ℕ) → stillIn f ≡ true → soundForest f (old ++ l) (old ++ lo) (old ++ hi) ≡ true
+        → everyKey wellFormed (rowsIn f (new ++ l) (new ++ hi)) ≡ true → soundForest f (new ++ l) (new ++ lo) (new ++ hi) ≡ true
+    swing-sound-in end l lo hi q e g = none-sound (new ++ l) (new ++ lo) (new ++ hi)
     swing-sound-in (tree s t f) l lo hi q e g =
         swing-branch s t f l lo hi e
         (λ h. swing-sound t (l ++ s) (highOf l hi f) (and-left _ _ q) h (forest-rows s t f l hi g .0))
         (λ h. swing-sound-in f l lo hi (and-right (still t) _ q) h (forest-rows s t f l hi g .1))
 
--- The swing from P to Q: the tree under P and P FF, put under Q and Q FF.
-renamed-under : (P Q : List ℕ) (t : List Row) → renamed P Q (underPrefix P t) ≡ underPrefix Q t
+-- The swing from `old` to `new`: the tree under `old` and `old` FF, put under `new` and `new` FF.
+renamed-under : (old new : List ℕ) (t : List Row) → renamed old new (underPrefix old t) ≡ underPrefix new t
 unfolding renamed underPrefix
-renamed-under P Q [] = refl
-renamed-under P Q (r ∷ t) = rw (drop-append-seam P (r .key)) (ap (λ l. record { key = Q ++ r .key; value = r .value } ∷ l) (renamed-under P Q t))
+renamed-under old new [] = refl
+renamed-under old new (r ∷ t) = rw (drop-append-seam old (r .key)) (ap (λ l. record { key = new ++ r .key; value = r .value } ∷ l) (renamed-under old new t))
 
-pub swing-rows : (P Q lo hi : List ℕ) (t : Tree) → rows t (Q ++ lo) (Q ++ hi) ≡ renamed P Q (rows t (P ++ lo) (P ++ hi))
-swing-rows P Q lo hi t = rows-shift Q t lo hi ∙ sym (renamed-under P Q (rows t lo hi)) ∙ ap (renamed P Q) (sym (rows-shift P t lo hi))
+pub swing-rows : (old new lo hi : List ℕ) (t : Tree) → rows t (new ++ lo) (new ++ hi) ≡ renamed old new (rows t (old ++ lo) (old ++ hi))
+swing-rows old new lo hi t = rows-shift new t lo hi ∙ sym (renamed-under old new (rows t lo hi)) ∙ ap (renamed old new) (sym (rows-shift old t lo hi))
 
-pub swing-good : {h : ℕ} (P Q lo hi : List ℕ) (t : Tree) → Good h t (P ++ lo) (P ++ hi)
-    → everyKey wellFormed (renamed P Q (rows t (P ++ lo) (P ++ hi))) ≡ true → Good h t (Q ++ lo) (Q ++ hi)
-swing-good P Q lo hi t g e =
-    record { sound = swing-sound P Q t lo hi (g .holdsNoMessage) (g .sound) (ap (everyKey wellFormed) (swing-rows P Q lo hi t) ∙ e); holdsNoMessage = g .holdsNoMessage; level = g .level }
+pub swing-good : {h : ℕ} (old new lo hi : List ℕ) (t : Tree) → Good h t (old ++ lo) (old ++ hi)
+    → everyKey wellFormed (renamed old new (rows t (old ++ lo) (old ++ hi))) ≡ true → Good h t (new ++ lo) (new ++ hi)
+swing-good old new lo hi t g e =
+    record { sound = swing-sound old new t lo hi (g .holdsNoMessage) (g .sound) (ap (everyKey wellFormed) (swing-rows old new lo hi t) ∙ e); holdsNoMessage = g .holdsNoMessage; level = g .level }
 
 -- the paths of a settled sound tree are well formed
 leaf-formed : (i : ℕ) (rs : List Row) (lo hi : List ℕ) → soundTree (leaf i rs) lo hi ≡ true → everyKey wellFormed (rows (leaf i rs) lo hi) ≡ true

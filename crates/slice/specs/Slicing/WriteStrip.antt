@@ -23,84 +23,84 @@ cond-path : {A : Type 0} (x : Bool) (a b a′ b′ : A) → a ≡ a′ → b ≡
 cond-path true a b a′ b′ p q = p
 cond-path false a b a′ b′ p q = q
 
-module _ (P : List ℕ) (fresh : ℕ → ℕ) where
+module _ (prefix : List ℕ) (fresh : ℕ → ℕ) where
   left-step : (q : List ℕ) (t : Tree) (f : Forest) (h : ℕ) (l hi k : List ℕ) (at : ℕ) (s : List ℕ)
-      → leftWrite fresh t h (P ++ (l ++ q)) (P ++ highOf l hi f) (P ++ k) at s ≡ leftWrite fresh t h (l ++ q) (highOf l hi f) k at s
-      → leftWriteIn fresh f h (P ++ l) (P ++ hi) (P ++ k) at s ≡ leftWriteIn fresh f h l hi k at s
-      → leftWriteIn fresh (tree q t f) h (P ++ l) (P ++ hi) (P ++ k) at s ≡ leftWriteIn fresh (tree q t f) h l hi k at s
+      → leftWrite fresh t h (prefix ++ (l ++ q)) (prefix ++ highOf l hi f) (prefix ++ k) at s ≡ leftWrite fresh t h (l ++ q) (highOf l hi f) k at s
+      → leftWriteIn fresh f h (prefix ++ l) (prefix ++ hi) (prefix ++ k) at s ≡ leftWriteIn fresh f h l hi k at s
+      → leftWriteIn fresh (tree q t f) h (prefix ++ l) (prefix ++ hi) (prefix ++ k) at s ≡ leftWriteIn fresh (tree q t f) h l hi k at s
   unfolding leftWriteIn
   left-step q t f h l hi k at s here on =
-      rw (test-high P l hi k f, test-low P l k q)
+      rw (test-high prefix l hi k f, test-low prefix l k q)
       (cond-path (before k (highOf l hi f)) _ _ _ _
       (cond-path (before (l ++ q) k) _ _ _ _
-      (ap₂ (λ x y. leftWrite fresh t h x y (P ++ k) at s) (append-assoc P l q) (high-shift P l hi f) ∙ here) refl) on)
+      (ap₂ (λ x y. leftWrite fresh t h x y (prefix ++ k) at s) (append-assoc prefix l q) (high-shift prefix l hi f) ∙ here) refl) on)
 
-  left-page : (t : Tree) (h : ℕ) (lo hi k : List ℕ) (at : ℕ) → pageOf h (leftOf fresh t (P ++ lo) (P ++ hi) (P ++ k) at) ≡ pageOf h (leftOf fresh t lo hi k at)
-  left-page t h lo hi k at = ap (pageOf h) (left-shift P fresh t lo hi k at)
+  left-page : (t : Tree) (h : ℕ) (lo hi k : List ℕ) (at : ℕ) → pageOf h (leftOf fresh t (prefix ++ lo) (prefix ++ hi) (prefix ++ k) at) ≡ pageOf h (leftOf fresh t lo hi k at)
+  left-page t h lo hi k at = ap (pageOf h) (left-shift prefix fresh t lo hi k at)
 
   mutual
     unfolding leftWrite leftWriteIn
 
-    pub left-write-shift : (t : Tree) (h : ℕ) (lo hi k : List ℕ) (at : ℕ) (s : List ℕ) → leftWrite fresh t h (P ++ lo) (P ++ hi) (P ++ k) at s ≡ leftWrite fresh t h lo hi k at s
+    pub left-write-shift : (t : Tree) (h : ℕ) (lo hi k : List ℕ) (at : ℕ) (s : List ℕ) → leftWrite fresh t h (prefix ++ lo) (prefix ++ hi) (prefix ++ k) at s ≡ leftWrite fresh t h lo hi k at s
     left-write-shift (unread i) h lo hi k at s = refl
     left-write-shift (leaf i rs) h lo hi k at s = ap (writeNode s (fresh at)) (left-page (leaf i rs) h lo hi k at)
     left-write-shift (interior i f ms) zero lo hi k at s = refl
     left-write-shift (interior i f ms) (suc h) lo hi k at s =
         ap₂ (λ x y. writeNode x (fresh at) y)
-        (ap (λ x. leftWriteIn fresh f h x (P ++ hi) (P ++ k) (suc at) s) (shared-append P lo hi) ∙ left-write-shift-in f h (shared lo hi) hi k (suc at) s)
+        (ap (λ x. leftWriteIn fresh f h x (prefix ++ hi) (prefix ++ k) (suc at) s) (shared-append prefix lo hi) ∙ left-write-shift-in f h (shared lo hi) hi k (suc at) s)
         (left-page (interior i f ms) (suc h) lo hi k at)
 
-    pub left-write-shift-in : (f : Forest) (h : ℕ) (l hi k : List ℕ) (at : ℕ) (s : List ℕ) → leftWriteIn fresh f h (P ++ l) (P ++ hi) (P ++ k) at s ≡ leftWriteIn fresh f h l hi k at s
+    pub left-write-shift-in : (f : Forest) (h : ℕ) (l hi k : List ℕ) (at : ℕ) (s : List ℕ) → leftWriteIn fresh f h (prefix ++ l) (prefix ++ hi) (prefix ++ k) at s ≡ leftWriteIn fresh f h l hi k at s
     left-write-shift-in end h l hi k at s = refl
     left-write-shift-in (tree q t f) h l hi k at s =
         left-step q t f h l hi k at s (left-write-shift t h (l ++ q) (highOf l hi f) k at s) (left-write-shift-in f h l hi k at s)
 
-  over-write-shift : (n h : ℕ) (lo hi : List ℕ) (g : Forest) (s : List ℕ) → overWrite n h (P ++ lo) (P ++ hi) (raise P g) s ≡ overWrite n h lo hi g s
+  over-write-shift : (n h : ℕ) (lo hi : List ℕ) (g : Forest) (s : List ℕ) → overWrite n h (prefix ++ lo) (prefix ++ hi) (raise prefix g) s ≡ overWrite n h lo hi g s
   unfolding overWrite raise
   over-write-shift n h lo hi end s = refl
-  over-write-shift n h lo hi (tree q t f) s = ap (λ x. writeNode s n (pageOf h x)) (node-shift P n lo hi (tree q t f))
+  over-write-shift n h lo hi (tree q t f) s = ap (λ x. writeNode s n (pageOf h x)) (node-shift prefix n lo hi (tree q t f))
 
   packed-write-shift : (w : Bool) (h n m : ℕ) (k hi : List ℕ) (e r : Forest) (s : List ℕ)
-      → packedWrite w h n m (P ++ k) (P ++ hi) (raise P e) (raise P r) s ≡ packedWrite w h n m k hi e r s
+      → packedWrite w h n m (prefix ++ k) (prefix ++ hi) (raise prefix e) (raise prefix r) s ≡ packedWrite w h n m k hi e r s
   unfolding packedWrite
   packed-write-shift true h n m k hi e r s =
-      rw (high-raised P hi r)
-      (ap (overWrite m h (P ++ highOf [] hi r) (P ++ hi) (raise P r)) (over-write-shift n h k (highOf [] hi r) e s)
+      rw (high-raised prefix hi r)
+      (ap (overWrite m h (prefix ++ highOf [] hi r) (prefix ++ hi) (raise prefix r)) (over-write-shift n h k (highOf [] hi r) e s)
       ∙ over-write-shift m h (highOf [] hi r) hi r (overWrite n h k (highOf [] hi r) e s))
   packed-write-shift false h n m k hi e r s =
-      ap (λ g. overWrite n h (P ++ k) (P ++ hi) g s) (joined-raise P e r) ∙ over-write-shift n h k hi (joined e r) s
+      ap (λ g. overWrite n h (prefix ++ k) (prefix ++ hi) g s) (joined-raise prefix e r) ∙ over-write-shift n h k hi (joined e r) s
 
   edge-step : (w : Bool) (q : List ℕ) (t : Tree) (f : Forest) (h : ℕ) (l hi k : List ℕ) (at : ℕ) (s : List ℕ)
-      → rightWrite fresh w t h (P ++ (l ++ q)) (P ++ highOf l hi f) (P ++ k) at s ≡ rightWrite fresh w t h (l ++ q) (highOf l hi f) k at s
-      → edgeWrite fresh w f h (P ++ l) (P ++ hi) (P ++ k) at s ≡ edgeWrite fresh w f h l hi k at s
-      → edgeWrite fresh w (tree q t f) h (P ++ l) (P ++ hi) (P ++ k) at s ≡ edgeWrite fresh w (tree q t f) h l hi k at s
+      → rightWrite fresh w t h (prefix ++ (l ++ q)) (prefix ++ highOf l hi f) (prefix ++ k) at s ≡ rightWrite fresh w t h (l ++ q) (highOf l hi f) k at s
+      → edgeWrite fresh w f h (prefix ++ l) (prefix ++ hi) (prefix ++ k) at s ≡ edgeWrite fresh w f h l hi k at s
+      → edgeWrite fresh w (tree q t f) h (prefix ++ l) (prefix ++ hi) (prefix ++ k) at s ≡ edgeWrite fresh w (tree q t f) h l hi k at s
   unfolding edgeWrite
   edge-step w q t f h l hi k at s here on =
-      rw (test-high P l hi k f, test-low P l k q)
+      rw (test-high prefix l hi k f, test-low prefix l k q)
       (cond-path (before k (highOf l hi f)) _ _ _ _
       (cond-path (before (l ++ q) k) _ _ _ _
-      (ap₂ (λ x y. rightWrite fresh w t h x y (P ++ k) at s) (append-assoc P l q) (high-shift P l hi f) ∙ here) refl) on)
+      (ap₂ (λ x y. rightWrite fresh w t h x y (prefix ++ k) at s) (append-assoc prefix l q) (high-shift prefix l hi f) ∙ here) refl) on)
 
   right-leaf-page : (w : Bool) (i : ℕ) (rs : List Row) (h : ℕ) (lo hi k : List ℕ) (at : ℕ) (s : List ℕ)
-      → rightWrite fresh w (leaf i rs) h (P ++ lo) (P ++ hi) (P ++ k) at s ≡ rightWrite fresh w (leaf i rs) h lo hi k at s
+      → rightWrite fresh w (leaf i rs) h (prefix ++ lo) (prefix ++ hi) (prefix ++ k) at s ≡ rightWrite fresh w (leaf i rs) h lo hi k at s
   unfolding rightWrite rightOf raise firstOf
-  right-leaf-page w i rs h lo hi k at s = ap (λ g. writeNode s (fresh at) (pageOf h (firstOf g))) (right-shift P fresh w (leaf i rs) lo hi k at)
+  right-leaf-page w i rs h lo hi k at s = ap (λ g. writeNode s (fresh at) (pageOf h (firstOf g))) (right-shift prefix fresh w (leaf i rs) lo hi k at)
 
   mutual
     unfolding rightWrite edgeWrite
 
     pub right-write-shift : (w : Bool) (t : Tree) (h : ℕ) (lo hi k : List ℕ) (at : ℕ) (s : List ℕ)
-        → rightWrite fresh w t h (P ++ lo) (P ++ hi) (P ++ k) at s ≡ rightWrite fresh w t h lo hi k at s
+        → rightWrite fresh w t h (prefix ++ lo) (prefix ++ hi) (prefix ++ k) at s ≡ rightWrite fresh w t h lo hi k at s
     right-write-shift w (unread i) h lo hi k at s = refl
     right-write-shift w (leaf i rs) h lo hi k at s = right-leaf-page w i rs h lo hi k at s
     right-write-shift w (interior i f ms) zero lo hi k at s = refl
     right-write-shift w (interior i f ms) (suc h) lo hi k at s =
-        rw (shared-append P lo hi, edge-shift P fresh w f (shared lo hi) hi k (after w at), rest-shift P f (shared lo hi) hi k, edge-write-shift w f h (shared lo hi) hi k (after w at) s)
+        rw (shared-append prefix lo hi, edge-shift prefix fresh w f (shared lo hi) hi k (after w at), rest-shift prefix f (shared lo hi) hi k, edge-write-shift w f h (shared lo hi) hi k (after w at) s)
         (packed-write-shift w (suc h) (fresh at) (fresh (suc at)) k hi (edgeIn fresh w f (shared lo hi) hi k (after w at)) (restIn f (shared lo hi) hi k)
         (edgeWrite fresh w f h (shared lo hi) hi k (after w at) s))
 
     pub edge-write-shift : (w : Bool) (f : Forest) (h : ℕ) (l hi k : List ℕ) (at : ℕ) (s : List ℕ)
-        → edgeWrite fresh w f h (P ++ l) (P ++ hi) (P ++ k) at s ≡ edgeWrite fresh w f h l hi k at s
+        → edgeWrite fresh w f h (prefix ++ l) (prefix ++ hi) (prefix ++ k) at s ≡ edgeWrite fresh w f h l hi k at s
     edge-write-shift w end h l hi k at s = refl
     edge-write-shift w (tree q t f) h l hi k at s =
         edge-step w q t f h l hi k at s (right-write-shift w t h (l ++ q) (highOf l hi f) k at s) (edge-write-shift w f h l hi k at s)

@@ -72,21 +72,21 @@ slice-aggregate-write-root-2 c = search needs
 write-root-requires : tie.Need-write-root-requires
 write-root-requires c κs = root-asked _ _ _ _ _ (c .before .before .before .before .before .before .before .before .before .before .before .before .before .before .before .before .before .before .before .before .before .before .before .before .before .before .before .pre) _ (c .before .before .before .before .before .before .before .before .before .before .before .before .before .before .before .before .before .before .before .before .before .u16-at .ensures .0) _ _ _ _ (c .before .before .before .before .before .before .before .before .before .before .before .before .before .cut-both .ensures) _ (c .before .before .before .before .before .before .before .take-range .ensures) _ (c .before .before .before .before .before .before .before .before .before .before .before .before .before .before .before .before .before .low-place .ensures .0) _ _ (c .before .before .before .before .half-at .ensures) (c .before .before .before .half-at2 .ensures)
 
-add-write-head : tie.Need-add-write-head
-add-write-head c = omega (arith, low-levels _ _ _ _ _ (c .before .before .before .before .before .before .before .before .before .before .before .before .before .before .before .before .before .before .before .before .before .before .before .before .before .before .before .before .before .before .before .pre) _ (c .before .before .before .before .before .before .before .before .before .before .before .before .before .before .before .before .before .before .before .before .before .before .before .before .before .u16-at .ensures .0))
+add-write-header : tie.Need-add-write-header
+add-write-header c = omega (arith, low-levels _ _ _ _ _ (c .before .before .before .before .before .before .before .before .before .before .before .before .before .before .before .before .before .before .before .before .before .before .before .before .before .before .before .before .before .before .before .pre) _ (c .before .before .before .before .before .before .before .before .before .before .before .before .before .before .before .before .before .before .before .before .before .before .before .before .before .u16-at .ensures .0))
 
-write-head-requires : tie.Need-write-head-requires
-write-head-requires c κs =
+write-header-requires : tie.Need-write-header-requires
+write-header-requires c κs =
     let z = store-size _ _ _ _ _ (c .before .before .before .before .before .before .before .before .before .before .before .before .before .before .before .before .before .before .before .before .before .before .before .before .before .before .before .before .before .before .before .pre) in
     let l = low-levels _ _ _ _ _ (c .before .before .before .before .before .before .before .before .before .before .before .before .before .before .before .before .before .before .before .before .before .before .before .before .before .before .before .before .before .before .before .pre) _ (c .before .before .before .before .before .before .before .before .before .before .before .before .before .before .before .before .before .before .before .before .before .before .before .before .before .u16-at .ensures .0) in
     let k = c .before .before .before .write-root .kept .0 ∙ c .before .before .before .before .before .before .before .before .before .before .before .take-range .kept .0 ∙ c .before .before .before .before .before .before .before .before .before .before .before .before .before .before .before .before .before .cut-both .kept .0 in
     (omega arith, omega arith, c .before .before .before .before .before .before .before .before .before .before .before .before .before .before .before .before .before .before .before .before .before .before .u16-at3 .ensures .1, omega arith, c .before .before .before .before .before .before .before .before .before .before .before .before .before .before .before .before .before .before .before .before .before .before .before .u16-at2 .ensures .1)
 
 same-length : tie.Need-same-length
-same-length c = c .before .before .write-head .kept .0 ∙ c .before .before .before .before .before .before .write-root .kept .0 ∙ c .before .before .before .before .before .before .before .before .before .before .before .before .before .before .take-range .kept .0 ∙ c .before .before .before .before .before .before .before .before .before .before .before .before .before .before .before .before .before .before .before .before .cut-both .kept .0
+same-length c = c .before .before .write-header .kept .0 ∙ c .before .before .before .before .before .before .write-root .kept .0 ∙ c .before .before .before .before .before .before .before .before .before .before .before .before .before .before .take-range .kept .0 ∙ c .before .before .before .before .before .before .before .before .before .before .before .before .before .before .before .before .before .before .before .before .cut-both .kept .0
 
 returns : tie.Need-returns
-returns c = swung-done _ _ _ _ _ (c .before .before .before .before .before .before .before .before .before .before .before .before .before .before .before .before .before .before .before .before .before .before .before .before .before .before .before .before .before .before .before .before .before .before .pre) _ (c .before .before .before .before .before .before .before .before .before .before .before .before .before .before .before .before .before .before .before .before .before .before .before .before .before .before .before .before .u16-at .ensures .0) _ _ _ _ (c .before .before .before .before .before .before .before .before .before .before .before .before .before .before .before .before .before .before .before .before .cut-both .ensures) _ (c .before .before .before .before .before .before .before .before .before .before .before .before .before .before .take-range .ensures) _ (c .before .before .before .before .before .before .before .before .before .before .before .before .before .before .before .before .before .before .before .before .before .before .before .before .low-place .ensures .0) _ _ (c .before .before .before .before .before .before .before .before .before .before .before .half-at .ensures) (c .before .before .before .before .before .before .before .before .before .before .half-at2 .ensures) _ _ _ _ (c .before .before .before .before .before .before .write-root .ensures) (c .before .before .before .before .before .before .before .before .before .before .before .before .before .before .before .before .before .before .before .before .before .before .before .before .before .u16-at3 .ensures .0) (c .before .before .before .before .before .before .before .before .before .before .before .before .before .before .before .before .before .before .before .before .before .before .before .before .before .before .u16-at2 .ensures .0) (c .before .before .write-head .ensures)
+returns c = swung-done _ _ _ _ _ (c .before .before .before .before .before .before .before .before .before .before .before .before .before .before .before .before .before .before .before .before .before .before .before .before .before .before .before .before .before .before .before .before .before .before .pre) _ (c .before .before .before .before .before .before .before .before .before .before .before .before .before .before .before .before .before .before .before .before .before .before .before .before .before .before .before .before .u16-at .ensures .0) _ _ _ _ (c .before .before .before .before .before .before .before .before .before .before .before .before .before .before .before .before .before .before .before .before .cut-both .ensures) _ (c .before .before .before .before .before .before .before .before .before .before .before .before .before .before .take-range .ensures) _ (c .before .before .before .before .before .before .before .before .before .before .before .before .before .before .before .before .before .before .before .before .before .before .before .before .low-place .ensures .0) _ _ (c .before .before .before .before .before .before .before .before .before .before .before .half-at .ensures) (c .before .before .before .before .before .before .before .before .before .before .half-at2 .ensures) _ _ _ _ (c .before .before .before .before .before .before .write-root .ensures) (c .before .before .before .before .before .before .before .before .before .before .before .before .before .before .before .before .before .before .before .before .before .before .before .before .before .u16-at3 .ensures .0) (c .before .before .before .before .before .before .before .before .before .before .before .before .before .before .before .before .before .before .before .before .before .before .before .before .before .before .u16-at2 .ensures .0) (c .before .before .write-header .ensures)
 
 pub swing-between-spec : {M : Type 1} → statement M
 swing-between-spec =
@@ -110,7 +110,7 @@ swing-between-spec =
     slice-aggregate-write-root
     slice-aggregate-write-root-2
     write-root-requires
-    add-write-head
-    write-head-requires
+    add-write-header
+    write-header-requires
     same-length
     returns)

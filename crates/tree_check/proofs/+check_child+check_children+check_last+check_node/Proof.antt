@@ -5,7 +5,7 @@ use Rattle.tree_check.specs.NodeSteps.{number-low, number-past, reached-
 use Rattle.tree_check.specs.ChildSteps.{child-out, child-flat, child-walk, last-stops, last-done, next-place}
 use Rattle.tree_check.specs.HeldSteps.{list-last, list-messages, list-unread, list-stops, list-goes, as-told}
 use Rattle.tree_check.specs.Held.{parentIs}
-use Rattle.tree_check.specs.declared.Parent.{Parent}
+use Rattle.tree_check.specs.declared.lent.Parent.{Parent}
 use Rattle.laws.specs.WriteNode.{in-store}
 use Rattle.node.specs.Places.{part, step-read-is, Within}
 use borrow.Author.Tests.{not-true, not-false}
@@ -38,11 +38,11 @@ use Rattle.node.proofs.search.branch_of.Reads as branch-of-reads
 use Rattle.tree_check.proofs.check_leaf.Reads as check-leaf-reads
 use Rattle.tree_check.proofs.check_messages.Reads as check-messages-reads
 use Rattle.tree_check.proofs.first_child.Reads as first-child-reads
-use Rattle.tree_check.proofs.flattened.Reads as flattened-reads
-use Rattle.tree_check.proofs.hold.Reads as hold-reads
-use Rattle.tree_check.proofs.node_count.Reads as node-count-reads
-use Rattle.tree_check.proofs.parent_of.Reads as parent-of-reads
-use Rattle.tree_check.proofs.tally_of.Reads as tally-of-reads
+use Rattle.tree_check.proofs.lent.flattened.Reads as flattened-reads
+use Rattle.tree_check.proofs.lent.hold.Reads as hold-reads
+use Rattle.tree_check.proofs.header.node_count.Reads as node-count-reads
+use Rattle.tree_check.proofs.lent.parent_of.Reads as parent-of-reads
+use Rattle.tree_check.proofs.lent.tally_of.Reads as tally-of-reads
 use Rattle.tree_check.proofs.with_rest.Reads as with-rest-reads
 use Rattle.tree_check.proofs.+check_child+check_children+check_last+check_node.{statement}
 use Rattle.tree_check.proofs.+check_child+check_children+check_last+check_node.Tie.{close}

@@ -38,13 +38,13 @@ module _ (t : Bool) (n : ℕ) where
     counts-yes k e = sym (c .verdict) ∙ rw e
 
 -- a list counted from its front
-pub count-done : (n X r : ℕ) (l : List defined.Entry) → l ≡ [] → n + length l ≡ X → r ≡ cap (n + 0) → r ≡ cap X
-count-done n X r l e inv h =
+pub count-done : (n answer r : ℕ) (l : List defined.Entry) → l ≡ [] → n + length l ≡ answer → r ≡ cap (n + 0) → r ≡ cap answer
+count-done n answer r l e inv h =
     let z : length l ≡ 0 = rw e in
-    let q : n + 0 ≡ X = omega arith in
+    let q : n + 0 ≡ answer = omega arith in
     h ∙ ap (λ k. cap k) q
 
-pub count-on : (n X : ℕ) (l es : List defined.Entry) (e : defined.Entry) → l ≡ e ∷ es → n + length l ≡ X → n + 1 + length es ≡ X
-count-on n X l es e q inv =
+pub count-on : (n answer : ℕ) (l es : List defined.Entry) (e : defined.Entry) → l ≡ e ∷ es → n + length l ≡ answer → n + 1 + length es ≡ answer
+count-on n answer l es e q inv =
     let z : length l ≡ suc (length es) = rw q in
     omega arith

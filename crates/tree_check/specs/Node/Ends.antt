@@ -175,39 +175,39 @@ module _ (sh : machine.Shape) (lo hi : List ℕ) where
   run-other prev (Entry.Message m) s none h = refl
   run-other prev (Entry.Message m) s (some es) h = refl
 
-  leaf-bad : (prev : Option (List ℕ)) (x : Option (List defined.Entry)) (X : Bool) → x ≡ none → walkRun sh lo hi prev x ≡ X → false ≡ X
+  leaf-bad : (prev : Option (List ℕ)) (x : Option (List defined.Entry)) (answer : Bool) → x ≡ none → walkRun sh lo hi prev x ≡ answer → false ≡ answer
   unfolding walkRun
-  leaf-bad prev x X q inv = rw q at inv
+  leaf-bad prev x answer q inv = rw q at inv
 
-  leaf-end : (prev : Option (List ℕ)) (x : Option (List defined.Entry)) (X b : Bool) → x ≡ some [] → b ≡ closes hi prev → walkRun sh lo hi prev x ≡ X → b ≡ X
+  leaf-end : (prev : Option (List ℕ)) (x : Option (List defined.Entry)) (answer b : Bool) → x ≡ some [] → b ≡ closes hi prev → walkRun sh lo hi prev x ≡ answer → b ≡ answer
   unfolding walkRun walkList
-  leaf-end prev x X b q h inv = h ∙ (rw q at inv)
+  leaf-end prev x answer b q h inv = h ∙ (rw q at inv)
 
-  pub leaf-over : (prev : Option (List ℕ)) (x : Option (List defined.Entry)) (X b v : Bool) → x ≡ some [] → b ≡ closes hi prev → b ≡ v → walkRun sh lo hi prev x ≡ X → v ≡ X
-  leaf-over prev x X b v q h e inv = sym e ∙ leaf-end prev x X b q h inv
+  pub leaf-over : (prev : Option (List ℕ)) (x : Option (List defined.Entry)) (answer b v : Bool) → x ≡ some [] → b ≡ closes hi prev → b ≡ v → walkRun sh lo hi prev x ≡ answer → v ≡ answer
+  leaf-over prev x answer b v q h e inv = sym e ∙ leaf-end prev x answer b q h inv
 
-  leaf-other : (prev : Option (List ℕ)) (e : Entry) (s : List ℕ) (x y : Option (List defined.Entry)) (X : Bool) → x ≡ defined.entryThen (some (entryIn s e)) y
-      → pairIs e ≡ Pair.Other → walkRun sh lo hi prev x ≡ X → false ≡ X
-  leaf-other prev e s x y X q h inv = sym (run-other prev e s y h) ∙ ap (λ o. walkRun sh lo hi prev o) (sym q) ∙ inv
+  leaf-other : (prev : Option (List ℕ)) (e : Entry) (s : List ℕ) (x y : Option (List defined.Entry)) (answer : Bool) → x ≡ defined.entryThen (some (entryIn s e)) y
+      → pairIs e ≡ Pair.Other → walkRun sh lo hi prev x ≡ answer → false ≡ answer
+  leaf-other prev e s x y answer q h inv = sym (run-other prev e s y h) ∙ ap (λ o. walkRun sh lo hi prev o) (sym q) ∙ inv
 
-  pub leaf-unpaired : (prev : Option (List ℕ)) (s : List ℕ) (at end : ℕ) (X : Bool) → Unpaired s at end → at < end → walkRun sh lo hi prev (entriesFrom s at end) ≡ X → false ≡ X
-  leaf-unpaired prev s at end X (unread f g) h inv = leaf-bad prev (entriesFrom s at end) X (f h) inv
-  leaf-unpaired prev s at end X (unlike e c n o) h inv = leaf-other prev e s (entriesFrom s at end) (entriesFrom s (c .at) (c .end)) X (n .first) o inv
+  pub leaf-unpaired : (prev : Option (List ℕ)) (s : List ℕ) (at end : ℕ) (answer : Bool) → Unpaired s at end → at < end → walkRun sh lo hi prev (entriesFrom s at end) ≡ answer → false ≡ answer
+  leaf-unpaired prev s at end answer (unread f g) h inv = leaf-bad prev (entriesFrom s at end) answer (f h) inv
+  leaf-unpaired prev s at end answer (unlike e c n o) h inv = leaf-other prev e s (entriesFrom s at end) (entriesFrom s (c .at) (c .end)) answer (n .first) o inv
 
-  step-is : (prev : Option (List ℕ)) (p v : Place) (s : List ℕ) (x y : Option (List defined.Entry)) (X : Bool) → x ≡ defined.entryThen (some (entryIn s (Entry.Pair p v))) y
-      → walkRun sh lo hi prev x ≡ X → rowNext sh lo prev (part s p) (part s v) && walkRun sh lo hi (some (part s p)) y ≡ X
-  step-is prev p v s x y X q inv =
-      let z : walkRun sh lo hi prev (defined.entryThen (some (defined.pair (part s p) (part s v))) y) ≡ X = rw q at inv in
+  step-is : (prev : Option (List ℕ)) (p v : Place) (s : List ℕ) (x y : Option (List defined.Entry)) (answer : Bool) → x ≡ defined.entryThen (some (entryIn s (Entry.Pair p v))) y
+      → walkRun sh lo hi prev x ≡ answer → rowNext sh lo prev (part s p) (part s v) && walkRun sh lo hi (some (part s p)) y ≡ answer
+  step-is prev p v s x y answer q inv =
+      let z : walkRun sh lo hi prev (defined.entryThen (some (defined.pair (part s p) (part s v))) y) ≡ answer = rw q at inv in
       sym (run-pair prev (part s p) (part s v) y) ∙ z
 
-  pub leaf-stop : (prev : Option (List ℕ)) (p v : Place) (s : List ℕ) (x y : Option (List defined.Entry)) (X b : Bool) → x ≡ defined.entryThen (some (entryIn s (Entry.Pair p v))) y
-      → b ≡ rowNext sh lo prev (part s p) (part s v) → b ≡ false → walkRun sh lo hi prev x ≡ X → false ≡ X
-  leaf-stop prev p v s x y X b q r f inv = rw (sym r ∙ f) at (step-is prev p v s x y X q inv)
+  pub leaf-stop : (prev : Option (List ℕ)) (p v : Place) (s : List ℕ) (x y : Option (List defined.Entry)) (answer b : Bool) → x ≡ defined.entryThen (some (entryIn s (Entry.Pair p v))) y
+      → b ≡ rowNext sh lo prev (part s p) (part s v) → b ≡ false → walkRun sh lo hi prev x ≡ answer → false ≡ answer
+  leaf-stop prev p v s x y answer b q r f inv = rw (sym r ∙ f) at (step-is prev p v s x y answer q inv)
 
-  pub leaf-on : (prev : Option (List ℕ)) (p v : Place) (s : List ℕ) (x y : Option (List defined.Entry)) (X b : Bool) → x ≡ defined.entryThen (some (entryIn s (Entry.Pair p v))) y
-      → b ≡ rowNext sh lo prev (part s p) (part s v) → b ≡ true → walkRun sh lo hi prev x ≡ X → walkRun sh lo hi (prevIn s (Prev.Key p)) y ≡ X
+  pub leaf-on : (prev : Option (List ℕ)) (p v : Place) (s : List ℕ) (x y : Option (List defined.Entry)) (answer b : Bool) → x ≡ defined.entryThen (some (entryIn s (Entry.Pair p v))) y
+      → b ≡ rowNext sh lo prev (part s p) (part s v) → b ≡ true → walkRun sh lo hi prev x ≡ answer → walkRun sh lo hi (prevIn s (Prev.Key p)) y ≡ answer
   unfolding prevIn
-  leaf-on prev p v s x y X b q r f inv = rw (sym r ∙ f) at (step-is prev p v s x y X q inv)
+  leaf-on prev p v s x y answer b q r f inv = rw (sym r ∙ f) at (step-is prev p v s x y answer q inv)
 
 -- one pair
 pub start-follows : (s lo k : List ℕ) (prev : Prev) (b : Bool) → prev ≡ Prev.Start → b ≡ before k lo → not b ≡ after lo (prevIn s prev) k

@@ -65,31 +65,31 @@ module _ (sh : Shape) (lo hi : List ℕ) where
   run-other (Entry.Child i p) s (some es) h = refl
   run-other (Entry.Message m) s y h = let z : _≡_ {A = ℕ} 0 1 = cc in absurd (omega arith)
 
-  pub notes-bad : (x : Option (List defined.Entry)) (X : Bool) → x ≡ none → messagesRun sh lo hi x ≡ X → false ≡ X
+  pub notes-bad : (x : Option (List defined.Entry)) (answer : Bool) → x ≡ none → messagesRun sh lo hi x ≡ answer → false ≡ answer
   unfolding messagesRun
-  notes-bad x X q inv = rw q at inv
+  notes-bad x answer q inv = rw q at inv
 
-  pub notes-end : (x : Option (List defined.Entry)) (X : Bool) → x ≡ some [] → messagesRun sh lo hi x ≡ X → true ≡ X
+  pub notes-end : (x : Option (List defined.Entry)) (answer : Bool) → x ≡ some [] → messagesRun sh lo hi x ≡ answer → true ≡ answer
   unfolding messagesRun
-  notes-end x X q inv = rw q at inv
+  notes-end x answer q inv = rw q at inv
 
-  pub notes-other : (e : Entry) (s : List ℕ) (x y : Option (List defined.Entry)) (X : Bool) → x ≡ defined.entryThen (some (entryIn s e)) y → noteIs e ≡ Note.Other
-      → messagesRun sh lo hi x ≡ X → false ≡ X
-  notes-other e s x y X q h inv = sym (run-other e s y h) ∙ ap (λ o. messagesRun sh lo hi o) (sym q) ∙ inv
+  pub notes-other : (e : Entry) (s : List ℕ) (x y : Option (List defined.Entry)) (answer : Bool) → x ≡ defined.entryThen (some (entryIn s e)) y → noteIs e ≡ Note.Other
+      → messagesRun sh lo hi x ≡ answer → false ≡ answer
+  notes-other e s x y answer q h inv = sym (run-other e s y h) ∙ ap (λ o. messagesRun sh lo hi o) (sym q) ∙ inv
 
-  step-is : (e : Entry) (m : Message) (s : List ℕ) (x y : Option (List defined.Entry)) (X : Bool) → x ≡ defined.entryThen (some (entryIn s e)) y → noteIs e ≡ Note.Of m
-      → messagesRun sh lo hi x ≡ X → messageHere sh lo hi (messageIn s m) && messagesRun sh lo hi y ≡ X
-  step-is e m s x y X q h inv =
-      let z : messagesRun sh lo hi (defined.entryThen (some (defined.message (messageIn s m))) y) ≡ X = rw (q, note-entry e m h) at inv in
+  step-is : (e : Entry) (m : Message) (s : List ℕ) (x y : Option (List defined.Entry)) (answer : Bool) → x ≡ defined.entryThen (some (entryIn s e)) y → noteIs e ≡ Note.Of m
+      → messagesRun sh lo hi x ≡ answer → messageHere sh lo hi (messageIn s m) && messagesRun sh lo hi y ≡ answer
+  step-is e m s x y answer q h inv =
+      let z : messagesRun sh lo hi (defined.entryThen (some (defined.message (messageIn s m))) y) ≡ answer = rw (q, note-entry e m h) at inv in
       sym (run-message (messageIn s m) y) ∙ z
 
-  pub notes-stop : (e : Entry) (m : Message) (s : List ℕ) (x y : Option (List defined.Entry)) (X b : Bool) → x ≡ defined.entryThen (some (entryIn s e)) y → noteIs e ≡ Note.Of m
-      → b ≡ messageHere sh lo hi (messageIn s m) → b ≡ false → messagesRun sh lo hi x ≡ X → false ≡ X
-  notes-stop e m s x y X b q h r f inv = rw (sym r ∙ f) at (step-is e m s x y X q h inv)
+  pub notes-stop : (e : Entry) (m : Message) (s : List ℕ) (x y : Option (List defined.Entry)) (answer b : Bool) → x ≡ defined.entryThen (some (entryIn s e)) y → noteIs e ≡ Note.Of m
+      → b ≡ messageHere sh lo hi (messageIn s m) → b ≡ false → messagesRun sh lo hi x ≡ answer → false ≡ answer
+  notes-stop e m s x y answer b q h r f inv = rw (sym r ∙ f) at (step-is e m s x y answer q h inv)
 
-  pub notes-on : (e : Entry) (m : Message) (s : List ℕ) (x y : Option (List defined.Entry)) (X b : Bool) → x ≡ defined.entryThen (some (entryIn s e)) y → noteIs e ≡ Note.Of m
-      → b ≡ messageHere sh lo hi (messageIn s m) → b ≡ true → messagesRun sh lo hi x ≡ X → messagesRun sh lo hi y ≡ X
-  notes-on e m s x y X b q h r f inv = rw (sym r ∙ f) at (step-is e m s x y X q h inv)
+  pub notes-on : (e : Entry) (m : Message) (s : List ℕ) (x y : Option (List defined.Entry)) (answer b : Bool) → x ≡ defined.entryThen (some (entryIn s e)) y → noteIs e ≡ Note.Of m
+      → b ≡ messageHere sh lo hi (messageIn s m) → b ≡ true → messagesRun sh lo hi x ≡ answer → messagesRun sh lo hi y ≡ answer
+  notes-on e m s x y answer b q h r f inv = rw (sym r ∙ f) at (step-is e m s x y answer q h inv)
 
   -- one message
   module _ (s : List ℕ) (m : Message) (p v : Place) (e : m ≡ Message.Put p v) (w : Within 0 (length s) v) where

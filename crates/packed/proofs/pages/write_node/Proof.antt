@@ -2,7 +2,7 @@
 -- Relies on specs/Pages/Nodes.
 use native.Mathlib.Omega.{arith}
 use borrow.Author.Needs.{needs}
-use Rattle.packed.specs.Form.Tidy.{zerosOf}
+use Rattle.laws.specs.Page.{zerosOf}
 use Rattle.packed.specs.Pages.Nodes.{bytes-of, inner-written}
 use Rattle.packed.proofs.pages.write_node.Statement.{statement}
 use Rattle.packed.proofs.pages.write_node.Tie as tie

@@ -2,14 +2,12 @@
 -- search in the child in hand and in those after it is the search in all. Relies on specs/Steps.
 use Rattle.push.specs.High.Steps.{seen-missing, high-leaf, node-found, node-bare, branches-ready, node-above, at-last, not-here, is-here}
 use Rattle.push.specs.Laws.High.{highIn}
-use Rattle.live.specs.WalkLaws.{first-usable, later-usable}
-use Rattle.live.specs.Steps.{pends-child, pends-end}
-use Rattle.live.specs.Walk.{NextChild}
+use Rattle.node.specs.Search.Child.{pends-child, pends-end, NextChild}
 use Rattle.lookup.specs.Look.{node-inside}
 use Rattle.node.specs.Search.Own.{branch, branchesAmong}
 use Rattle.node.specs.Entries.{listed}
 use Rattle.node.specs.Places.{part, Within}
-use Rattle.laws.specs.Reading.Relative.{usableIn}
+use Rattle.laws.specs.Reading.Relative.{usableIn, first-usable, later-usable}
 use Rattle.image.specs.Image.{treeAt, nodesOf, forestOf}
 use mathlib.Core.Bool.{true}
 use mathlib.Core.Path.{_≡_, refl}
@@ -27,7 +25,7 @@ use Rattle.push.proofs.high.+search_children+search_node.Lts-search_chi
 use Rattle.push.proofs.high.search_node.Reads as search-node
 use Rattle.push.proofs.high.search_node.Kinds as search-node-kinds
 use Rattle.push.proofs.high.+search_children+search_node.Lts-search_node as search-node-lts
-use Rattle.live.proofs.read_child.Reads as read-child-reads
+use Rattle.node.proofs.search.read_child.Reads as read-child-reads
 use Rattle.push.proofs.high.keep_high.Reads as keep-high-reads
 use Rattle.octets.proofs.common_length.Reads as common-length-reads
 use Rattle.octets.proofs.u16_at.Reads as u16-at-reads

@@ -1,7 +1,7 @@
 -- `apply_message` meets its contract: the pairs after the message and the first bytes make the new page.
 -- Relies on specs/LeafSteps.
 use native.Mathlib.Omega.{arith}
-use Rattle.packed.specs.Form.Tidy.{zerosOf}
+use Rattle.laws.specs.Page.{zerosOf}
 use Rattle.node.specs.Places.{messageIn}
 use Rattle.push.specs.Laws.Arriving.{loweredBy}
 use Rattle.push.specs.LeafSteps.{leaf-fits, leaf-written}

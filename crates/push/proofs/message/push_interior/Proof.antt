@@ -2,7 +2,7 @@
 -- Relies on specs/WriteSteps and on Laws/Only.
 use Rattle.node.specs.Entries.{listed}
 use native.Mathlib.Omega.{arith}
-use Rattle.packed.specs.Form.Tidy.{zerosOf}
+use Rattle.laws.specs.Page.{zerosOf}
 use Rattle.push.specs.WriteSteps.{interior-written}
 use Rattle.push.specs.Laws.Only.{room-inside, room-fits}
 use borrow.Author.Needs.{needs}

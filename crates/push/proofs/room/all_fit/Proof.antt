@@ -9,8 +9,7 @@ use Prim.Native.Nat.{_≤_, _-_}
 use Rattle.node.specs.Search.Own.{branch, branchesAmong}
 use Rattle.node.specs.Entries.{listed}
 use Rattle.node.specs.Places.{Within, part}
-use Rattle.live.specs.Steps.{pends-child, pends-end}
-use Rattle.live.specs.Walk.{NextChild}
+use Rattle.node.specs.Search.Child.{pends-child, pends-end, NextChild}
 use Rattle.push.specs.Laws.Written.{allHaveRoom}
 use Rattle.push.specs.ReadSteps.{rooms-none, rooms-last, rooms-no, rooms-on}
 use Rattle.push.proofs.room.all_fit.Statement.{statement}

@@ -4,8 +4,7 @@ use Rattle.slice.specs.BranchSteps.{branch-line, line-none, line-zero}
 use Rattle.slice.specs.Point.{branchLine}
 use Rattle.push.specs.WriteSteps.{line-fits, line-length, line-on, line-end, line-ends, small-first, small-later, as-child}
 use Rattle.push.specs.Laws.Written.{smallNumbers}
-use Rattle.live.specs.Walk.{NextChild}
-use Rattle.live.specs.Steps.{pends-child, pends-end}
+use Rattle.node.specs.Search.Child.{NextChild, pends-child, pends-end}
 use Rattle.octets.specs.Put.{put}
 use Rattle.image.specs.Entry.{child}
 use Rattle.laws.specs.Encode.{bytesOf, child-size}

@@ -2,7 +2,7 @@
 -- Relies on specs/GapSteps.
 use Rattle.slice.specs.GapSteps.{gap-new, gap-leaf, gap-deeper, gap-inner}
 use Rattle.lookup.specs.Look.{part-rest}
-use Rattle.packed.specs.Form.Tidy.{zerosOf}
+use Rattle.laws.specs.Page.{zerosOf}
 use Rattle.octets.specs.Put.{put}
 use Rattle.laws.specs.Encode.{bytesOf}
 use Rattle.image.specs.Entry.{child}

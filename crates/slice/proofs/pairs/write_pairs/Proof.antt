@@ -1,7 +1,7 @@
 -- `write_pairs` meets its contract: the entries in an empty page, and the page as a node.
 -- Relies on specs/PairSteps.
-use Rattle.slice.specs.PairSteps.{page-written}
-use Rattle.packed.specs.Form.Tidy.{zerosOf}
+use Rattle.node.specs.Pages.{page-written}
+use Rattle.laws.specs.Page.{zerosOf}
 use borrow.Author.Needs.{needs}
 use Rattle.slice.proofs.pairs.write_pairs.Statement.{statement}
 use Rattle.slice.proofs.pairs.write_pairs.Tie as tie

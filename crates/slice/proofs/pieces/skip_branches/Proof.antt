@@ -1,8 +1,7 @@
 -- `skip_branches` meets its contract: what is left to skip of the children left is what was to skip of all.
 -- Relies on specs/PieceSteps and live's reader of children.
 use Rattle.slice.specs.PieceSteps.{drop-next, drop-none, drop-zero}
-use Rattle.live.specs.Walk.{NextChild}
-use Rattle.live.specs.Steps.{pends-child, pends-end}
+use Rattle.node.specs.Search.Child.{NextChild, pends-child, pends-end}
 use Rattle.node.specs.Search.Own.{branchesAmong}
 use Rattle.node.specs.Entries.{listed}
 use lib.ListN.{length, drop}

@@ -1,13 +1,13 @@
 -- `write_over` meets its contract: no entries, or a page of them.
 -- Relies on specs/PieceSteps and specs/PairSteps.
 use Rattle.slice.specs.PieceSteps.{twice-put, twice-ends, over-none, told-none, over-some, told-some}
-use Rattle.slice.specs.PairSteps.{page-written}
+use Rattle.node.specs.Pages.{page-written}
 use Rattle.slice.specs.Right.{allLine, piecesIn}
 use Rattle.slice.specs.Point.{branchLine}
 use Rattle.node.specs.Search.Own.{branchesAmong}
 use Rattle.node.specs.Entries.{listed}
 use mathlib.Core.List.{_++_}
-use Rattle.packed.specs.Form.Tidy.{zerosOf}
+use Rattle.laws.specs.Page.{zerosOf}
 use lib.ListN.{length-append}
 use mathlib.Core.Path.{refl}
 use native.Mathlib.Omega.{arith}

@@ -2,8 +2,7 @@
 -- Relies on specs/PointSteps and on live's reader of children.
 use Rattle.slice.specs.PointSteps.{point-none, point-first, point-last, point-in, point-between, point-on}
 use Rattle.slice.specs.Point.{pointOf}
-use Rattle.live.specs.Walk.{NextChild}
-use Rattle.live.specs.Steps.{pends-child, pends-end}
+use Rattle.node.specs.Search.Child.{NextChild, pends-child, pends-end}
 use Rattle.node.specs.Places.{Within, part}
 use Rattle.node.specs.Entries.{listed}
 use Rattle.node.specs.Search.Own.{branch, branchesAmong}

@@ -1,6 +1,6 @@
 -- `write_root` meets its contract: three puts and a page. Relies on specs/Code.
 use Rattle.swing.specs.Code.{low-room, high-room, end-fits, num-room, root-done}
-use Rattle.packed.specs.Form.Tidy.{zerosOf}
+use Rattle.laws.specs.Page.{zerosOf}
 use native.Mathlib.Omega.{arith}
 use borrow.Author.Needs.{needs}
 use Rattle.swing.proofs.root.write_root.Statement.{statement}

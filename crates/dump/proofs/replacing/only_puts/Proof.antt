@@ -1,0 +1,82 @@
+-- The loop over a node's entries: none of those passed takes a row away. The measure is the bytes left.
+-- Relies on specs/ReplacingSteps and on the contract of the cursor.
+use Rattle.node.specs.Places.{step-read-is, step-bad-is}
+use Rattle.node.specs.Entries.{listed, listed-end}
+use Rattle.lookup.specs.Look.{listing}
+use Rattle.dump.specs.Replacing.{onlyPuts}
+use Rattle.dump.specs.ReplacingSteps.{keeps-end, keeps-not, keeps-on}
+use borrow.Author.Needs.{needs}
+use native.Mathlib.Omega.{arith}
+use Prim.Native.Nat.{_+_, _-_, _*_}
+use mathlib.Core.Path.{_≡_, refl, ap, _∙_}
+use Rattle.dump.proofs.replacing.only_puts.Statement.{statement}
+use Rattle.dump.proofs.replacing.only_puts.Tie as tie
+
+abbrev Inv-loop : tie.InvT-loop
+Inv-loop store num at len from end c₀ c = (c .end ≡ end) × (onlyPuts (listed store (c .at) (c .end)) ≡ onlyPuts (listing store num))
+
+abbrev μ-loop : tie.MeasureT-loop
+μ-loop store num at len from end c₀ c = end - c .at
+
+mul-at : tie.Need-mul-at Inv-loop μ-loop
+mul-at c = let a = c .before .pre .0 in omega arith
+
+u16-at-requires : tie.Need-u16-at-requires Inv-loop μ-loop
+u16-at-requires c κs = let a = c .before .pre .0 in omega arith
+
+add-from : tie.Need-add-from Inv-loop μ-loop
+add-from c = let a = c .before .before .pre .0 in omega arith
+
+add-end : tie.Need-add-end Inv-loop μ-loop
+add-end c = let a = c .before .before .pre .0 in let b = c .before .before .pre .1 in let d = c .u16-at .ensures .0 in omega arith
+
+loop-holds : tie.Need-loop-holds Inv-loop μ-loop
+loop-holds c = (refl, ap (λ n. onlyPuts (listed (c .before .before .args .store .now) (c .before .before .args .num * 1024 + 8) (c .before .before .args .num * 1024 + 8 + n))) (c .u16-at .ensures .0))
+
+step-requires : tie.Need-step-requires Inv-loop μ-loop
+step-requires c κs = let a = c .before .before .loop .inv .0 in let b = c .before .before .before .before .before .pre .0 in let d = c .before .before .before .before .before .pre .1 in let e = c .before .before .before .u16-at .ensures .0 in omega arith
+
+enum-known-e : tie.Need-enum-known-e Inv-loop μ-loop
+enum-known-e c = search needs
+
+enum-told : tie.Need-enum-told Inv-loop μ-loop
+enum-told c = search needs
+
+returns : tie.Need-returns Inv-loop μ-loop
+returns c = keeps-end _ _ (step-bad-is _ _ _ _ (c .before .before .step .ensures) (c .enum-told .given .1) .1) (c .before .before .before .before .before .loop .inv .1)
+
+entry-keeps-requires : tie.Need-entry-keeps-requires Inv-loop μ-loop
+entry-keeps-requires c κs = search needs
+
+returns-2 : tie.Need-returns-2 Inv-loop μ-loop
+returns-2 c = let n = step-read-is _ _ _ _ _ _ (c .before .before .before .before .before .step .ensures) (c .before .before .before .e .given .1) in keeps-not (c .before .before .before .before .before .before .before .before .before .before .before .args .store .now) (c .before .before .before .e .given .0 .0) _ _ _ _ (n .lists) (c .before .entry-keeps .ensures (c .before .before .before .before .before .before .before .before .before .before .before .args .store .now)) (c .before .before .before .before .before .before .before .before .loop .inv .1) (c .if2 .taken)
+
+loop-less : tie.Need-loop-less Inv-loop μ-loop
+loop-less c = let n = step-read-is _ _ _ _ _ _ (c .before .before .before .before .before .step .ensures) (c .before .before .before .e .given .1) in let a = c .before .before .before .before .before .before .before .before .loop .inv .0 in let b = n .moves in let d = n .stays in omega arith
+
+loop-again : tie.Need-loop-again Inv-loop μ-loop
+loop-again c = let n = step-read-is _ _ _ _ _ _ (c .before .before .before .before .before .step .ensures) (c .before .before .before .e .given .1) in (n .ends ∙ c .before .before .before .before .before .before .before .before .loop .inv .0, keeps-on (c .before .before .before .before .before .before .before .before .before .before .before .args .store .now) (c .before .before .before .e .given .0 .0) _ _ _ _ (n .lists) (c .before .entry-keeps .ensures (c .before .before .before .before .before .before .before .before .before .before .before .args .store .now)) (c .before .before .before .before .before .before .before .before .loop .inv .1) (c .if2 .left))
+
+returns-3 : tie.Need-returns-3 Inv-loop μ-loop
+returns-3 c = let a = c .before .before .loop .inv .0 in keeps-end _ _ (listed-end _ _ _ (omega arith)) (c .before .before .loop .inv .1)
+
+pub only-puts-spec : {M : Type 1} → statement M
+only-puts-spec =
+    tie.close
+    (tie.spec
+    Inv-loop
+    μ-loop
+    mul-at
+    u16-at-requires
+    add-from
+    add-end
+    loop-holds
+    step-requires
+    enum-known-e
+    enum-told
+    returns
+    entry-keeps-requires
+    returns-2
+    loop-less
+    loop-again
+    returns-3)

@@ -1,0 +1,39 @@
+-- `script::read_path` meets its contract: one law for each way out (specs/Reading). Assumes nothing.
+use borrow.Author.Needs.{needs}
+use native.Mathlib.Omega.{arith}
+use Rattle.script.specs.Reading.{no-path, path-read, path-end}
+use Rattle.script.proofs.reading.read_path.Statement.{statement}
+use Rattle.script.proofs.reading.read_path.Tie as tie
+
+find-byte-requires : tie.Need-find-byte-requires
+find-byte-requires c κs = search needs
+
+returns : tie.Need-returns
+returns c = no-path _ _ _ (c .before .find-byte .ensures .0) (c .if1 .taken)
+
+put-exchanged-requires : tie.Need-put-exchanged-requires
+put-exchanged-requires c κs = search needs
+
+slice-write-path : tie.Need-slice-write-path
+slice-write-path c = omega (arith, path-end _ _ _ _ (c .before .before .put-exchanged .ensures))
+
+add-result : tie.Need-add-result
+add-result c = omega (arith, path-end _ _ _ _ (c .before .before .put-exchanged .ensures))
+
+same-length : tie.Need-same-length
+same-length c = search needs
+
+returns-2 : tie.Need-returns-2
+returns-2 c = path-read _ _ _ _ _ (c .before .before .before .before .before .find-byte .ensures .0) (c .before .before .before .before .if1 .left) (c .before .before .put-exchanged .ensures) (omega (arith, path-end _ _ _ _ (c .before .before .put-exchanged .ensures)))
+
+pub read-path-spec : {M : Type 1} → statement M
+read-path-spec =
+    tie.close
+    (tie.spec
+    find-byte-requires
+    returns
+    put-exchanged-requires
+    slice-write-path
+    add-result
+    same-length
+    returns-2)

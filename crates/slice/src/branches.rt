@@ -1,4 +1,4 @@
-// The page of a part of an interior node: its children's entries, each pivot without its first bytes. Relies on live's reader of children
+// The page of a part of an interior node: its children's entries, each pivot without its first bytes. Relies on node's reader of children
 // and on node's writer; specs/Point says what stands in the page.
 use crate::Cut;
 use node::Cursor;

@@ -1,5 +1,5 @@
 -- `join_first` meets its contract: the two children in hand are joined if one node holds them, or the search goes on.
--- Relies on specs/JoinSteps and on live's reader of children.
+-- Relies on specs/JoinSteps and on node's reader of children.
 use borrow.Author.Needs.{needs}
 use native.Mathlib.Omega.{arith}
 use lib.ListN.{length}

@@ -1,5 +1,5 @@
 -- `emit_children` meets its contract: the child entries left, written behind what is written, are all child entries.
--- Relies on specs/WriteSteps and on live's reader of children.
+-- Relies on specs/WriteSteps and on node's reader of children.
 use borrow.Author.Needs.{needs}
 use native.Mathlib.Omega.{arith}
 use lib.ListN.{length}

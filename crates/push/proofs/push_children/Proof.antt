@@ -1,5 +1,5 @@
 -- `push_children` meets its contract: the child in hand takes its messages, and those after it have room still.
--- Relies on specs/ChildSteps and on live's reader of children.
+-- Relies on specs/ChildSteps and on node's reader of children.
 use borrow.Author.Needs.{needs}
 use native.Mathlib.Omega.{arith}
 use lib.ListN.{length}

@@ -1,5 +1,5 @@
 -- Pages that are written read back: bytes of entries after bytes of entries, a node with its children alone, an interior node with more
--- messages. Relies on Encode and on packed's `page`.
+-- messages. Relies on Encode and on laws' `page`.
 use Prim.Native.Nat.{ℕ, _≤_}
 use mathlib.Core.Path.{_≡_, refl, sym, ap, _∙_}
 use mathlib.Core.List.{List, [], _∷_, _++_, append-assoc}

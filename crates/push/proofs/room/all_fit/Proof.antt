@@ -1,5 +1,5 @@
 -- `all_fit` meets its contract: the test of the child in hand and of those after it is the test of all.
--- Relies on specs/ReadSteps and on live's reader of children.
+-- Relies on specs/ReadSteps and on node's reader of children.
 use borrow.Author.Needs.{needs}
 use native.Mathlib.Omega.{arith}
 use lib.ListN.{length}

@@ -1,5 +1,5 @@
 -- `skip_branches` meets its contract: what is left to skip of the children left is what was to skip of all.
--- Relies on specs/PieceSteps and live's reader of children.
+-- Relies on specs/PieceSteps and node's reader of children.
 use Rattle.slice.specs.PieceSteps.{drop-next, drop-none, drop-zero}
 use Rattle.node.specs.Search.Child.{NextChild, pends-child, pends-end}
 use Rattle.node.specs.Search.Own.{branchesAmong}

@@ -1,5 +1,5 @@
 -- `find_point` meets its contract: the point among the child in hand and those after it is the point among all.
--- Relies on specs/PointSteps and on live's reader of children.
+-- Relies on specs/PointSteps and on node's reader of children.
 use Rattle.slice.specs.PointSteps.{point-none, point-first, point-last, point-in, point-between, point-on}
 use Rattle.slice.specs.Point.{pointOf}
 use Rattle.node.specs.Search.Child.{NextChild, pends-child, pends-end}

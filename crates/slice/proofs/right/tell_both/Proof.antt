@@ -1,5 +1,5 @@
 -- `tell_both` meets its contract: with a first child of the rest, and with none.
--- Relies on specs/PieceSteps and live's reader of children.
+-- Relies on specs/PieceSteps and node's reader of children.
 use Rattle.slice.specs.PieceSteps.{told-edge, told-rest}
 use Rattle.node.specs.Search.Child.{NextChild, pends-child, pends-end}
 use Rattle.node.specs.Cut.{cut-length}

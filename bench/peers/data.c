@@ -9,11 +9,14 @@
 #include <string.h>
 
 const char *const call_names[CALLS] = {"get", "next", "put", "drop", "clear", "move", "settle", "tidy"};
+const char *const mix_names[MIXES] = {"puts", "drops", "clears", "the three in turn"};
 
 /* A closure has 2 trays of 8 fibres, a cable 4 closures, a route 4 cables. */
 enum { FIBRES = 8, TRAYS = 2, CLOSURES = 4, CABLES = 4 };
 /* How many components a route and a closure have. */
 enum { ROUTE = 1, CLOSURE = 3 };
+/* Rows of this number, modulo SINGLE, are the calls' own. */
+enum { OWN = 2 };
 
 _Noreturn void fail(const char *format, ...) {
     va_list list;
@@ -76,11 +79,6 @@ void content_make(struct content *content, size_t nodes) {
         content->rows[i] = (struct record){path_of(i), value_of(i)};
 }
 
-/* The later put of this index: a present path, far from the one before, with a new value. */
-struct record content_later(const struct content *content, size_t index) {
-    return (struct record){content->rows[index * 37 % content->nodes].path, value_of(index + 5)};
-}
-
 /* The first `count` components of a path. */
 static struct bytes beginning(const struct bytes *path, size_t count) {
     size_t len = 0;
@@ -98,6 +96,20 @@ static struct bytes end_of(const struct bytes *path) {
     return end;
 }
 
+/* The later change of this index: a present path, far from the one before and none of the calls' own (arguments_of), so that every peer has
+ * these still; a put has a new value. */
+struct change content_later(const struct content *content, size_t index, enum mix mix) {
+    static const enum call in_turn[] = {PUT, DROP, CLEAR};
+    size_t row = 0;
+    for (size_t left = index + 1, i = 0; left > 0; i++) {
+        row = i * 37 % content->nodes;
+        left -= row % SINGLE != OWN;
+    }
+    struct change made = {mix == IN_TURN ? in_turn[index % 3] : in_turn[mix], {.path = content->rows[row].path, .value = value_of(index + 5)}};
+    made.arguments.path_end = end_of(&made.arguments.path);
+    return made;
+}
+
 /* The closure under a number that is not in use. */
 static struct bytes renumbered(const struct bytes *closure) {
     struct bytes made = *closure;
@@ -107,7 +119,7 @@ static struct bytes renumbered(const struct bytes *closure) {
 
 /* Spread over the store; never the last path of a route, so that next has an answer. */
 static struct arguments arguments_of(const struct content *content, enum call call, size_t index) {
-    const size_t row = index * content->nodes / SINGLE + 2;
+    const size_t row = index * content->nodes / SINGLE + OWN;
     struct arguments made = {.path = content->rows[row].path, .value = value_of(row + 11)};
     if (call == NEXT) {
         made.other = made.path;
@@ -136,7 +148,6 @@ void series_puts_in_a_row(struct series *series, const struct content *content) 
     series->in_a_row = true;
     series->count = IN_A_ROW;
     for (size_t i = 0; i < IN_A_ROW; i++) {
-        const struct record record = content_later(content, i);
-        series->all[i] = (struct arguments){.path = record.path, .value = record.value};
+        series->all[i] = content_later(content, i, PUTS).arguments;
     }
 }

@@ -1,11 +1,11 @@
 /* Reads an image just far enough to count: which nodes are reachable, how many messages wait in the root. It writes two things: a root above
- * the root, which makes room for messages, and a put behind the root's entries. Relies on the image being sound, laid out as docs/FORMAT.md says.
+ * the root, which makes room for messages, and a message behind the root's entries. Relies on the image being sound, laid out as docs/FORMAT.md says.
  */
 #include "peers.h"
 
 #include <string.h>
 
-enum { HEAD = 8, ENTRY_HEAD = 4, KIND_INTERIOR = 2, KIND_CHILD = 0x10, KIND_PUT = 0x20 };
+enum { HEAD = 8, ENTRY_HEAD = 4, KIND_INTERIOR = 2, KIND_CHILD = 0x10, KIND_PUT = 0x20, KIND_DROP = 0x21, KIND_CLEAR = 0x22 };
 
 static uint16_t word(const uint8_t *at) { return (uint16_t)(at[0] | at[1] << 8); }
 
@@ -66,18 +66,26 @@ void image_raise(uint8_t *image) {
     set_word(image + 8, levels);
 }
 
-/* A put to a path that is present, as the root's last message; false where it does not fit. So a root can be filled that no call fills. */
-bool image_put(uint8_t *image, const struct record *record) {
+/* A change of a present path that nothing is below, as the root's last message; false where it does not fit. So a root can be filled that no
+ * call fills. */
+bool image_change(uint8_t *image, const struct change *change) {
+    const bool puts = change->call == PUT;
+    const struct bytes *path = &change->arguments.path, *value = &change->arguments.value;
     uint8_t *node = image + (size_t)word(image + 6) * NODE;
-    const size_t length = word(node), rest = 2 + record->path.len + record->value.len;
+    const size_t length = word(node), rest = puts ? 2 + path->len + value->len : path->len;
     if (HEAD + length + ENTRY_HEAD + rest > NODE)
         return false;
-    uint8_t *entry = node + HEAD + length;
+    uint8_t *entry = node + HEAD + length, *body = entry + ENTRY_HEAD;
     set_word(entry, rest);
-    set_word(entry + 2, KIND_PUT);
-    set_word(entry + ENTRY_HEAD, record->path.len);
-    memcpy(entry + ENTRY_HEAD + 2, record->path.at, record->path.len);
-    memcpy(entry + ENTRY_HEAD + 2 + record->path.len, record->value.at, record->value.len);
+    set_word(entry + 2, puts ? KIND_PUT : change->call == DROP ? KIND_DROP : KIND_CLEAR);
+    if (puts) {
+        set_word(body, path->len);
+        memcpy(body + 2, path->at, path->len);
+        memcpy(body + 2 + path->len, value->at, value->len);
+    } else {
+        memcpy(body, path->at, path->len);
+        set_word(image + 10, word(image + 10) - 1u);
+    }
     set_word(node, length + ENTRY_HEAD + rest);
     return true;
 }

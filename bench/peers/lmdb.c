@@ -194,7 +194,9 @@ static void load(const struct content *content) {
     unlink(file);
     open_env();
     put_all(content->rows, content->nodes);
-    put_all(content->later, content->waiting);
+    for (size_t i = 0; i < content->waiting; i++)
+        if (!change(content->later[i].call, &content->later[i].arguments))
+            fail("LMDB: a change failed");
     close_env();
     read_file();
 }

@@ -27,12 +27,12 @@ static const struct peer *const columns[COLUMNS] = {
 static const size_t sizes[] = {64, 256, 1024};
 enum { SIZES = sizeof sizes / sizeof *sizes };
 
-/* The least ratio to a judging SQLite at each size and state, and the call that has it; and the ratio of puts in a row. */
-enum { SETTLED, WAITING, CUT_SHORT, FULL_ROOT, STATES };
-static struct worst {
+/* The least ratio to a judging SQLite in a settled store of each size, and the call that has it; and the ratio of puts in a row. */
+struct worst {
     double ratio;
     enum call call;
-} worst[SIZES][STATES];
+};
+static struct worst worst_settled[SIZES];
 static double ratio_in_a_row[SIZES];
 
 const char *folder;
@@ -62,17 +62,17 @@ static void print_machine(void) {
            columns[LMDB] ? columns[LMDB]->version() : "LMDB missing", rounds, SINGLE);
 }
 
-/* The times of the series, by column; 0 where there is none. */
-static void measure_columns(double us[COLUMNS]) {
+/* The times of the series in the first so many columns; 0 where there is none. */
+static void measure_columns(size_t many, double us[COLUMNS]) {
     const struct peer *present[COLUMNS];
     double times[COLUMNS];
     size_t count = 0;
-    for (size_t c = 0; c < COLUMNS; c++)
+    for (size_t c = 0; c < many; c++)
         if (columns[c])
             present[count++] = columns[c];
     in_turns(present, count, &series, times);
     count = 0;
-    for (size_t c = 0; c < COLUMNS; c++)
+    for (size_t c = 0; c < many; c++)
         us[c] = columns[c] ? times[count++] : 0;
 }
 
@@ -85,7 +85,7 @@ static void print_columns_head(const char *first) {
 static double print_columns(const char *first) {
     double us[COLUMNS];
     const char *cells[2 * COLUMNS] = {first};
-    measure_columns(us);
+    measure_columns(COLUMNS, us);
     cells[1] = figure(us[OURS]);
     for (size_t c = 1; c < COLUMNS; c++) {
         cells[2 * c] = figure(us[c]);
@@ -95,38 +95,36 @@ static double print_columns(const char *first) {
     return us[JUDGED] / us[OURS];
 }
 
-static void load_all(size_t nodes, size_t wanted, enum way way) {
+static void load(size_t many, size_t nodes, struct state state) {
     content_make(&content, nodes);
-    ours_build(&content, wanted, way);
-    for (size_t c = 0; c < COLUMNS; c++)
+    ours_build(&content, state);
+    for (size_t c = 0; c < many; c++)
         if (columns[c])
             columns[c]->load(&content);
 }
 
-static void print_calls(struct worst *least) {
+static void keep_least(struct worst *least, double ratio, enum call call) {
+    if (ratio > 0 && (least->ratio == 0 || ratio < least->ratio))
+        *least = (struct worst){ratio, call};
+}
+
+static struct worst print_calls(void) {
+    struct worst least = {0};
     print_columns_head("call");
     for (enum call call = 0; call < CALLS; call++) {
         series_single(&series, &content, call);
-        const double ratio = print_columns(call_names[call]);
-        if (ratio > 0 && (least->ratio == 0 || ratio < least->ratio))
-            *least = (struct worst){ratio, call};
+        keep_least(&least, print_columns(call_names[call]), call);
     }
+    return least;
 }
 
 static void print_peers(size_t size) {
-    load_all(sizes[size], 0, BY_CALLS);
+    load(COLUMNS, sizes[size], (struct state){0});
     title("%zu nodes, %zu records, settled, in µs", content.nodes, content.nodes);
-    print_calls(&worst[size][SETTLED]);
-    load_all(sizes[size], WAITING_MOST, BY_CALLS);
+    worst_settled[size] = print_calls();
+    load(COLUMNS, sizes[size], (struct state){WAITING_MOST, BY_CALLS, PUTS});
     title("%zu nodes, %zu records, %zu puts waiting, the most that calls leave, in µs", content.nodes, content.nodes, content.waiting);
-    print_calls(&worst[size][WAITING]);
-    load_all(sizes[size], WAITING_MOST, BY_BATCHES);
-    title("%zu nodes, %zu records, %zu puts waiting, the most that a batch leaves whose last change is refused, in µs", content.nodes,
-          content.nodes, content.waiting);
-    print_calls(&worst[size][CUT_SHORT]);
-    load_all(sizes[size], WAITING_MOST, BY_HAND);
-    title("%zu nodes, %zu records, %zu puts waiting in a full root, which no call leaves, in µs", content.nodes, content.nodes, content.waiting);
-    print_calls(&worst[size][FULL_ROOT]);
+    print_calls();
 }
 
 static void print_in_a_row(void) {
@@ -135,30 +133,58 @@ static void print_in_a_row(void) {
     for (size_t size = 0; size < SIZES; size++) {
         char nodes[16];
         snprintf(nodes, sizeof nodes, "%zu", sizes[size]);
-        load_all(sizes[size], 0, BY_CALLS);
+        load(COLUMNS, sizes[size], (struct state){0});
         series_puts_in_a_row(&series, &content);
         ratio_in_a_row[size] = print_columns(nodes);
     }
 }
 
 static void print_worst(void) {
-    static const char *const head[] = {"nodes", "settled", "call", "most waiting", "call", "after a batch", "call", "full root", "call",
-                                       "puts in a row", "wanted"};
+    static const char *const head[] = {"nodes", "settled", "call", "puts in a row", "wanted"};
     static const char *const wanted[SIZES] = {"4", "-", "1.5"};
-    if (!columns[JUDGED])
-        return;
     title("The least ratios to a judging SQLite");
-    table_head(head, 11);
+    table_head(head, 5);
     for (size_t size = 0; size < SIZES; size++) {
-        const struct worst *settled = &worst[size][SETTLED], *most = &worst[size][WAITING], *cut = &worst[size][CUT_SHORT],
-                           *full = &worst[size][FULL_ROOT];
         char nodes[16];
         snprintf(nodes, sizeof nodes, "%zu", sizes[size]);
-        const char *cells[] = {nodes, figure(settled->ratio), call_names[settled->call], figure(most->ratio), call_names[most->call],
-                               figure(cut->ratio), call_names[cut->call], figure(full->ratio), call_names[full->call],
-                               figure(ratio_in_a_row[size]), wanted[size]};
-        table_row(cells, 11);
+        const char *cells[] = {nodes, figure(worst_settled[size].ratio), call_names[worst_settled[size].call], figure(ratio_in_a_row[size]),
+                               wanted[size]};
+        table_row(cells, 5);
     }
+}
+
+/* The least ratio to a judging SQLite of all calls in a state. */
+static struct worst measure_state(size_t nodes, struct state state) {
+    struct worst least = {0};
+    load(JUDGED + 1, nodes, state);
+    for (enum call call = 0; call < CALLS; call++) {
+        double us[COLUMNS];
+        series_single(&series, &content, call);
+        measure_columns(JUDGED + 1, us);
+        keep_least(&least, us[JUDGED] / us[OURS], call);
+    }
+    return least;
+}
+
+static void print_states(void) {
+    static const char *const head[] = {"nodes", "what waits", "most by calls", "ratio", "call", "most by batches", "ratio", "call",
+                                       "full root", "ratio", "call"};
+    title("The least ratios to a judging SQLite, by what waits in the root");
+    table_head(head, 2 + 3 * WAYS);
+    for (size_t size = 0; size < SIZES; size++)
+        for (enum mix mix = 0; mix < MIXES; mix++) {
+            char nodes[16], waiting[WAYS][16];
+            snprintf(nodes, sizeof nodes, "%zu", sizes[size]);
+            const char *cells[2 + 3 * WAYS] = {nodes, mix_names[mix]};
+            for (enum way way = 0; way < WAYS; way++) {
+                const struct worst least = measure_state(sizes[size], (struct state){WAITING_MOST, way, mix});
+                snprintf(waiting[way], sizeof waiting[way], "%zu", content.waiting);
+                cells[2 + 3 * way] = waiting[way];
+                cells[3 + 3 * way] = figure(least.ratio);
+                cells[4 + 3 * way] = call_names[least.call];
+            }
+            table_row(cells, 2 + 3 * WAYS);
+        }
 }
 
 /* Our time of a call on the image that ours_build has made. */
@@ -179,7 +205,7 @@ static void print_growth(void) {
         uint16_t reachable[NODES_MOST];
         char first[16], second[16];
         content_make(&content, nodes);
-        ours_build(&content, 0, BY_CALLS);
+        ours_build(&content, (struct state){0});
         const double pass = pass_us(ours_pristine()), get = measure_ours(GET), put = measure_ours(PUT);
         snprintf(first, sizeof first, "%zu", nodes);
         snprintf(second, sizeof second, "%zu", image_reachable(ours_pristine(), reachable));
@@ -196,7 +222,7 @@ static void print_waiting(void) {
     for (size_t i = 0; i < sizeof wanted / sizeof *wanted; i++) {
         char count[32];
         content_make(&content, NODES_MOST);
-        ours_build(&content, wanted[i], BY_HAND);
+        ours_build(&content, (struct state){wanted[i], BY_HAND, PUTS});
         const double pass = pass_us(ours_pristine()), get = measure_ours(GET);
         snprintf(count, sizeof count, wanted[i] == WAITING_MOST ? "%zu (as many as fit)" : "%zu", content.waiting);
         const char *cells[] = {count, figure(pass), figure(get), figure(get / pass)};
@@ -221,7 +247,10 @@ int main(int count, char **words) {
     for (size_t size = 0; size < SIZES; size++)
         print_peers(size);
     print_in_a_row();
-    print_worst();
+    if (columns[JUDGED]) {
+        print_worst();
+        print_states();
+    }
     print_growth();
     print_waiting();
     return 0;

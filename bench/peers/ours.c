@@ -1,5 +1,5 @@
 /* This library as a peer: every call judges the image anew. Relies on target/staticlib/libsplicelog.a. The pristine image is made by the
- * library's own puts and tidy; for waiting messages, puts below a raised root (image.c), which the library judges at each of them.
+ * library's own puts and tidy; for waiting messages, changes below a raised root (image.c), which the library judges at each of them.
  */
 #include "peers.h"
 #include "splicelog.h"
@@ -14,40 +14,55 @@ static uint32_t put(uint8_t *to, const struct record *record) {
     return splicelog_put(to, store_len, work, work_len, record->path.at, record->path.len, record->value.at, record->value.len);
 }
 
-/* A put with a refused change behind it, a drop of no path: only the last change of a batch leaves a reserve in the root. */
-static uint32_t put_in_batch(uint8_t *to, const struct record *record) {
+/* A change by the call of its own. */
+static uint32_t change_alone(uint8_t *to, const struct change *change) {
+    const struct bytes *path = &change->arguments.path, *value = &change->arguments.value;
+    switch (change->call) {
+    case PUT:
+        return splicelog_put(to, store_len, work, work_len, path->at, path->len, value->at, value->len);
+    case DROP:
+        return splicelog_drop(to, store_len, work, work_len, path->at, path->len);
+    default:
+        return splicelog_clear(to, store_len, work, work_len, path->at, path->len);
+    }
+}
+
+/* A change with a refused one behind it, a drop of no path: only the last change of a batch leaves as little waiting as a call does. */
+static uint32_t change_in_batch(uint8_t *to, const struct change *change) {
+    static const enum splicelog_kind kinds[CALLS] = {[PUT] = SPLICELOG_PUT, [DROP] = SPLICELOG_DROP, [CLEAR] = SPLICELOG_CLEAR};
+    const struct bytes *path = &change->arguments.path, *value = &change->arguments.value;
     uint8_t bytes[256], answers[8];
     struct splicelog_calls calls = {.bytes = bytes, .room = sizeof bytes};
-    if (!splicelog_add(&calls, SPLICELOG_PUT, record->path.at, record->path.len, record->value.at, record->value.len) ||
-        !splicelog_add(&calls, SPLICELOG_DROP, record->path.at, 0, NULL, 0))
-        fail("a put does not fit a batch");
+    if (!splicelog_add(&calls, kinds[change->call], path->at, path->len, value->at, change->call == PUT ? value->len : 0) ||
+        !splicelog_add(&calls, SPLICELOG_DROP, path->at, 0, NULL, 0))
+        fail("a change does not fit a batch");
     const uint64_t done = splicelog_batch(to, store_len, work, work_len, bytes, calls.length, answers, sizeof answers);
     return splicelog_batch_done(done) == 2 ? (uint32_t)(answers[2] | answers[3] << 8) : 1;
 }
 
-/* One more put in the root of the store; false where there is no room for it, or it has sent the others down. */
-static bool wait_one_more(const struct record *next, enum way way, size_t waiting) {
+/* One more change in the root of the store; false where there is no room for it, or it has sent the others down. */
+static bool wait_one_more(const struct change *next, enum way way, size_t waiting) {
     if (way == BY_HAND)
-        return image_put(store, next);
-    if ((way == BY_CALLS ? put(store, next) : put_in_batch(store, next)) != 0)
-        fail("a put to a sound store was refused");
+        return image_change(store, next);
+    if ((way == BY_CALLS ? change_alone(store, next) : change_in_batch(store, next)) != 0)
+        fail("a change of a sound store was refused");
     return image_waiting(store) == waiting + 1;
 }
 
-/* Puts until so many wait in the root; where there is no room for one more, the image before it stays. */
-static void wait_for(struct content *content, size_t wanted, enum way way) {
+/* Changes until so many wait in the root; where there is no room for one more, the image before it stays. */
+static void wait_for(struct content *content, struct state state) {
     image_raise(pristine);
-    while (content->waiting < wanted && content->waiting < WAITING_MOST) {
-        const struct record next = content_later(content, content->waiting);
+    while (content->waiting < state.wanted && content->waiting < WAITING_MOST) {
+        const struct change next = content_later(content, content->waiting, state.mix);
         memcpy(store, pristine, store_len);
-        if (!wait_one_more(&next, way, content->waiting))
+        if (!wait_one_more(&next, state.way, content->waiting))
             return;
         memcpy(pristine, store, store_len);
         content->later[content->waiting++] = next;
     }
 }
 
-void ours_build(struct content *content, size_t wanted, enum way way) {
+void ours_build(struct content *content, struct state state) {
     store_len = content->nodes * NODE;
     work_len = content->nodes * 128;
     bool made = splicelog_make(pristine, store_len) == 0;
@@ -56,8 +71,8 @@ void ours_build(struct content *content, size_t wanted, enum way way) {
     made &= splicelog_tidy(pristine, store_len, work, work_len) == 0;
     if (!made)
         fail("the library refused to make a store of %zu nodes", content->nodes);
-    if (wanted > 0)
-        wait_for(content, wanted, way);
+    if (state.wanted > 0)
+        wait_for(content, state);
 }
 
 const uint8_t *ours_pristine(void) { return pristine; }

@@ -23,21 +23,29 @@ struct record {
     struct bytes path, value;
 };
 
-/* A full store: as many records as nodes, rising, and the later puts to present paths, which wait in our root and which every peer has
- * made too. */
-struct content {
-    size_t nodes;
-    struct record rows[NODES_MOST];
-    size_t waiting;
-    struct record later[WAITING_MOST];
-};
-
 enum call { GET, NEXT, PUT, DROP, CLEAR, MOVE, SETTLE, TIDY, CALLS };
 
 /* What a call is given: a record's path or a closure; next's `after` or move's `to`; put's value; and the ends of both ranges, so that no
  * peer makes them in measured time. */
 struct arguments {
     struct bytes path, path_end, other, other_end, value;
+};
+
+/* What waits in our root: changes of one kind, or of the three in turn. */
+enum mix { PUTS, DROPS, CLEARS, IN_TURN, MIXES };
+
+/* A put, drop or clear of a present path. */
+struct change {
+    enum call call;
+    struct arguments arguments;
+};
+
+/* A full store: as many records as nodes, rising, and the later changes, which wait in our root and which every peer has made too. */
+struct content {
+    size_t nodes;
+    struct record rows[NODES_MOST];
+    size_t waiting;
+    struct change later[WAITING_MOST];
 };
 
 /* Calls to measure: each on the pristine bytes, or in a row, each on what the one before has left. */
@@ -73,9 +81,9 @@ extern const char *folder;
 extern const struct peer ours, sqlite_judged, sqlite_trusting, lmdb_trusting;
 
 /* data.c */
-extern const char *const call_names[CALLS];
+extern const char *const call_names[CALLS], *const mix_names[MIXES];
 void content_make(struct content *content, size_t nodes);
-struct record content_later(const struct content *content, size_t index);
+struct change content_later(const struct content *content, size_t index, enum mix mix);
 void series_single(struct series *series, const struct content *content, enum call call);
 void series_puts_in_a_row(struct series *series, const struct content *content);
 void bytes_set(struct bytes *to, const void *from, size_t len);
@@ -87,12 +95,17 @@ uint64_t fnv_record(uint64_t hash, const void *path, size_t path_len, const void
 size_t image_reachable(const uint8_t *image, uint16_t nodes[NODES_MOST]);
 size_t image_waiting(const uint8_t *image);
 void image_raise(uint8_t *image);
-bool image_put(uint8_t *image, const struct record *record);
+bool image_change(uint8_t *image, const struct change *change);
 
-/* ours.c; wanted is how many puts shall wait in the root, WAITING_MOST for as many as there can be: made one by one, which leaves a reserve in
- * the root, by batches whose last change is refused, which leave less, or by hand, until no more fit. */
-enum way { BY_CALLS, BY_BATCHES, BY_HAND };
-void ours_build(struct content *content, size_t wanted, enum way way);
+/* ours.c; `wanted` is how many changes shall wait in the root, WAITING_MOST for as many as there can be: made one by one, after which few may
+ * wait, by batches whose last change is refused, after which more may, or by hand, until no more fit. */
+enum way { BY_CALLS, BY_BATCHES, BY_HAND, WAYS };
+struct state {
+    size_t wanted;
+    enum way way;
+    enum mix mix;
+};
+void ours_build(struct content *content, struct state state);
 const uint8_t *ours_pristine(void);
 
 /* measure.c */

@@ -158,6 +158,16 @@ static void put_all(struct session *s, const struct record *records, size_t coun
     finalize(s);
 }
 
+static void change_all(struct session *s, const struct change *changes, size_t count) {
+    for (size_t i = 0; i < count; i++) {
+        struct answer none;
+        prepare(s, changes[i].call);
+        if (!run_prepared(s, &changes[i].arguments, &none))
+            fail("SQLite: a change failed: %s", sqlite3_errmsg(s->db));
+        finalize(s);
+    }
+}
+
 static void keep_pristine(struct session *s) {
     sqlite3_int64 size = 0;
     unsigned char *bytes = sqlite3_serialize(s->db, "main", &size, 0);
@@ -168,7 +178,7 @@ static void keep_pristine(struct session *s) {
     sqlite3_free(bytes);
 }
 
-/* Packed by VACUUM, as ours is by tidy, and then the later puts. */
+/* Packed by VACUUM, as ours is by tidy, and then the later changes. */
 static void load(struct session *s, const struct content *content) {
     finalize(s);
     sqlite3_close(s->db);
@@ -177,7 +187,7 @@ static void load(struct session *s, const struct content *content) {
     execute(s, "CREATE TABLE log (path BLOB PRIMARY KEY, value BLOB NOT NULL) WITHOUT ROWID");
     put_all(s, content->rows, content->nodes);
     execute(s, "VACUUM");
-    put_all(s, content->later, content->waiting);
+    change_all(s, content->later, content->waiting);
     keep_pristine(s);
 }
 

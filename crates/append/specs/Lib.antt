@@ -1,4 +1,4 @@
 pub mod Laws
 pub mod WriteSteps
-pub mod HeldSteps
+pub mod Waiting
 pub mod Callers

@@ -2,26 +2,26 @@
 // The root lifts nothing, so a message there has the full path as its suffix. The laws of what is written are in specs/Laws.
 use node::writer;
 ghost use mathlib.Core.Path.{_≡_};
-ghost use mathlib.Core.Bool.{true, not};
+ghost use mathlib.Core.Bool.{true};
 ghost use Prim.Native.Nat.{_+_, _*_, _<_, _≤_};
 ghost use lib.ListN.{length};
 ghost use Rattle.image.specs.Bytes.{u16Bytes};
 ghost use Rattle.image.specs.Entry.{puts, drops, clears};
 ghost use Rattle.image.specs.Image.{wholeNodes, nodesOf, treeOf};
-ghost use Rattle.image.specs.Upkeep.{noMessage};
 ghost use Rattle.octets.specs.Put.{put};
 ghost use Rattle.laws.specs.ButLive.{soundButLive};
 ghost use Rattle.node.specs.Whole.{HasNode};
 ghost use Rattle.append.specs.Laws.Append.{rootAt, roomAtRoot, appended};
 ghost use Rattle.append.specs.Laws.Raise.{rootRaised};
 ghost use Rattle.append.specs.Laws.SetLive.{withLive};
+ghost use Rattle.append.specs.Waiting.{waiting};
 
 // Where the root's node begins.
 pub fn root_at(store: &[u8]) -> usize
     requires { ⌜ soundButLive (now store) ≡ true ⌝ }
     ensures { λ r. ⌜ (r ≡ rootAt (now (store .entry))) × (r + 1024 ≤ length (now (store .entry))) ⌝ }
 {
-    let root = octets::u16_at(store, image::ROOT_AT);
+    let root = node::header::read_root(store);
     root * image::NODE_SIZE
 }
 
@@ -30,12 +30,12 @@ pub fn fits_at_root(store: &[u8], size: usize) -> bool
     requires { ⌜ (soundButLive (now store) ≡ true) × (size ≤ 1016) ⌝ }
     ensures { λ r. ⌜ r ≡ roomAtRoot (now (store .entry)) size ⌝ }
 {
-    let levels = octets::u16_at(store, image::LEVELS_AT);
+    let levels = node::header::read_levels(store);
     if levels < 2 {
         return false;
     }
     let at = root_at(store);
-    let len = octets::u16_at(store, at);
+    let len = node::header::read_length(store, at);
     len + size <= image::ENTRIES_LIMIT
 }
 
@@ -45,7 +45,7 @@ pub fn append_put(store: &mut [u8], path: &[u8], value: &[u8])
     ensures { λ _. ⌜ now (store .exit) ≡ appended (now (store .entry)) (puts (now (path .entry)) (now (value .entry))) ⌝ }
 {
     let at = root_at(store);
-    let len = octets::u16_at(store, at);
+    let len = node::header::read_length(store, at);
     let from = at + image::ENTRIES_AT;
     let end = writer::write_keyed(store, from + len, image::PUT, path, value);
     octets::put_u16(store, at, end - from);
@@ -57,7 +57,7 @@ pub fn append_drop(store: &mut [u8], path: &[u8])
     ensures { λ _. ⌜ now (store .exit) ≡ appended (now (store .entry)) (drops (now (path .entry))) ⌝ }
 {
     let at = root_at(store);
-    let len = octets::u16_at(store, at);
+    let len = node::header::read_length(store, at);
     let from = at + image::ENTRIES_AT;
     let end = writer::write_short(store, from + len, image::DROP, path);
     octets::put_u16(store, at, end - from);
@@ -69,7 +69,7 @@ pub fn append_clear(store: &mut [u8], path: &[u8])
     ensures { λ _. ⌜ now (store .exit) ≡ appended (now (store .entry)) (clears (now (path .entry))) ⌝ }
 {
     let at = root_at(store);
-    let len = octets::u16_at(store, at);
+    let len = node::header::read_length(store, at);
     let from = at + image::ENTRIES_AT;
     let end = writer::write_short(store, from + len, image::CLEAR, path);
     octets::put_u16(store, at, end - from);
@@ -96,8 +96,8 @@ pub fn raise_put(store: &mut [u8], free: usize, path: &[u8], value: &[u8])
     requires { ⌜ (wholeNodes (length (now store)) ≡ true) × (soundButLive (now store) ≡ true) × (free < nodesOf (length (now store))) × (length (now path) + length (now value) ≤ 1004) ⌝ }
     ensures { λ _. ⌜ now (store .exit) ≡ rootRaised (now (store .entry)) free (puts (now (path .entry)) (now (value .entry))) ⌝ }
 {
-    let old = octets::u16_at(store, image::ROOT_AT);
-    let levels = octets::u16_at(store, image::LEVELS_AT);
+    let old = node::header::read_root(store);
+    let levels = node::header::read_levels(store);
     let mut page = [0u8; 1024];
     let from = writer::write_child(&mut page, image::ENTRIES_AT, old, &path[0..0]);
     let end = writer::write_keyed(&mut page, from, image::PUT, path, value);
@@ -109,8 +109,8 @@ pub fn raise_drop(store: &mut [u8], free: usize, path: &[u8])
     requires { ⌜ (wholeNodes (length (now store)) ≡ true) × (soundButLive (now store) ≡ true) × (free < nodesOf (length (now store))) × (length (now path) ≤ 1004) ⌝ }
     ensures { λ _. ⌜ now (store .exit) ≡ rootRaised (now (store .entry)) free (drops (now (path .entry))) ⌝ }
 {
-    let old = octets::u16_at(store, image::ROOT_AT);
-    let levels = octets::u16_at(store, image::LEVELS_AT);
+    let old = node::header::read_root(store);
+    let levels = node::header::read_levels(store);
     let mut page = [0u8; 1024];
     let from = writer::write_child(&mut page, image::ENTRIES_AT, old, &path[0..0]);
     let end = writer::write_short(&mut page, from, image::DROP, path);
@@ -122,8 +122,8 @@ pub fn raise_clear(store: &mut [u8], free: usize, path: &[u8])
     requires { ⌜ (wholeNodes (length (now store)) ≡ true) × (soundButLive (now store) ≡ true) × (free < nodesOf (length (now store))) × (length (now path) ≤ 1004) ⌝ }
     ensures { λ _. ⌜ now (store .exit) ≡ rootRaised (now (store .entry)) free (clears (now (path .entry))) ⌝ }
 {
-    let old = octets::u16_at(store, image::ROOT_AT);
-    let levels = octets::u16_at(store, image::LEVELS_AT);
+    let old = node::header::read_root(store);
+    let levels = node::header::read_levels(store);
     let mut page = [0u8; 1024];
     let from = writer::write_child(&mut page, image::ENTRIES_AT, old, &path[0..0]);
     let end = writer::write_short(&mut page, from, image::CLEAR, path);
@@ -138,17 +138,17 @@ pub fn set_live(store: &mut [u8], live: usize)
     octets::put_u16(store, image::LIVE_AT, live);
 }
 
-// Whether the root holds any message.
-pub fn has_messages_at_root(store: &[u8]) -> bool
+// How many messages the root holds.
+pub fn waiting_at_root(store: &[u8]) -> usize
     requires { ⌜ soundButLive (now store) ≡ true ⌝ }
-    ensures { λ r. ⌜ r ≡ not (noMessage (treeOf (now (store .entry)))) ⌝ }
+    ensures { λ r. ⌜ r ≡ waiting (treeOf (now (store .entry))) ⌝ }
 {
-    let levels = octets::u16_at(store, image::LEVELS_AT);
+    let levels = node::header::read_levels(store);
     if levels < 2 {
-        return false;
+        return 0;
     }
     let at = root_at(store);
-    let len = octets::u16_at(store, at);
+    let len = node::header::read_length(store, at);
     let from = at + image::ENTRIES_AT;
-    node::search::has_messages(store, from, from + len)
+    node::search::count_messages(store, from, from + len)
 }

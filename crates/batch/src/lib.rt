@@ -41,9 +41,9 @@ fn put_piece(
     calls: &[u8],
     path: Place,
     value: Place,
-    reserve: usize,
+    waiting: usize,
 ) -> Outcome
-    requires { ⌜ Fresh (now store) (now work) × Within 0 (length (now calls)) path × Within 0 (length (now calls)) value × (reserve ≤ 900) ⌝ }
+    requires { ⌜ Fresh (now store) (now work) × Within 0 (length (now calls)) path × Within 0 (length (now calls)) value ⌝ }
     ensures { λ r. ⌜ Served (now (store .entry)) (now (work .entry)) (acting (put (part (now (calls .entry)) path) (part (now (calls .entry)) value))) r (now (store .exit)) (now (work .exit)) ⌝ }
 {
     let start = path.start;
@@ -52,7 +52,7 @@ fn put_piece(
     let stop = value.stop;
     let seen = [0u8; 1024];
     let terms = Terms {
-        reserve,
+        waiting,
         marked: false,
     };
     edit::put_fit(
@@ -70,16 +70,16 @@ fn drop_piece(
     work: &mut [u8],
     calls: &[u8],
     path: Place,
-    reserve: usize,
+    waiting: usize,
 ) -> Outcome
-    requires { ⌜ Fresh (now store) (now work) × Within 0 (length (now calls)) path × (reserve ≤ 900) ⌝ }
+    requires { ⌜ Fresh (now store) (now work) × Within 0 (length (now calls)) path ⌝ }
     ensures { λ r. ⌜ Served (now (store .entry)) (now (work .entry)) (acting (drops (part (now (calls .entry)) path))) r (now (store .exit)) (now (work .exit)) ⌝ }
 {
     let start = path.start;
     let stop = path.stop;
     let seen = [0u8; 1024];
     let terms = Terms {
-        reserve,
+        waiting,
         marked: false,
     };
     edit::drop_fit(store, work, &seen, &calls[start..stop], terms)
@@ -90,16 +90,16 @@ fn clear_piece(
     work: &mut [u8],
     calls: &[u8],
     path: Place,
-    reserve: usize,
+    waiting: usize,
 ) -> Outcome
-    requires { ⌜ Fresh (now store) (now work) × Within 0 (length (now calls)) path × (reserve ≤ 900) ⌝ }
+    requires { ⌜ Fresh (now store) (now work) × Within 0 (length (now calls)) path ⌝ }
     ensures { λ r. ⌜ Served (now (store .entry)) (now (work .entry)) (acting (clear (part (now (calls .entry)) path))) r (now (store .exit)) (now (work .exit)) ⌝ }
 {
     let start = path.start;
     let stop = path.stop;
     let seen = [0u8; 1024];
     let terms = Terms {
-        reserve,
+        waiting,
         marked: false,
     };
     edit::clear_fit(store, work, &seen, &calls[start..stop], terms)
@@ -165,15 +165,15 @@ fn make_change(
     work: &mut [u8],
     calls: &[u8],
     change: Change,
-    reserve: usize,
+    waiting: usize,
 ) -> Outcome
-    requires { ⌜ Fresh (now store) (now work) × ChangeWithin (length (now calls)) change × (reserve ≤ 900) ⌝ }
+    requires { ⌜ Fresh (now store) (now work) × ChangeWithin (length (now calls)) change ⌝ }
     ensures { λ r. ⌜ Served (now (store .entry)) (now (work .entry)) (changeIn (now (calls .entry)) change) r (now (store .exit)) (now (work .exit)) ⌝ }
 {
     match change {
-        Change::Put(path, value) => put_piece(store, work, calls, path, value, reserve),
-        Change::Drop(path) => drop_piece(store, work, calls, path, reserve),
-        Change::Clear(path) => clear_piece(store, work, calls, path, reserve),
+        Change::Put(path, value) => put_piece(store, work, calls, path, value, waiting),
+        Change::Drop(path) => drop_piece(store, work, calls, path, waiting),
+        Change::Clear(path) => clear_piece(store, work, calls, path, waiting),
         Change::Move(from, to) => move_piece(store, work, calls, from, to),
         Change::Settle => settle_piece(store, work),
         Change::Tidy => tidy_piece(store, work),
@@ -211,7 +211,7 @@ fn answer_query(store: &[u8], calls: &[u8], query: Query, answers: &mut [u8], at
     }
 }
 
-// Whether a change fills or empties the root itself, so that none before it need leave room there. A flush or a heal may do neither.
+// Whether a change fills or empties the root itself, so that more may wait there before it. A flush or a heal may do neither.
 fn changes_root(change: Change) -> bool {
     match change {
         Change::Put(_, _) => true,
@@ -251,24 +251,20 @@ fn changes_later(calls: &[u8], at: usize) -> bool
     }
 }
 
-// Of the root's bytes a change that others follow leaves so many free: fewer than a single call, as nothing is judged between them; but where the
-// last one is refused, or has no room for its answer, this is what the next call finds.
-const RESERVE_BETWEEN: usize = 200;
-
-// How many bytes of the root a change leaves free whose piece ends at a place: the last one of a list what a single call leaves, for the next
-// call's judgement. Only speed depends on it: nothing is promised but the bound that edit asks for. It looks ahead from such a change
-// up to the next one and no further, so that each piece is read twice at most.
-fn reserve_of(change: Change, calls: &[u8], end: usize) -> usize
+// How many messages may wait in the root after a change whose piece ends at a place: after the last one of a list as many as after a single call,
+// for the next call's judgement; after one that others follow more, by the nodes, as nothing is judged between them and a rebuild costs by the nodes.
+// But where the last one is refused, or has no room for its answer, these are what the next call finds. Only speed depends on it, so that nothing is
+// promised. It looks ahead from such a change up to the next one and no further, so that each piece is read twice at most.
+fn waiting_of(change: Change, calls: &[u8], end: usize, nodes: usize) -> usize
     requires { ⌜ end ≤ length (now calls) ⌝ }
-    ensures { λ r. ⌜ r ≤ 900 ⌝ }
 {
     if !changes_root(change) {
         return 0;
     }
     if changes_later(calls, end) {
-        return RESERVE_BETWEEN;
+        return edit::WAITING + nodes / 64;
     }
-    edit::RESERVE
+    edit::WAITING
 }
 
 // The piece at a place carried out, and its answer written at another, where it is certain to fit.
@@ -292,8 +288,8 @@ fn take_turn(
             if answers.len() - written < 4 {
                 return Turn::Stop;
             }
-            let reserve = reserve_of(change, calls, end);
-            let outcome = make_change(store, work, calls, change, reserve);
+            let waiting = waiting_of(change, calls, end, store.len() / image::NODE_SIZE);
+            let outcome = make_change(store, work, calls, change, waiting);
             let behind = requests::write_outcome(answers, written, outcome);
             Turn::Goes(end, behind)
         }

@@ -1,5 +1,5 @@
 -- The steps of the append: one pair's row, and the loop over a leaf's entries. Relies on what put_row promises (build: RowPut) and on
--- what the tests of `live` promise.
+-- what the tests of `live_count` promise.
 use Prim.Native.Nat.{ℕ, _+_, _*_, _-_, _≤_}
 use mathlib.Core.Path.{_≡_, refl, sym, ap, subst, _∙_}
 use mathlib.Core.List.{List, [], _∷_, _++_, append-nil, append-assoc}
@@ -25,15 +25,15 @@ use Rattle.node.specs.Search.Pairs.{pairIs}
 use Rattle.node.specs.Search.PairSteps.{Unpaired, unread, unlike}
 use Rattle.packed.specs.Rows.Area.{rowsOf, RowsFit}
 use Rattle.packed.specs.Build.Rows.{RowPut}
-use Rattle.live.specs.Notes.Notes.{quiet}
-use Rattle.live.specs.Live.{Shortens, short}
-use Rattle.live.specs.PathBuffers.{pathIn}
-use Rattle.live.specs.PathSteps.{path-length}
+use Rattle.live_count.specs.Notes.Notes.{quiet}
+use Rattle.live_count.specs.Live.{Shortens, short}
+use Rattle.live_count.specs.PathBuffers.{pathIn}
+use Rattle.live_count.specs.PathSteps.{path-length}
 use Rattle.node.specs.declared.PathBuffer.{PathBuffer}
-use Rattle.live.specs.declared.visibility.Trail.{Trail}
-use Rattle.live.specs.Noted.{keyed, LeafTold}
-use Rattle.live.specs.Walk.{passing}
-use Rattle.live.specs.Steps.{passes-short, as-path}
+use Rattle.live_count.specs.declared.visibility.Trail.{Trail}
+use Rattle.live_count.specs.Noted.{keyed, LeafTold}
+use Rattle.live_count.specs.Walk.{passing}
+use Rattle.live_count.specs.Steps.{passes-short, as-path}
 use Rattle.dump.specs.Dump.{rowIn, pairsAmong, entryValueFits, valuesFitAmong, Room, Added, KeyTold}
 
 -- ROWS ADDED

@@ -1,5 +1,5 @@
 -- What the walk writes of a node's entries, and what each of its functions asks and gives. Definitions only; the laws are beside.
--- Relies on live/specs (which entry decides a path) and on rows/specs/Area (the rows of the work area).
+-- Relies on live_count/specs (which entry decides a path) and on rows/specs/Area (the rows of the work area).
 use Prim.Native.Nat.{ℕ, _+_, _*_, _-_, _≤_}
 use mathlib.Core.Path.{_≡_}
 use mathlib.Core.List.{List, [], _∷_, _++_}
@@ -15,13 +15,13 @@ use Rattle.node.specs.declared.Place.{Place}
 use Rattle.node.specs.declared.Cursor.{Cursor}
 use Rattle.node.specs.Search.Latest.{newestAmong}
 use Rattle.packed.specs.Rows.Area.{rowsOf, RowsFit}
-use Rattle.live.specs.Notes.Notes.{NotesFit, quiet}
-use Rattle.live.specs.Live.{holdsNoMessage}
-use Rattle.live.specs.Noted as noted
-use Rattle.live.specs.PathBuffers.{pathIn}
+use Rattle.live_count.specs.Notes.Notes.{NotesFit, quiet}
+use Rattle.live_count.specs.Live.{holdsNoMessage}
+use Rattle.live_count.specs.Noted as noted
+use Rattle.live_count.specs.PathBuffers.{pathIn}
 use Rattle.node.specs.declared.PathBuffer.{PathBuffer}
-use Rattle.live.specs.declared.visibility.Trail.{Trail}
-use Rattle.live.specs.Walk.{passing, decides}
+use Rattle.live_count.specs.declared.visibility.Trail.{Trail}
+use Rattle.live_count.specs.Walk.{passing, decides}
 
 -- the row of a key and a value at places of the store, under a prefix
 abbrev pub rowIn : List ℕ → PathBuffer → Place → Place → Row

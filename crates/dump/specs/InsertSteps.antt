@@ -27,13 +27,13 @@ use Rattle.packed.specs.Rows.Steps.{rows-length}
 use Rattle.dump.specs.Insertion.Insertion.{Inserted}
 use Rattle.dump.specs.Insertion.Merge.{put-among}
 use Rattle.dump.specs.Insertion.Slots.{rows-parts}
-use Rattle.live.specs.Live.{holdsNoMessage}
+use Rattle.live_count.specs.Live.{holdsNoMessage}
 use Rattle.laws.specs.Filter.{every-with}
-use Rattle.live.specs.KeepLaws.{with-length, quiet-put}
-use Rattle.live.specs.PathBuffers.{pathIn}
+use Rattle.live_count.specs.KeepLaws.{with-length, quiet-put}
+use Rattle.live_count.specs.PathBuffers.{pathIn}
 use Rattle.node.specs.declared.PathBuffer.{PathBuffer}
-use Rattle.live.specs.Walk.{decides}
-use Rattle.live.specs.Steps.{as-path}
+use Rattle.live_count.specs.Walk.{decides}
+use Rattle.live_count.specs.Steps.{as-path}
 use Rattle.dump.specs.Dump.{entryValueFits, withEntry, insertAmong, Untold, Open, Placed}
 use Rattle.dump.specs.AppendSteps.{values-first, values-later}
 

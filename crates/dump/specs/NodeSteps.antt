@@ -5,7 +5,7 @@ use mathlib.Core.Path.{_≡_, refl, sym, ap, ap₂, subst, _∙_}
 use mathlib.Core.List.{List, [], _∷_, _++_, append-nil, append-assoc}
 use mathlib.Core.Bool.{Bool, true, _&&_}
 use native.Mathlib.Omega.{arith}
-use lib.ListN.{length, take, drop, length-append}
+use lib.ListN.{length, take, drop}
 use Rattle.image.specs.Bytes.{u16, shared}
 use Rattle.image.specs.Entry.{Entry}
 use Rattle.image.specs.Table.{Row, underPrefix, putAll, rising}
@@ -28,18 +28,17 @@ use Rattle.packed.specs.Rows.Area.{rowsOf}
 use Rattle.packed.specs.Rows.Steps.{rows-length}
 use Rattle.dump.specs.Insertion.Insertion.{Apart, Merged}
 use Rattle.dump.specs.Insertion.Slots.{rows-split, rows-parts}
-use Rattle.live.specs.Live.{holdsNoMessage}
-use Rattle.live.specs.PathBuffers.{pathIn}
-use Rattle.live.specs.PathSteps.{path-length}
+use Rattle.live_count.specs.Live.{holdsNoMessage}
+use Rattle.live_count.specs.PathBuffers.{pathIn}
+use Rattle.live_count.specs.PathSteps.{path-length}
 use Rattle.node.specs.declared.PathBuffer.{PathBuffer}
-use Rattle.live.specs.declared.visibility.Trail.{Trail}
-use Rattle.live.specs.Walk.{passing, Deeper, Ready}
-use Rattle.live.specs.Steps.{passes-short}
+use Rattle.live_count.specs.declared.visibility.Trail.{Trail}
+use Rattle.live_count.specs.Walk.{passing, Deeper, Ready}
+use Rattle.live_count.specs.Steps.{passes-short}
 use Rattle.dump.specs.Dump.{pairsAmong, valuesFitAmong, insertAmong, Untold, Room, Added, Open, Placed, SoundBranches}
 use Rattle.dump.specs.AppendSteps.{added-none, added-as, added-more, room-first, room-rest}
 use Rattle.dump.specs.InsertSteps.{insert-grows, untold-none, insert-put, insert-rises, insert-counts}
 use Rattle.dump.specs.TreeLaws.{leaf-is, leaf-fits, branches-sound, interior-fits, has-branches, interior-is, interior-untold, long-none}
-use Rattle.octets.specs.Beginnings.{shared-take}
 use Rattle.node.specs.Search.Child.{NextChild}
 
 -- A NODE: its pivots are lo and hi, the prefix and the trail are those of its parent's children.
@@ -56,14 +55,13 @@ module _ (s : List ℕ) (level num : ℕ) (p : PathBuffer) (t : Trail) (ready : 
 
   module _ (room : Room area m Whole) where
     -- what the node lifts is too long for any path
-    pub node-long : (k : ℕ) → k ≡ length (shared lo hi) → p .len ≤ length (p .bytes) → 64 < p .len + k → Added m area area m Whole
-    node-long k e h l =
-        let a : length (shared low high) ≡ p .len + length (shared lo hi)
-        = ap length (shared-append (pathIn p) lo hi) ∙ length-append (pathIn p) (shared lo hi) ∙ ap (λ n. n + length (shared lo hi)) (path-length p h) in
+    pub node-long : 64 < length (pathIn p ++ shared lo hi) → Added m area area m Whole
+    node-long l =
+        let a : length (shared low high) ≡ length (pathIn p ++ shared lo hi) = ap length (shared-append (pathIn p) lo hi) in
         added-none m area Whole (long-none (passing s t) (treeAt level s num) low high (passes-short s t) (omega arith) sound) (room .fit)
 
     -- here is the prefix of the node's own entries
-    module _ (k : ℕ) (ek : k ≡ length (shared lo hi)) (here : PathBuffer) (eh : pathIn here ≡ pathIn p ++ take (k - 0) (drop 0 lo)) (len : ℕ) (el : len ≡ u16 s (num * 1024)) where
+    module _ (k : ℕ) (ek : k ≡ length (shared lo hi)) (here : PathBuffer) (eh : pathIn here ≡ pathIn p ++ shared lo hi) (len : ℕ) (el : len ≡ u16 s (num * 1024)) where
       abbrev own : List Entry
       own = listed s (num * 1024 + 8) (num * 1024 + 8 + len)
 
@@ -71,9 +69,7 @@ module _ (s : List ℕ) (level num : ℕ) (p : PathBuffer) (t : Trail) (ready : 
       own-is = ap (λ n. listed s (num * 1024 + 8) (num * 1024 + 8 + n)) (sym el)
 
       here-is : shared low high ≡ pathIn here
-      here-is =
-          let z : k - 0 ≡ length (shared lo hi) = omega arith in
-          shared-append (pathIn p) lo hi ∙ sym (eh ∙ ap (λ l. pathIn p ++ l) (ap (λ n. take n lo) z ∙ shared-take lo hi))
+      here-is = shared-append (pathIn p) lo hi ∙ sym eh
 
       -- a leaf
       leaf-whole : level ≤ 1 → keep (passing s t) (underPrefix (pathIn here) (pairsAmong own)) ≡ Whole

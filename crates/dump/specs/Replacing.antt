@@ -9,8 +9,8 @@ use Rattle.image.specs.Bytes.{u16}
 use Rattle.image.specs.Path.{valueFits}
 use Rattle.image.specs.Entry.{Entry, pair, child, message, puts, drops, clears}
 use Rattle.image.specs.Table.{Row}
-use Rattle.live.specs.Live.{short}
-use Rattle.live.specs.declared.Visit.{Visit}
+use Rattle.live_count.specs.Live.{short}
+use Rattle.live_count.specs.declared.Visit.{Visit}
 use Rattle.dump.specs.Insertion.Insertion.{Apart, laid}
 use Rattle.dump.specs.Dump.{withEntry}
 

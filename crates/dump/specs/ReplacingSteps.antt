@@ -17,7 +17,7 @@ use Rattle.node.specs.Places.{part, messageIn, entryIn}
 use Rattle.node.specs.declared.Place.{Place}
 use Rattle.node.specs.declared.Message.{Message}
 use Rattle.node.specs.declared.Entry.{Entry}
-use Rattle.live.specs.Live.{short}
+use Rattle.live_count.specs.Live.{short}
 use Rattle.dump.specs.Insertion.Insertion.{Apart, Laid, laid}
 use Rattle.dump.specs.Insertion.Merge.{with-more}
 use Rattle.dump.specs.Dump.{withEntry}

@@ -25,16 +25,16 @@ use Rattle.lookup.specs.Look.{listing, node-inside, branches-usable}
 use Rattle.packed.specs.Build.BuiltLaws.{no-rows-fit}
 use Rattle.packed.specs.Rows.Area.{rowsOf}
 use Rattle.packed.specs.Rows.Steps.{rows-length}
-use Rattle.live.specs.Live.{short}
-use Rattle.live.specs.LiveLaws.{all-short}
-use Rattle.live.specs.PathBuffers.{pathIn}
-use Rattle.live.specs.declared.Visit.{Visit}
+use Rattle.live_count.specs.Live.{short}
+use Rattle.live_count.specs.LiveLaws.{all-short}
+use Rattle.live_count.specs.PathBuffers.{pathIn}
+use Rattle.live_count.specs.declared.Visit.{Visit}
 use Rattle.node.specs.declared.PathBuffer.{PathBuffer}
-use Rattle.live.specs.declared.visibility.Trail.{Trail}
-use Rattle.live.specs.Walk.{passing, Ready, ReadyBranches}
-use Rattle.live.specs.Noted.{Tells}
-use Rattle.live.specs.NotedSteps.{root-told}
-use Rattle.live.specs.RootSteps.{countable, tree-is, empty-prefix, no-trail}
+use Rattle.live_count.specs.declared.visibility.Trail.{Trail}
+use Rattle.live_count.specs.Walk.{passing, Ready, ReadyBranches}
+use Rattle.live_count.specs.Noted.{Tells}
+use Rattle.live_count.specs.NotedSteps.{root-told}
+use Rattle.live_count.specs.RootSteps.{countable, tree-is, empty-prefix, no-trail}
 use Rattle.dump.specs.Insertion.Insertion.{Merged, Laid, laid}
 use Rattle.dump.specs.Dump.{Room, Added, SoundBranches, BranchesTold, Dumped}
 use Rattle.dump.specs.Replacing.{onlyPuts, putAmong, putsFit, Unset, AtRoot}

@@ -17,13 +17,13 @@ use Rattle.laws.specs.Filter.{keep, keep-all}
 use Rattle.laws.specs.ButLive.{soundButLive, sound-live, sound-but-live, parts-of}
 use Rattle.packed.specs.Build.BuiltLaws.{no-rows-fit}
 use Rattle.packed.specs.Rows.Area.{rowsOf}
-use Rattle.live.specs.Live.{short}
-use Rattle.live.specs.LiveLaws.{all-short}
-use Rattle.live.specs.PathBuffers.{pathIn}
+use Rattle.live_count.specs.Live.{short}
+use Rattle.live_count.specs.LiveLaws.{all-short}
+use Rattle.live_count.specs.PathBuffers.{pathIn}
 use Rattle.node.specs.declared.PathBuffer.{PathBuffer}
-use Rattle.live.specs.declared.visibility.Trail.{Trail}
-use Rattle.live.specs.Walk.{passing, Ready}
-use Rattle.live.specs.RootSteps.{countable, one-node, tree-is, root-ready, empty-prefix, no-trail}
+use Rattle.live_count.specs.declared.visibility.Trail.{Trail}
+use Rattle.live_count.specs.Walk.{passing, Ready}
+use Rattle.live_count.specs.RootSteps.{countable, one-node, tree-is, root-ready, empty-prefix, no-trail}
 use Rattle.dump.specs.Dump.{Room, Added, Dumped}
 
 -- a sound store has at most as many rows as nodes

@@ -1,6 +1,6 @@
 -- What the walk writes of a node's entries is what the tree under the node means: a leaf's pairs are its rows, and an interior node's rows
 -- are those of its children that no message of it says anything of, with its puts that decide their paths put in.
--- Relies on the laws that join the bytes of a node to its tree (lookup: Look), on KeepLaws of `live` and on the laws of sound trees.
+-- Relies on the laws that join the bytes of a node to its tree (lookup: Look), on KeepLaws of `live_count` and on the laws of sound trees.
 use Prim.Native.Nat.{ℕ, _-_, _<_, _≤_}
 use mathlib.Core.Path.{_≡_, refl, sym, ap, _∙_}
 use mathlib.Core.List.{List, [], _∷_, _++_}
@@ -26,10 +26,10 @@ use Rattle.laws.specs.Reading.Relative.{usable}
 use Rattle.node.specs.Search.Latest.{newestAmong}
 use Rattle.node.specs.Search.Own.{branchesAmong}
 use Rattle.lookup.specs.Look.{listing, leaf-at, interior-at, inside-splits, messages-newest}
-use Rattle.live.specs.Live.{holdsNoMessage, short, Shortens}
-use Rattle.live.specs.KeepLaws.{added, insertPuts, messages-keep}
-use Rattle.live.specs.WalkLaws.{same-tests}
-use Rattle.live.specs.Walk.{decides}
+use Rattle.live_count.specs.Live.{holdsNoMessage, short, Shortens}
+use Rattle.live_count.specs.KeepLaws.{added, insertPuts, messages-keep}
+use Rattle.live_count.specs.WalkLaws.{same-tests}
+use Rattle.live_count.specs.Walk.{decides}
 use Rattle.dump.specs.Dump.{pairsAmong, entryValueFits, valuesFitAmong, withEntry, insertAmong, Untold}
 use Rattle.dump.specs.Replacing.{keepsRows, onlyPuts, putAmong, putFits, putsFit}
 use Rattle.laws.specs.ValuesFit.{leaf-values}

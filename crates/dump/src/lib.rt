@@ -1,15 +1,15 @@
 // Every row of a sound store's map, rising, in the rows of the work area, by one walk over the tree: a leaf's pairs are appended in their
 // order, and a node's waiting puts are merged into the rows of its children. Only what decides a path is written, so that there are never
 // more rows than live paths. Where the root's messages are all puts, the usual state, they go into its children's rows as they are.
-// Relies on the tests of `live` and its notes, `packed` (one row), `insertion` and `replacing`; the caller has checked the store.
+// Relies on the tests of `live_count` and its notes, `packed` (one row), `insertion` and `replacing`; the caller has checked the store.
 pub mod insertion;
 pub mod replacing;
 
-use live::Position;
-use live::Visit;
-use live::path_buffer;
-use live::visibility;
-use live::visibility::Trail;
+use live_count::Position;
+use live_count::Visit;
+use live_count::path_buffer;
+use live_count::visibility;
+use live_count::visibility::Trail;
 use node::Cursor;
 use node::Entry;
 use node::Message;
@@ -36,9 +36,9 @@ ghost use Rattle.node.specs.Entries.{listed};
 ghost use Rattle.node.specs.Search.Own.{branch, branchesAmong};
 ghost use Rattle.lookup.specs.Look.{listing};
 ghost use Rattle.packed.specs.Rows.Area.{rowsOf};
-ghost use Rattle.live.specs.PathBuffers.{pathIn};
-ghost use Rattle.live.specs.Noted.{Tells, LeafTold};
-ghost use Rattle.live.specs.Walk.{passing, decides, TrailIn, Ready, ReadyBranches};
+ghost use Rattle.live_count.specs.PathBuffers.{pathIn};
+ghost use Rattle.live_count.specs.Noted.{Tells, LeafTold};
+ghost use Rattle.live_count.specs.Walk.{passing, decides, TrailIn, Ready, ReadyBranches};
 ghost use Rattle.dump.specs.Replacing.{onlyPuts, AtRoot};
 ghost use Rattle.dump.specs.Dump.{rowIn, pairsAmong, valuesFitAmong, withEntry, insertAmong, Room, Added, Open, Placed, KeyTold, BranchesTold, SoundBranches, Dumped};
 
@@ -58,7 +58,7 @@ fn is_shown(store: &[u8], here: Position, key: &[u8], notes: &[usize; 64]) -> bo
     if 64 < here.noted {
         return visibility::is_live(store, here.prefix, here.trail, key);
     }
-    live::notes::is_quiet(store, notes, here.noted, key)
+    live_count::notes::is_quiet(store, notes, here.noted, key)
 }
 
 // A pair's row after the `m` rows of the area, if no message above says anything of its path.
@@ -281,33 +281,15 @@ fn dump_node(
 {
     let num = node.num;
     let level = node.level;
-    let prefix = node.position.prefix;
-    let trail = node.position.trail;
-    let noted = node.position.noted;
-    let k = octets::common_length(lo, hi);
-    let room = 64 - prefix.len;
-    if room < k {
+    let mut notes = [0usize; 64];
+    let arrival = live_count::arrive(store, node.position, lo, hi, handed, &mut notes);
+    if arrival.far {
         return m;
     }
-    let lifted = path_buffer::extend(prefix, &lo[0..k]);
-    let mut here = Position {
-        prefix: lifted,
-        trail,
-        noted,
-    };
-    let mut notes = [0usize; 64];
-    let n = live::note_above(
-        store,
-        here,
-        &lo[0..k],
-        &lo[k..],
-        &hi[k..],
-        handed,
-        &mut notes,
-    );
-    here.noted = n;
+    let k = arrival.lifted;
+    let here = arrival.position;
     let at = num * image::NODE_SIZE;
-    let len = octets::u16_at(store, at);
+    let len = node::header::read_length(store, at);
     let from = at + image::ENTRIES_AT;
     let end = from + len;
     let c = Cursor { at: from, end };
@@ -317,7 +299,7 @@ fn dump_node(
     let Pending::Child(first, low, rest) = node::search::read_child(store, c) else {
         return m;
     };
-    let position = live::enter(store, num, here, &lo[k..], &hi[k..], &mut notes);
+    let position = live_count::enter(store, num, here, &lo[k..], &hi[k..], &mut notes);
     let below = level - 1;
     let child = Visit {
         num: first,
@@ -396,7 +378,7 @@ fn dump_putting(store: &[u8], area: &mut [u8], root: Visit) -> usize
     ensures { λ r. ⌜ Dumped (now (store .entry)) (now (area .entry)) (now (area .exit)) r ⌝ }
 {
     let at = root.num * image::NODE_SIZE;
-    let len = octets::u16_at(store, at);
+    let len = node::header::read_length(store, at);
     let from = at + image::ENTRIES_AT;
     let end = from + len;
     let c = Cursor { at: from, end };
@@ -422,8 +404,8 @@ pub fn dump(store: &[u8], area: &mut [u8]) -> usize
     requires { ⌜ (sound (now store) ≡ true) × (128 * nodesOf (length (now store)) ≤ length (now area)) ⌝ }
     ensures { λ r. ⌜ Dumped (now (store .entry)) (now (area .entry)) (now (area .exit)) r ⌝ }
 {
-    let root = octets::u16_at(store, image::ROOT_AT);
-    let levels = octets::u16_at(store, image::LEVELS_AT);
+    let root = node::header::read_root(store);
+    let levels = node::header::read_levels(store);
     let prefix = PathBuffer {
         bytes: [0u8; 64],
         len: 0,

@@ -47,7 +47,7 @@ pub fn only_puts(store: &[u8], num: usize) -> bool
     ensures { λ r. ⌜ r ≡ onlyPuts (listing (now (store .entry)) num) ⌝ }
 {
     let at = num * image::NODE_SIZE;
-    let len = octets::u16_at(store, at);
+    let len = node::header::read_length(store, at);
     let from = at + image::ENTRIES_AT;
     let end = from + len;
     let mut c = Cursor { at: from, end };

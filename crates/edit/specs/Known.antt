@@ -25,7 +25,7 @@ use Rattle.node.specs.Places.{part}
 use Rattle.node.specs.declared.Place.{Place}
 use Rattle.node.specs.declared.search.Found.{Found}
 use Rattle.node.specs.Search.Pairs.{Finds, foundIn}
-use Rattle.live.specs.KeepLaws.{with-length}
+use Rattle.live_count.specs.KeepLaws.{with-length}
 use Rattle.soundness.specs.Judged.{told-live}
 use Rattle.edit.specs.declared.Change.{Change}
 use Rattle.edit.specs.Change.{messageOf}

@@ -18,7 +18,6 @@ use Rattle.rebuild.specs.Rebuild.{Rebuilt, cleared}
 use Rattle.finish.specs.Finished.{cleared-size, cleared-later}
 use Rattle.edit.specs.Free.{FirstFree}
 use Rattle.edit.specs.declared.Spot.{Spot}
-use Rattle.edit.specs.declared.Terms.{Terms}
 
 -- node i is free, and a root of one level more is allowed
 pub record Free (s : List ℕ) (i : ℕ) : Type 0 where
@@ -35,18 +34,13 @@ pub marked-here : (marked : Bool) (s seen : List ℕ) → MarkedWhere marked s s
 unfolding MarkedWhere
 marked-here marked s seen m e = m e
 
--- the terms of a change: a reserve that leaves room for every message, and the marks as they are said to be
-pub record TermsHold (t : Terms) (s seen : List ℕ) : Type 0 where
-  pub small : t .reserve ≤ 900
-  pub marks : MarkedWhere (t .marked) s seen
-
-pub terms-marked : (k : ℕ) (s seen : List ℕ) → k ≤ 900 → Marks s seen → TermsHold (record { reserve = k; marked = true }) s seen
+pub marked-so : (s seen : List ℕ) → Marks s seen → MarkedWhere true s seen
 unfolding MarkedWhere
-terms-marked k s seen h m = record { small = h; marks = λ e. m }
+marked-so s seen m = λ e. m
 
-pub terms-unmarked : (k : ℕ) (s seen : List ℕ) → k ≤ 900 → TermsHold (record { reserve = k; marked = false }) s seen
+pub unmarked-so : (s seen : List ℕ) → MarkedWhere false s seen
 unfolding MarkedWhere
-terms-unmarked k s seen h = record { small = h; marks = λ e. absurd (false≢true e) }
+unmarked-so s seen = λ e. absurd (false≢true e)
 
 -- the answer r of free_above: such a node, or 0
 pub record Above (s : List ℕ) (r : ℕ) : Type 0 where
@@ -92,17 +86,16 @@ pub record Roomy (s s′ w w′ : List ℕ) (size : ℕ) (r : Spot) : Type 0 whe
   pub area : (w′ ≡ w) ⊎ (w′ ≡ cleared (nodesOf (length s)) w)
   pub spot : SpotFits s′ size r
 
--- room with a reserve is room
-room-less : (s : List ℕ) (size reserve : ℕ) → roomAtRoot s (size + reserve) ≡ true → roomAtRoot s size ≡ true
+-- room with bytes to spare is room
+pub room-less : (s : List ℕ) (size spare : ℕ) → roomAtRoot s (size + spare) ≡ true → roomAtRoot s size ≡ true
 unfolding roomAtRoot
-room-less s size reserve e =
-    let f = room-fits s (size + reserve) e in
-    rw (le-leb 2 (u16 s 8) (room-levels s (size + reserve) e), le-leb (u16 s (rootAt s) + size) 1016 (omega arith))
+room-less s size spare e =
+    let f = room-fits s (size + spare) e in
+    rw (le-leb 2 (u16 s 8) (room-levels s (size + spare) e), le-leb (u16 s (rootAt s) + size) 1016 (omega arith))
 
-pub roomy-now : (s w : List ℕ) (size reserve : ℕ) (b : Bool) → sound s ≡ true → b ≡ roomAtRoot s (size + reserve) → b ≡ true → Roomy s s w w size Spot.AtRoot
+pub roomy-now : (s w : List ℕ) (size : ℕ) → sound s ≡ true → roomAtRoot s size ≡ true → Roomy s s w w size Spot.AtRoot
 unfolding SpotFits
-roomy-now s w size reserve b ok e f =
-    record { is-sound = ok; table = refl; length-same = refl; work-length = refl; work-later = refl; area = inl refl; spot = room-less s size reserve (sym e ∙ f) }
+roomy-now s w size ok e = record { is-sound = ok; table = refl; length-same = refl; work-length = refl; work-later = refl; area = inl refl; spot = e }
 
 pub roomy-above : (s w : List ℕ) (size r : ℕ) → sound s ≡ true → Above s r → (r ≡ 0 → ⊥) → Roomy s s w w size (Spot.Above r)
 unfolding SpotFits

@@ -1,4 +1,4 @@
-// put, drop and clear: each becomes one message at the root. Where the root has no room, a new root is put above an old one that holds no
+// put, drop and clear: each becomes one message at the root. Where the root takes no more, a new root is put above an old one that holds no
 // message; where that cannot be, the store is rebuilt first, and then it always can. The live count follows by one lookup; after a clear it is
 // counted anew. Each call is questions 1 and 2, its part on a store that is fit (put_fit, drop_fit, clear_fit), which takes a free node off the
 // marks of question 2, uses the work area for a rebuild alone and leaves it zero then, and the area zeroed.
@@ -9,7 +9,7 @@ use node::search::Found;
 use questions::Admission;
 ghost use mathlib.Core.Path.{_≡_};
 ghost use mathlib.Core.Bool.{true};
-ghost use Prim.Native.Nat.{_+_, _≤_};
+ghost use Prim.Native.Nat.{_≤_};
 ghost use lib.ListN.{length};
 ghost use Rattle.image.specs.Path.{wellFormed, valueFits};
 ghost use Rattle.image.specs.Table.{without};
@@ -24,12 +24,15 @@ ghost use Rattle.questions.specs.Acted.{Passed, Acted};
 ghost use Rattle.append.specs.Laws.Append.{roomAtRoot, Appended};
 ghost use Rattle.edit.specs.Change.{messageOf, sizeOf, Allowed};
 ghost use Rattle.edit.specs.Known.{Known, CountWith};
-ghost use Rattle.edit.specs.Room.{Above, Free, MarkedWhere, SpotFits, Roomy, TermsHold};
+ghost use Rattle.edit.specs.Room.{Above, Free, MarkedWhere, SpotFits, Roomy};
 ghost use Rattle.edit.specs.Edited.{Counted, Edited};
 
-// Of the root's 1,016 bytes for entries a call leaves so many free, and rebuilds the store before it takes them: a message that waits costs every
-// later judgement, and a rebuild that comes sooner is cheaper. A batch, which judges once, leaves them free by its last change.
-pub const RESERVE: usize = 616;
+// So many messages wait in the root at most after a call: each costs every later judgement, and a rebuild that comes sooner is cheaper. A batch,
+// which judges once, keeps to it by its last change.
+pub const WAITING: usize = 8;
+
+// Bytes that a root without messages must have left for those to come, else a new root goes above it.
+const SPARE: usize = 400;
 
 // What is done to a path.
 pub enum Change {
@@ -38,9 +41,9 @@ pub enum Change {
     Clear,
 }
 
-// On what terms a change is made: how many bytes of the root it leaves free, and whether the marks that are lent with it are the store's.
+// On what terms a change is made: how many messages may wait in the root after it, and whether the marks that are lent with it are the store's.
 pub struct Terms {
-    pub reserve: usize,
+    pub waiting: usize,
     pub marked: bool,
 }
 
@@ -78,10 +81,10 @@ fn free_above(store: &[u8], seen: &[u8; 1024], marked: bool) -> usize
     requires { ⌜ (wholeNodes (length (now store)) ≡ true) × (sound (now store) ≡ true) × MarkedWhere marked (now store) (now seen) ⌝ }
     ensures { λ r. ⌜ Above (now (store .entry)) r ⌝ }
 {
-    if append::has_messages_at_root(store) {
+    if append::waiting_at_root(store) != 0 {
         return 0;
     }
-    let levels = octets::u16_at(store, image::LEVELS_AT);
+    let levels = node::header::read_levels(store);
     if 7 < levels {
         return 0;
     }
@@ -94,9 +97,24 @@ fn free_above(store: &[u8], seen: &[u8; 1024], marked: bool) -> usize
     first_free(&own, n)
 }
 
-// Makes room for a message of this size, with a reserve left at the root, and tells where. After a rebuild a new root goes above the packed one
-// even where that has room: it holds one branch, so that all its room but the reserve is taken before the next rebuild. A packed tree takes no
-// node from a quarter of them on.
+// Whether a message of this size goes to the root, where so many may wait. Nothing but speed depends on how many do, so that only a yes is promised
+// to have room.
+fn goes_at_root(store: &[u8], size: usize, most: usize) -> bool
+    requires { ⌜ (sound (now store) ≡ true) × (size ≤ 616) ⌝ }
+    ensures { λ r. ⌜ (r ≡ true → roomAtRoot (now (store .entry)) size ≡ true) ⌝ }
+{
+    let waiting = append::waiting_at_root(store);
+    if waiting == 0 {
+        return append::fits_at_root(store, size + SPARE);
+    }
+    if most <= waiting {
+        return false;
+    }
+    append::fits_at_root(store, size)
+}
+
+// Makes room for a message of this size, and tells where. After a rebuild a new root goes above the packed one even where that has room: it holds
+// one branch, so that as many messages fit there as may wait. A packed tree takes no node from a quarter of them on.
 fn make_room(
     store: &mut [u8],
     work: &mut [u8],
@@ -104,10 +122,10 @@ fn make_room(
     size: usize,
     terms: Terms,
 ) -> Spot
-    requires { ⌜ Passed (now store) (now work) × (size + terms .reserve ≤ 1016) × MarkedWhere (terms .marked) (now store) (now seen) ⌝ }
+    requires { ⌜ Passed (now store) (now work) × (size ≤ 616) × MarkedWhere (terms .marked) (now store) (now seen) ⌝ }
     ensures { λ r. ⌜ Roomy (now (store .entry)) (now (store .exit)) (now (work .entry)) (now (work .exit)) size r ⌝ }
 {
-    if append::fits_at_root(store, size + terms.reserve) {
+    if goes_at_root(store, size, terms.waiting) {
         return Spot::AtRoot;
     }
     let free = free_above(store, seen, terms.marked);
@@ -178,7 +196,7 @@ fn count_with(store: &[u8], path: &[u8]) -> usize
     requires { ⌜ (wholeNodes (length (now store)) ≡ true) × (sound (now store) ≡ true) ⌝ }
     ensures { λ r. ⌜ CountWith (now (path .entry)) (tableOf (now (store .entry))) r ⌝ }
 {
-    let live = octets::u16_at(store, image::LIVE_AT);
+    let live = node::header::read_live(store);
     let found = lookup::value_of(store, path);
     let Found::Nothing = found else {
         return live;
@@ -191,7 +209,7 @@ fn count_without(store: &[u8], path: &[u8]) -> usize
     requires { ⌜ (wholeNodes (length (now store)) ≡ true) × (sound (now store) ≡ true) ⌝ }
     ensures { λ r. ⌜ r ≡ length (without (now (path .entry)) (tableOf (now (store .entry)))) ⌝ }
 {
-    let live = octets::u16_at(store, image::LIVE_AT);
+    let live = node::header::read_live(store);
     let found = lookup::value_of(store, path);
     let Found::Nothing = found else {
         return live - 1;
@@ -208,7 +226,7 @@ fn write_count(store: &mut [u8], known: usize)
     ensures { λ _. ⌜ Counted (now (store .entry)) (now (store .exit)) ⌝ }
 {
     if 65535 < known {
-        let live = live::live_count(store);
+        let live = live_count::count_paths(store);
         append::set_live(store, live);
         return;
     }
@@ -225,7 +243,7 @@ fn apply_change(
     edit: Edit,
 )
     requires { ⌜ Passed (now store) (now work)
-        × TermsHold (edit .terms) (now store) (now seen)
+        × MarkedWhere (edit .terms .marked) (now store) (now seen)
         × Allowed (edit .change) (now path) (now value) (tableOf (now store)) (nodesOf (length (now store)))
         × Known (messageOf (edit .change) (now path) (now value)) (tableOf (now store)) (edit .count) ⌝ }
     ensures { λ _. ⌜ Edited (now (store .entry)) (now (store .exit)) (now (work .entry)) (now (work .exit)) (messageOf (edit .change) (now (path .entry)) (now (value .entry))) ⌝ }
@@ -246,7 +264,7 @@ pub fn put_fit(
     value: &[u8],
     terms: Terms,
 ) -> Outcome
-    requires { ⌜ Passed (now store) (now work) × TermsHold terms (now store) (now seen) ⌝ }
+    requires { ⌜ Passed (now store) (now work) × MarkedWhere (terms .marked) (now store) (now seen) ⌝ }
     ensures { λ r. ⌜ Acted (now (store .entry)) (acts (put (now (path .entry)) (now (value .entry))) (now (work .entry))) r (now (store .exit)) (now (work .entry)) (now (work .exit)) ⌝ }
 {
     if !path::is_path(path) {
@@ -278,7 +296,7 @@ pub fn put(store: &mut [u8], work: &mut [u8], path: &[u8], value: &[u8]) -> Outc
         Admission::Refused(refusal) => Outcome::Refused(refusal),
         Admission::Fit(_) => {
             let terms = Terms {
-                reserve: RESERVE,
+                waiting: WAITING,
                 marked: true,
             };
             let outcome = put_fit(store, work, &seen, path, value, terms);
@@ -296,7 +314,7 @@ pub fn drop_fit(
     path: &[u8],
     terms: Terms,
 ) -> Outcome
-    requires { ⌜ Passed (now store) (now work) × TermsHold terms (now store) (now seen) ⌝ }
+    requires { ⌜ Passed (now store) (now work) × MarkedWhere (terms .marked) (now store) (now seen) ⌝ }
     ensures { λ r. ⌜ Acted (now (store .entry)) (acts (drops (now (path .entry))) (now (work .entry))) r (now (store .exit)) (now (work .entry)) (now (work .exit)) ⌝ }
 {
     if !path::is_path(path) {
@@ -322,7 +340,7 @@ pub fn drop(store: &mut [u8], work: &mut [u8], path: &[u8]) -> Outcome
         Admission::Refused(refusal) => Outcome::Refused(refusal),
         Admission::Fit(_) => {
             let terms = Terms {
-                reserve: RESERVE,
+                waiting: WAITING,
                 marked: true,
             };
             let outcome = drop_fit(store, work, &seen, path, terms);
@@ -340,7 +358,7 @@ pub fn clear_fit(
     path: &[u8],
     terms: Terms,
 ) -> Outcome
-    requires { ⌜ Passed (now store) (now work) × TermsHold terms (now store) (now seen) ⌝ }
+    requires { ⌜ Passed (now store) (now work) × MarkedWhere (terms .marked) (now store) (now seen) ⌝ }
     ensures { λ r. ⌜ Acted (now (store .entry)) (acts (clear (now (path .entry))) (now (work .entry))) r (now (store .exit)) (now (work .entry)) (now (work .exit)) ⌝ }
 {
     if !path::is_path(path) {
@@ -365,7 +383,7 @@ pub fn clear(store: &mut [u8], work: &mut [u8], path: &[u8]) -> Outcome
         Admission::Refused(refusal) => Outcome::Refused(refusal),
         Admission::Fit(_) => {
             let terms = Terms {
-                reserve: RESERVE,
+                waiting: WAITING,
                 marked: true,
             };
             let outcome = clear_fit(store, work, &seen, path, terms);

@@ -33,6 +33,6 @@ pub fn finish(store: &mut [u8], work: &mut [u8])
         × (workPerNode * nodesOf (length (now store)) ≤ length (now work)) ⌝ }
     ensures { λ _. ⌜ Finished (now (store .entry)) (now (store .exit)) (now (work .entry)) (now (work .exit)) ⌝ }
 {
-    let live = live::live_count(store);
+    let live = live_count::count_paths(store);
     conclude(store, work, live);
 }

@@ -1,11 +1,11 @@
 -- What the walk asks of each path that it comes to, and what it decides: every path of one image is in another.
--- Relies on: what is present in an image (seek/specs/Walk) and in a table (Reading/Seek).
+-- Relies on: what is present in an image (successor/specs/Walk) and in a table (Reading/Seek).
 use Prim.Native.Nat.{ℕ}
 use mathlib.Core.List.{List}
 use mathlib.Core.Bool.{Bool, _||_, not}
 use Rattle.image.specs.Table.{Row, everyKey}
 use Rattle.laws.specs.Reading.Seek.{every, present}
-use Rattle.seek.specs.Walk.{isPresent}
+use Rattle.successor.specs.Walk.{isPresent}
 
 -- a path is in the image t, or is not in the image s
 unfoldable pub isHeld : List ℕ → List ℕ → List ℕ → Bool

@@ -1,5 +1,5 @@
 -- The walk from the root decides inclusion: it comes to every path that is present, and asks nothing of those that are not.
--- Relies on: Held, that every present path stands in an entry (Reading/Seek), and that lookup is the table (seek/specs/Present).
+-- Relies on: Held, that every present path stands in an entry (Reading/Seek), and that lookup is the table (successor/specs/Present).
 use Prim.Native.Nat.{ℕ}
 use mathlib.Core.Path.{_≡_, refl, sym, ap, _∙_}
 use mathlib.Core.List.{List, [], _∷_}
@@ -18,8 +18,8 @@ use Rattle.laws.specs.Reading.Relative.{lifts}
 use Rattle.laws.specs.Reading.Seek.{every, isKey, present, not-present, keys, stands}
 use Rattle.laws.specs.Reading.SeekHere.{under, keysHere, keys-here}
 use Rattle.lookup.specs.Root.{root-is}
-use Rattle.seek.specs.Walk.{isPresent}
-use Rattle.seek.specs.Present.{key-passes, present-is}
+use Rattle.successor.specs.Walk.{isPresent}
+use Rattle.successor.specs.Present.{key-passes, present-is}
 use Rattle.inclusion.specs.Held.{isHeld, allHeld, included}
 
 -- 1. Every key of a table passes a test exactly if each path that is present does.

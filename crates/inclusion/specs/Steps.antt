@@ -1,5 +1,5 @@
 -- The steps of the walk: one path, the paths of an entry, and a list of paths in two parts, of which the first may decide.
--- Relies on: Held, and seek's laws on what is present and on the paths of entries.
+-- Relies on: Held, and successor's laws on what is present and on the paths of entries.
 use Prim.Native.Nat.{ℕ, _-_, _<_, _≤_}
 use mathlib.Core.Path.{_≡_, refl, sym, ap, _∙_}
 use mathlib.Core.List.{List, [], _∷_, _++_}
@@ -18,13 +18,13 @@ use Rattle.node.specs.declared.search.Found.{Found}
 use Rattle.node.specs.Search.Pairs.{Finds}
 use Rattle.node.specs.Search.Own.{branchesAmong}
 use Rattle.node.specs.declared.PathBuffer.{PathBuffer}
-use Rattle.seek.specs.declared.Suffix.{Suffix}
-use Rattle.seek.specs.Buffer.{bufferIs, fitted}
-use Rattle.seek.specs.BufferSteps.{fitted-not}
-use Rattle.seek.specs.Suffixes.{suffixIs}
-use Rattle.seek.specs.Walk.{isPresent, pathOf, pathsOf, runPaths}
-use Rattle.seek.specs.Present.{too-long}
-use Rattle.seek.specs.Steps.{nothing-present, value-present, at-path, other-path}
+use Rattle.successor.specs.declared.Suffix.{Suffix}
+use Rattle.successor.specs.Buffer.{bufferIs, fitted}
+use Rattle.successor.specs.BufferSteps.{fitted-not}
+use Rattle.successor.specs.Suffixes.{suffixIs}
+use Rattle.successor.specs.Walk.{isPresent, pathOf, pathsOf, runPaths}
+use Rattle.successor.specs.Present.{too-long}
+use Rattle.successor.specs.Steps.{nothing-present, value-present, at-path, other-path}
 use Rattle.inclusion.specs.Held.{isHeld, allHeld}
 
 -- 1. One path.

@@ -1,13 +1,13 @@
 // Whether every path of one store is in another: one walk over the first, which looks up each pair's and each put's path in the second. The
 // first is asked only for a path that the second lacks: a message may have removed it.
-// Relies on: two sound stores (the caller has checked them), the cursor over a node's entries, the lookup, seek's paths of entries and children.
+// Relies on: two sound stores (the caller has checked them), the cursor over a node's entries, the lookup, successor's paths of entries and children.
 use node::Cursor;
 use node::Entry;
 use node::Step;
-use node::search::Branch;
 use node::search::Found;
+use node::search::Pending;
 use node::search::Run;
-use seek::Suffix;
+use successor::Suffix;
 ghost use mathlib.Core.Path.{_≡_};
 ghost use mathlib.Core.Bool.{true};
 ghost use mathlib.Core.List.{[], _∷_, _++_};
@@ -19,7 +19,7 @@ ghost use Rattle.laws.specs.Reading.SeekHere.{under, keysHere};
 ghost use Rattle.node.specs.Places.{EntryWithin, Within, part, entryIn};
 ghost use Rattle.node.specs.Entries.{listed};
 ghost use Rattle.node.specs.Search.Own.{branch, branchesAmong};
-ghost use Rattle.seek.specs.Walk.{pathOf, pathsOf, childPaths, runPaths, ChildReady, NodeReady, BranchesReady};
+ghost use Rattle.successor.specs.Walk.{pathOf, pathsOf, childPaths, runPaths, ChildReady, NodeReady, BranchesReady};
 ghost use Rattle.inclusion.specs.Held.{isHeld, allHeld, included};
 
 // Whether the path pre ++ s is held: it is in `other`, or is not in `store`. A path that is too long is in neither.
@@ -27,7 +27,7 @@ fn holds_path(store: &[u8], other: &[u8], pre: &[u8], s: &[u8]) -> bool
     requires { ⌜ (sound (now store) ≡ true) × (sound (now other) ≡ true) ⌝ }
     ensures { λ r. ⌜ r ≡ isHeld (now (store .entry)) (now (other .entry)) (now (pre .entry) ++ now (s .entry)) ⌝ }
 {
-    let full = seek::join(pre, s);
+    let full = successor::join(pre, s);
     let n = full.len;
     if image::PATH_LIMIT < n {
         return true;
@@ -48,7 +48,7 @@ fn holds_entry(store: &[u8], other: &[u8], e: Entry, pre: &[u8]) -> bool
     ensures { λ r. ⌜ r
         ≡ allHeld (now (store .entry)) (now (other .entry)) (under (now (pre .entry)) (pathOf (entryIn (now (store .entry)) e))) ⌝ }
 {
-    let Suffix::At(p) = seek::suffix_of(e) else {
+    let Suffix::At(p) = successor::suffix_of(e) else {
         return true;
     };
     let a = p.start;
@@ -93,7 +93,7 @@ fn holds_child(
         (under (now (pre .entry)) (childPaths level (now (store .entry)) num (now (low .entry)) (now (high .entry)))) ⌝ }
 {
     let k = octets::common_length(low, high);
-    let lifted = seek::join(pre, &low[0..k]);
+    let lifted = successor::join(pre, &low[0..k]);
     let n = lifted.len;
     if image::PATH_LIMIT < n {
         return true;
@@ -157,12 +157,8 @@ fn holds_children(
     let mut c = run.rest;
     let mut low = run.low;
     let mut child = num;
-    let end = c.end;
-    while c.at < end {
-        let Step::Read(e, next) = c.step(store) else {
-            return holds_last(store, other, child, level, Run { low, rest: c }, hi, pre);
-        };
-        let Branch::Of(k, p) = node::search::branch_of(e) else {
+    loop {
+        let Pending::Child(k, p, next) = node::search::read_child(store, c) else {
             return holds_last(store, other, child, level, Run { low, rest: c }, hi, pre);
         };
         let a = low.start;
@@ -176,7 +172,6 @@ fn holds_children(
         low = p;
         c = next;
     }
-    holds_last(store, other, child, level, Run { low, rest: c }, hi, pre)
 }
 
 // Whether every path is held of the node num, which lifts pre; hi is its high pivot without pre.
@@ -187,17 +182,14 @@ fn holds_node(store: &[u8], other: &[u8], num: usize, level: usize, pre: &[u8], 
         (under (now (pre .entry)) (keysHere (treeAt level (now (store .entry)) num) (now (hi .entry)))) ⌝ }
 {
     let at = num * image::NODE_SIZE;
-    let len = octets::u16_at(store, at);
+    let len = node::header::read_length(store, at);
     let from = at + image::ENTRIES_AT;
     let end = from + len;
     let c = Cursor { at: from, end };
     if level <= 1 {
         return holds_entries(store, other, c, pre);
     }
-    let Step::Read(e, next) = c.step(store) else {
-        return holds_entries(store, other, c, pre);
-    };
-    let Branch::Of(k, p) = node::search::branch_of(e) else {
+    let Pending::Child(k, p, next) = node::search::read_child(store, c) else {
         return holds_entries(store, other, c, pre);
     };
     let down = level - 1;
@@ -209,8 +201,8 @@ pub fn is_included(store: &[u8], other: &[u8]) -> bool
     requires { ⌜ (sound (now store) ≡ true) × (sound (now other) ≡ true) ⌝ }
     ensures { λ r. ⌜ r ≡ included (tableOf (now (store .entry))) (tableOf (now (other .entry))) ⌝ }
 {
-    let root = octets::u16_at(store, image::ROOT_AT);
-    let levels = octets::u16_at(store, image::LEVELS_AT);
+    let root = node::header::read_root(store);
+    let levels = node::header::read_levels(store);
     let hi = [255u8; 1];
     holds_node(store, other, root, levels, &store[0..0], &hi)
 }

@@ -1,5 +1,5 @@
 -- For a caller of a step: the questions that it asks, and what is known of the place after it.
--- Relies on: the list of next's questions, seek's law of the path that next finds.
+-- Relies on: the list of next's questions, successor's law of the path that next finds.
 use Prim.Native.Nat.{ℕ, _≤_, _<_}
 use mathlib.Core.Path.{_≡_, refl, sym, ap, ap₂, _∙_}
 use mathlib.Core.List.{List, [], _∷_}
@@ -15,7 +15,7 @@ use Rattle.image.specs.Image.{wholeNodes}
 use Rattle.image.specs.Sound.{sound, tableOf}
 use Rattle.image.specs.Calls.{next, Question, ask, firstNo, foundBy}
 use Rattle.query.specs.Asked.{pathsFit, bufferLimit, number-is}
-use Rattle.seek.specs.Present.{Next, next-found}
+use Rattle.successor.specs.Present.{Next, next-found}
 use Rattle.image.specs.declared.Listing.{Listing}
 use Rattle.image.specs.Listing.{lastPath, blank, stepNo, pathAt, Steps}
 use Rattle.listing.specs.Moves.{last-fits, last-over}

@@ -1,5 +1,5 @@
 -- What an answer of next says of a step: an accepted one moves the place on, a refused one leaves it. One law for each.
--- Relies on: what a contract tells at once (demands), seek's law of the path that next finds.
+-- Relies on: what a contract tells at once (demands), successor's law of the path that next finds.
 use Prim.Native.Nat.{ℕ, zero, suc, _-_, _≤_, _<_}
 use mathlib.Core.Path.{_≡_, refl, sym, ap, subst, _∙_}
 use mathlib.Core.List.{List, [], _∷_, _++_}
@@ -20,7 +20,7 @@ use Rattle.image.specs.declared.Refusal.{Refusal}
 use Rattle.image.specs.declared.Outcome.{Outcome}
 use Rattle.image.specs.declared.Found.{Found}
 use Rattle.demands.specs.Contracts.{number-is, was-found}
-use Rattle.seek.specs.Present.{Next, next-found}
+use Rattle.successor.specs.Present.{Next, next-found}
 use Rattle.image.specs.declared.Listing.{Listing}
 use Rattle.image.specs.Listing.{lastPath, blank, stepNo, pathAt, Steps}
 

@@ -18,7 +18,7 @@ pub fn lookup(store: &[u8], num: usize, level: usize, hi: &[u8], rest: &[u8]) ->
     ensures { λ r. ⌜ Finds (now (store .entry)) (fromHere (treeAt level (now (store .entry)) num) (now (hi .entry)) (now (rest .entry))) r ⌝ }
 {
     let at = num * image::NODE_SIZE;
-    let len = octets::u16_at(store, at);
+    let len = node::header::read_length(store, at);
     let from = at + image::ENTRIES_AT;
     let end = from + len;
     if level <= 1 {
@@ -57,8 +57,8 @@ pub fn value_of(store: &[u8], path: &[u8]) -> Found
     requires { ⌜ sound (now store) ≡ true ⌝ }
     ensures { λ r. ⌜ Finds (now (store .entry)) (valueIn (now (store .entry)) (now (path .entry))) r ⌝ }
 {
-    let root = octets::u16_at(store, image::ROOT_AT);
-    let levels = octets::u16_at(store, image::LEVELS_AT);
+    let root = node::header::read_root(store);
+    let levels = node::header::read_levels(store);
     let hi = [255u8; 1];
     lookup(store, root, levels, &hi, path)
 }

@@ -86,7 +86,7 @@ pub fn is_interior(store: &[u8], seen: &[u8; 1024], node: usize) -> bool
     if seen[node] != 1 {
         return false;
     }
-    octets::u16_at(store, node * image::NODE_SIZE + 2) == 2
+    node::header::read_kind(store, node * image::NODE_SIZE) == image::INTERIOR
 }
 
 // The act of a flush: the messages of a node go to its children, where there is room for all of them; else a rebuild sends down those of

@@ -11,7 +11,7 @@ use Rattle.image.specs.Contract.{makeNo, Made, MakeMeets}
 use Rattle.octets.specs.Put.{put}
 use Rattle.laws.specs.Page.{page, headPage}
 use Rattle.laws.specs.WriteNode.{writeNode}
-use Rattle.laws.specs.Made.{made-image, head-bytes, leaf-bytes, made, made-length}
+use Rattle.laws.specs.Made.{made-image, made, made-length}
 use Rattle.node.specs.Whole.{Whole, whole-parts}
 use Rattle.image.specs.Answers.{outcomeNumber, refusalNumber}
 use Rattle.image.specs.declared.Outcome.{Outcome}
@@ -31,7 +31,7 @@ apart v (suc a) b = let z : suc a + b ≡ suc (a + b) = omega arith in ap (λ k.
 
 -- zeros, and two nodes written
 written-is : (n : ℕ) → writeNode (writeNode (replicate 2048 0 ++ replicate (1024 * (n - 2)) 0) 0 (headPage n 1 1 0)) 1 (page 1 1 []) ≡ made-image n
-unfolding writeNode headPage page made-image head-bytes leaf-bytes
+unfolding writeNode headPage page made-image
 written-is n = refl
 
 pub writes-empty : (s s₀ s₁ s₂ : List ℕ) (n : ℕ) → length s ≡ 1024 * n → 2 ≤ n → s₀ ≡ put s 0 (replicate (1024 * n) 0)

@@ -7,14 +7,13 @@ use node::writer;
 ghost use mathlib.Core.Path.{_≡_};
 ghost use mathlib.Core.List.{_∷_, []};
 ghost use mathlib.Core.Bool.{true};
-ghost use Prim.Native.Nat.{_+_, _*_, _<_, _≤_};
+ghost use Prim.Native.Nat.{_+_, _≤_};
 ghost use lib.ListN.{length};
-ghost use Rattle.image.specs.Bytes.{u16};
 ghost use Rattle.laws.specs.Encode.{bytesOf, bytesOfAll};
 ghost use Rattle.octets.specs.Put.{put};
 ghost use Rattle.node.specs.Places.{EntryWithin, entryIn};
 ghost use Rattle.node.specs.Entries.{listed};
-ghost use Rattle.node.specs.Whole.{HasNode};
+ghost use Rattle.node.specs.Whole.{HasEntries};
 ghost use Rattle.lookup.specs.Look.{listing};
 ghost use Rattle.merge.specs.Laws.Joined.{prefixed, prefixedAll, isChild, withoutChild, smallEntry, smallEntries};
 
@@ -77,8 +76,7 @@ fn emit_entries(
 
 // The entries of a node of the store, each with more bytes in front of its suffix. Gives the place behind them.
 pub fn emit_node(page: &mut [u8], at: usize, store: &[u8], num: usize, more: &[u8]) -> usize
-    requires { ⌜ HasNode (now store) num
-        × (u16 (now store) (num * 1024) ≤ 1016)
+    requires { ⌜ HasEntries (now store) num
         × (smallEntries (listing (now store) num) ≡ true)
         × (at + length (bytesOfAll (prefixedAll (now more) (listing (now store) num))) ≤ length (now page))
         × (length (now page) ≤ 1024) ⌝ }
@@ -86,7 +84,7 @@ pub fn emit_node(page: &mut [u8], at: usize, store: &[u8], num: usize, more: &[u
         × (r ≡ at + length (bytesOfAll (prefixedAll (now (more .entry)) (listing (now (store .entry)) num)))) ⌝ }
 {
     let begin = num * image::NODE_SIZE;
-    let len = octets::u16_at(store, begin);
+    let len = node::header::read_length(store, begin);
     let from = begin + image::ENTRIES_AT;
     emit_entries(page, at, store, from, from + len, more)
 }

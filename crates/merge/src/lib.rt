@@ -9,9 +9,8 @@ use node::search::Pending;
 use push::high::Sought;
 ghost use mathlib.Core.Path.{_≡_};
 ghost use mathlib.Core.Bool.{true};
-ghost use Prim.Native.Nat.{_+_, _*_, _≤_};
+ghost use Prim.Native.Nat.{_+_, _≤_};
 ghost use lib.ListN.{length};
-ghost use Rattle.image.specs.Bytes.{u16};
 ghost use Rattle.image.specs.Image.{wholeNodes};
 ghost use Rattle.image.specs.Sound.{sound};
 ghost use Rattle.image.specs.Upkeep.{reachableAt, reachableNodes};
@@ -19,6 +18,7 @@ ghost use Rattle.image.specs.Contract.{isInterior};
 ghost use Rattle.octets.specs.Put.{put};
 ghost use Rattle.node.specs.Entries.{listed};
 ghost use Rattle.node.specs.Search.Own.{branchesAmong};
+ghost use Rattle.node.specs.Whole.{levelAt};
 ghost use Rattle.lookup.specs.Look.{listing};
 ghost use Rattle.merge.specs.Laws.Mended.{Mendable, HealedNode};
 ghost use Rattle.merge.specs.Laws.Joined.{pairFits, bothEntries, leftWritten, nodeWithout, joinedIf, firstJoined, anyFits};
@@ -54,8 +54,8 @@ fn write_left(store: &mut [u8], left: usize, right: usize, lo: &[u8], mid: &[u8]
     ensures { λ _. ⌜ now (store .exit) ≡ leftWritten (now (store .entry)) left right (now (lo .entry)) (now (mid .entry)) (now (hi .entry)) ⌝ }
 {
     let at = left * image::NODE_SIZE;
-    let kind = octets::u16_at(store, at + image::KIND_AT);
-    let level = octets::u16_at(store, at + image::LEVEL_AT);
+    let kind = node::header::read_kind(store, at);
+    let level = node::header::read_level(store, at);
     let mut page = [0u8; 1024];
     let end = emit_both(&mut page, store, left, right, lo, mid, hi);
     node::writer::write_page(store, left, &mut page, kind, level, end - image::ENTRIES_AT);
@@ -176,13 +176,13 @@ fn join_first(store: &mut [u8], parent: Parent, node: &[u8], hi: &[u8]) -> bool
 fn mend_once(store: &mut [u8], num: usize, hi: &[u8]) -> bool
     requires { ⌜ Mendable (now store) num (now hi) ⌝ }
     ensures { λ r. ⌜ (now (store .exit)
-        ≡ firstJoined num (u16 (now (store .entry)) (num * 1024 + 4)) (listing (now (store .entry)) num)
+        ≡ firstJoined num (levelAt (now (store .entry)) num) (listing (now (store .entry)) num)
         (branchesAmong (listing (now (store .entry)) num)) (now (hi .entry)) (now (store .entry)))
         × (r ≡ anyFits (branchesAmong (listing (now (store .entry)) num)) (now (hi .entry)) (now (store .entry))) ⌝ }
 {
     let at = num * image::NODE_SIZE;
-    let len = octets::u16_at(store, at);
-    let level = octets::u16_at(store, at + image::LEVEL_AT);
+    let len = node::header::read_length(store, at);
+    let level = node::header::read_level(store, at);
     let stop = image::ENTRIES_AT + len;
     let end = at + image::NODE_SIZE;
     let mut node = [0u8; 1024];

@@ -74,7 +74,7 @@ fn weigh_node(store: &[u8], num: usize, k: usize, used: usize) -> usize
         return 1017;
     }
     let at = num * image::NODE_SIZE;
-    let len = octets::u16_at(store, at);
+    let len = node::header::read_length(store, at);
     if image::ENTRIES_LIMIT < len {
         return 1017;
     }

@@ -45,3 +45,11 @@ HasNode s i = i * 1024 + 1024 ≤ length s
 -- and its entries do
 abbrev pub HasEntries : List ℕ → ℕ → Type 0
 HasEntries s i = HasNode s i × (u16 s (i * 1024) ≤ 1016)
+
+-- and there is room for n bytes more behind them
+abbrev pub HasRoom : List ℕ → ℕ → ℕ → Type 0
+HasRoom s i n = HasNode s i × (u16 s (i * 1024) + n ≤ 1016)
+
+-- the level that node i names
+abbrev pub levelAt : List ℕ → ℕ → ℕ
+levelAt s i = u16 s (i * 1024 + 4)

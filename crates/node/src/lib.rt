@@ -1,5 +1,7 @@
-// The nodes of a store: how many there are, the entries of a node, read one by one by a cursor, and (module writer) how they are written.
+// The nodes of a store: how many there are, the numbers of their headers (module header), the entries of a node, read one by one by a cursor, and
+// (module writer) how they are written.
 // Every reader answers places in the slice that it was lent, and promises that they lie inside it.
+pub mod header;
 pub mod search;
 pub mod writer;
 
@@ -116,7 +118,7 @@ pub fn entry_at(s: &[u8], kind: usize, start: usize, stop: usize) -> Got
     if kind == image::CHILD {
         return child_at(s, start, stop);
     }
-    if kind == 1 {
+    if kind == image::PAIR {
         let Split::At(m) = parted(s, start, stop) else {
             return Got::Bad;
         };

@@ -1,5 +1,5 @@
 // What one node says of a path: its newest message on it, the pair of a leaf, the child that owns it; its children one by one; and whether it
-// holds messages.
+// holds messages, and how many.
 // Relies on the cursor; specs/Search joins each reader to the definitions.
 use crate::Cursor;
 use crate::Entry;
@@ -17,7 +17,7 @@ ghost use Rattle.node.specs.Search.Child.{Pends};
 ghost use Rattle.node.specs.Search.Own.{branchIs, branch, branchesAmong, ownerOf, Owned};
 ghost use Rattle.node.specs.Entries.{listed};
 ghost use Rattle.node.specs.Search.Latest.{LatestIs, LatestFits, said, saidBy, entrySays, newestAmong, covers};
-ghost use Rattle.node.specs.Search.Messages.{isMessage, hasMessage};
+ghost use Rattle.node.specs.Search.Messages.{isMessage, hasMessage, messagesAmong};
 ghost use Rattle.node.specs.Search.Pairs.{Finds, findAmong, pairIs};
 ghost use Rattle.node.specs.Search.PairSteps.{Stands, PairStepped};
 
@@ -158,6 +158,25 @@ pub fn has_messages(store: &[u8], from: usize, end: usize) -> bool
         c = next;
     }
     false
+}
+
+// How many messages the entries from a place up to another have.
+pub fn count_messages(store: &[u8], from: usize, end: usize) -> usize
+    requires { ⌜ end ≤ length (now store) ⌝ }
+    ensures { λ r. ⌜ r ≡ messagesAmong (listed (now (store .entry)) from end) ⌝ }
+{
+    let mut c = Cursor { at: from, end };
+    let mut count = 0;
+    while c.at < end {
+        let Step::Read(e, next) = c.step(store) else {
+            return count;
+        };
+        if is_message(e) {
+            count = count + 1;
+        }
+        c = next;
+    }
+    count
 }
 
 pub enum Found {

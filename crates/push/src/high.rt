@@ -62,7 +62,7 @@ pub fn search_node(
         return Sought::Found(keep_high(out, &hi[k..]));
     }
     let at = cur * image::NODE_SIZE;
-    let len = octets::u16_at(store, at);
+    let len = node::header::read_length(store, at);
     let from = at + image::ENTRIES_AT;
     let end = from + len;
     let Pending::Child(first, pivot, next) = node::search::read_child(
@@ -117,8 +117,8 @@ pub fn find_high(store: &[u8], num: usize, out: &mut [u8]) -> Sought
     requires { ⌜ sound (now store) ≡ true ⌝ }
     ensures { λ r. ⌜ Seen (highHere num (treeOf (now (store .entry))) [] highest) r (now (out .exit)) ⌝ }
 {
-    let root = octets::u16_at(store, image::ROOT_AT);
-    let levels = octets::u16_at(store, image::LEVELS_AT);
+    let root = node::header::read_root(store);
+    let levels = node::header::read_levels(store);
     let lo = [0u8; 1];
     let hi = [255u8; 1];
     search_node(store, root, levels, &lo[0..0], &hi, num, out)

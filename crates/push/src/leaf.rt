@@ -9,15 +9,14 @@ use node::writer;
 ghost use mathlib.Core.Path.{_≡_};
 ghost use mathlib.Core.List.{_∷_, []};
 ghost use mathlib.Core.Bool.{true};
-ghost use Prim.Native.Nat.{_+_, _*_, _≤_};
+ghost use Prim.Native.Nat.{_+_, _≤_};
 ghost use lib.ListN.{length};
-ghost use Rattle.image.specs.Bytes.{u16};
 ghost use Rattle.image.specs.Entry.{message, puts};
 ghost use Rattle.laws.specs.Encode.{bytesOf, bytesOfAll};
 ghost use Rattle.octets.specs.Put.{put};
 ghost use Rattle.node.specs.Places.{EntryWithin, MessageWithin, entryIn, messageIn};
 ghost use Rattle.node.specs.Entries.{listed};
-ghost use Rattle.node.specs.Whole.{HasNode};
+ghost use Rattle.node.specs.Whole.{HasRoom};
 ghost use Rattle.push.specs.Laws.Arriving.{loweredBy, brought};
 ghost use Rattle.push.specs.Laws.Leaves.{pairsAfter, applied, leafTakesOne, leafTakes};
 ghost use Rattle.push.specs.Laws.Written.{hasRoom};
@@ -169,12 +168,11 @@ fn emit_leaf(
 // A leaf applies a message that loses its first k bytes there.
 fn apply_message(store: &mut [u8], num: usize, node: &[u8], m: Message, k: usize)
     requires { ⌜ MessageWithin 0 (length (now node)) m
-        × HasNode (now store) num
-        × (u16 (now store) (num * 1024) + length (bytesOf (message (loweredBy k (messageIn (now node) m)))) ≤ 1016) ⌝ }
+        × HasRoom (now store) num (length (bytesOf (message (loweredBy k (messageIn (now node) m))))) ⌝ }
     ensures { λ _. ⌜ now (store .exit) ≡ applied (loweredBy k (messageIn (now (node .entry)) m)) num (now (store .entry)) ⌝ }
 {
     let at = num * image::NODE_SIZE;
-    let len = octets::u16_at(store, at);
+    let len = node::header::read_length(store, at);
     let from = at + image::ENTRIES_AT;
     let mut page = [0u8; 1024];
     let end = emit_leaf(&mut page, store, from, from + len, node, m, k);
@@ -190,7 +188,7 @@ fn apply_message(store: &mut [u8], num: usize, node: &[u8], m: Message, k: usize
 
 // A leaf with these pivots takes what an entry of the node brings.
 fn take_entry(store: &mut [u8], num: usize, node: &[u8], e: Entry, lo: &[u8], hi: &[u8])
-    requires { ⌜ EntryWithin 0 (length (now node)) e × HasNode (now store) num × (u16 (now store) (num * 1024) + length (brought (entryIn (now node) e) (now lo) (now hi)) ≤ 1016) ⌝ }
+    requires { ⌜ EntryWithin 0 (length (now node)) e × HasRoom (now store) num (length (brought (entryIn (now node) e) (now lo) (now hi))) ⌝ }
     ensures { λ _. ⌜ now (store .exit) ≡ leafTakesOne (entryIn (now (node .entry)) e) num (now (lo .entry)) (now (hi .entry)) (now (store .entry)) ⌝ }
 {
     match e {

@@ -36,8 +36,8 @@ fn push_child(store: &mut [u8], num: usize, node: &[u8], stop: usize, lo: &[u8],
     requires { ⌜ (stop ≤ length (now node)) × (length (now node) ≤ 1024) × (hasRoom (listed (now node) 8 stop) num (now lo) (now hi) (now store) ≡ true) ⌝ }
     ensures { λ _. ⌜ now (store .exit) ≡ childTakes (listed (now (node .entry)) 8 stop) num (now (lo .entry)) (now (hi .entry)) (now (store .entry)) ⌝ }
 {
-    let kind = octets::u16_at(store, num * image::NODE_SIZE + 2);
-    if kind == 1 {
+    let kind = node::header::read_kind(store, num * image::NODE_SIZE);
+    if kind == image::LEAF {
         leaf::push_leaf(store, num, node, stop, lo, hi);
         return;
     }
@@ -132,8 +132,8 @@ fn push_node(store: &mut [u8], num: usize, hi: &[u8]) -> Pushed
     ensures { λ r. ⌜ Outcome (now (store .entry)) num r (now (store .exit)) ⌝ }
 {
     let at = num * image::NODE_SIZE;
-    let len = octets::u16_at(store, at);
-    let level = octets::u16_at(store, at + image::LEVEL_AT);
+    let len = node::header::read_length(store, at);
+    let level = node::header::read_level(store, at);
     let stop = image::ENTRIES_AT + len;
     let end = at + image::NODE_SIZE;
     let mut node = [0u8; 1024];

@@ -98,8 +98,8 @@ pub fn push_interior(store: &mut [u8], num: usize, node: &[u8], stop: usize, lo:
     ensures { λ _. ⌜ now (store .exit) ≡ interiorTakes (listed (now (node .entry)) 8 stop) num (now (lo .entry)) (now (hi .entry)) (now (store .entry)) ⌝ }
 {
     let at = num * image::NODE_SIZE;
-    let len = octets::u16_at(store, at);
-    let level = octets::u16_at(store, at + image::LEVEL_AT);
+    let len = node::header::read_length(store, at);
+    let level = node::header::read_level(store, at);
     let from = at + image::ENTRIES_AT;
     let to = from + len;
     let mut page = [0u8; 1024];

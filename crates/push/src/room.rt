@@ -132,7 +132,7 @@ fn child_fits(store: &[u8], num: usize, node: &[u8], stop: usize, lo: &[u8], hi:
     if store.len() / image::NODE_SIZE <= num {
         return false;
     }
-    let used = octets::u16_at(store, num * image::NODE_SIZE);
+    let used = node::header::read_length(store, num * image::NODE_SIZE);
     messages_fit(node, image::ENTRIES_AT, stop, lo, hi, used)
 }
 

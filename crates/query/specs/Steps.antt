@@ -19,8 +19,8 @@ use Rattle.node.specs.Places.{Within, part}
 use Rattle.node.specs.declared.search.Found.{Found}
 use Rattle.node.specs.Search.Pairs.{Finds, foundIn, FoundFits}
 use Rattle.node.specs.declared.PathBuffer.{PathBuffer}
-use Rattle.seek.specs.Buffer.{bufferIs}
-use Rattle.seek.specs.Callers.{next-none, next-some}
+use Rattle.successor.specs.Buffer.{bufferIs}
+use Rattle.successor.specs.Callers.{next-none, next-some}
 use Rattle.query.specs.Asked.{pathsFit, bufferLimit}
 
 -- questions 3 and 5 of a get

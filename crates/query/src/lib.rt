@@ -77,7 +77,7 @@ pub fn next_fit(store: &[u8], path: &[u8], after: &[u8], buffer: &mut [u8]) -> F
     if buffer.len() < image::PATH_LIMIT {
         return Found::Refused(Refusal::ShortBuffer);
     }
-    let found = seek::next_path(store, path, after);
+    let found = successor::next_path(store, path, after);
     let len = found.len;
     if image::PATH_LIMIT < len {
         return Found::Refused(Refusal::Absent);
@@ -106,8 +106,8 @@ fn same_paths(store: &[u8], other: &[u8]) -> bool
     requires { ⌜ (sound (now store) ≡ true) × (sound (now other) ≡ true) ⌝ }
     ensures { λ r. ⌜ r ≡ sameKeys (tableOf (now (store .entry))) (tableOf (now (other .entry))) ⌝ }
 {
-    let live = octets::u16_at(store, image::LIVE_AT);
-    let others = octets::u16_at(other, image::LIVE_AT);
+    let live = node::header::read_live(store);
+    let others = node::header::read_live(other);
     if live != others {
         return false;
     }

@@ -1,5 +1,5 @@
 -- The table of a sound store is one that the packed form can hold: few rows, rising, paths well formed, values short.
--- Relies on seek/specs/Present (present paths are well formed), laws/specs/ValuesFit and dump/specs/RootSteps (how many rows).
+-- Relies on successor/specs/Present (present paths are well formed), laws/specs/ValuesFit and dump/specs/RootSteps (how many rows).
 use Prim.Native.Nat.{ℕ}
 use mathlib.Core.Path.{_≡_, refl, sym, ap, _∙_}
 use mathlib.Core.List.{List}
@@ -17,8 +17,8 @@ use Rattle.laws.specs.Follow.{table-rises}
 use Rattle.laws.specs.ValuesFit.{table-fits}
 use Rattle.packed.specs.Form.Tidy.{Table}
 use Rattle.dump.specs.RootSteps.{table-few}
-use Rattle.seek.specs.Walk.{isPresent}
-use Rattle.seek.specs.Present.{present-formed}
+use Rattle.successor.specs.Walk.{isPresent}
+use Rattle.successor.specs.Present.{present-formed}
 
 module _ (s : List ℕ) (whole : sound s ≡ true) where
   pub table-formed : everyKey wellFormed (tableOf s) ≡ true

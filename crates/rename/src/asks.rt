@@ -36,7 +36,7 @@ pub fn any_below(store: &[u8], from: &[u8]) -> bool
     requires { ⌜ sound (now store) ≡ true ⌝ }
     ensures { λ r. ⌜ r ≡ not (isEmpty (rowsBelow (now (from .entry)) (tableOf (now (store .entry))))) ⌝ }
 {
-    let found = seek::next_path(store, from, &from[0..0]);
+    let found = successor::next_path(store, from, &from[0..0]);
     found.len <= image::PATH_LIMIT
 }
 
@@ -61,7 +61,7 @@ fn rests_fit(store: &[u8], from: &[u8], shape: Shape) -> bool
     requires { ⌜ sound (now store) ≡ true ⌝ }
     ensures { λ r. ⌜ r ≡ restsFit (shapeIs shape) (now (from .entry)) (tableOf (now (store .entry))) ⌝ }
 {
-    let found = seek::next_unfit(store, from, &from[0..0], shape);
+    let found = successor::next_unfit(store, from, &from[0..0], shape);
     image::PATH_LIMIT < found.len
 }
 

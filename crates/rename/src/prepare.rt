@@ -49,7 +49,7 @@ pub fn make_ready(
     ensures { λ r. ⌜ Prepared (now (store .entry)) (now (store .exit)) (now (work .entry)) (now (work .exit)) (now (numbers .exit)) r ⌝ }
 {
     let free = swing::spare::free_list(seen, store.len() / image::NODE_SIZE, numbers);
-    let levels = octets::u16_at(store, image::LEVELS_AT);
+    let levels = node::header::read_levels(store);
     if may_swing(quiet, levels, free) {
         return free;
     }

@@ -19,12 +19,13 @@ use Rattle.image.specs.Answers.{foundAnswer}
 use Rattle.image.specs.declared.Refusal.{Refusal}
 use Rattle.image.specs.declared.Found.{Found}
 use Rattle.octets.specs.Order.{and-left, and-right, same-refl, same-eq}
+use Rattle.laws.specs.Frame.{or-right}
 use Rattle.laws.specs.Tables.{find-yes, find-no}
 use Rattle.laws.specs.ValuesFit.{table-fits, found-fits}
 use Rattle.laws.specs.Rising.{find-leads}
 use Rattle.laws.specs.Follow.{after-step, table-rises}
 use Rattle.laws.specs.Filter.{keep, keep-below, below-rises}
-use Rattle.seek.specs.Present.{Next, next-found}
+use Rattle.successor.specs.Present.{Next, next-found}
 use Rattle.query.specs.Asked.{pathsFit}
 use Rattle.image.specs.Program.{space, slash, lineFeed, exchanged, pathText, valueText, endText, refusedText, rowText, rowsText, listText, listing, commandText, commandTable}
 use Rattle.script.specs.Writing.{Wrote, wrote-within, exchanged-length}
@@ -191,10 +192,6 @@ none-ahead : (rs : List Row) → firstKey rs ≡ none → rs ≡ []
 unfolding firstKey
 none-ahead [] e = refl
 none-ahead (r ∷ rs) e = let o : _≡_ {A = ℕ} 0 1 = cc in absurd (omega arith)
-
-or-right : (a b : Bool) → b ≡ true → a || b ≡ true
-or-right true b e = refl
-or-right false b e = e
 
 module _ (s p q : List ℕ) (at : ℕ) (out buffer : List ℕ) (h : Held s out) (formed : wellFormed p ≡ true) (w : Walk s p q at out) (long : 64 ≤ length buffer)
     (f : Found) (buffer′ : List ℕ) (m : Meets s (asks (next p q) buffer) (foundAnswer f buffer′) s []) where

@@ -162,15 +162,18 @@ all-branches d ks h = line-all d 1024 ks (let a = all-long d ks in omega arith)
 -- TWO NODES
 module _ (size level : ℕ) (node : List ℕ) (start : Cursor) (d e : ℕ) (k : List ℕ) (below : Parts) (out : List ℕ) (at : ℕ) (free : List ℕ)
     (pre : WideAsks size level node start d e k below out at free) (n m a b : ℕ) (en : n ≡ u16 free (at * 2)) (em : m ≡ u16 free ((at + 1) * 2))
-    (ea : a ≡ u16 free ((at + 2) * 2)) (eb : b ≡ u16 free ((at + 3) * 2)) where
+    (ea : a ≡ freshIn free (at + 2)) (eb : b ≡ freshIn free (at + 2 + 1)) where
+  rest-number : b ≡ freshIn free (at + 3)
+  rest-number = let z : at + 2 + 1 ≡ at + 3 = omega arith in eb ∙ ap (freshIn free) z
+
   pub wide-rooms : (n * 1024 + 1024 ≤ size) × (m * 1024 + 1024 ≤ size)
   unfolding freshIn
   wide-rooms = let p = pre .room at (omega arith) in let q = pre .room (at + 1) (omega arith) in (omega arith, omega arith)
 
   edge-line : allLine d (piecesIn a b k out below) ++ branchLine d 0 (branchesAmong (listed node (start .at) (start .end)))
       ≡ allLine d (piecesIn (freshIn free (at + 2)) (freshIn free (at + 3)) k out below)
-  unfolding branchLine freshIn
-  edge-line = append-nil (allLine d (piecesIn a b k out below)) ∙ (λ i. allLine d (piecesIn (ea i) (eb i) k out below))
+  unfolding branchLine
+  edge-line = append-nil (allLine d (piecesIn a b k out below)) ∙ (λ i. allLine d (piecesIn (ea i) (rest-number i) k out below))
 
   rest-line : allLine e (piecesIn a b k out Parts.Nothing) ++ branchLine e 1024 (branchesAmong (listed node (start .at) (start .end)))
       ≡ allLine e (branchesAmong (listed node (start .at) (start .end)))
@@ -193,7 +196,10 @@ module _ (size level : ℕ) (node : List ℕ) (start : Cursor) (d e : ℕ) (k : 
 -- ONE NODE
 module _ (size level : ℕ) (node : List ℕ) (start : Cursor) (hi k : List ℕ) (below : Parts) (out : List ℕ) (at : ℕ) (free : List ℕ)
     (pre : NarrowAsks size level node start hi k below out at free) (n a b d : ℕ) (en : n ≡ u16 free (at * 2))
-    (ea : a ≡ u16 free ((at + 1) * 2)) (eb : b ≡ u16 free ((at + 2) * 2)) (ed : d ≡ length (shared k hi)) where
+    (ea : a ≡ freshIn free (at + 1)) (eb : b ≡ freshIn free (at + 1 + 1)) (ed : d ≡ length (shared k hi)) where
+  last-number : b ≡ freshIn free (at + 2)
+  last-number = let z : at + 1 + 1 ≡ at + 2 = omega arith in eb ∙ ap (freshIn free) z
+
   pub narrow-room : n * 1024 + 1024 ≤ size
   unfolding freshIn
   narrow-room = let p = pre .room at (omega arith) in omega arith
@@ -203,7 +209,6 @@ module _ (size level : ℕ) (node : List ℕ) (start : Cursor) (hi k : List ℕ)
 
   pub narrow-line : allLine d (piecesIn a b k out below) ++ branchLine d 1024 (branchesAmong (listed node (start .at) (start .end)))
       ≡ allLine (length (shared k hi)) (piecesIn (freshIn free (at + 1)) (freshIn free (at + 2)) k out below ++ branchesAmong (listed node (start .at) (start .end)))
-  unfolding freshIn
   narrow-line =
       let q : allLine (length (shared k hi)) all-pieces
       ≡ allLine (length (shared k hi)) (piecesIn (freshIn free (at + 1)) (freshIn free (at + 2)) k out below) ++ allLine (length (shared k hi)) (branchesAmong (listed node (start .at) (start .end)))
@@ -211,7 +216,7 @@ module _ (size level : ℕ) (node : List ℕ) (start : Cursor) (hi k : List ℕ)
       let z = ap length q in
       let y = length-append (allLine (length (shared k hi)) (piecesIn (freshIn free (at + 1)) (freshIn free (at + 2)) k out below)) (allLine (length (shared k hi)) (branchesAmong (listed node (start .at) (start .end)))) in
       let f = pre .allFit in
-      (λ i. allLine (ed i) (piecesIn (ea i) (eb i) k out below) ++ branchLine (ed i) 1024 (branchesAmong (listed node (start .at) (start .end))))
+      (λ i. allLine (ed i) (piecesIn (ea i) (last-number i) k out below) ++ branchLine (ed i) 1024 (branchesAmong (listed node (start .at) (start .end))))
       ∙ ap (λ l. allLine (length (shared k hi)) (piecesIn (freshIn free (at + 1)) (freshIn free (at + 2)) k out below) ++ l)
       (all-branches (length (shared k hi)) (branchesAmong (listed node (start .at) (start .end))) (omega arith))
       ∙ sym q

@@ -9,7 +9,7 @@ use node::writer;
 ghost use mathlib.Core.Path.{_≡_};
 ghost use mathlib.Core.List.{[], _++_};
 ghost use mathlib.Core.Bool.{true, not};
-ghost use Prim.Native.Nat.{_+_, _*_, _≤_, _<_};
+ghost use Prim.Native.Nat.{_+_, _≤_, _<_};
 ghost use lib.ListN.{length, drop};
 ghost use lib.Dec.{eqb};
 ghost use Rattle.image.specs.Entry.{child};
@@ -17,6 +17,7 @@ ghost use Rattle.laws.specs.Encode.{bytesOf};
 ghost use Rattle.octets.specs.Put.{put};
 ghost use Rattle.node.specs.Entries.{listed};
 ghost use Rattle.node.specs.Search.Own.{branchesAmong};
+ghost use Rattle.node.specs.Whole.{HasNode};
 ghost use Rattle.push.specs.Laws.Written.{smallNumbers};
 ghost use Rattle.slice.specs.Point.{branchLine, pointIn};
 ghost use Rattle.slice.specs.Right.{skipOf, piecesIn, PartsFit, allLine, overBody};
@@ -94,7 +95,7 @@ pub fn write_over(
     node: &[u8],
     next: Following,
 ) -> bool
-    requires { ⌜ (new .num * 1024 + 1024 ≤ length (now store))
+    requires { ⌜ HasNode (now store) (new .num)
         × (new .level < 65536)
         × PartsFit (length (now out)) (pieces .parts)
         × (pieces .edge < 65536)

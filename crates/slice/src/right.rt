@@ -12,7 +12,7 @@ use node::Cursor;
 use node::search::Pending;
 ghost use mathlib.Core.Path.{_≡_};
 ghost use mathlib.Core.List.{[], _++_};
-ghost use Prim.Native.Nat.{_+_, _*_, _≤_};
+ghost use Prim.Native.Nat.{_+_, _*_, _<_, _≤_};
 ghost use lib.ListN.{length, take};
 ghost use Rattle.image.specs.Bytes.{shared};
 ghost use Rattle.image.specs.Image.{treeAt};
@@ -51,11 +51,17 @@ fn tell_edge(below: Parts) -> Parts
     }
 }
 
-// A level right of a cut: which it is, the place of its first number in the list of free nodes, the pieces of the child that held the cut, and the
-// cursor at the children behind it.
+// A tree to slice: the number and the level of its root, the place in the list of free nodes of the first number that its part takes, and whether the
+// part is wide.
+pub struct Sliced {
+    pub num: usize,
+    pub level: usize,
+    pub at: usize,
+    pub wide: bool,
+}
+
+// What stands right of a cut in the root of a tree: the pieces of the child that held the cut, and the cursor at the children behind it.
 struct Layer {
-    level: usize,
-    at: usize,
     below: Parts,
     start: Cursor,
 }
@@ -66,9 +72,24 @@ struct Lifts {
     rest: usize,
 }
 
+// The pieces of a child with the numbers that they take: the edge's at a place of the list of free nodes, the rest's behind it.
+fn number_pieces(parts: Parts, free: &[u8], at: usize) -> Numbered
+    requires { ⌜ (at + 2) * 2 ≤ length (now free) ⌝ }
+    ensures { λ r. ⌜ (r .parts ≡ parts)
+        × (r .edge ≡ freshIn (now (free .entry)) at)
+        × (r .rest ≡ freshIn (now (free .entry)) (at + 1))
+        × (r .edge < 65536)
+        × (r .rest < 65536) ⌝ }
+{
+    let edge = octets::u16_at(free, at * 2);
+    let rest = octets::u16_at(free, (at + 1) * 2);
+    Numbered { parts, edge, rest }
+}
+
 // An edge over the pieces and a rest over the children.
 fn write_wide(
     store: &mut [u8],
+    tree: Sliced,
     layer: Layer,
     lifts: Lifts,
     node: &[u8],
@@ -76,29 +97,22 @@ fn write_wide(
     out: &[u8],
     free: &[u8],
 )
-    requires { ⌜ WideAsks (length (now store)) (layer .level) (now node) (layer .start) (lifts .edge) (lifts .rest) (now k) (layer .below) (now out) (layer .at) (now free) ⌝ }
+    requires { ⌜ WideAsks (length (now store)) (tree .level) (now node) (layer .start) (lifts .edge) (lifts .rest) (now k) (layer .below) (now out) (tree .at) (now free) ⌝ }
     ensures { λ _. ⌜ now (store .exit)
-        ≡ twoBody (freshIn (now (free .entry)) (layer .at)) (freshIn (now (free .entry)) (layer .at + 1)) (layer .level) (lifts .edge) (lifts .rest)
-        (piecesIn (freshIn (now (free .entry)) (layer .at + 2)) (freshIn (now (free .entry)) (layer .at + 3)) (now (k .entry)) (now (out .entry)) (layer .below))
+        ≡ twoBody (freshIn (now (free .entry)) (tree .at)) (freshIn (now (free .entry)) (tree .at + 1)) (tree .level) (lifts .edge) (lifts .rest)
+        (piecesIn (freshIn (now (free .entry)) (tree .at + 2)) (freshIn (now (free .entry)) (tree .at + 3)) (now (k .entry)) (now (out .entry)) (layer .below))
         (branchesAmong (listed (now (node .entry)) (layer .start .at) (layer .start .end))) (now (store .entry)) ⌝ }
 {
-    let level = layer.level;
-    let at = layer.at;
-    let below = layer.below;
+    let at = tree.at;
     let start = layer.start;
     let n = octets::u16_at(free, at * 2);
     let m = octets::u16_at(free, (at + 1) * 2);
-    let a = octets::u16_at(free, (at + 2) * 2);
-    let b = octets::u16_at(free, (at + 3) * 2);
+    let below = layer.below;
+    let pieces = number_pieces(below, free, at + 2);
     let edge = New {
         num: n,
-        level,
+        level: tree.level,
         lifts: lifts.edge,
-    };
-    let pieces = Numbered {
-        parts: below,
-        edge: a,
-        rest: b,
     };
     pieces::write_over(
         store,
@@ -111,13 +125,13 @@ fn write_wide(
     );
     let rest = New {
         num: m,
-        level,
+        level: tree.level,
         lifts: lifts.rest,
     };
     let none = Numbered {
         parts: Parts::Nothing,
-        edge: a,
-        rest: b,
+        edge: pieces.edge,
+        rest: pieces.rest,
     };
     pieces::write_over(
         store,
@@ -133,6 +147,7 @@ fn write_wide(
 // The same, told by the pivots: the rest's is its first child's, and where there is no rest the edge ends at the high pivot.
 fn write_both(
     store: &mut [u8],
+    tree: Sliced,
     layer: Layer,
     node: &[u8],
     hi: &[u8],
@@ -140,25 +155,27 @@ fn write_both(
     out: &[u8],
     free: &[u8],
 )
-    requires { ⌜ WideReady (length (now store)) (layer .level) (now node) (layer .start) (now hi) (now k) (layer .below) (now out) (layer .at) (now free) ⌝ }
+    requires { ⌜ WideReady (length (now store)) (tree .level) (now node) (layer .start) (now hi) (now k) (layer .below) (now out) (tree .at) (now free) ⌝ }
     ensures { λ _. ⌜ now (store .exit)
-        ≡ wideBody (freshIn (now (free .entry)) (layer .at)) (freshIn (now (free .entry)) (layer .at + 1)) (layer .level) (now (k .entry)) (now (hi .entry))
+        ≡ wideBody (freshIn (now (free .entry)) (tree .at)) (freshIn (now (free .entry)) (tree .at + 1)) (tree .level) (now (k .entry)) (now (hi .entry))
         (branchHigh (now (hi .entry)) (branchesAmong (listed (now (node .entry)) (layer .start .at) (layer .start .end))))
-        (piecesIn (freshIn (now (free .entry)) (layer .at + 2)) (freshIn (now (free .entry)) (layer .at + 3)) (now (k .entry)) (now (out .entry)) (layer .below))
+        (piecesIn (freshIn (now (free .entry)) (tree .at + 2)) (freshIn (now (free .entry)) (tree .at + 3)) (now (k .entry)) (now (out .entry)) (layer .below))
         (branchesAmong (listed (now (node .entry)) (layer .start .at) (layer .start .end))) (now (store .entry)) ⌝ }
 {
     let start = layer.start;
     let Pending::Child(_, p, _) = node::search::read_child(node, start) else {
         let edge = octets::common_length(k, hi);
         let rest = octets::common_length(hi, hi);
-        write_wide(store, layer, Lifts { edge, rest }, node, k, out, free);
+        let lifts = Lifts { edge, rest };
+        write_wide(store, tree, layer, lifts, node, k, out, free);
         return;
     };
     let x = p.start;
     let y = p.stop;
     let edge = octets::common_length(k, &node[x..y]);
     let rest = octets::common_length(&node[x..y], hi);
-    write_wide(store, layer, Lifts { edge, rest }, node, k, out, free);
+    let lifts = Lifts { edge, rest };
+    write_wide(store, tree, layer, lifts, node, k, out, free);
 }
 
 // What is told of both: the pivot of the rest, if there is one, is left in the buffer behind what is lifted.
@@ -177,6 +194,7 @@ fn tell_both(node: &[u8], start: Cursor, below: Parts, lift: &[u8], out: &mut [u
 // One node over the pieces of the child and the children from the cursor on.
 fn finish_narrow(
     store: &mut [u8],
+    tree: Sliced,
     layer: Layer,
     node: &[u8],
     hi: &[u8],
@@ -184,34 +202,28 @@ fn finish_narrow(
     out: &[u8],
     free: &[u8],
 ) -> Parts
-    requires { ⌜ NarrowAsks (length (now store)) (layer .level) (now node) (layer .start) (now hi) (now k) (layer .below) (now out) (layer .at) (now free) ⌝ }
+    requires { ⌜ NarrowAsks (length (now store)) (tree .level) (now node) (layer .start) (now hi) (now k) (layer .below) (now out) (tree .at) (now free) ⌝ }
     ensures { λ r. ⌜ (now (store .exit)
-        ≡ overBody (freshIn (now (free .entry)) (layer .at)) (layer .level)
+        ≡ overBody (freshIn (now (free .entry)) (tree .at)) (tree .level)
         (allLine (length (shared (now (k .entry)) (now (hi .entry))))
-        (piecesIn (freshIn (now (free .entry)) (layer .at + 1)) (freshIn (now (free .entry)) (layer .at + 2)) (now (k .entry)) (now (out .entry)) (layer .below)
+        (piecesIn (freshIn (now (free .entry)) (tree .at + 1)) (freshIn (now (free .entry)) (tree .at + 2)) (now (k .entry)) (now (out .entry)) (layer .below)
         ++ branchesAmong (listed (now (node .entry)) (layer .start .at) (layer .start .end)))) (now (store .entry)))
         × (r
         ≡ oneNode
-        (piecesIn (freshIn (now (free .entry)) (layer .at + 1)) (freshIn (now (free .entry)) (layer .at + 2)) (now (k .entry)) (now (out .entry)) (layer .below) ++
+        (piecesIn (freshIn (now (free .entry)) (tree .at + 1)) (freshIn (now (free .entry)) (tree .at + 2)) (now (k .entry)) (now (out .entry)) (layer .below) ++
         branchesAmong (listed (now (node .entry)) (layer .start .at) (layer .start .end)))) ⌝ }
 {
-    let level = layer.level;
-    let at = layer.at;
-    let below = layer.below;
+    let level = tree.level;
+    let at = tree.at;
     let start = layer.start;
     let n = octets::u16_at(free, at * 2);
-    let a = octets::u16_at(free, (at + 1) * 2);
-    let b = octets::u16_at(free, (at + 2) * 2);
+    let below = layer.below;
+    let pieces = number_pieces(below, free, at + 1);
     let d = octets::common_length(k, hi);
     let new = New {
         num: n,
         level,
         lifts: d,
-    };
-    let pieces = Numbered {
-        parts: below,
-        edge: a,
-        rest: b,
     };
     if pieces::write_over(
         store,
@@ -225,15 +237,6 @@ fn finish_narrow(
         return Parts::Edge;
     }
     Parts::Nothing
-}
-
-// A tree to slice: the number and the level of its root, the place in the list of free nodes of the first number that its part takes, and whether the
-// part is wide.
-pub struct Sliced {
-    pub num: usize,
-    pub level: usize,
-    pub at: usize,
-    pub wide: bool,
 }
 
 // The children of a node that is sliced: the cut among them, and their level, place and width.
@@ -285,13 +288,8 @@ pub fn slice_right(
             wide,
         };
         let below = right_cut(store, &node, inner, hi, k, free, out);
-        let layer = Layer {
-            level,
-            at,
-            below,
-            start,
-        };
-        write_both(store, layer, &node, hi, k, out, free);
+        let layer = Layer { below, start };
+        write_both(store, tree, layer, &node, hi, k, out, free);
         return tell_both(&node, start, below, lift, out);
     }
     let inner = Split {
@@ -301,13 +299,8 @@ pub fn slice_right(
         wide,
     };
     let below = right_cut(store, &node, inner, hi, k, free, out);
-    let layer = Layer {
-        level,
-        at,
-        below,
-        start,
-    };
-    finish_narrow(store, layer, &node, hi, k, out, free)
+    let layer = Layer { below, start };
+    finish_narrow(store, tree, layer, &node, hi, k, out, free)
 }
 
 // The part from the cut on of the child that holds it, if there is one.

@@ -1,5 +1,5 @@
 -- What the verdict on an image promises, and the law of each way out of the code.
--- Relies on: tree_check's Callers (all but the live count) and live's count of the table.
+-- Relies on: tree_check's Callers (all but the live count) and live_count's count of the table.
 use Prim.Native.Nat.{ℕ, _<_, _≤_}
 use mathlib.Core.Path.{_≡_, refl, sym, ap, _∙_}
 use mathlib.Core.List.{List}
@@ -16,11 +16,11 @@ use Rattle.lookup.specs.Root.{first-u16}
 use Rattle.tree_check.specs.declared.Checked.{Checked}
 use Rattle.tree_check.specs.declared.Tally.{Tally}
 use Rattle.laws.specs.ButLive.{parts-of}
-use Rattle.live.specs.RootSteps.{countable}
+use Rattle.live_count.specs.RootSteps.{countable}
 use Rattle.tree_check.specs.Whole.{isSound, Verified}
 use Rattle.laws.specs.ButLive.{sound-live}
 use Rattle.tree_check.specs.Callers.{Established, verified-yes, verified-no, sound-settled}
-use Rattle.live.specs.Walk.{Countable}
+use Rattle.live_count.specs.Walk.{Countable}
 use Rattle.octets.specs.Cap.{cap, cap-equal}
 
 pub record Judged (image : List ℕ) (r : Checked) (seen : List ℕ) : Type 0 where

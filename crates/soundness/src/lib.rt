@@ -1,5 +1,5 @@
 // Question 2 whole: is the image sound? The tree by one marking walk (tree_check), then the live count: with no message anywhere it is the
-// number of pairs, which the walk has counted; else one more walk counts the entries that decide (live).
+// number of pairs, which the walk has counted; else one more walk counts the entries that decide (live_count).
 use tree_check::Checked;
 ghost use mathlib.Core.Path.{_≡_};
 ghost use mathlib.Core.Bool.{true};
@@ -17,14 +17,14 @@ pub fn judge(store: &[u8], seen: &mut [u8; 1024]) -> Checked
     let Checked::Sound(tally) = c else {
         return Checked::Unsound;
     };
-    let told = octets::u16_at(store, image::LIVE_AT);
+    let told = node::header::read_live(store);
     if tally.messages == 0 {
         if tally.pairs == told {
             return Checked::Sound(tally);
         }
         return Checked::Unsound;
     }
-    let counted = live::live_count(store);
+    let counted = live_count::count_paths(store);
     if counted == told {
         return Checked::Sound(tally);
     }

@@ -85,7 +85,7 @@ fn cut_both(
     requires { ⌜ BothAsks (now store) h (now bound) (now limit) (now free) × (length (now low) ≡ 1089) × (length (now high) ≡ 1089) ⌝ }
     ensures { λ r. ⌜ BothAs (now (store .entry)) h (now (bound .entry)) (now (limit .entry)) (now (free .entry)) (now (store .exit)) (now (low .exit)) (now (high .exit)) r ⌝ }
 {
-    let root = octets::u16_at(store, image::ROOT_AT);
+    let root = node::header::read_root(store);
     let inner = octets::u16_at(free, 3 * h * 2);
     let n = limit.len() - 1;
     let top = [255u8; 1];
@@ -171,8 +171,8 @@ fn swing_between(store: &mut [u8], free: &[u8], bound: &[u8], limit: &[u8], up: 
     requires { ⌜ PastPlan (now store) (now free) (now bound) (now limit) up ⌝ }
     ensures { λ _. ⌜ now (store .exit) ≡ swungOver (now (store .entry)) (now (free .entry)) (now (bound .entry)) (now (limit .entry)) up ⌝ }
 {
-    let h = octets::u16_at(store, image::LEVELS_AT);
-    let live = octets::u16_at(store, image::LIVE_AT);
+    let h = node::header::read_levels(store);
+    let live = node::header::read_live(store);
     let num = octets::u16_at(free, 10 * h * 2);
     let place = low_place(h, up);
     let mut low = [0u8; 1089];

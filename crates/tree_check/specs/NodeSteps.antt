@@ -69,88 +69,88 @@ module _ (s : List ℕ) (i level : ℕ) (sh : Shape) (lo hi seen : List ℕ) whe
         checks-as (cond (soundHere (treeAt 1 s i) sh lo hi) (some (set seen i 1)) none) marked (countOf (treeAt 1 s i)) Y r (set seen i 1)
         (leaf-walk s i (nodesOf (length s)) sh lo hi seen open-node level e) (ap (λ l. countOf (treeAt l s i)) (sym e)) (h (set seen i 1))
 
-    -- an interior node
-    module _ (two : 2 ≤ level) where
-      interior-tree : (l : ℕ) → 2 ≤ l → treeAt l s i ≡ interiorOf (treeAt (l - 1) s) i (orNone insideOf (nodeEntries 0x0002 l (nodeBytes s i)))
-      unfolding treeAt
-      interior-tree zero h = absurd (omega arith)
-      interior-tree (suc zero) h = absurd (omega arith)
-      interior-tree (suc (suc l)) h =
-          let e : suc l ≡ suc (suc l) - 1 = omega arith in
-          ap (λ m. interiorOf (treeAt m s) i (orNone insideOf (nodeEntries 0x0002 (suc (suc l)) (nodeBytes s i)))) e
+  -- an interior node
+  interior-tree : (l : ℕ) → 2 ≤ l → treeAt l s i ≡ interiorOf (treeAt (l - 1) s) i (orNone insideOf (nodeEntries 0x0002 l (nodeBytes s i)))
+  unfolding treeAt
+  interior-tree zero h = absurd (omega arith)
+  interior-tree (suc zero) h = absurd (omega arith)
+  interior-tree (suc (suc l)) h =
+      let e : suc l ≡ suc (suc l) - 1 = omega arith in
+      ap (λ m. interiorOf (treeAt m s) i (orNone insideOf (nodeEntries 0x0002 (suc (suc l)) (nodeBytes s i)))) e
 
-      alike : (j : ℕ) (z : Shape) (a b q : List ℕ) → nodeRun (level - 1) s j z a b q ≡ visit (treeAt (level - 1) s j) (nodesOf (length s)) z a b q
-      unfolding nodeRun
-      alike j z a b q = refl
+  alike : (j : ℕ) (z : Shape) (a b q : List ℕ) → nodeRun (level - 1) s j z a b q ≡ visit (treeAt (level - 1) s j) (nodesOf (length s)) z a b q
+  unfolding nodeRun
+  alike j z a b q = refl
 
-      abbrev T : Tree
-      T = interiorOf (treeAt (level - 1) s) i (orNone insideOf (nodeEntries 0x0002 level (nodeBytes s i)))
+  abbrev T : Tree
+  T = interiorOf (treeAt (level - 1) s) i (orNone insideOf (nodeEntries 0x0002 level (nodeBytes s i)))
 
-      module _ (f : First) (hf : FirstAs s i level lo f) where
-        pub no-first : f ≡ First.Nothing → (after : List ℕ) → Checks marked Y Checked.Unsound after
-        no-first e after =
-            unsound marked Y after
-            (ap (λ t. visit t (nodesOf (length s)) sh lo hi seen) (interior-tree level two)
-            ∙ headless (treeAt (level - 1) s) (nodesOf (length s)) (nodeRun (level - 1) s) alike i sh lo hi seen (nodeEntries 0x0002 level (nodeBytes s i)) (first-nothing-is s i level lo f hf e))
+  pub no-first : 2 ≤ level → (f : First) → FirstAs s i level lo f → f ≡ First.Nothing → (after : List ℕ) → Checks marked Y Checked.Unsound after
+  no-first two f hf e after =
+      unsound marked Y after
+      (ap (λ t. visit t (nodesOf (length s)) sh lo hi seen) (interior-tree level two)
+      ∙ headless (treeAt (level - 1) s) (nodesOf (length s)) (nodeRun (level - 1) s) alike i sh lo hi seen (nodeEntries 0x0002 level (nodeBytes s i)) (first-nothing-is s i level lo f hf e))
 
-        module _ (j : ℕ) (p : Place) (c : Cursor) (ef : f ≡ First.Child j p c) where
-          pub leads : Leads s i level lo j p c
-          leads = first-child-is s i level lo f j p c hf ef
+  -- an interior node whose first child is read
+  module _ (n : ℕ) (en : n ≡ nodesOf (length s)) (low : 1 ≤ i) (high : i < n) (fresh : getD seen i 0 ≡ 0) (two : 2 ≤ level)
+      (f : First) (hf : FirstAs s i level lo f) (j : ℕ) (p : Place) (c : Cursor) (ef : f ≡ First.Child j p c) where
+    leads : Leads s i level lo j p c
+    leads = first-child-is s i level lo f j p c hf ef
 
-          abbrev K : Option (List ℕ)
-          K = branchesRun (nodeRun (level - 1) s) sh lo hi j (part s p) (entriesFrom s (c .at) (c .end)) (set seen i 1)
+    abbrev K : Option (List ℕ)
+    K = branchesRun (nodeRun (level - 1) s) sh lo hi j (part s p) (entriesFrom s (c .at) (c .end)) (set seen i 1)
 
-          walk-is : K ≡ marked
-          walk-is =
-              first-walk (treeAt (level - 1) s) (nodesOf (length s)) (nodeRun (level - 1) s) alike i sh lo hi seen open-node j (part s p) (leads .pivot)
-              (nodeEntries 0x0002 level (nodeBytes s i)) (entriesFrom s (c .at) (c .end)) (leads .reads)
-              ∙ ap (λ t. visit t (nodesOf (length s)) sh lo hi seen) (sym (interior-tree level two))
+    walk-is : K ≡ marked
+    walk-is =
+        first-walk (treeAt (level - 1) s) (nodesOf (length s)) (nodeRun (level - 1) s) alike i sh lo hi seen (open-node n en low high fresh) j (part s p) (leads .pivot)
+        (nodeEntries 0x0002 level (nodeBytes s i)) (entriesFrom s (c .at) (c .end)) (leads .reads)
+        ∙ ap (λ t. visit t (nodesOf (length s)) sh lo hi seen) (sym (interior-tree level two))
 
-          abbrev M : Count
-          M = branchesCount (treeAt (level - 1) s) j (listed s (c .at) (c .end))
+    abbrev M : Count
+    M = branchesCount (treeAt (level - 1) s) j (listed s (c .at) (c .end))
 
-          -- the node itself is counted before its list of children
-          branches-found : (w : Checked) (after : List ℕ) → Checks K (plus onlyNode M) w after → Checks marked Y w after
-          branches-found Checked.Unsound after h = unsound marked Y after (sym walk-is ∙ unsound-is K (plus onlyNode M) Checked.Unsound after h refl)
-          branches-found (Checked.Sound t) after h =
-              let k : K ≡ some after = sound-is K (plus onlyNode M) (Checked.Sound t) t after h refl in
-              let y : plus onlyNode M ≡ countOf T
-              = first-counts (treeAt (level - 1) s) (nodesOf (length s)) (nodeRun (level - 1) s) alike i sh lo hi seen open-node j (part s p) (leads .pivot)
-              (nodeEntries 0x0002 level (nodeBytes s i)) (entriesFrom s (c .at) (c .end)) (listed s (c .at) (c .end)) (set seen i 1) after (leads .reads)
-              (λ es q. reads-listed s (c .at) (c .end) es q) k in
-              all-sound marked Y t after (sym walk-is ∙ k)
-              (tally-is K (plus onlyNode M) (Checked.Sound t) t after h refl ∙ ap (λ z. capped z) (y ∙ ap (λ z. countOf z) (sym (interior-tree level two))))
+    -- the node itself is counted before its list of children
+    branches-found : (w : Checked) (after : List ℕ) → Checks K (plus onlyNode M) w after → Checks marked Y w after
+    branches-found Checked.Unsound after h = unsound marked Y after (sym walk-is ∙ unsound-is K (plus onlyNode M) Checked.Unsound after h refl)
+    branches-found (Checked.Sound t) after h =
+        let k : K ≡ some after = sound-is K (plus onlyNode M) (Checked.Sound t) t after h refl in
+        let y : plus onlyNode M ≡ countOf T
+        = first-counts (treeAt (level - 1) s) (nodesOf (length s)) (nodeRun (level - 1) s) alike i sh lo hi seen (open-node n en low high fresh) j (part s p) (leads .pivot)
+        (nodeEntries 0x0002 level (nodeBytes s i)) (entriesFrom s (c .at) (c .end)) (listed s (c .at) (c .end)) (set seen i 1) after (leads .reads)
+        (λ es q. reads-listed s (c .at) (c .end) es q) k in
+        all-sound marked Y t after (sym walk-is ∙ k)
+        (tally-is K (plus onlyNode M) (Checked.Sound t) t after h refl ∙ ap (λ z. capped z) (y ∙ ap (λ z. countOf z) (sym (interior-tree level two))))
 
-          -- the list, told of a parent
-          abbrev Run : ℕ → ℕ → Shape → List ℕ → Option (List ℕ)
-          Run l n z a = branchesRun (nodeRun l s) z a hi j (part s p) (entriesFrom s (c .at) n) (set seen i 1)
+    -- the list, told of a parent
+    abbrev Run : ℕ → ℕ → Shape → List ℕ → Option (List ℕ)
+    Run l n z a = branchesRun (nodeRun l s) z a hi j (part s p) (entriesFrom s (c .at) n) (set seen i 1)
 
-          abbrev Held : ℕ → ℕ → Count
-          Held l n = branchesCount (treeAt l s) j (listed s (c .at) n)
+    abbrev Held : ℕ → ℕ → Count
+    Held l n = branchesCount (treeAt l s) j (listed s (c .at) n)
 
-          -- the parent is this node
-          module _ (own : Parent) (level-is : own .level ≡ level - 1) (end-is : own .end ≡ c .end) (low-is : own .low ≡ p) (shape-is : shapeIs (own .shape) ≡ sh)
-              (r : Bool) (held after : List ℕ)
-              (h : Adds (Run (own .level) (own .end) (shapeIs (own .shape)) (part s (own .low))) (Held (own .level) (own .end)) (0 ∷ 0 ∷ 1 ∷ []) r held after) where
-            abbrev As : ℕ → ℕ → Shape → List ℕ → Type 0
-            As l n z a = Adds (Run l n z a) (Held l n) (0 ∷ 0 ∷ 1 ∷ []) r held after
+    -- the parent is this node
+    module _ (own : Parent) (level-is : own .level ≡ level - 1) (end-is : own .end ≡ c .end) (low-is : own .low ≡ p) (shape-is : shapeIs (own .shape) ≡ sh)
+        (r : Bool) (held after : List ℕ)
+        (h : Adds (Run (own .level) (own .end) (shapeIs (own .shape)) (part s (own .low))) (Held (own .level) (own .end)) (0 ∷ 0 ∷ 1 ∷ []) r held after) where
+      abbrev As : ℕ → ℕ → Shape → List ℕ → Type 0
+      As l n z a = Adds (Run l n z a) (Held l n) (0 ∷ 0 ∷ 1 ∷ []) r held after
 
-            itself : tallyIs (0 ∷ 0 ∷ 1 ∷ []) ≡ capped onlyNode
-            unfolding tallyIs
-            itself = node-capped
+      itself : tallyIs (0 ∷ 0 ∷ 1 ∷ []) ≡ capped onlyNode
+      unfolding tallyIs
+      itself = node-capped
 
-            found : Checks marked Y (answerIs r held) after
-            found =
-                let h1 : As (level - 1) (own .end) (shapeIs (own .shape)) (part s (own .low)) = subst (λ (l : ℕ). As l (own .end) (shapeIs (own .shape)) (part s (own .low))) level-is h in
-                let h2 : As (level - 1) (c .end) (shapeIs (own .shape)) (part s (own .low)) = subst (λ (n : ℕ). As (level - 1) n (shapeIs (own .shape)) (part s (own .low))) end-is h1 in
-                let h3 : As (level - 1) (c .end) sh (part s (own .low)) = subst (λ (z : Shape). As (level - 1) (c .end) z (part s (own .low))) shape-is h2 in
-                let k : As (level - 1) (c .end) sh lo = subst (λ (a : List ℕ). As (level - 1) (c .end) sh a) (ap (λ (q : Place). part s q) low-is ∙ same-eq (part s p) lo (leads .pivot)) h3 in
-                branches-found (answerIs r held) after (k .whole K (plus onlyNode M) (record { counted = onlyNode; tally = itself; counts = refl; walk = refl }))
+      found : Checks marked Y (answerIs r held) after
+      found =
+          let h1 : As (level - 1) (own .end) (shapeIs (own .shape)) (part s (own .low)) = subst (λ (l : ℕ). As l (own .end) (shapeIs (own .shape)) (part s (own .low))) level-is h in
+          let h2 : As (level - 1) (c .end) (shapeIs (own .shape)) (part s (own .low)) = subst (λ (n : ℕ). As (level - 1) n (shapeIs (own .shape)) (part s (own .low))) end-is h1 in
+          let h3 : As (level - 1) (c .end) sh (part s (own .low)) = subst (λ (z : Shape). As (level - 1) (c .end) z (part s (own .low))) shape-is h2 in
+          let k : As (level - 1) (c .end) sh lo = subst (λ (a : List ℕ). As (level - 1) (c .end) sh a) (ap (λ (q : Place). part s q) low-is ∙ same-eq (part s p) lo (leads .pivot)) h3 in
+          branches-found (answerIs r held) after (k .whole K (plus onlyNode M) (record { counted = onlyNode; tally = itself; counts = refl; walk = refl }))
 
-            pub branches-stop : r ≡ false → (z : List ℕ) → Checks marked Y Checked.Unsound z
-            unfolding answerIs
-            branches-stop e z = unsound marked Y z (unsound-is marked Y (answerIs r held) after found (rw e))
+      pub branches-stop : r ≡ false → (z : List ℕ) → Checks marked Y Checked.Unsound z
+      unfolding answerIs
+      branches-stop e z = unsound marked Y z (unsound-is marked Y (answerIs r held) after found (rw e))
 
-            pub branches-done : r ≡ true → (t : Tally) → t ≡ tallyIs held → Checks marked Y (Checked.Sound t) after
-            unfolding answerIs
-            branches-done e t f = rw f (subst (λ (b : Bool). Checks marked Y (answerIs b held) after) e found)
+      pub branches-done : r ≡ true → (t : Tally) → t ≡ tallyIs held → Checks marked Y (Checked.Sound t) after
+      unfolding answerIs
+      branches-done e t f = rw f (subst (λ (b : Bool). Checks marked Y (answerIs b held) after) e found)

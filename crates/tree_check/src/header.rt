@@ -1,5 +1,5 @@
 // The headers of nodes: whether node 0 is as the length of the store asks for, and whether a node is laid out as one of a kind and level.
-// Relies on octets alone; what a node's entries say is node_check's matter.
+// Relies on node's reader of headers; what a node's entries say is node_check's matter.
 ghost use mathlib.Core.Path.{_≡_};
 ghost use mathlib.Core.Bool.{_&&_};
 ghost use Prim.Native.Nat.{_≤_};
@@ -47,14 +47,14 @@ pub fn laid_out(store: &[u8], num: usize, kind: usize, level: usize) -> bool
     ensures { λ r. ⌜ r ≡ laidOut kind level (nodeBytes (now (store .entry)) num) ⌝ }
 {
     let at = num * image::NODE_SIZE;
-    let len = octets::u16_at(store, at);
-    if 1016 < len {
+    let len = node::header::read_length(store, at);
+    if image::ENTRIES_LIMIT < len {
         return false;
     }
-    if octets::u16_at(store, at + 2) != kind {
+    if node::header::read_kind(store, at) != kind {
         return false;
     }
-    if octets::u16_at(store, at + 4) != level {
+    if node::header::read_level(store, at) != level {
         return false;
     }
     if octets::u16_at(store, at + 6) != 0 {
@@ -69,16 +69,16 @@ pub fn header_good(store: &[u8]) -> bool
     ensures { λ r. ⌜ r ≡ soundHead (now (store .entry)) ⌝ }
 {
     let n = node_count(store);
-    let len = octets::u16_at(store, 0);
-    let kind = octets::u16_at(store, 2);
-    let count = octets::u16_at(store, image::COUNT_AT);
-    let root = octets::u16_at(store, image::ROOT_AT);
-    let levels = octets::u16_at(store, image::LEVELS_AT);
-    let live = octets::u16_at(store, image::LIVE_AT);
+    let len = node::header::read_length(store, 0);
+    let kind = node::header::read_kind(store, 0);
+    let count = node::header::read_count(store);
+    let root = node::header::read_root(store);
+    let levels = node::header::read_levels(store);
+    let live = node::header::read_live(store);
     if len != 8 {
         return false;
     }
-    if kind != 256 {
+    if kind != image::HEADER {
         return false;
     }
     if count != n {
@@ -99,5 +99,5 @@ pub fn header_good(store: &[u8]) -> bool
     if n < live {
         return false;
     }
-    all_zero(store, 12, 1024)
+    all_zero(store, 12, image::NODE_SIZE)
 }

@@ -85,7 +85,7 @@ pub fn check_leaf(store: &[u8], num: usize, lo: &[u8], hi: &[u8], sh: Shape) -> 
         return Checked::Unsound;
     }
     let at = num * image::NODE_SIZE;
-    let len = octets::u16_at(store, at);
+    let len = node::header::read_length(store, at);
     let from = at + image::ENTRIES_AT;
     let end = from + len;
     let Counted::All(pairs) = node_check::check_leaf(store, from, end, lo, hi, sh) else {
@@ -107,7 +107,7 @@ pub fn first_child(store: &[u8], num: usize, level: usize, lo: &[u8]) -> First
         return First::Nothing;
     }
     let at = num * image::NODE_SIZE;
-    let len = octets::u16_at(store, at);
+    let len = node::header::read_length(store, at);
     let from = at + image::ENTRIES_AT;
     let c = Cursor {
         at: from,
@@ -352,8 +352,8 @@ pub fn check_tree(store: &[u8], seen: &mut [u8; 1024]) -> Checked
         return Checked::Unsound;
     }
     clear(seen);
-    let root = octets::u16_at(store, image::ROOT_AT);
-    let levels = octets::u16_at(store, image::LEVELS_AT);
+    let root = node::header::read_root(store);
+    let levels = node::header::read_levels(store);
     let highest = [255u8; 1];
     check_node(
         store,

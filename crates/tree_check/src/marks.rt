@@ -35,7 +35,7 @@ fn mark_tree(store: &[u8], num: usize, level: usize, seen: &mut [u8; 1024]) -> b
         return true;
     }
     let at = num * image::NODE_SIZE;
-    let len = octets::u16_at(store, at);
+    let len = node::header::read_length(store, at);
     let from = at + image::ENTRIES_AT;
     let mut c = Cursor {
         at: from,
@@ -60,7 +60,7 @@ pub fn mark_nodes(store: &[u8], seen: &mut [u8; 1024]) -> bool
     ensures { λ r. ⌜ Marks (now (store .entry)) (now (seen .exit)) × (r ≡ settled (now (store .entry))) ⌝ }
 {
     crate::clear(seen);
-    let root = octets::u16_at(store, image::ROOT_AT);
-    let levels = octets::u16_at(store, image::LEVELS_AT);
+    let root = node::header::read_root(store);
+    let levels = node::header::read_levels(store);
     mark_tree(store, root, levels, seen)
 }

@@ -22,8 +22,8 @@ pub struct Tried {
     /// Stopped for room, and at bytes that are no piece.
     pub for_room: usize,
     pub at_no_piece: usize,
-    /// Had to leave a reserve in the root.
-    pub reserved: usize,
+    /// Held to the bound on the messages in the root.
+    pub bounded: usize,
 }
 
 /// Judges so many batches.
@@ -37,7 +37,7 @@ pub fn run(seed: u64, cases: usize) -> Result<Tried, String> {
         tried.refused,
         tried.for_room,
         tried.at_no_piece,
-        tried.reserved,
+        tried.bounded,
     ];
     match cases < 100 || seldom.iter().all(|count| *count > 0) {
         true => Ok(tried),
@@ -80,14 +80,14 @@ fn one(rng: &mut Rng, tried: &mut Tried) -> Result<(), String> {
 
 impl Tried {
     fn count(&mut self, calls: &[Call], judged: Judged, stops: bool) {
-        let Judged { done, reserved } = judged;
+        let Judged { done, bounded } = judged;
         let all = done.calls == calls.len();
         self.batches += 1;
         self.calls += done.calls;
         self.refused += usize::from(done.number != 0);
         self.for_room += usize::from(done.number == 0 && !all);
         self.at_no_piece += usize::from(done.number == 0 && all && stops);
-        self.reserved += usize::from(reserved);
+        self.bounded += usize::from(bounded);
     }
 }
 

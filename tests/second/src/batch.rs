@@ -1,7 +1,7 @@
 // A list of calls as bytes, and their answers as bytes, as docs/FORMAT.md has them: how a batch is
 // written, what it must answer by the same calls made one by one and by the plain map, and whether it did.
 
-use crate::contract::outcome_on;
+use crate::contract::{outcome_on, waiting_bound};
 use crate::limits::*;
 use crate::plain::{Call, Plain, NO_LENGTHS, NO_SOUND};
 use crate::sound::judge;
@@ -19,10 +19,6 @@ const KIND_HEAL: u16 = 0x0043;
 
 /// The bytes of an answer before what was found: length, number.
 const ANSWER_HEAD: usize = 4;
-
-/// The bytes for entries that the last change of a batch leaves free in an interior root, as a single call does. The paper
-/// does not ask for it: a full root costs the next call time.
-const RESERVE: usize = 616;
 
 /// What a batch answers: a number, how many calls were done, how many bytes of answers written.
 #[derive(Clone, Copy, Debug, PartialEq, Eq)]
@@ -189,28 +185,21 @@ impl Handed<'_> {
         expected
     }
 
-    /// Whether a later call of the list, made or not, changes what the root holds: only a change that none follows leaves a
-    /// reserve there.
+    /// Whether a later call of the list, made or not, changes what the root holds: only a change that none follows is held to
+    /// the bound on the messages there.
     fn is_followed(&self, i: usize) -> bool {
         self.calls[i + 1..].iter().any(changes_root)
     }
 
-    /// Whether the batch must have left the reserve: its last change is a put, drop or clear that was made and accepted.
-    fn must_reserve(&self, expected: &Expected) -> bool {
+    /// Whether the batch is held to the bound on the messages in the root: its last change is a put, drop or clear that was made
+    /// and accepted.
+    fn is_bounded(&self, expected: &Expected) -> bool {
         let reads = |call: &Call| matches!(call, Call::Get { .. } | Call::Next { .. });
         let last = self.calls.iter().rposition(|call| !reads(call));
         last.is_some_and(|i| {
-            adds_message(&self.calls[i]) && expected.accepted.get(i) == Some(&true)
+            self.calls[i].adds_message() && expected.accepted.get(i) == Some(&true)
         })
     }
-}
-
-/// Whether a call is a put, a drop or a clear.
-fn adds_message(call: &Call) -> bool {
-    matches!(
-        call,
-        Call::Put { .. } | Call::Drop { .. } | Call::Clear { .. }
-    )
 }
 
 /// Whether a call fills or empties the root itself; a flush or a heal may do neither.
@@ -219,7 +208,7 @@ fn changes_root(call: &Call) -> bool {
         call,
         Call::Move { .. } | Call::Settle { .. } | Call::Tidy { .. }
     );
-    empties || adds_message(call)
+    empties || call.adds_message()
 }
 
 struct Expected {
@@ -261,18 +250,11 @@ fn make_one(subject: &mut dyn Batching, store: &mut [u8], call: &Call, followed:
     );
 }
 
-/// How many bytes are free for entries in the root of a sound image; none is said of a leaf.
-fn free_at_root(store: &[u8]) -> Option<usize> {
-    let header = image::Header::read(store);
-    let taken = image::entry_bytes(image::node(store, header.root)).len();
-    (header.levels > LEAF_LEVEL).then_some(ENTRY_BYTES_LIMIT - taken)
-}
-
-/// A batch that went as it must: what it answered, and whether it had to leave a reserve in the root.
+/// A batch that went as it must: what it answered, and whether it was held to the bound on the messages in the root.
 #[derive(Clone, Copy, Debug)]
 pub struct Judged {
     pub done: Done,
-    pub reserved: bool,
+    pub bounded: bool,
 }
 
 /// Makes the batch and judges all that it leaves, by the same calls made one by one, and its answers and its meaning by
@@ -307,7 +289,7 @@ pub fn check(
         return match *store == before && work == handed.work {
             true => Ok(Judged {
                 done,
-                reserved: false,
+                bounded: false,
             }),
             false => Err(told("refused, and bytes changed")),
         };
@@ -316,10 +298,9 @@ pub fn check(
     if work[..area].iter().any(|byte| *byte != 0) || work[area..] != handed.work[area..] {
         return Err(told("the work area is not as it must be"));
     }
-    let meaning = |image: &[u8]| {
-        let sound = judge(image).map_err(|rule| told(&format!("unsound: {}", rule.name())));
-        sound.map(|sound| sound.table)
-    };
+    let sound =
+        |image: &[u8]| judge(image).map_err(|rule| told(&format!("unsound: {}", rule.name())));
+    let meaning = |image: &[u8]| sound(image).map(|sound| sound.table);
     if *store != expected.piecewise {
         return Err(told("other bytes than by batches of one call"));
     }
@@ -336,12 +317,9 @@ pub fn check(
     if plain.table != meaning(store)? {
         return Err(told("the store means something else than the plain map"));
     }
-    let free = free_at_root(store).filter(|_| handed.must_reserve(&expected));
-    match free.is_none_or(|free| free >= RESERVE) {
-        true => Ok(Judged {
-            done,
-            reserved: free.is_some(),
-        }),
-        false => Err(told("its last change left too little room in the root")),
+    let bounded = handed.is_bounded(&expected);
+    if bounded {
+        waiting_bound(&sound(store)?).map_err(|what| told(&what))?;
     }
+    Ok(Judged { done, bounded })
 }

@@ -6,6 +6,7 @@ use crate::image;
 use crate::limits::{LEVELS_MOST, NODE, WORK_PER_NODE};
 use crate::plain::{self, Answer, Call, Outcome, Plain};
 use crate::sound::{self, Sound};
+use crate::subject::Capabilities;
 use crate::upkeep;
 
 /// One call as it was seen.
@@ -25,7 +26,22 @@ pub struct Seen<'a> {
 pub struct Held {
     /// The bound on the nodes that a move changes.
     pub move_bound: bool,
+    /// The bound on the messages that a put, drop or clear leaves in the root.
+    pub waiting_bound: bool,
 }
+
+impl Held {
+    pub fn by(capabilities: Capabilities) -> Held {
+        Held {
+            move_bound: capabilities.move_bound,
+            waiting_bound: capabilities.waiting_bound,
+        }
+    }
+}
+
+/// The most messages that wait in the root after a put, drop or clear, or after a batch whose last change is one of them. The
+/// paper does not ask for it: each costs the next call time.
+pub const WAITING_MOST: usize = 8;
 
 pub type Verdict = Result<(), String>;
 
@@ -130,6 +146,7 @@ fn accepted(seen: &Seen<'_>, before: &Sound, held: Held) -> Result<Option<Facts>
     layout_follows(seen.call, before, &after)?;
     match seen.call {
         Call::Move { .. } if held.move_bound => move_bound(&facts)?,
+        call if held.waiting_bound && call.adds_message() => waiting_bound(&after)?,
         _ => {}
     }
     Ok(Some(facts))
@@ -197,6 +214,17 @@ fn move_bound(facts: &Facts) -> Verdict {
         }
         _ => Ok(()),
     }
+}
+
+/// Few enough messages wait in the root.
+pub fn waiting_bound(after: &Sound) -> Verdict {
+    let waiting = after.tree.root_visit().node.messages().len();
+    if waiting <= WAITING_MOST {
+        return Ok(());
+    }
+    Err(format!(
+        "{waiting} messages wait in the root, over {WAITING_MOST}"
+    ))
 }
 
 /// How many nodes, node 0 too, have any byte that differs.

@@ -240,7 +240,7 @@ fn merged(tree: &Tree, number: u64) -> Option<Tree> {
 #[rustfmt::skip]
 impl Subject for Lazy {
     fn capabilities(&self) -> Capabilities {
-        Capabilities { move_bound: false, ..Capabilities::ALL }
+        Capabilities { move_bound: false, waiting_bound: false, ..Capabilities::ALL }
     }
 
     fn make(&mut self, store: &mut [u8]) -> Numbers {

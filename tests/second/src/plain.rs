@@ -95,6 +95,14 @@ impl Call {
     pub fn only_reads(&self) -> bool {
         self.work().is_none()
     }
+
+    /// Is it a put, a drop or a clear?
+    pub fn adds_message(&self) -> bool {
+        matches!(
+            self,
+            Call::Put { .. } | Call::Drop { .. } | Call::Clear { .. }
+        )
+    }
 }
 
 /// The number of the question that was a no, or 0; and the number beside it.

@@ -353,7 +353,7 @@ fn without_clears(node: &Node) -> Node {
 #[rustfmt::skip]
 impl Subject for Reference {
     fn capabilities(&self) -> Capabilities {
-        Capabilities { move_bound: false, ..Capabilities::ALL }
+        Capabilities { move_bound: false, waiting_bound: false, ..Capabilities::ALL }
     }
 
     fn make(&mut self, store: &mut [u8]) -> Numbers {

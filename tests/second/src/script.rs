@@ -34,8 +34,7 @@ pub fn witnessed(
         work_after: &work_after,
         store_after: store,
     };
-    let move_bound = subject.capabilities().move_bound;
-    let facts = contract::examine(&seen, Held { move_bound });
+    let facts = contract::examine(&seen, Held::by(subject.capabilities()));
     Ok(Made {
         answer,
         facts: facts.map_err(|what| format!("{}: {what}", call.told()))?,

@@ -44,7 +44,7 @@ pub trait Subject {
 /// What a call answers that the subject lacks: no call of the paper answers so.
 pub const MISSING: Numbers = (u32::MAX, u32::MAX);
 
-/// The calls that a subject may lack, and the bound that it may not be held to.
+/// The calls that a subject may lack, and the bounds that it may not be held to.
 #[derive(Clone, Copy, Debug, PartialEq, Eq)]
 pub struct Capabilities {
     pub put: bool,
@@ -56,6 +56,7 @@ pub struct Capabilities {
     pub flush: bool,
     pub heal: bool,
     pub move_bound: bool,
+    pub waiting_bound: bool,
 }
 
 impl Capabilities {
@@ -69,6 +70,7 @@ impl Capabilities {
         flush: true,
         heal: true,
         move_bound: true,
+        waiting_bound: true,
     };
 
     /// make, get, next and same only.
@@ -82,6 +84,7 @@ impl Capabilities {
         flush: false,
         heal: false,
         move_bound: false,
+        waiting_bound: false,
     };
 
     pub fn has(&self, call: &Call) -> bool {

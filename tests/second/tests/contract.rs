@@ -1,13 +1,17 @@
-// The contract's own edges that random lists seldom meet: the bound on a move, a move onto
-// itself, and what a checker must not mistake for an error.
+// The contract's own edges that random lists seldom meet: the bound on a move, the bound on the messages
+// in the root, a move onto itself, and what a checker must not mistake for an error.
 
-use second::contract::{changed_nodes, check, check_make, check_same, Held, Seen};
+use second::contract::{
+    changed_nodes, check, check_make, check_same, waiting_bound, Held, Seen, WAITING_MOST,
+};
 use second::feature::Feature;
 use second::generate;
 use second::judge::{run, run_case};
+use second::lazy::Lazy;
 use second::pack;
 use second::plain::{Answer, Call};
 use second::reference::Reference;
+use second::script::Script;
 use second::sound::judge;
 use second::stats::Stats;
 use second::subject::{Capabilities, Numbers, Subject};
@@ -36,7 +40,11 @@ fn seen_move(before: &[u8], after: &[u8], held: bool) -> Result<(), String> {
         work_after: &vec![0; 128 * n],
         store_after: after,
     };
-    check(&seen, Held { move_bound: held })
+    let held = Held {
+        move_bound: held,
+        waiting_bound: false,
+    };
+    check(&seen, held)
 }
 
 #[test]
@@ -95,6 +103,18 @@ fn same_goes_by_paths() {
     touched[20_000] = 1;
     assert!(check_same((&a, &a), (&b, &touched), yes).is_err());
     assert!(check_same((&a, &a), (&b[1..], &b[1..]), Answer::refused(1)).is_ok());
+}
+
+/// A store that lets every message wait is found by the put that leaves one too many.
+#[test]
+fn one_message_too_many_in_the_root_is_found() {
+    let mut lazy = Lazy::default();
+    let mut script = Script::on(&mut lazy, large());
+    for put in 1..=WAITING_MOST + 1 {
+        assert_eq!(script.put(&format!("r1/x{put}"), b"v"), Ok(0));
+        let after = judge(&script.store).expect("sound");
+        assert_eq!(waiting_bound(&after).is_ok(), put <= WAITING_MOST);
+    }
 }
 
 /// A subject with the reading calls alone.

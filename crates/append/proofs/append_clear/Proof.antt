@@ -10,8 +10,8 @@ use Rattle.append.proofs.root_at.Reads as root-at-reads
 root-at-requires : tie.Need-root-at-requires
 root-at-requires c κs = search needs
 
-u16-at-requires : tie.Need-u16-at-requires
-u16-at-requires c κs = search needs
+read-length-requires : tie.Need-read-length-requires
+read-length-requires c κs = search needs
 
 add-from : tie.Need-add-from
 add-from c = search needs
@@ -20,26 +20,26 @@ add-write-short : tie.Need-add-write-short
 add-write-short c = search needs
 
 write-short-requires : tie.Need-write-short-requires
-write-short-requires c κs = let r = room-at _ _ _ _ (c .before .before .before .before .before .before .before .pre .2) (c .before .before .before .root-at .ensures .0) (c .before .u16-at .ensures .0) in let w = small-store (c .before .before .before .before .before .before .before .args .store .now) (c .before .before .before .before .before .before .before .pre .0) in search needs
+write-short-requires c κs = let r = room-at _ _ _ _ (c .before .before .before .before .before .before .before .pre .2) (c .before .before .before .root-at .ensures .0) (c .before .read-length .ensures .0) in let w = small-store (c .before .before .before .before .before .before .before .args .store .now) (c .before .before .before .before .before .before .before .pre .0) in search needs
 
 sub-put-u16 : tie.Need-sub-put-u16
 sub-put-u16 c = search needs
 
 put-u16-requires : tie.Need-put-u16-requires
-put-u16-requires c κs = let r = room-at _ _ _ _ (c .before .before .before .before .before .before .before .before .before .before .before .pre .2) (c .before .before .before .before .before .before .before .root-at .ensures .0) (c .before .before .before .before .before .u16-at .ensures .0) in let w = small-store (c .before .before .before .before .before .before .before .before .before .before .before .args .store .now) (c .before .before .before .before .before .before .before .before .before .before .before .pre .0) in search needs
+put-u16-requires c κs = let r = room-at _ _ _ _ (c .before .before .before .before .before .before .before .before .before .before .before .pre .2) (c .before .before .before .before .before .before .before .root-at .ensures .0) (c .before .before .before .before .before .read-length .ensures .0) in let w = small-store (c .before .before .before .before .before .before .before .before .before .before .before .args .store .now) (c .before .before .before .before .before .before .before .before .before .before .before .pre .0) in search needs
 
 same-length : tie.Need-same-length
 same-length c = search needs
 
 returns : tie.Need-returns
-returns c = appends _ _ _ _ _ _ _ _ _ (clear-entry _) (sym (short-length _ _)) (c .before .before .before .before .before .before .before .before .before .before .root-at .ensures .0) (c .before .before .before .before .before .before .before .before .u16-at .ensures .0) (c .before .before .before .before .before .before .write-short .ensures .0) (c .before .before .before .before .before .before .write-short .ensures .1) (c .before .before .put-u16 .ensures)
+returns c = appends _ _ _ _ _ _ _ _ _ (clear-entry _) (sym (short-length _ _)) (c .before .before .before .before .before .before .before .before .before .before .root-at .ensures .0) (c .before .before .before .before .before .before .before .before .read-length .ensures .0) (c .before .before .before .before .before .before .write-short .ensures .0) (c .before .before .before .before .before .before .write-short .ensures .1) (c .before .before .put-u16 .ensures)
 
 pub append-clear-spec : {M : Type 1} → statement M
 append-clear-spec =
     tie.close
     (tie.spec
     root-at-requires
-    u16-at-requires
+    read-length-requires
     add-from
     add-write-short
     write-short-requires

@@ -5,25 +5,25 @@ use native.Mathlib.Omega.{arith}
 use Rattle.append.proofs.fits_at_root.Statement.{statement}
 use Rattle.append.proofs.fits_at_root.Tie as tie
 
-u16-at-requires : tie.Need-u16-at-requires
-u16-at-requires c κs = let l = long (c .before .args .store .now) (c .before .pre .0) in omega arith
+read-levels-requires : tie.Need-read-levels-requires
+read-levels-requires c κs = let l = long (c .before .args .store .now) (c .before .pre .0) in omega arith
 
 returns : tie.Need-returns
-returns c = no-room _ _ _ (c .before .u16-at .ensures .0) (c .if1 .taken)
+returns c = no-room _ _ _ (c .before .read-levels .ensures .0) (c .if1 .taken)
 
 root-at-requires : tie.Need-root-at-requires
 root-at-requires c κs = search needs
 
-u16-at-requires-2 : tie.Need-u16-at-requires-2
-u16-at-requires-2 c κs = search needs
+read-length-requires : tie.Need-read-length-requires
+read-length-requires c κs = search needs
 
 add-result : tie.Need-add-result
 add-result c = search needs
 
 returns-2 : tie.Need-returns-2
-returns-2 c = room-by _ _ _ _ _ (c .before .before .before .u16-at .ensures .0) (c .before .before .if1 .left) (c .before .root-at .ensures .0) (c .u16-at2 .ensures .0)
+returns-2 c = room-by _ _ _ _ _ (c .before .before .before .read-levels .ensures .0) (c .before .before .if1 .left) (c .before .root-at .ensures .0) (c .read-length .ensures .0)
 
 pub fits-at-root-spec : {M : Type 1} → statement M
 fits-at-root-spec =
     tie.close
-    (tie.spec u16-at-requires returns root-at-requires u16-at-requires-2 add-result returns-2)
+    (tie.spec read-levels-requires returns root-at-requires read-length-requires add-result returns-2)

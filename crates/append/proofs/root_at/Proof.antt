@@ -5,14 +5,14 @@ use native.Mathlib.Omega.{arith}
 use Rattle.append.proofs.root_at.Statement.{statement}
 use Rattle.append.proofs.root_at.Tie as tie
 
-u16-at-requires : tie.Need-u16-at-requires
-u16-at-requires c κs = let l = long (c .before .args .store .now) (c .before .pre) in omega arith
+read-root-requires : tie.Need-read-root-requires
+read-root-requires c κs = let l = long (c .before .args .store .now) (c .before .pre) in omega arith
 
 mul-result : tie.Need-mul-result
 mul-result c = search needs
 
 returns : tie.Need-returns
-returns c = root-place _ _ (c .before .before .pre) (c .u16-at .ensures .0)
+returns c = root-place _ _ (c .before .before .pre) (c .read-root .ensures .0)
 
 pub root-at-spec : {M : Type 1} → statement M
-root-at-spec = tie.close (tie.spec u16-at-requires mul-result returns)
+root-at-spec = tie.close (tie.spec read-root-requires mul-result returns)

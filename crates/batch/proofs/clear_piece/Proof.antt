@@ -1,6 +1,6 @@
 -- `batch::clear_piece` meets its contract. Relies on specs/Steps.
 use Rattle.batch.specs.Steps.{served-act}
-use Rattle.edit.specs.Room.{terms-unmarked}
+use Rattle.edit.specs.Room.{unmarked-so}
 use borrow.Author.Needs.{needs}
 use Rattle.batch.proofs.clear_piece.Statement.{statement}
 use Rattle.batch.proofs.clear_piece.Tie as tie
@@ -15,7 +15,7 @@ part-clear-fit-end : tie.Need-part-clear-fit-end
 part-clear-fit-end c = search needs
 
 clear-fit-requires : tie.Need-clear-fit-requires
-clear-fit-requires c κs = (c .before .before .before .before .before .before .before .pre .0 .passed, terms-unmarked _ _ _ (c .before .before .before .before .before .before .before .pre .2))
+clear-fit-requires c κs = (c .before .before .before .before .before .before .before .pre .0 .passed, unmarked-so _ _)
 
 same-length : tie.Need-same-length
 same-length c = search needs

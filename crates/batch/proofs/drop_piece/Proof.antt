@@ -1,6 +1,6 @@
 -- `batch::drop_piece` meets its contract. Relies on specs/Steps.
 use Rattle.batch.specs.Steps.{served-act}
-use Rattle.edit.specs.Room.{terms-unmarked}
+use Rattle.edit.specs.Room.{unmarked-so}
 use borrow.Author.Needs.{needs}
 use Rattle.batch.proofs.drop_piece.Statement.{statement}
 use Rattle.batch.proofs.drop_piece.Tie as tie
@@ -15,7 +15,7 @@ part-drop-fit-end : tie.Need-part-drop-fit-end
 part-drop-fit-end c = search needs
 
 drop-fit-requires : tie.Need-drop-fit-requires
-drop-fit-requires c κs = (c .before .before .before .before .before .before .before .pre .0 .passed, terms-unmarked _ _ _ (c .before .before .before .before .before .before .before .pre .2))
+drop-fit-requires c κs = (c .before .before .before .before .before .before .before .pre .0 .passed, unmarked-so _ _)
 
 same-length : tie.Need-same-length
 same-length c = search needs

@@ -8,19 +8,19 @@ enum-known-change : tie.Need-enum-known-change
 enum-known-change c = search needs
 
 put-piece-requires : tie.Need-put-piece-requires
-put-piece-requires c κs = let h = two-within _ _ (c .before .before .before .before .before .before .before .before .pre .1) _ _ (c .before .before .before .change .given .1) in (c .before .before .before .before .before .before .before .before .pre .0, h .0, h .1, c .before .before .before .before .before .before .before .before .pre .2)
+put-piece-requires c κs = let h = two-within _ _ (c .before .before .before .before .before .before .before .before .pre .1) _ _ (c .before .before .before .change .given .1) in (c .before .before .before .before .before .before .before .before .pre .0, h .0, h .1)
 
 enum-known-change-2 : tie.Need-enum-known-change-2
 enum-known-change-2 c = search needs
 
 drop-piece-requires : tie.Need-drop-piece-requires
-drop-piece-requires c κs = (c .before .before .before .before .before .before .before .before .pre .0, drop-within _ _ (c .before .before .before .before .before .before .before .before .pre .1) _ (c .before .before .before .change2 .given .1), c .before .before .before .before .before .before .before .before .pre .2)
+drop-piece-requires c κs = (c .before .before .before .before .before .before .before .before .pre .0, drop-within _ _ (c .before .before .before .before .before .before .before .before .pre .1) _ (c .before .before .before .change2 .given .1))
 
 enum-known-change-3 : tie.Need-enum-known-change-3
 enum-known-change-3 c = search needs
 
 clear-piece-requires : tie.Need-clear-piece-requires
-clear-piece-requires c κs = (c .before .before .before .before .before .before .before .before .pre .0, clear-within _ _ (c .before .before .before .before .before .before .before .before .pre .1) _ (c .before .before .before .change3 .given .1), c .before .before .before .before .before .before .before .before .pre .2)
+clear-piece-requires c κs = (c .before .before .before .before .before .before .before .before .pre .0, clear-within _ _ (c .before .before .before .before .before .before .before .before .pre .1) _ (c .before .before .before .change3 .given .1))
 
 enum-known-change-4 : tie.Need-enum-known-change-4
 enum-known-change-4 c = search needs

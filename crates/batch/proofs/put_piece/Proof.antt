@@ -1,6 +1,6 @@
 -- `batch::put_piece` meets its contract. Relies on specs/Steps.
 use Rattle.batch.specs.Steps.{served-act}
-use Rattle.edit.specs.Room.{terms-unmarked}
+use Rattle.edit.specs.Room.{unmarked-so}
 use borrow.Author.Needs.{needs}
 use Rattle.batch.proofs.put_piece.Statement.{statement}
 use Rattle.batch.proofs.put_piece.Tie as tie
@@ -24,7 +24,7 @@ part-put-fit-end-2 : tie.Need-part-put-fit-end-2
 part-put-fit-end-2 c = search needs
 
 put-fit-requires : tie.Need-put-fit-requires
-put-fit-requires c κs = (c .before .before .before .before .before .before .before .before .pre .0 .passed, terms-unmarked _ _ _ (c .before .before .before .before .before .before .before .before .pre .3))
+put-fit-requires c κs = (c .before .before .before .before .before .before .before .before .pre .0 .passed, unmarked-so _ _)
 
 same-length : tie.Need-same-length
 same-length c = search needs

@@ -20,11 +20,11 @@ sub-if1 c = search needs
 returns : tie.Need-returns
 returns c = turn-full (c .before .before .before .before .before .before .before .before .before .args .calls .now) _ _ (c .before .before .before .before .read-piece .ensures) _ _ _ _ _ (c .before .before .piece .given .1) (omega arith)
 
-reserve-of-requires : tie.Need-reserve-of-requires
-reserve-of-requires c κs = c .before .before .before .before .read-piece .ensures .high
+waiting-of-requires : tie.Need-waiting-of-requires
+waiting-of-requires c κs = c .before .before .before .before .read-piece .ensures .high
 
 make-change-requires : tie.Need-make-change-requires
-make-change-requires c κs = (c .before .before .before .before .before .before .before .before .before .before .before .before .pre .0, change-within (c .before .before .before .before .before .before .before .before .before .before .before .before .args .calls .now) _ _ (c .before .before .before .before .before .before .before .read-piece .ensures) _ (c .before .before .before .before .before .piece .given .1), c .before .before .reserve-of .ensures)
+make-change-requires c κs = (c .before .before .before .before .before .before .before .before .before .before .before .before .pre .0, change-within (c .before .before .before .before .before .before .before .before .before .before .before .before .args .calls .now) _ _ (c .before .before .before .before .before .before .before .read-piece .ensures) _ (c .before .before .before .before .before .piece .given .1))
 
 write-outcome-requires : tie.Need-write-outcome-requires
 write-outcome-requires c κs = search needs
@@ -77,7 +77,7 @@ take-turn-spec =
     enum-known-piece
     sub-if1
     returns
-    reserve-of-requires
+    waiting-of-requires
     make-change-requires
     write-outcome-requires
     enum-known-piece-2

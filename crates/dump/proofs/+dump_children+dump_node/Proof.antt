@@ -1,12 +1,12 @@
 -- `dump_node` and `dump_children` meet their contracts. The level falls from a node to its children. The loop over the children: the rows
--- so far, and those of the child in hand and those after it, make all. Relies on specs/NodeSteps and on live/specs/NotedSteps.
+-- so far, and those of the child in hand and those after it, make all. Relies on specs/NodeSteps and on live_count/specs/NotedSteps.
 use Rattle.dump.specs.Dump.{BranchesTold}
 use Rattle.dump.specs.NodeSteps.{node-long, leaf-values, leaf-room, leaf-added, node-bare, sound-branches, branches-room, puts-open, puts-apart, node-inner, Descending, descend-first, last-sound, last-room, last-added, more-sound, more-room, descend-next}
-use Rattle.live.specs.NotedSteps.{handed, told-joined, leaf-told, branches-sound, last-told, next-told, later-sound}
-use Rattle.live.specs.NodeSteps.{node-above, child-ready, branches-ready}
-use Rattle.live.specs.Steps.{trail-wider}
-use Rattle.live.specs.Walk.{passing}
-use Rattle.live.specs.PathBuffers.{pathIn}
+use Rattle.live_count.specs.NotedSteps.{told-joined, leaf-told, branches-sound, last-told, next-told, later-sound}
+use Rattle.live_count.specs.NodeSteps.{node-above, child-ready, branches-ready}
+use Rattle.live_count.specs.declared.visibility.Trail.{Trail}
+use Rattle.live_count.specs.Walk.{passing}
+use Rattle.live_count.specs.PathBuffers.{pathIn}
 use Rattle.lookup.specs.Look.{node-inside}
 use Rattle.node.specs.Search.Own.{branch, branchesAmong}
 use Rattle.node.specs.Entries.{listed}
@@ -15,14 +15,13 @@ use Rattle.laws.specs.Reading.Relative.{usableIn, later-usable}
 use Rattle.laws.specs.Filter.{keep}
 use Rattle.image.specs.Meaning.{rowsIn}
 use Rattle.image.specs.Image.{treeAt, nodesOf, forestOf}
-use lib.Seq.{length-take-le}
 use mathlib.Core.Bool.{true}
 use Prim.Native.Nat.{_*_, ℕ, _+_, _-_, _≤_, _<_}
 use borrow.Author.Needs.{needs}
 use native.Mathlib.Omega.{arith}
-use mathlib.Core.Path.{_≡_, refl}
+use mathlib.Core.Path.{_≡_, refl, ap}
 use mathlib.Core.List.{_∷_, _++_}
-use lib.ListN.{length, take}
+use lib.ListN.{length}
 use borrow.Fn.Kinds.{In}
 use borrow.Fn.PlainCycle.{Measures, is, falls, and}
 use Rattle.dump.proofs.dump_children.Reads as dump-children
@@ -34,12 +33,10 @@ use Rattle.dump.proofs.+dump_children+dump_node.Lts-dump_node as dump-n
 use Rattle.dump.proofs.append_pairs.Reads as append-pairs-reads
 use Rattle.dump.proofs.insert_puts.Reads as insert-puts-reads
 use Rattle.dump.proofs.insertion.merge_rows.Reads as merge-rows-reads
-use Rattle.live.proofs.note_above.Reads as note-above-reads
-use Rattle.live.proofs.enter.Reads as enter-reads
-use Rattle.live.proofs.path_buffer.extend.Reads as extend-reads
+use Rattle.live_count.proofs.arrive.Reads as arrive-reads
+use Rattle.live_count.proofs.enter.Reads as enter-reads
 use Rattle.node.proofs.search.read_child.Reads as read-child-reads
-use Rattle.octets.proofs.common_length.Reads as common-length-reads
-use Rattle.octets.proofs.u16_at.Reads as u16-at-reads
+use Rattle.node.proofs.header.read_length.Reads as read-length-reads
 use Rattle.dump.proofs.+dump_children+dump_node.{statement}
 use Rattle.dump.proofs.+dump_children+dump_node.Tie.{close}
 use Rattle.node.specs.Search.Child.{pends-child, pends-end, NextChild}
@@ -75,64 +72,11 @@ dump-children-Inv-loop store area₀ first hi notes level position c₀ num₀ l
 abbrev dump-children-μ-loop : dump-children-lts.MeasureT-loop
 dump-children-μ-loop store area₀ first hi notes level position c₀ num₀ low₀ m₀ area c num low m = c .end - c .at
 
-here-length : (t : ℕ) (c : dump-node-lts.After-extend (
-  common-length-reads.Asked,
-  common-length-reads.Learnt,
-  extend-reads.Asked,
-  extend-reads.Learnt,
-  note-above-reads.Asked,
-  note-above-reads.Learnt,
-  u16-at-reads.Asked,
-  u16-at-reads.Learnt,
-  append-pairs-reads.Asked,
-  append-pairs-reads.Learnt,
-  read-child-reads.Asked,
-  read-child-reads.Learnt,
-  enter-reads.Asked,
-  enter-reads.Learnt,
-  dump-children-below t,
-  dump-children.Post,
-  insert-puts-reads.Asked,
-  insert-puts-reads.Learnt,
-  merge-rows-reads.Asked,
-  merge-rows-reads.Learnt,
-) (dump-node-at t) dump-node.Post) → length (c .extend .result .bytes) ≡ 64
-here-length t c = search needs
-
--- the prefix of the node's own entries is a path's, and not shorter than the parent's
-here-short : (t : ℕ) (c : dump-node-lts.After-extend (
-  common-length-reads.Asked,
-  common-length-reads.Learnt,
-  extend-reads.Asked,
-  extend-reads.Learnt,
-  note-above-reads.Asked,
-  note-above-reads.Learnt,
-  u16-at-reads.Asked,
-  u16-at-reads.Learnt,
-  append-pairs-reads.Asked,
-  append-pairs-reads.Learnt,
-  read-child-reads.Asked,
-  read-child-reads.Learnt,
-  enter-reads.Asked,
-  enter-reads.Learnt,
-  dump-children-below t,
-  dump-children.Post,
-  insert-puts-reads.Asked,
-  insert-puts-reads.Learnt,
-  merge-rows-reads.Asked,
-  merge-rows-reads.Learnt,
-) (dump-node-at t) dump-node.Post) → (c .before .before .before .before .before .before .before .before .before .before .before .args .node .position .prefix .len ≤ c .extend .result .len) × (c .extend .result .len ≤ 64)
-here-short t c = let l : length (take ((c .before .before .before .before .common-length .result) - 0) (c .before .before .before .before .before .before .before .before .before .before .before .args .lo .now)) ≡ (c .before .before .before .before .common-length .result) - 0 = length-take-le ((c .before .before .before .before .common-length .result) - 0) (c .before .before .before .before .before .before .before .before .before .before .before .args .lo .now) (omega arith) in let r = (c .before .before .before .before .before .before .before .before .before .before .before .pre .1 .0) .room in (omega arith, omega arith)
-
 first-next : (t : ℕ) (c : dump-node-lts.After-known-told (
-  common-length-reads.Asked,
-  common-length-reads.Learnt,
-  extend-reads.Asked,
-  extend-reads.Learnt,
-  note-above-reads.Asked,
-  note-above-reads.Learnt,
-  u16-at-reads.Asked,
-  u16-at-reads.Learnt,
+  arrive-reads.Asked,
+  arrive-reads.Learnt,
+  read-length-reads.Asked,
+  read-length-reads.Learnt,
   append-pairs-reads.Asked,
   append-pairs-reads.Learnt,
   read-child-reads.Asked,
@@ -146,7 +90,7 @@ first-next : (t : ℕ) (c : dump-node-lts.After-known-told (
   merge-rows-reads.Asked,
   merge-rows-reads.Learnt,
 ) (dump-node-at t) dump-node.Post)
-    → NextChild (c .before .before .before .before .before .before .before .before .before .before .before .before .before .before .before .before .before .before .before .before .before .before .before .args .store .now) (c .before .before .before .before .before .before .before .before .before .before .before .before .before .before .before .before .before .before .before .before .before .before .before .args .node .num * 1024 + 8) (c .before .before .before .before .before .before .before .before .before .before .before .before .before .before .before .before .before .before .before .before .before .before .before .args .node .num * 1024 + 8 + c .before .before .before .before .before .u16-at .result) (c .before .first .given .0 .0) (c .before .first .given .0 .1 .0) (c .before .first .given .0 .1 .1 .0)
+    → NextChild (c .before .before .before .before .before .before .before .before .before .before .before .before .before .before .before .args .store .now) (c .before .before .before .before .before .before .before .before .before .before .before .before .before .before .before .args .node .num * 1024 + 8) (c .before .before .before .before .before .before .before .before .before .before .before .before .before .before .before .args .node .num * 1024 + 8 + c .before .before .before .before .before .read-length .result) (c .before .first .given .0 .0) (c .before .first .given .0 .1 .0) (c .before .first .given .0 .1 .1 .0)
 first-next t c = pends-child _ _ _ _ _ _ _ (c .before .before .before .read-child .ensures) (c .before .first .given .1)
 
 -- the next child that was read, and where it leaves the cursor
@@ -311,15 +255,11 @@ dump-children-loop-again : (t : ℕ) → dump-children-lts.Need-loop-again (
 ) (dump-children-at t) dump-children.Post dump-children-Inv-loop dump-children-μ-loop
 dump-children-loop-again t c = let n = branch-next t (c .before .before .before .before .before .before) in let a = (c .before .before .before .before .before .before .before .before .before .before .loop .inv .0) in let d = n .ends in (omega arith, n .place, later-usable (nodesOf (length (c .before .before .before .before .before .before .before .before .before .before .before .before .before .before .before .before .before .args .store .now))) (λ j. treeAt (c .before .before .before .before .before .before .before .before .before .before .before .before .before .before .before .before .before .args .child .level) (c .before .before .before .before .before .before .before .before .before .before .before .before .before .before .before .before .before .args .store .now) j) (branch (c .before .before .before .before .before .before .before .before .before .before .loop .num) (part (c .before .before .before .before .before .before .before .before .before .before .before .before .before .before .before .before .before .args .store .now) (c .before .before .before .before .before .before .before .before .before .before .loop .low))) _ _ (n .lists) (c .before .before .before .before .before .before .before .before .before .before .loop .inv .2), descend-next _ _ _ _ _ _ _ _ _ _ _ _ _ (c .before .before .before .before .before .before .before .before .before .before .loop .inv .3) _ _ _ (n .lists) _ _ (c .before .before .dump-node2 .ensures), later-sound (c .before .before .before .before .before .before .before .before .before .before .before .before .before .before .before .before .before .args .store .now) (c .before .before .before .before .before .before .before .before .before .before .before .before .before .before .before .before .before .args .child .level) (c .before .before .before .before .before .before .before .before .before .before .loop .num) (c .before .before .before .before .before .before .before .before .before .before .loop .low) (c .before .before .before .before .before .before .before .before .before .before .loop .c) (c .before .before .before .before .before .before .before .before .before .before .before .before .before .before .before .before .before .args .child .position .prefix) (c .before .before .before .before .before .before .before .before .before .before .before .before .before .before .before .before .before .args .hi .now) (c .before .before .before .before .before .before .before .before .before .before .before .before .before .before .before .before .before .args .child .position .trail) (c .before .before .before .before .before .before .before .before .before .before .before .before .before .before .before .before .before .args .notes .now) (c .before .before .before .before .before .before .before .before .before .before .before .before .before .before .before .before .before .args .child .position .noted) (c .before .before .before .before .before .before .before .before .before .before .loop .inv .4) _ _ _ (n .lists))
 
-dump-node-common-length-requires : (t : ℕ) → dump-node-lts.Need-common-length-requires (
-  common-length-reads.Asked,
-  common-length-reads.Learnt,
-  extend-reads.Asked,
-  extend-reads.Learnt,
-  note-above-reads.Asked,
-  note-above-reads.Learnt,
-  u16-at-reads.Asked,
-  u16-at-reads.Learnt,
+dump-node-slice-aggregate-arrive : (t : ℕ) → dump-node-lts.Need-slice-aggregate-arrive (
+  arrive-reads.Asked,
+  arrive-reads.Learnt,
+  read-length-reads.Asked,
+  read-length-reads.Learnt,
   append-pairs-reads.Asked,
   append-pairs-reads.Learnt,
   read-child-reads.Asked,
@@ -333,17 +273,13 @@ dump-node-common-length-requires : (t : ℕ) → dump-node-lts.Need-common-lengt
   merge-rows-reads.Asked,
   merge-rows-reads.Learnt,
 ) (dump-node-at t) dump-node.Post
-dump-node-common-length-requires t c κs = search needs
+dump-node-slice-aggregate-arrive t c = search needs
 
-dump-node-sub-room : (t : ℕ) → dump-node-lts.Need-sub-room (
-  common-length-reads.Asked,
-  common-length-reads.Learnt,
-  extend-reads.Asked,
-  extend-reads.Learnt,
-  note-above-reads.Asked,
-  note-above-reads.Learnt,
-  u16-at-reads.Asked,
-  u16-at-reads.Learnt,
+dump-node-arrive-requires : (t : ℕ) → dump-node-lts.Need-arrive-requires (
+  arrive-reads.Asked,
+  arrive-reads.Learnt,
+  read-length-reads.Asked,
+  read-length-reads.Learnt,
   append-pairs-reads.Asked,
   append-pairs-reads.Learnt,
   read-child-reads.Asked,
@@ -357,17 +293,13 @@ dump-node-sub-room : (t : ℕ) → dump-node-lts.Need-sub-room (
   merge-rows-reads.Asked,
   merge-rows-reads.Learnt,
 ) (dump-node-at t) dump-node.Post
-dump-node-sub-room t c = let r = (c .before .before .before .before .before .before .before .before .pre .1 .0) .room in omega arith
+dump-node-arrive-requires t c κs = ((c .before .before .before .before .before .pre .1 .0) .room, (c .before .before .before .before .before .pre .1 .0) .trail, c .before .before .before .before .before .pre .1 .3)
 
 dump-node-returns : (t : ℕ) → dump-node-lts.Need-returns (
-  common-length-reads.Asked,
-  common-length-reads.Learnt,
-  extend-reads.Asked,
-  extend-reads.Learnt,
-  note-above-reads.Asked,
-  note-above-reads.Learnt,
-  u16-at-reads.Asked,
-  u16-at-reads.Learnt,
+  arrive-reads.Asked,
+  arrive-reads.Learnt,
+  read-length-reads.Asked,
+  read-length-reads.Learnt,
   append-pairs-reads.Asked,
   append-pairs-reads.Learnt,
   read-child-reads.Asked,
@@ -381,377 +313,13 @@ dump-node-returns : (t : ℕ) → dump-node-lts.Need-returns (
   merge-rows-reads.Asked,
   merge-rows-reads.Learnt,
 ) (dump-node-at t) dump-node.Post
-dump-node-returns t c = let p : length ((c .before .before .before .before .before .before .before .before .before .args .node .position .prefix) .bytes) ≡ 64 = search needs in let r = (c .before .before .before .before .before .before .before .before .before .pre .1 .0) .room in node-long (c .before .before .before .before .before .before .before .before .before .args .store .now) (c .before .before .before .before .before .before .before .before .before .args .node .level) (c .before .before .before .before .before .before .before .before .before .args .node .num) (c .before .before .before .before .before .before .before .before .before .args .node .position .prefix) (c .before .before .before .before .before .before .before .before .before .args .node .position .trail) (c .before .before .before .before .before .before .before .before .before .pre .1 .0) (c .before .before .before .before .before .before .before .before .before .args .lo .now) (c .before .before .before .before .before .before .before .before .before .args .hi .now) (c .before .before .before .before .before .before .before .before .before .pre .1 .1) (c .before .before .before .before .before .before .before .before .before .args .area .now) (c .before .before .before .before .before .before .before .before .before .args .m) (c .before .before .before .before .before .before .before .before .before .pre .1 .2) (c .before .before .common-length .result) (c .before .before .common-length .ensures .0) (omega arith) (omega arith)
-
-dump-node-sub-extend : (t : ℕ) → dump-node-lts.Need-sub-extend (
-  common-length-reads.Asked,
-  common-length-reads.Learnt,
-  extend-reads.Asked,
-  extend-reads.Learnt,
-  note-above-reads.Asked,
-  note-above-reads.Learnt,
-  u16-at-reads.Asked,
-  u16-at-reads.Learnt,
-  append-pairs-reads.Asked,
-  append-pairs-reads.Learnt,
-  read-child-reads.Asked,
-  read-child-reads.Learnt,
-  enter-reads.Asked,
-  enter-reads.Learnt,
-  dump-children-below t,
-  dump-children.Post,
-  insert-puts-reads.Asked,
-  insert-puts-reads.Learnt,
-  merge-rows-reads.Asked,
-  merge-rows-reads.Learnt,
-) (dump-node-at t) dump-node.Post
-dump-node-sub-extend t c = search needs
-
-dump-node-part-extend-start : (t : ℕ) → dump-node-lts.Need-part-extend-start (
-  common-length-reads.Asked,
-  common-length-reads.Learnt,
-  extend-reads.Asked,
-  extend-reads.Learnt,
-  note-above-reads.Asked,
-  note-above-reads.Learnt,
-  u16-at-reads.Asked,
-  u16-at-reads.Learnt,
-  append-pairs-reads.Asked,
-  append-pairs-reads.Learnt,
-  read-child-reads.Asked,
-  read-child-reads.Learnt,
-  enter-reads.Asked,
-  enter-reads.Learnt,
-  dump-children-below t,
-  dump-children.Post,
-  insert-puts-reads.Asked,
-  insert-puts-reads.Learnt,
-  merge-rows-reads.Asked,
-  merge-rows-reads.Learnt,
-) (dump-node-at t) dump-node.Post
-dump-node-part-extend-start t c = search needs
-
-dump-node-part-extend-end : (t : ℕ) → dump-node-lts.Need-part-extend-end (
-  common-length-reads.Asked,
-  common-length-reads.Learnt,
-  extend-reads.Asked,
-  extend-reads.Learnt,
-  note-above-reads.Asked,
-  note-above-reads.Learnt,
-  u16-at-reads.Asked,
-  u16-at-reads.Learnt,
-  append-pairs-reads.Asked,
-  append-pairs-reads.Learnt,
-  read-child-reads.Asked,
-  read-child-reads.Learnt,
-  enter-reads.Asked,
-  enter-reads.Learnt,
-  dump-children-below t,
-  dump-children.Post,
-  insert-puts-reads.Asked,
-  insert-puts-reads.Learnt,
-  merge-rows-reads.Asked,
-  merge-rows-reads.Learnt,
-) (dump-node-at t) dump-node.Post
-dump-node-part-extend-end t c = search needs
-
-dump-node-extend-requires : (t : ℕ) → dump-node-lts.Need-extend-requires (
-  common-length-reads.Asked,
-  common-length-reads.Learnt,
-  extend-reads.Asked,
-  extend-reads.Learnt,
-  note-above-reads.Asked,
-  note-above-reads.Learnt,
-  u16-at-reads.Asked,
-  u16-at-reads.Learnt,
-  append-pairs-reads.Asked,
-  append-pairs-reads.Learnt,
-  read-child-reads.Asked,
-  read-child-reads.Learnt,
-  enter-reads.Asked,
-  enter-reads.Learnt,
-  dump-children-below t,
-  dump-children.Post,
-  insert-puts-reads.Asked,
-  insert-puts-reads.Learnt,
-  merge-rows-reads.Asked,
-  merge-rows-reads.Learnt,
-) (dump-node-at t) dump-node.Post
-dump-node-extend-requires t c κs = let l : length (take ((c .before .before .before .common-length .result) - 0) (c .before .before .before .before .before .before .before .before .before .before .args .lo .now)) ≡ (c .before .before .before .common-length .result) - 0 = length-take-le ((c .before .before .before .common-length .result) - 0) (c .before .before .before .before .before .before .before .before .before .before .args .lo .now) (omega arith) in let r = (c .before .before .before .before .before .before .before .before .before .before .pre .1 .0) .room in omega arith
-
-dump-node-sub-note-above : (t : ℕ) → dump-node-lts.Need-sub-note-above (
-  common-length-reads.Asked,
-  common-length-reads.Learnt,
-  extend-reads.Asked,
-  extend-reads.Learnt,
-  note-above-reads.Asked,
-  note-above-reads.Learnt,
-  u16-at-reads.Asked,
-  u16-at-reads.Learnt,
-  append-pairs-reads.Asked,
-  append-pairs-reads.Learnt,
-  read-child-reads.Asked,
-  read-child-reads.Learnt,
-  enter-reads.Asked,
-  enter-reads.Learnt,
-  dump-children-below t,
-  dump-children.Post,
-  insert-puts-reads.Asked,
-  insert-puts-reads.Learnt,
-  merge-rows-reads.Asked,
-  merge-rows-reads.Learnt,
-) (dump-node-at t) dump-node.Post
-dump-node-sub-note-above t c = search needs
-
-dump-node-part-note-above-start : (t : ℕ) → dump-node-lts.Need-part-note-above-start (
-  common-length-reads.Asked,
-  common-length-reads.Learnt,
-  extend-reads.Asked,
-  extend-reads.Learnt,
-  note-above-reads.Asked,
-  note-above-reads.Learnt,
-  u16-at-reads.Asked,
-  u16-at-reads.Learnt,
-  append-pairs-reads.Asked,
-  append-pairs-reads.Learnt,
-  read-child-reads.Asked,
-  read-child-reads.Learnt,
-  enter-reads.Asked,
-  enter-reads.Learnt,
-  dump-children-below t,
-  dump-children.Post,
-  insert-puts-reads.Asked,
-  insert-puts-reads.Learnt,
-  merge-rows-reads.Asked,
-  merge-rows-reads.Learnt,
-) (dump-node-at t) dump-node.Post
-dump-node-part-note-above-start t c = search needs
-
-dump-node-part-note-above-end : (t : ℕ) → dump-node-lts.Need-part-note-above-end (
-  common-length-reads.Asked,
-  common-length-reads.Learnt,
-  extend-reads.Asked,
-  extend-reads.Learnt,
-  note-above-reads.Asked,
-  note-above-reads.Learnt,
-  u16-at-reads.Asked,
-  u16-at-reads.Learnt,
-  append-pairs-reads.Asked,
-  append-pairs-reads.Learnt,
-  read-child-reads.Asked,
-  read-child-reads.Learnt,
-  enter-reads.Asked,
-  enter-reads.Learnt,
-  dump-children-below t,
-  dump-children.Post,
-  insert-puts-reads.Asked,
-  insert-puts-reads.Learnt,
-  merge-rows-reads.Asked,
-  merge-rows-reads.Learnt,
-) (dump-node-at t) dump-node.Post
-dump-node-part-note-above-end t c = search needs
-
-dump-node-sub-note-above-2 : (t : ℕ) → dump-node-lts.Need-sub-note-above-2 (
-  common-length-reads.Asked,
-  common-length-reads.Learnt,
-  extend-reads.Asked,
-  extend-reads.Learnt,
-  note-above-reads.Asked,
-  note-above-reads.Learnt,
-  u16-at-reads.Asked,
-  u16-at-reads.Learnt,
-  append-pairs-reads.Asked,
-  append-pairs-reads.Learnt,
-  read-child-reads.Asked,
-  read-child-reads.Learnt,
-  enter-reads.Asked,
-  enter-reads.Learnt,
-  dump-children-below t,
-  dump-children.Post,
-  insert-puts-reads.Asked,
-  insert-puts-reads.Learnt,
-  merge-rows-reads.Asked,
-  merge-rows-reads.Learnt,
-) (dump-node-at t) dump-node.Post
-dump-node-sub-note-above-2 t c = search needs
-
-dump-node-part-note-above-start-2 : (t : ℕ) → dump-node-lts.Need-part-note-above-start-2 (
-  common-length-reads.Asked,
-  common-length-reads.Learnt,
-  extend-reads.Asked,
-  extend-reads.Learnt,
-  note-above-reads.Asked,
-  note-above-reads.Learnt,
-  u16-at-reads.Asked,
-  u16-at-reads.Learnt,
-  append-pairs-reads.Asked,
-  append-pairs-reads.Learnt,
-  read-child-reads.Asked,
-  read-child-reads.Learnt,
-  enter-reads.Asked,
-  enter-reads.Learnt,
-  dump-children-below t,
-  dump-children.Post,
-  insert-puts-reads.Asked,
-  insert-puts-reads.Learnt,
-  merge-rows-reads.Asked,
-  merge-rows-reads.Learnt,
-) (dump-node-at t) dump-node.Post
-dump-node-part-note-above-start-2 t c = search needs
-
-dump-node-part-note-above-end-2 : (t : ℕ) → dump-node-lts.Need-part-note-above-end-2 (
-  common-length-reads.Asked,
-  common-length-reads.Learnt,
-  extend-reads.Asked,
-  extend-reads.Learnt,
-  note-above-reads.Asked,
-  note-above-reads.Learnt,
-  u16-at-reads.Asked,
-  u16-at-reads.Learnt,
-  append-pairs-reads.Asked,
-  append-pairs-reads.Learnt,
-  read-child-reads.Asked,
-  read-child-reads.Learnt,
-  enter-reads.Asked,
-  enter-reads.Learnt,
-  dump-children-below t,
-  dump-children.Post,
-  insert-puts-reads.Asked,
-  insert-puts-reads.Learnt,
-  merge-rows-reads.Asked,
-  merge-rows-reads.Learnt,
-) (dump-node-at t) dump-node.Post
-dump-node-part-note-above-end-2 t c = search needs
-
-dump-node-sub-note-above-3 : (t : ℕ) → dump-node-lts.Need-sub-note-above-3 (
-  common-length-reads.Asked,
-  common-length-reads.Learnt,
-  extend-reads.Asked,
-  extend-reads.Learnt,
-  note-above-reads.Asked,
-  note-above-reads.Learnt,
-  u16-at-reads.Asked,
-  u16-at-reads.Learnt,
-  append-pairs-reads.Asked,
-  append-pairs-reads.Learnt,
-  read-child-reads.Asked,
-  read-child-reads.Learnt,
-  enter-reads.Asked,
-  enter-reads.Learnt,
-  dump-children-below t,
-  dump-children.Post,
-  insert-puts-reads.Asked,
-  insert-puts-reads.Learnt,
-  merge-rows-reads.Asked,
-  merge-rows-reads.Learnt,
-) (dump-node-at t) dump-node.Post
-dump-node-sub-note-above-3 t c = search needs
-
-dump-node-part-note-above-start-3 : (t : ℕ) → dump-node-lts.Need-part-note-above-start-3 (
-  common-length-reads.Asked,
-  common-length-reads.Learnt,
-  extend-reads.Asked,
-  extend-reads.Learnt,
-  note-above-reads.Asked,
-  note-above-reads.Learnt,
-  u16-at-reads.Asked,
-  u16-at-reads.Learnt,
-  append-pairs-reads.Asked,
-  append-pairs-reads.Learnt,
-  read-child-reads.Asked,
-  read-child-reads.Learnt,
-  enter-reads.Asked,
-  enter-reads.Learnt,
-  dump-children-below t,
-  dump-children.Post,
-  insert-puts-reads.Asked,
-  insert-puts-reads.Learnt,
-  merge-rows-reads.Asked,
-  merge-rows-reads.Learnt,
-) (dump-node-at t) dump-node.Post
-dump-node-part-note-above-start-3 t c = search needs
-
-dump-node-part-note-above-end-3 : (t : ℕ) → dump-node-lts.Need-part-note-above-end-3 (
-  common-length-reads.Asked,
-  common-length-reads.Learnt,
-  extend-reads.Asked,
-  extend-reads.Learnt,
-  note-above-reads.Asked,
-  note-above-reads.Learnt,
-  u16-at-reads.Asked,
-  u16-at-reads.Learnt,
-  append-pairs-reads.Asked,
-  append-pairs-reads.Learnt,
-  read-child-reads.Asked,
-  read-child-reads.Learnt,
-  enter-reads.Asked,
-  enter-reads.Learnt,
-  dump-children-below t,
-  dump-children.Post,
-  insert-puts-reads.Asked,
-  insert-puts-reads.Learnt,
-  merge-rows-reads.Asked,
-  merge-rows-reads.Learnt,
-) (dump-node-at t) dump-node.Post
-dump-node-part-note-above-end-3 t c = search needs
-
-dump-node-slice-aggregate-note-above : (t : ℕ) → dump-node-lts.Need-slice-aggregate-note-above (
-  common-length-reads.Asked,
-  common-length-reads.Learnt,
-  extend-reads.Asked,
-  extend-reads.Learnt,
-  note-above-reads.Asked,
-  note-above-reads.Learnt,
-  u16-at-reads.Asked,
-  u16-at-reads.Learnt,
-  append-pairs-reads.Asked,
-  append-pairs-reads.Learnt,
-  read-child-reads.Asked,
-  read-child-reads.Learnt,
-  enter-reads.Asked,
-  enter-reads.Learnt,
-  dump-children-below t,
-  dump-children.Post,
-  insert-puts-reads.Asked,
-  insert-puts-reads.Learnt,
-  merge-rows-reads.Asked,
-  merge-rows-reads.Learnt,
-) (dump-node-at t) dump-node.Post
-dump-node-slice-aggregate-note-above t c = search needs
-
-dump-node-note-above-requires : (t : ℕ) → dump-node-lts.Need-note-above-requires (
-  common-length-reads.Asked,
-  common-length-reads.Learnt,
-  extend-reads.Asked,
-  extend-reads.Learnt,
-  note-above-reads.Asked,
-  note-above-reads.Learnt,
-  u16-at-reads.Asked,
-  u16-at-reads.Learnt,
-  append-pairs-reads.Asked,
-  append-pairs-reads.Learnt,
-  read-child-reads.Asked,
-  read-child-reads.Learnt,
-  enter-reads.Asked,
-  enter-reads.Learnt,
-  dump-children-below t,
-  dump-children.Post,
-  insert-puts-reads.Asked,
-  insert-puts-reads.Learnt,
-  merge-rows-reads.Asked,
-  merge-rows-reads.Learnt,
-) (dump-node-at t) dump-node.Post
-dump-node-note-above-requires t c κs = let l : length (take ((c .before .before .before .before .before .before .before .before .common-length .result) - 0) (c .before .before .before .before .before .before .before .before .before .before .before .before .before .before .before .args .lo .now)) ≡ (c .before .before .before .before .before .before .before .before .common-length .result) - 0 = length-take-le ((c .before .before .before .before .before .before .before .before .common-length .result) - 0) (c .before .before .before .before .before .before .before .before .before .before .before .before .before .before .before .args .lo .now) (omega arith) in let r = (c .before .before .before .before .before .before .before .before .before .before .before .before .before .before .before .pre .1 .0) .room in (omega arith, trail-wider (c .before .before .before .before .before .before .before .before .before .before .before .before .before .before .before .args .store .now) ((c .before .before .before .before .before .before .before .before .before .before .before .before .before .before .before .args .node .position .prefix) .len) ((c .before .before .before .before .extend .result) .len) (c .before .before .before .before .before .before .before .before .before .before .before .before .before .before .before .args .node .position .trail) (omega arith) ((c .before .before .before .before .before .before .before .before .before .before .before .before .before .before .before .pre .1 .0) .trail), handed (c .before .before .before .before .before .before .before .before .before .before .before .before .before .before .before .args .node .position .prefix) (c .before .before .before .before .before .before .before .before .before .before .before .before .before .before .before .args .lo .now) (c .before .before .before .before .before .before .before .before .before .before .before .before .before .before .before .args .hi .now) (c .before .before .before .before .before .before .before .before .common-length .result) (c .before .before .before .before .before .before .before .before .common-length .ensures .0) (c .before .before .before .before .extend .result) (c .before .before .before .before .extend .ensures .0) (c .before .before .before .before .before .before .before .before .before .before .before .before .before .before .before .args .store .now) (c .before .before .before .before .before .before .before .before .before .before .before .before .before .before .before .args .node .position .trail) (c .before .before .before .before .before .before .before .before .before .before .before .before .before .before .before .args .handed .now) (c .before .before .before .before .before .before .before .before .before .before .before .before .before .before .before .args .node .position .noted) (c .before .before .before .before .before .before .before .before .before .before .before .before .before .before .before .pre .1 .3))
+dump-node-returns t c = node-long (c .before .before .before .before .before .before .before .before .args .store .now) (c .before .before .before .before .before .before .before .before .args .node .level) (c .before .before .before .before .before .before .before .before .args .node .num) (c .before .before .before .before .before .before .before .before .args .node .position .prefix) (c .before .before .before .before .before .before .before .before .args .node .position .trail) (c .before .before .before .before .before .before .before .before .pre .1 .0) (c .before .before .before .before .before .before .before .before .args .lo .now) (c .before .before .before .before .before .before .before .before .args .hi .now) (c .before .before .before .before .before .before .before .before .pre .1 .1) (c .before .before .before .before .before .before .before .before .args .area .now) (c .before .before .before .before .before .before .before .before .args .m) (c .before .before .before .before .before .before .before .before .pre .1 .2) (c .before .before .arrive .ensures .far (c .if1 .taken))
 
 dump-node-mul-at : (t : ℕ) → dump-node-lts.Need-mul-at (
-  common-length-reads.Asked,
-  common-length-reads.Learnt,
-  extend-reads.Asked,
-  extend-reads.Learnt,
-  note-above-reads.Asked,
-  note-above-reads.Learnt,
-  u16-at-reads.Asked,
-  u16-at-reads.Learnt,
+  arrive-reads.Asked,
+  arrive-reads.Learnt,
+  read-length-reads.Asked,
+  read-length-reads.Learnt,
   append-pairs-reads.Asked,
   append-pairs-reads.Learnt,
   read-child-reads.Asked,
@@ -765,17 +333,13 @@ dump-node-mul-at : (t : ℕ) → dump-node-lts.Need-mul-at (
   merge-rows-reads.Asked,
   merge-rows-reads.Learnt,
 ) (dump-node-at t) dump-node.Post
-dump-node-mul-at t c = let w = node-inside (c .before .before .before .before .before .before .before .before .before .before .before .before .before .before .before .before .before .args .store .now) (c .before .before .before .before .before .before .before .before .before .before .before .before .before .before .before .before .before .args .node .num) (c .before .before .before .before .before .before .before .before .before .before .before .before .before .before .before .before .before .args .node .level) ((c .before .before .before .before .before .before .before .before .before .before .before .before .before .before .before .before .before .pre .1 .0) .reads) in omega arith
+dump-node-mul-at t c = let w = node-inside (c .before .before .before .before .before .before .before .before .before .args .store .now) (c .before .before .before .before .before .before .before .before .before .args .node .num) (c .before .before .before .before .before .before .before .before .before .args .node .level) ((c .before .before .before .before .before .before .before .before .before .pre .1 .0) .reads) in omega arith
 
-dump-node-u16-at-requires : (t : ℕ) → dump-node-lts.Need-u16-at-requires (
-  common-length-reads.Asked,
-  common-length-reads.Learnt,
-  extend-reads.Asked,
-  extend-reads.Learnt,
-  note-above-reads.Asked,
-  note-above-reads.Learnt,
-  u16-at-reads.Asked,
-  u16-at-reads.Learnt,
+dump-node-read-length-requires : (t : ℕ) → dump-node-lts.Need-read-length-requires (
+  arrive-reads.Asked,
+  arrive-reads.Learnt,
+  read-length-reads.Asked,
+  read-length-reads.Learnt,
   append-pairs-reads.Asked,
   append-pairs-reads.Learnt,
   read-child-reads.Asked,
@@ -789,17 +353,13 @@ dump-node-u16-at-requires : (t : ℕ) → dump-node-lts.Need-u16-at-requires (
   merge-rows-reads.Asked,
   merge-rows-reads.Learnt,
 ) (dump-node-at t) dump-node.Post
-dump-node-u16-at-requires t c κs = let w = node-inside (c .before .before .before .before .before .before .before .before .before .before .before .before .before .before .before .before .before .args .store .now) (c .before .before .before .before .before .before .before .before .before .before .before .before .before .before .before .before .before .args .node .num) (c .before .before .before .before .before .before .before .before .before .before .before .before .before .before .before .before .before .args .node .level) ((c .before .before .before .before .before .before .before .before .before .before .before .before .before .before .before .before .before .pre .1 .0) .reads) in omega arith
+dump-node-read-length-requires t c κs = let w = node-inside (c .before .before .before .before .before .before .before .before .before .args .store .now) (c .before .before .before .before .before .before .before .before .before .args .node .num) (c .before .before .before .before .before .before .before .before .before .args .node .level) ((c .before .before .before .before .before .before .before .before .before .pre .1 .0) .reads) in omega arith
 
 dump-node-add-from : (t : ℕ) → dump-node-lts.Need-add-from (
-  common-length-reads.Asked,
-  common-length-reads.Learnt,
-  extend-reads.Asked,
-  extend-reads.Learnt,
-  note-above-reads.Asked,
-  note-above-reads.Learnt,
-  u16-at-reads.Asked,
-  u16-at-reads.Learnt,
+  arrive-reads.Asked,
+  arrive-reads.Learnt,
+  read-length-reads.Asked,
+  read-length-reads.Learnt,
   append-pairs-reads.Asked,
   append-pairs-reads.Learnt,
   read-child-reads.Asked,
@@ -813,17 +373,13 @@ dump-node-add-from : (t : ℕ) → dump-node-lts.Need-add-from (
   merge-rows-reads.Asked,
   merge-rows-reads.Learnt,
 ) (dump-node-at t) dump-node.Post
-dump-node-add-from t c = let w = node-inside (c .before .before .before .before .before .before .before .before .before .before .before .before .before .before .before .before .before .before .args .store .now) (c .before .before .before .before .before .before .before .before .before .before .before .before .before .before .before .before .before .before .args .node .num) (c .before .before .before .before .before .before .before .before .before .before .before .before .before .before .before .before .before .before .args .node .level) ((c .before .before .before .before .before .before .before .before .before .before .before .before .before .before .before .before .before .before .pre .1 .0) .reads) in omega arith
+dump-node-add-from t c = let w = node-inside (c .before .before .before .before .before .before .before .before .before .before .args .store .now) (c .before .before .before .before .before .before .before .before .before .before .args .node .num) (c .before .before .before .before .before .before .before .before .before .before .args .node .level) ((c .before .before .before .before .before .before .before .before .before .before .pre .1 .0) .reads) in omega arith
 
 dump-node-add-end : (t : ℕ) → dump-node-lts.Need-add-end (
-  common-length-reads.Asked,
-  common-length-reads.Learnt,
-  extend-reads.Asked,
-  extend-reads.Learnt,
-  note-above-reads.Asked,
-  note-above-reads.Learnt,
-  u16-at-reads.Asked,
-  u16-at-reads.Learnt,
+  arrive-reads.Asked,
+  arrive-reads.Learnt,
+  read-length-reads.Asked,
+  read-length-reads.Learnt,
   append-pairs-reads.Asked,
   append-pairs-reads.Learnt,
   read-child-reads.Asked,
@@ -837,17 +393,13 @@ dump-node-add-end : (t : ℕ) → dump-node-lts.Need-add-end (
   merge-rows-reads.Asked,
   merge-rows-reads.Learnt,
 ) (dump-node-at t) dump-node.Post
-dump-node-add-end t c = let w = node-inside (c .before .before .before .before .before .before .before .before .before .before .before .before .before .before .before .before .before .before .args .store .now) (c .before .before .before .before .before .before .before .before .before .before .before .before .before .before .before .before .before .before .args .node .num) (c .before .before .before .before .before .before .before .before .before .before .before .before .before .before .before .before .before .before .args .node .level) ((c .before .before .before .before .before .before .before .before .before .before .before .before .before .before .before .before .before .before .pre .1 .0) .reads) in omega arith
+dump-node-add-end t c = let w = node-inside (c .before .before .before .before .before .before .before .before .before .before .args .store .now) (c .before .before .before .before .before .before .before .before .before .before .args .node .num) (c .before .before .before .before .before .before .before .before .before .before .args .node .level) ((c .before .before .before .before .before .before .before .before .before .before .pre .1 .0) .reads) in omega arith
 
 dump-node-append-pairs-requires : (t : ℕ) → dump-node-lts.Need-append-pairs-requires (
-  common-length-reads.Asked,
-  common-length-reads.Learnt,
-  extend-reads.Asked,
-  extend-reads.Learnt,
-  note-above-reads.Asked,
-  note-above-reads.Learnt,
-  u16-at-reads.Asked,
-  u16-at-reads.Learnt,
+  arrive-reads.Asked,
+  arrive-reads.Learnt,
+  read-length-reads.Asked,
+  read-length-reads.Learnt,
   append-pairs-reads.Asked,
   append-pairs-reads.Learnt,
   read-child-reads.Asked,
@@ -861,17 +413,13 @@ dump-node-append-pairs-requires : (t : ℕ) → dump-node-lts.Need-append-pairs-
   merge-rows-reads.Asked,
   merge-rows-reads.Learnt,
 ) (dump-node-at t) dump-node.Post
-dump-node-append-pairs-requires t c κs = let w = node-inside (c .before .before .before .before .before .before .before .before .before .before .before .before .before .before .before .before .before .before .before .before .before .args .store .now) (c .before .before .before .before .before .before .before .before .before .before .before .before .before .before .before .before .before .before .before .before .before .args .node .num) (c .before .before .before .before .before .before .before .before .before .before .before .before .before .before .before .before .before .before .before .before .before .args .node .level) ((c .before .before .before .before .before .before .before .before .before .before .before .before .before .before .before .before .before .before .before .before .before .pre .1 .0) .reads) in let l : length (take ((c .before .before .before .before .before .before .before .before .before .before .before .before .before .before .common-length .result) - 0) (c .before .before .before .before .before .before .before .before .before .before .before .before .before .before .before .before .before .before .before .before .before .args .lo .now)) ≡ (c .before .before .before .before .before .before .before .before .before .before .before .before .before .before .common-length .result) - 0 = length-take-le ((c .before .before .before .before .before .before .before .before .before .before .before .before .before .before .common-length .result) - 0) (c .before .before .before .before .before .before .before .before .before .before .before .before .before .before .before .before .before .before .before .before .before .args .lo .now) (omega arith) in let r = (c .before .before .before .before .before .before .before .before .before .before .before .before .before .before .before .before .before .before .before .before .before .pre .1 .0) .room in (omega arith, omega arith, trail-wider (c .before .before .before .before .before .before .before .before .before .before .before .before .before .before .before .before .before .before .before .before .before .args .store .now) ((c .before .before .before .before .before .before .before .before .before .before .before .before .before .before .before .before .before .before .before .before .before .args .node .position .prefix) .len) ((c .before .before .before .before .before .before .before .before .before .before .extend .result) .len) (c .before .before .before .before .before .before .before .before .before .before .before .before .before .before .before .before .before .before .before .before .before .args .node .position .trail) (omega arith) ((c .before .before .before .before .before .before .before .before .before .before .before .before .before .before .before .before .before .before .before .before .before .pre .1 .0) .trail), leaf-values (c .before .before .before .before .before .before .before .before .before .before .before .before .before .before .before .before .before .before .before .before .before .args .store .now) (c .before .before .before .before .before .before .before .before .before .before .before .before .before .before .before .before .before .before .before .before .before .args .node .level) (c .before .before .before .before .before .before .before .before .before .before .before .before .before .before .before .before .before .before .before .before .before .args .node .num) (c .before .before .before .before .before .before .before .before .before .before .before .before .before .before .before .before .before .before .before .before .before .args .node .position .prefix) (c .before .before .before .before .before .before .before .before .before .before .before .before .before .before .before .before .before .before .before .before .before .args .node .position .trail) (c .before .before .before .before .before .before .before .before .before .before .before .before .before .before .before .before .before .before .before .before .before .pre .1 .0) (c .before .before .before .before .before .before .before .before .before .before .before .before .before .before .before .before .before .before .before .before .before .args .lo .now) (c .before .before .before .before .before .before .before .before .before .before .before .before .before .before .before .before .before .before .before .before .before .args .hi .now) (c .before .before .before .before .before .before .before .before .before .before .before .before .before .before .before .before .before .before .before .before .before .pre .1 .1) (c .before .before .before .before .before .before .before .before .before .before .before .before .before .before .before .before .before .before .before .before .before .args .area .now) (c .before .before .before .before .before .before .before .before .before .before .before .before .before .before .before .before .before .before .before .before .before .args .m) (c .before .before .before .before .before .before .before .before .before .before .before .before .before .before .before .before .before .before .before .before .before .pre .1 .2) (c .before .before .before .before .before .before .before .before .before .before .before .before .before .before .common-length .result) (c .before .before .before .before .before .before .before .before .before .before .before .before .before .before .common-length .ensures .0) (c .before .before .before .before .before .before .before .before .before .before .extend .result) (c .before .before .before .before .before .before .before .before .before .before .extend .ensures .0) (c .before .before .before .u16-at .result) (c .before .before .before .u16-at .ensures .0) (omega arith), leaf-room (c .before .before .before .before .before .before .before .before .before .before .before .before .before .before .before .before .before .before .before .before .before .args .store .now) (c .before .before .before .before .before .before .before .before .before .before .before .before .before .before .before .before .before .before .before .before .before .args .node .level) (c .before .before .before .before .before .before .before .before .before .before .before .before .before .before .before .before .before .before .before .before .before .args .node .num) (c .before .before .before .before .before .before .before .before .before .before .before .before .before .before .before .before .before .before .before .before .before .args .node .position .prefix) (c .before .before .before .before .before .before .before .before .before .before .before .before .before .before .before .before .before .before .before .before .before .args .node .position .trail) (c .before .before .before .before .before .before .before .before .before .before .before .before .before .before .before .before .before .before .before .before .before .pre .1 .0) (c .before .before .before .before .before .before .before .before .before .before .before .before .before .before .before .before .before .before .before .before .before .args .lo .now) (c .before .before .before .before .before .before .before .before .before .before .before .before .before .before .before .before .before .before .before .before .before .args .hi .now) (c .before .before .before .before .before .before .before .before .before .before .before .before .before .before .before .before .before .before .before .before .before .pre .1 .1) (c .before .before .before .before .before .before .before .before .before .before .before .before .before .before .before .before .before .before .before .before .before .args .area .now) (c .before .before .before .before .before .before .before .before .before .before .before .before .before .before .before .before .before .before .before .before .before .args .m) (c .before .before .before .before .before .before .before .before .before .before .before .before .before .before .before .before .before .before .before .before .before .pre .1 .2) (c .before .before .before .before .before .before .before .before .before .before .before .before .before .before .common-length .result) (c .before .before .before .before .before .before .before .before .before .before .before .before .before .before .common-length .ensures .0) (c .before .before .before .before .before .before .before .before .before .before .extend .result) (c .before .before .before .before .before .before .before .before .before .before .extend .ensures .0) (c .before .before .before .u16-at .result) (c .before .before .before .u16-at .ensures .0) (omega arith), leaf-told (c .before .before .before .before .before .before .before .before .before .before .before .before .before .before .before .before .before .before .before .before .before .args .node .position .prefix) (c .before .before .before .before .before .before .before .before .before .before .before .before .before .before .before .before .before .before .before .before .before .args .lo .now) (c .before .before .before .before .before .before .before .before .before .before .before .before .before .before .before .before .before .before .before .before .before .args .hi .now) (c .before .before .before .before .before .before .before .before .before .before .before .before .before .before .common-length .result) (c .before .before .before .before .before .before .before .before .before .before .before .before .before .before .common-length .ensures .0) (c .before .before .before .before .before .before .before .before .before .before .extend .result) (c .before .before .before .before .before .before .before .before .before .before .extend .ensures .0) (c .before .before .before .before .before .before .before .before .before .before .before .before .before .before .before .before .before .before .before .before .before .args .store .now) (c .before .before .before .before .before .before .before .before .before .before .before .before .before .before .before .before .before .before .before .before .before .args .node .level) (c .before .before .before .before .before .before .before .before .before .before .before .before .before .before .before .before .before .before .before .before .before .args .node .num) (c .before .before .before .before .before .before .before .before .before .before .before .before .before .before .before .before .before .before .before .before .before .pre .1 .0 .reads) (c .before .before .before .before .before .before .before .before .before .before .before .before .before .before .before .before .before .before .before .before .before .pre .1 .1) (c .before .before .before .u16-at .result) (c .before .before .before .u16-at .ensures .0) (omega arith) _ _ _ (c .before .before .before .before .before .note-above .ensures))
+dump-node-append-pairs-requires t c κs = let w = node-inside (c .before .before .before .before .before .before .before .before .before .before .before .before .before .args .store .now) (c .before .before .before .before .before .before .before .before .before .before .before .before .before .args .node .num) (c .before .before .before .before .before .before .before .before .before .before .before .before .before .args .node .level) ((c .before .before .before .before .before .before .before .before .before .before .before .before .before .pre .1 .0) .reads) in let st = c .before .before .before .before .before .before .before .arrive .ensures .near (c .before .before .before .before .before .if1 .left) in (omega arith, st .room, st .fits, leaf-values (c .before .before .before .before .before .before .before .before .before .before .before .before .before .args .store .now) (c .before .before .before .before .before .before .before .before .before .before .before .before .before .args .node .level) (c .before .before .before .before .before .before .before .before .before .before .before .before .before .args .node .num) (c .before .before .before .before .before .before .before .before .before .before .before .before .before .args .node .position .prefix) (c .before .before .before .before .before .before .before .before .before .before .before .before .before .args .node .position .trail) (c .before .before .before .before .before .before .before .before .before .before .before .before .before .pre .1 .0) (c .before .before .before .before .before .before .before .before .before .before .before .before .before .args .lo .now) (c .before .before .before .before .before .before .before .before .before .before .before .before .before .args .hi .now) (c .before .before .before .before .before .before .before .before .before .before .before .before .before .pre .1 .1) (c .before .before .before .before .before .before .before .before .before .before .before .before .before .args .area .now) (c .before .before .before .before .before .before .before .before .before .before .before .before .before .args .m) (c .before .before .before .before .before .before .before .before .before .before .before .before .before .pre .1 .2) (c .before .before .before .before .before .before .before .arrive .result .lifted) (c .before .before .before .before .before .before .before .arrive .ensures .lifts) (c .before .before .before .before .before .before .before .arrive .result .position .prefix) (st .prefix) (c .before .before .before .read-length .result) (c .before .before .before .read-length .ensures .0) (omega arith), rw (st .trail) (leaf-room (c .before .before .before .before .before .before .before .before .before .before .before .before .before .args .store .now) (c .before .before .before .before .before .before .before .before .before .before .before .before .before .args .node .level) (c .before .before .before .before .before .before .before .before .before .before .before .before .before .args .node .num) (c .before .before .before .before .before .before .before .before .before .before .before .before .before .args .node .position .prefix) (c .before .before .before .before .before .before .before .before .before .before .before .before .before .args .node .position .trail) (c .before .before .before .before .before .before .before .before .before .before .before .before .before .pre .1 .0) (c .before .before .before .before .before .before .before .before .before .before .before .before .before .args .lo .now) (c .before .before .before .before .before .before .before .before .before .before .before .before .before .args .hi .now) (c .before .before .before .before .before .before .before .before .before .before .before .before .before .pre .1 .1) (c .before .before .before .before .before .before .before .before .before .before .before .before .before .args .area .now) (c .before .before .before .before .before .before .before .before .before .before .before .before .before .args .m) (c .before .before .before .before .before .before .before .before .before .before .before .before .before .pre .1 .2) (c .before .before .before .before .before .before .before .arrive .result .lifted) (c .before .before .before .before .before .before .before .arrive .ensures .lifts) (c .before .before .before .before .before .before .before .arrive .result .position .prefix) (st .prefix) (c .before .before .before .read-length .result) (c .before .before .before .read-length .ensures .0) (omega arith)), leaf-told (c .before .before .before .before .before .before .before .before .before .before .before .before .before .args .node .position .prefix) (c .before .before .before .before .before .before .before .before .before .before .before .before .before .args .lo .now) (c .before .before .before .before .before .before .before .before .before .before .before .before .before .args .hi .now) (c .before .before .before .before .before .before .before .arrive .result .lifted) (c .before .before .before .before .before .before .before .arrive .ensures .lifts) (c .before .before .before .before .before .before .before .arrive .result .position .prefix) (st .prefix) (c .before .before .before .before .before .before .before .before .before .before .before .before .before .args .store .now) (c .before .before .before .before .before .before .before .before .before .before .before .before .before .args .node .level) (c .before .before .before .before .before .before .before .before .before .before .before .before .before .args .node .num) (c .before .before .before .before .before .before .before .before .before .before .before .before .before .pre .1 .0 .reads) (c .before .before .before .before .before .before .before .before .before .before .before .before .before .pre .1 .1) (c .before .before .before .read-length .result) (c .before .before .before .read-length .ensures .0) (omega arith) _ _ _ (st .tells))
 
 dump-node-same-length : (t : ℕ) → dump-node-lts.Need-same-length (
-  common-length-reads.Asked,
-  common-length-reads.Learnt,
-  extend-reads.Asked,
-  extend-reads.Learnt,
-  note-above-reads.Asked,
-  note-above-reads.Learnt,
-  u16-at-reads.Asked,
-  u16-at-reads.Learnt,
+  arrive-reads.Asked,
+  arrive-reads.Learnt,
+  read-length-reads.Asked,
+  read-length-reads.Learnt,
   append-pairs-reads.Asked,
   append-pairs-reads.Learnt,
   read-child-reads.Asked,
@@ -888,14 +436,10 @@ dump-node-same-length : (t : ℕ) → dump-node-lts.Need-same-length (
 dump-node-same-length t c = search needs
 
 dump-node-returns-2 : (t : ℕ) → dump-node-lts.Need-returns-2 (
-  common-length-reads.Asked,
-  common-length-reads.Learnt,
-  extend-reads.Asked,
-  extend-reads.Learnt,
-  note-above-reads.Asked,
-  note-above-reads.Learnt,
-  u16-at-reads.Asked,
-  u16-at-reads.Learnt,
+  arrive-reads.Asked,
+  arrive-reads.Learnt,
+  read-length-reads.Asked,
+  read-length-reads.Learnt,
   append-pairs-reads.Asked,
   append-pairs-reads.Learnt,
   read-child-reads.Asked,
@@ -909,17 +453,13 @@ dump-node-returns-2 : (t : ℕ) → dump-node-lts.Need-returns-2 (
   merge-rows-reads.Asked,
   merge-rows-reads.Learnt,
 ) (dump-node-at t) dump-node.Post
-dump-node-returns-2 t c = leaf-added (c .before .before .before .before .before .before .before .before .before .before .before .before .before .before .before .before .before .before .before .before .before .before .before .before .args .store .now) (c .before .before .before .before .before .before .before .before .before .before .before .before .before .before .before .before .before .before .before .before .before .before .before .before .args .node .level) (c .before .before .before .before .before .before .before .before .before .before .before .before .before .before .before .before .before .before .before .before .before .before .before .before .args .node .num) (c .before .before .before .before .before .before .before .before .before .before .before .before .before .before .before .before .before .before .before .before .before .before .before .before .args .node .position .prefix) (c .before .before .before .before .before .before .before .before .before .before .before .before .before .before .before .before .before .before .before .before .before .before .before .before .args .node .position .trail) (c .before .before .before .before .before .before .before .before .before .before .before .before .before .before .before .before .before .before .before .before .before .before .before .before .pre .1 .0) (c .before .before .before .before .before .before .before .before .before .before .before .before .before .before .before .before .before .before .before .before .before .before .before .before .args .lo .now) (c .before .before .before .before .before .before .before .before .before .before .before .before .before .before .before .before .before .before .before .before .before .before .before .before .args .hi .now) (c .before .before .before .before .before .before .before .before .before .before .before .before .before .before .before .before .before .before .before .before .before .before .before .before .pre .1 .1) (c .before .before .before .before .before .before .before .before .before .before .before .before .before .before .before .before .before .before .before .before .before .before .before .before .args .area .now) (c .before .before .before .before .before .before .before .before .before .before .before .before .before .before .before .before .before .before .before .before .before .before .before .before .args .m) (c .before .before .before .before .before .before .before .before .before .before .before .before .before .before .before .before .before .before .before .before .before .before .before .before .pre .1 .2) (c .before .before .before .before .before .before .before .before .before .before .before .before .before .before .before .before .before .common-length .result) (c .before .before .before .before .before .before .before .before .before .before .before .before .before .before .before .before .before .common-length .ensures .0) (c .before .before .before .before .before .before .before .before .before .before .before .before .before .extend .result) (c .before .before .before .before .before .before .before .before .before .before .before .before .before .extend .ensures .0) (c .before .before .before .before .before .before .u16-at .result) (c .before .before .before .before .before .before .u16-at .ensures .0) (omega arith) _ _ (c .before .before .append-pairs .ensures)
+dump-node-returns-2 t c = let st = c .before .before .before .before .before .before .before .before .before .before .arrive .ensures .near (c .before .before .before .before .before .before .before .before .if1 .left) in leaf-added (c .before .before .before .before .before .before .before .before .before .before .before .before .before .before .before .before .args .store .now) (c .before .before .before .before .before .before .before .before .before .before .before .before .before .before .before .before .args .node .level) (c .before .before .before .before .before .before .before .before .before .before .before .before .before .before .before .before .args .node .num) (c .before .before .before .before .before .before .before .before .before .before .before .before .before .before .before .before .args .node .position .prefix) (c .before .before .before .before .before .before .before .before .before .before .before .before .before .before .before .before .args .node .position .trail) (c .before .before .before .before .before .before .before .before .before .before .before .before .before .before .before .before .pre .1 .0) (c .before .before .before .before .before .before .before .before .before .before .before .before .before .before .before .before .args .lo .now) (c .before .before .before .before .before .before .before .before .before .before .before .before .before .before .before .before .args .hi .now) (c .before .before .before .before .before .before .before .before .before .before .before .before .before .before .before .before .pre .1 .1) (c .before .before .before .before .before .before .before .before .before .before .before .before .before .before .before .before .args .area .now) (c .before .before .before .before .before .before .before .before .before .before .before .before .before .before .before .before .args .m) (c .before .before .before .before .before .before .before .before .before .before .before .before .before .before .before .before .pre .1 .2) (c .before .before .before .before .before .before .before .before .before .before .arrive .result .lifted) (c .before .before .before .before .before .before .before .before .before .before .arrive .ensures .lifts) (c .before .before .before .before .before .before .before .before .before .before .arrive .result .position .prefix) (st .prefix) (c .before .before .before .before .before .before .read-length .result) (c .before .before .before .before .before .before .read-length .ensures .0) (omega arith) _ _ (rw (st .trail) at (c .before .before .append-pairs .ensures))
 
 dump-node-read-child-requires : (t : ℕ) → dump-node-lts.Need-read-child-requires (
-  common-length-reads.Asked,
-  common-length-reads.Learnt,
-  extend-reads.Asked,
-  extend-reads.Learnt,
-  note-above-reads.Asked,
-  note-above-reads.Learnt,
-  u16-at-reads.Asked,
-  u16-at-reads.Learnt,
+  arrive-reads.Asked,
+  arrive-reads.Learnt,
+  read-length-reads.Asked,
+  read-length-reads.Learnt,
   append-pairs-reads.Asked,
   append-pairs-reads.Learnt,
   read-child-reads.Asked,
@@ -933,17 +473,13 @@ dump-node-read-child-requires : (t : ℕ) → dump-node-lts.Need-read-child-requ
   merge-rows-reads.Asked,
   merge-rows-reads.Learnt,
 ) (dump-node-at t) dump-node.Post
-dump-node-read-child-requires t c κs = let w = node-inside (c .before .before .before .before .before .before .before .before .before .before .before .before .before .before .before .before .before .before .before .args .store .now) (c .before .before .before .before .before .before .before .before .before .before .before .before .before .before .before .before .before .before .before .args .node .num) (c .before .before .before .before .before .before .before .before .before .before .before .before .before .before .before .before .before .before .before .args .node .level) ((c .before .before .before .before .before .before .before .before .before .before .before .before .before .before .before .before .before .before .before .pre .1 .0) .reads) in omega arith
+dump-node-read-child-requires t c κs = let w = node-inside (c .before .before .before .before .before .before .before .before .before .before .before .args .store .now) (c .before .before .before .before .before .before .before .before .before .before .before .args .node .num) (c .before .before .before .before .before .before .before .before .before .before .before .args .node .level) ((c .before .before .before .before .before .before .before .before .before .before .before .pre .1 .0) .reads) in omega arith
 
 dump-node-enum-known-first : (t : ℕ) → dump-node-lts.Need-enum-known-first (
-  common-length-reads.Asked,
-  common-length-reads.Learnt,
-  extend-reads.Asked,
-  extend-reads.Learnt,
-  note-above-reads.Asked,
-  note-above-reads.Learnt,
-  u16-at-reads.Asked,
-  u16-at-reads.Learnt,
+  arrive-reads.Asked,
+  arrive-reads.Learnt,
+  read-length-reads.Asked,
+  read-length-reads.Learnt,
   append-pairs-reads.Asked,
   append-pairs-reads.Learnt,
   read-child-reads.Asked,
@@ -960,14 +496,10 @@ dump-node-enum-known-first : (t : ℕ) → dump-node-lts.Need-enum-known-first (
 dump-node-enum-known-first t c = search needs
 
 dump-node-enum-told : (t : ℕ) → dump-node-lts.Need-enum-told (
-  common-length-reads.Asked,
-  common-length-reads.Learnt,
-  extend-reads.Asked,
-  extend-reads.Learnt,
-  note-above-reads.Asked,
-  note-above-reads.Learnt,
-  u16-at-reads.Asked,
-  u16-at-reads.Learnt,
+  arrive-reads.Asked,
+  arrive-reads.Learnt,
+  read-length-reads.Asked,
+  read-length-reads.Learnt,
   append-pairs-reads.Asked,
   append-pairs-reads.Learnt,
   read-child-reads.Asked,
@@ -984,14 +516,10 @@ dump-node-enum-told : (t : ℕ) → dump-node-lts.Need-enum-told (
 dump-node-enum-told t c = search needs
 
 dump-node-returns-3 : (t : ℕ) → dump-node-lts.Need-returns-3 (
-  common-length-reads.Asked,
-  common-length-reads.Learnt,
-  extend-reads.Asked,
-  extend-reads.Learnt,
-  note-above-reads.Asked,
-  note-above-reads.Learnt,
-  u16-at-reads.Asked,
-  u16-at-reads.Learnt,
+  arrive-reads.Asked,
+  arrive-reads.Learnt,
+  read-length-reads.Asked,
+  read-length-reads.Learnt,
   append-pairs-reads.Asked,
   append-pairs-reads.Learnt,
   read-child-reads.Asked,
@@ -1005,17 +533,13 @@ dump-node-returns-3 : (t : ℕ) → dump-node-lts.Need-returns-3 (
   merge-rows-reads.Asked,
   merge-rows-reads.Learnt,
 ) (dump-node-at t) dump-node.Post
-dump-node-returns-3 t c = node-bare (c .before .before .before .before .before .before .before .before .before .before .before .before .before .before .before .before .before .before .before .before .before .before .args .store .now) (c .before .before .before .before .before .before .before .before .before .before .before .before .before .before .before .before .before .before .before .before .before .before .args .node .level) (c .before .before .before .before .before .before .before .before .before .before .before .before .before .before .before .before .before .before .before .before .before .before .args .node .num) (c .before .before .before .before .before .before .before .before .before .before .before .before .before .before .before .before .before .before .before .before .before .before .args .node .position .prefix) (c .before .before .before .before .before .before .before .before .before .before .before .before .before .before .before .before .before .before .before .before .before .before .args .node .position .trail) (c .before .before .before .before .before .before .before .before .before .before .before .before .before .before .before .before .before .before .before .before .before .before .pre .1 .0) (c .before .before .before .before .before .before .before .before .before .before .before .before .before .before .before .before .before .before .before .before .before .before .args .lo .now) (c .before .before .before .before .before .before .before .before .before .before .before .before .before .before .before .before .before .before .before .before .before .before .args .hi .now) (c .before .before .before .before .before .before .before .before .before .before .before .before .before .before .before .before .before .before .before .before .before .before .pre .1 .1) (c .before .before .before .before .before .before .before .before .before .before .before .before .before .before .before .before .before .before .before .before .before .before .args .area .now) (c .before .before .before .before .before .before .before .before .before .before .before .before .before .before .before .before .before .before .before .before .before .before .args .m) (c .before .before .before .before .before .before .before .before .before .before .before .before .before .before .before .before .before .before .before .before .before .before .pre .1 .2) (c .before .before .before .before .before .before .before .before .before .before .before .before .before .before .before .common-length .result) (c .before .before .before .before .before .before .before .before .before .before .before .before .before .before .before .common-length .ensures .0) (c .before .before .before .before .before .before .before .before .before .before .before .extend .result) (c .before .before .before .before .before .before .before .before .before .before .before .extend .ensures .0) (c .before .before .before .before .u16-at .result) (c .before .before .before .before .u16-at .ensures .0) (omega arith) (pends-end _ _ _ _ (c .before .before .read-child .ensures) (c .enum-told .given .1))
+dump-node-returns-3 t c = let st = c .before .before .before .before .before .before .before .before .arrive .ensures .near (c .before .before .before .before .before .before .if1 .left) in node-bare (c .before .before .before .before .before .before .before .before .before .before .before .before .before .before .args .store .now) (c .before .before .before .before .before .before .before .before .before .before .before .before .before .before .args .node .level) (c .before .before .before .before .before .before .before .before .before .before .before .before .before .before .args .node .num) (c .before .before .before .before .before .before .before .before .before .before .before .before .before .before .args .node .position .prefix) (c .before .before .before .before .before .before .before .before .before .before .before .before .before .before .args .node .position .trail) (c .before .before .before .before .before .before .before .before .before .before .before .before .before .before .pre .1 .0) (c .before .before .before .before .before .before .before .before .before .before .before .before .before .before .args .lo .now) (c .before .before .before .before .before .before .before .before .before .before .before .before .before .before .args .hi .now) (c .before .before .before .before .before .before .before .before .before .before .before .before .before .before .pre .1 .1) (c .before .before .before .before .before .before .before .before .before .before .before .before .before .before .args .area .now) (c .before .before .before .before .before .before .before .before .before .before .before .before .before .before .args .m) (c .before .before .before .before .before .before .before .before .before .before .before .before .before .before .pre .1 .2) (c .before .before .before .before .before .before .before .before .arrive .result .lifted) (c .before .before .before .before .before .before .before .before .arrive .ensures .lifts) (c .before .before .before .before .before .before .before .before .arrive .result .position .prefix) (st .prefix) (c .before .before .before .before .read-length .result) (c .before .before .before .before .read-length .ensures .0) (omega arith) (pends-end _ _ _ _ (c .before .before .read-child .ensures) (c .enum-told .given .1))
 
 dump-node-sub-enter : (t : ℕ) → dump-node-lts.Need-sub-enter (
-  common-length-reads.Asked,
-  common-length-reads.Learnt,
-  extend-reads.Asked,
-  extend-reads.Learnt,
-  note-above-reads.Asked,
-  note-above-reads.Learnt,
-  u16-at-reads.Asked,
-  u16-at-reads.Learnt,
+  arrive-reads.Asked,
+  arrive-reads.Learnt,
+  read-length-reads.Asked,
+  read-length-reads.Learnt,
   append-pairs-reads.Asked,
   append-pairs-reads.Learnt,
   read-child-reads.Asked,
@@ -1029,17 +553,13 @@ dump-node-sub-enter : (t : ℕ) → dump-node-lts.Need-sub-enter (
   merge-rows-reads.Asked,
   merge-rows-reads.Learnt,
 ) (dump-node-at t) dump-node.Post
-dump-node-sub-enter t c = let q = c .before .before .before .before .before .before .before .before .before .before .before .before .before .before .before .before .before .before .before .before .before .before .before .pre .0 in let m = c .before .before .before .before .before .before .before .before .before .before .before .before .before .before .before .before .common-length .ensures .1 in let i = c .before .before .before .before .before .before .before .before .before .before .before .before .before .before .before .before .common-length .ensures .2 in let g = c .before .before .before .before .before .before .before .before .before .before .before .before .before .before .if1 .left in let x = c .before .before .before .before .before .before .before .before .before .before .before .before .extend .ensures .1 in let v = c .before .before .before .before .if2 .left in omega arith
+dump-node-sub-enter t c = let st = c .before .before .before .before .before .before .before .before .before .arrive .ensures .near (c .before .before .before .before .before .before .before .if1 .left) in let l = st .low in let h = st .high in omega arith
 
 dump-node-part-enter-start : (t : ℕ) → dump-node-lts.Need-part-enter-start (
-  common-length-reads.Asked,
-  common-length-reads.Learnt,
-  extend-reads.Asked,
-  extend-reads.Learnt,
-  note-above-reads.Asked,
-  note-above-reads.Learnt,
-  u16-at-reads.Asked,
-  u16-at-reads.Learnt,
+  arrive-reads.Asked,
+  arrive-reads.Learnt,
+  read-length-reads.Asked,
+  read-length-reads.Learnt,
   append-pairs-reads.Asked,
   append-pairs-reads.Learnt,
   read-child-reads.Asked,
@@ -1053,17 +573,13 @@ dump-node-part-enter-start : (t : ℕ) → dump-node-lts.Need-part-enter-start (
   merge-rows-reads.Asked,
   merge-rows-reads.Learnt,
 ) (dump-node-at t) dump-node.Post
-dump-node-part-enter-start t c = let q = c .before .before .before .before .before .before .before .before .before .before .before .before .before .before .before .before .before .before .before .before .before .before .before .pre .0 in let m = c .before .before .before .before .before .before .before .before .before .before .before .before .before .before .before .before .common-length .ensures .1 in let i = c .before .before .before .before .before .before .before .before .before .before .before .before .before .before .before .before .common-length .ensures .2 in let g = c .before .before .before .before .before .before .before .before .before .before .before .before .before .before .if1 .left in let x = c .before .before .before .before .before .before .before .before .before .before .before .before .extend .ensures .1 in let v = c .before .before .before .before .if2 .left in omega arith
+dump-node-part-enter-start t c = let st = c .before .before .before .before .before .before .before .before .before .arrive .ensures .near (c .before .before .before .before .before .before .before .if1 .left) in let l = st .low in let h = st .high in omega arith
 
 dump-node-part-enter-end : (t : ℕ) → dump-node-lts.Need-part-enter-end (
-  common-length-reads.Asked,
-  common-length-reads.Learnt,
-  extend-reads.Asked,
-  extend-reads.Learnt,
-  note-above-reads.Asked,
-  note-above-reads.Learnt,
-  u16-at-reads.Asked,
-  u16-at-reads.Learnt,
+  arrive-reads.Asked,
+  arrive-reads.Learnt,
+  read-length-reads.Asked,
+  read-length-reads.Learnt,
   append-pairs-reads.Asked,
   append-pairs-reads.Learnt,
   read-child-reads.Asked,
@@ -1080,14 +596,10 @@ dump-node-part-enter-end : (t : ℕ) → dump-node-lts.Need-part-enter-end (
 dump-node-part-enter-end t c = search needs
 
 dump-node-sub-enter-2 : (t : ℕ) → dump-node-lts.Need-sub-enter-2 (
-  common-length-reads.Asked,
-  common-length-reads.Learnt,
-  extend-reads.Asked,
-  extend-reads.Learnt,
-  note-above-reads.Asked,
-  note-above-reads.Learnt,
-  u16-at-reads.Asked,
-  u16-at-reads.Learnt,
+  arrive-reads.Asked,
+  arrive-reads.Learnt,
+  read-length-reads.Asked,
+  read-length-reads.Learnt,
   append-pairs-reads.Asked,
   append-pairs-reads.Learnt,
   read-child-reads.Asked,
@@ -1101,17 +613,13 @@ dump-node-sub-enter-2 : (t : ℕ) → dump-node-lts.Need-sub-enter-2 (
   merge-rows-reads.Asked,
   merge-rows-reads.Learnt,
 ) (dump-node-at t) dump-node.Post
-dump-node-sub-enter-2 t c = let q = c .before .before .before .before .before .before .before .before .before .before .before .before .before .before .before .before .before .before .before .before .before .before .before .before .pre .0 in let m = c .before .before .before .before .before .before .before .before .before .before .before .before .before .before .before .before .before .common-length .ensures .1 in let i = c .before .before .before .before .before .before .before .before .before .before .before .before .before .before .before .before .before .common-length .ensures .2 in let g = c .before .before .before .before .before .before .before .before .before .before .before .before .before .before .before .if1 .left in let x = c .before .before .before .before .before .before .before .before .before .before .before .before .before .extend .ensures .1 in let v = c .before .before .before .before .before .if2 .left in omega arith
+dump-node-sub-enter-2 t c = let st = c .before .before .before .before .before .before .before .before .before .before .arrive .ensures .near (c .before .before .before .before .before .before .before .before .if1 .left) in let l = st .low in let h = st .high in omega arith
 
 dump-node-part-enter-start-2 : (t : ℕ) → dump-node-lts.Need-part-enter-start-2 (
-  common-length-reads.Asked,
-  common-length-reads.Learnt,
-  extend-reads.Asked,
-  extend-reads.Learnt,
-  note-above-reads.Asked,
-  note-above-reads.Learnt,
-  u16-at-reads.Asked,
-  u16-at-reads.Learnt,
+  arrive-reads.Asked,
+  arrive-reads.Learnt,
+  read-length-reads.Asked,
+  read-length-reads.Learnt,
   append-pairs-reads.Asked,
   append-pairs-reads.Learnt,
   read-child-reads.Asked,
@@ -1125,17 +633,13 @@ dump-node-part-enter-start-2 : (t : ℕ) → dump-node-lts.Need-part-enter-start
   merge-rows-reads.Asked,
   merge-rows-reads.Learnt,
 ) (dump-node-at t) dump-node.Post
-dump-node-part-enter-start-2 t c = let q = c .before .before .before .before .before .before .before .before .before .before .before .before .before .before .before .before .before .before .before .before .before .before .before .before .pre .0 in let m = c .before .before .before .before .before .before .before .before .before .before .before .before .before .before .before .before .before .common-length .ensures .1 in let i = c .before .before .before .before .before .before .before .before .before .before .before .before .before .before .before .before .before .common-length .ensures .2 in let g = c .before .before .before .before .before .before .before .before .before .before .before .before .before .before .before .if1 .left in let x = c .before .before .before .before .before .before .before .before .before .before .before .before .before .extend .ensures .1 in let v = c .before .before .before .before .before .if2 .left in omega arith
+dump-node-part-enter-start-2 t c = let st = c .before .before .before .before .before .before .before .before .before .before .arrive .ensures .near (c .before .before .before .before .before .before .before .before .if1 .left) in let l = st .low in let h = st .high in omega arith
 
 dump-node-part-enter-end-2 : (t : ℕ) → dump-node-lts.Need-part-enter-end-2 (
-  common-length-reads.Asked,
-  common-length-reads.Learnt,
-  extend-reads.Asked,
-  extend-reads.Learnt,
-  note-above-reads.Asked,
-  note-above-reads.Learnt,
-  u16-at-reads.Asked,
-  u16-at-reads.Learnt,
+  arrive-reads.Asked,
+  arrive-reads.Learnt,
+  read-length-reads.Asked,
+  read-length-reads.Learnt,
   append-pairs-reads.Asked,
   append-pairs-reads.Learnt,
   read-child-reads.Asked,
@@ -1152,14 +656,10 @@ dump-node-part-enter-end-2 : (t : ℕ) → dump-node-lts.Need-part-enter-end-2 (
 dump-node-part-enter-end-2 t c = search needs
 
 dump-node-slice-aggregate-enter : (t : ℕ) → dump-node-lts.Need-slice-aggregate-enter (
-  common-length-reads.Asked,
-  common-length-reads.Learnt,
-  extend-reads.Asked,
-  extend-reads.Learnt,
-  note-above-reads.Asked,
-  note-above-reads.Learnt,
-  u16-at-reads.Asked,
-  u16-at-reads.Learnt,
+  arrive-reads.Asked,
+  arrive-reads.Learnt,
+  read-length-reads.Asked,
+  read-length-reads.Learnt,
   append-pairs-reads.Asked,
   append-pairs-reads.Learnt,
   read-child-reads.Asked,
@@ -1176,14 +676,10 @@ dump-node-slice-aggregate-enter : (t : ℕ) → dump-node-lts.Need-slice-aggrega
 dump-node-slice-aggregate-enter t c = search needs
 
 dump-node-enter-requires : (t : ℕ) → dump-node-lts.Need-enter-requires (
-  common-length-reads.Asked,
-  common-length-reads.Learnt,
-  extend-reads.Asked,
-  extend-reads.Learnt,
-  note-above-reads.Asked,
-  note-above-reads.Learnt,
-  u16-at-reads.Asked,
-  u16-at-reads.Learnt,
+  arrive-reads.Asked,
+  arrive-reads.Learnt,
+  read-length-reads.Asked,
+  read-length-reads.Learnt,
   append-pairs-reads.Asked,
   append-pairs-reads.Learnt,
   read-child-reads.Asked,
@@ -1197,17 +693,13 @@ dump-node-enter-requires : (t : ℕ) → dump-node-lts.Need-enter-requires (
   merge-rows-reads.Asked,
   merge-rows-reads.Learnt,
 ) (dump-node-at t) dump-node.Post
-dump-node-enter-requires t c κs = let q = c .before .before .before .before .before .before .before .before .before .before .before .before .before .before .before .before .before .before .before .before .before .before .before .before .before .before .pre .0 in let m = c .before .before .before .before .before .before .before .before .before .before .before .before .before .before .before .before .before .before .before .common-length .ensures .1 in let i = c .before .before .before .before .before .before .before .before .before .before .before .before .before .before .before .before .before .before .before .common-length .ensures .2 in let g = c .before .before .before .before .before .before .before .before .before .before .before .before .before .before .before .before .before .if1 .left in let x = c .before .before .before .before .before .before .before .before .before .before .before .before .before .before .before .extend .ensures .1 in let v = c .before .before .before .before .before .before .before .if2 .left in let l : length (take ((c .before .before .before .before .before .before .before .before .before .before .before .before .before .before .before .before .before .before .before .common-length .result) - 0) (c .before .before .before .before .before .before .before .before .before .before .before .before .before .before .before .before .before .before .before .before .before .before .before .before .before .before .args .lo .now)) ≡ (c .before .before .before .before .before .before .before .before .before .before .before .before .before .before .before .before .before .before .before .common-length .result) - 0 = length-take-le ((c .before .before .before .before .before .before .before .before .before .before .before .before .before .before .before .before .before .before .before .common-length .result) - 0) (c .before .before .before .before .before .before .before .before .before .before .before .before .before .before .before .before .before .before .before .before .before .before .before .before .before .before .args .lo .now) (omega arith) in let r = (c .before .before .before .before .before .before .before .before .before .before .before .before .before .before .before .before .before .before .before .before .before .before .before .before .before .before .pre .1 .0) .room in let d = (c .before .before .before .before .before .before .before .before .before .before .before .before .before .before .before .before .before .before .before .before .before .before .before .before .before .before .pre .1 .0) .deep in (omega arith, trail-wider (c .before .before .before .before .before .before .before .before .before .before .before .before .before .before .before .before .before .before .before .before .before .before .before .before .before .before .args .store .now) ((c .before .before .before .before .before .before .before .before .before .before .before .before .before .before .before .before .before .before .before .before .before .before .before .before .before .before .args .node .position .prefix) .len) ((c .before .before .before .before .before .before .before .before .before .before .before .before .before .before .before .extend .result) .len) (c .before .before .before .before .before .before .before .before .before .before .before .before .before .before .before .before .before .before .before .before .before .before .before .before .before .before .args .node .position .trail) (omega arith) ((c .before .before .before .before .before .before .before .before .before .before .before .before .before .before .before .before .before .before .before .before .before .before .before .before .before .before .pre .1 .0) .trail), node-above (c .before .before .before .before .before .before .before .before .before .before .before .before .before .before .before .before .before .before .before .before .before .before .before .before .before .before .args .store .now) (c .before .before .before .before .before .before .before .before .before .before .before .before .before .before .before .before .before .before .before .before .before .before .before .before .before .before .args .node .level) (c .before .before .before .before .before .before .before .before .before .before .before .before .before .before .before .before .before .before .before .before .before .before .before .before .before .before .args .node .num) ((c .before .before .before .before .before .before .before .before .before .before .before .before .before .before .before .extend .result) .len) ((c .before .before .before .before .before .before .before .before .before .before .before .before .before .before .before .before .before .before .before .before .before .before .before .before .before .before .pre .1 .0) .reads), c .before .before .before .before .before .before .before .before .before .before .note-above .ensures .fits)
+dump-node-enter-requires t c κs = let st = c .before .before .before .before .before .before .before .before .before .before .before .before .arrive .ensures .near (c .before .before .before .before .before .before .before .before .before .before .if1 .left) in let d = (c .before .before .before .before .before .before .before .before .before .before .before .before .before .before .before .before .before .before .pre .1 .0) .deep in let v = c .before .before .before .before .before .before .before .if2 .left in let e = ap (λ (x : Trail). x .depth) (st .trail) in (omega arith, st .fits, node-above (c .before .before .before .before .before .before .before .before .before .before .before .before .before .before .before .before .before .before .args .store .now) (c .before .before .before .before .before .before .before .before .before .before .before .before .before .before .before .before .before .before .args .node .level) (c .before .before .before .before .before .before .before .before .before .before .before .before .before .before .before .before .before .before .args .node .num) (c .before .before .before .before .before .before .before .before .before .before .before .before .arrive .result .position .prefix .len) ((c .before .before .before .before .before .before .before .before .before .before .before .before .before .before .before .before .before .before .pre .1 .0) .reads), st .tells .fits)
 
 dump-node-sub-below : (t : ℕ) → dump-node-lts.Need-sub-below (
-  common-length-reads.Asked,
-  common-length-reads.Learnt,
-  extend-reads.Asked,
-  extend-reads.Learnt,
-  note-above-reads.Asked,
-  note-above-reads.Learnt,
-  u16-at-reads.Asked,
-  u16-at-reads.Learnt,
+  arrive-reads.Asked,
+  arrive-reads.Learnt,
+  read-length-reads.Asked,
+  read-length-reads.Learnt,
   append-pairs-reads.Asked,
   append-pairs-reads.Learnt,
   read-child-reads.Asked,
@@ -1224,14 +716,10 @@ dump-node-sub-below : (t : ℕ) → dump-node-lts.Need-sub-below (
 dump-node-sub-below t c = search needs
 
 dump-node-sub-dump-children : (t : ℕ) → dump-node-lts.Need-sub-dump-children (
-  common-length-reads.Asked,
-  common-length-reads.Learnt,
-  extend-reads.Asked,
-  extend-reads.Learnt,
-  note-above-reads.Asked,
-  note-above-reads.Learnt,
-  u16-at-reads.Asked,
-  u16-at-reads.Learnt,
+  arrive-reads.Asked,
+  arrive-reads.Learnt,
+  read-length-reads.Asked,
+  read-length-reads.Learnt,
   append-pairs-reads.Asked,
   append-pairs-reads.Learnt,
   read-child-reads.Asked,
@@ -1245,17 +733,13 @@ dump-node-sub-dump-children : (t : ℕ) → dump-node-lts.Need-sub-dump-children
   merge-rows-reads.Asked,
   merge-rows-reads.Learnt,
 ) (dump-node-at t) dump-node.Post
-dump-node-sub-dump-children t c = let q = c .before .before .before .before .before .before .before .before .before .before .before .before .before .before .before .before .before .before .before .before .before .before .before .before .before .before .before .before .before .pre .0 in let m = c .before .before .before .before .before .before .before .before .before .before .before .before .before .before .before .before .before .before .before .before .before .before .common-length .ensures .1 in let i = c .before .before .before .before .before .before .before .before .before .before .before .before .before .before .before .before .before .before .before .before .before .before .common-length .ensures .2 in let g = c .before .before .before .before .before .before .before .before .before .before .before .before .before .before .before .before .before .before .before .before .if1 .left in let x = c .before .before .before .before .before .before .before .before .before .before .before .before .before .before .before .before .before .before .extend .ensures .1 in let v = c .before .before .before .before .before .before .before .before .before .before .if2 .left in omega arith
+dump-node-sub-dump-children t c = let st = c .before .before .before .before .before .before .before .before .before .before .before .before .before .before .before .arrive .ensures .near (c .before .before .before .before .before .before .before .before .before .before .before .before .before .if1 .left) in let l = st .low in let h = st .high in omega arith
 
 dump-node-part-dump-children-start : (t : ℕ) → dump-node-lts.Need-part-dump-children-start (
-  common-length-reads.Asked,
-  common-length-reads.Learnt,
-  extend-reads.Asked,
-  extend-reads.Learnt,
-  note-above-reads.Asked,
-  note-above-reads.Learnt,
-  u16-at-reads.Asked,
-  u16-at-reads.Learnt,
+  arrive-reads.Asked,
+  arrive-reads.Learnt,
+  read-length-reads.Asked,
+  read-length-reads.Learnt,
   append-pairs-reads.Asked,
   append-pairs-reads.Learnt,
   read-child-reads.Asked,
@@ -1269,17 +753,13 @@ dump-node-part-dump-children-start : (t : ℕ) → dump-node-lts.Need-part-dump-
   merge-rows-reads.Asked,
   merge-rows-reads.Learnt,
 ) (dump-node-at t) dump-node.Post
-dump-node-part-dump-children-start t c = let q = c .before .before .before .before .before .before .before .before .before .before .before .before .before .before .before .before .before .before .before .before .before .before .before .before .before .before .before .before .before .pre .0 in let m = c .before .before .before .before .before .before .before .before .before .before .before .before .before .before .before .before .before .before .before .before .before .before .common-length .ensures .1 in let i = c .before .before .before .before .before .before .before .before .before .before .before .before .before .before .before .before .before .before .before .before .before .before .common-length .ensures .2 in let g = c .before .before .before .before .before .before .before .before .before .before .before .before .before .before .before .before .before .before .before .before .if1 .left in let x = c .before .before .before .before .before .before .before .before .before .before .before .before .before .before .before .before .before .before .extend .ensures .1 in let v = c .before .before .before .before .before .before .before .before .before .before .if2 .left in omega arith
+dump-node-part-dump-children-start t c = let st = c .before .before .before .before .before .before .before .before .before .before .before .before .before .before .before .arrive .ensures .near (c .before .before .before .before .before .before .before .before .before .before .before .before .before .if1 .left) in let l = st .low in let h = st .high in omega arith
 
 dump-node-part-dump-children-end : (t : ℕ) → dump-node-lts.Need-part-dump-children-end (
-  common-length-reads.Asked,
-  common-length-reads.Learnt,
-  extend-reads.Asked,
-  extend-reads.Learnt,
-  note-above-reads.Asked,
-  note-above-reads.Learnt,
-  u16-at-reads.Asked,
-  u16-at-reads.Learnt,
+  arrive-reads.Asked,
+  arrive-reads.Learnt,
+  read-length-reads.Asked,
+  read-length-reads.Learnt,
   append-pairs-reads.Asked,
   append-pairs-reads.Learnt,
   read-child-reads.Asked,
@@ -1296,14 +776,10 @@ dump-node-part-dump-children-end : (t : ℕ) → dump-node-lts.Need-part-dump-ch
 dump-node-part-dump-children-end t c = search needs
 
 dump-node-dump-children-requires : (t : ℕ) → dump-node-lts.Need-dump-children-requires (
-  common-length-reads.Asked,
-  common-length-reads.Learnt,
-  extend-reads.Asked,
-  extend-reads.Learnt,
-  note-above-reads.Asked,
-  note-above-reads.Learnt,
-  u16-at-reads.Asked,
-  u16-at-reads.Learnt,
+  arrive-reads.Asked,
+  arrive-reads.Learnt,
+  read-length-reads.Asked,
+  read-length-reads.Learnt,
   append-pairs-reads.Asked,
   append-pairs-reads.Learnt,
   read-child-reads.Asked,
@@ -1317,17 +793,14 @@ dump-node-dump-children-requires : (t : ℕ) → dump-node-lts.Need-dump-childre
   merge-rows-reads.Asked,
   merge-rows-reads.Learnt,
 ) (dump-node-at t) dump-node.Post
-dump-node-dump-children-requires t c κs = let q = (c .before .before .before .before .before .before .before .before .before .before .before .before .before .before .before .before .before .before .before .before .before .before .before .before .before .before .before .before .before .before .before .pre .0) in let v = (c .before .before .before .before .before .before .before .before .before .before .before .before .if2 .left) in let w = node-inside (c .before .before .before .before .before .before .before .before .before .before .before .before .before .before .before .before .before .before .before .before .before .before .before .before .before .before .before .before .before .before .before .args .store .now) (c .before .before .before .before .before .before .before .before .before .before .before .before .before .before .before .before .before .before .before .before .before .before .before .before .before .before .before .before .before .before .before .args .node .num) (c .before .before .before .before .before .before .before .before .before .before .before .before .before .before .before .before .before .before .before .before .before .before .before .before .before .before .before .before .before .before .before .args .node .level) ((c .before .before .before .before .before .before .before .before .before .before .before .before .before .before .before .before .before .before .before .before .before .before .before .before .before .before .before .before .before .before .before .pre .1 .0) .reads) in let hs = here-short t (c .before .before .before .before .before .before .before .before .before .before .before .before .before .before .before .before .before .before .before .before) in let nc = first-next t (c .before .before .before .before .before .before .before .before) in let z = here-length t (c .before .before .before .before .before .before .before .before .before .before .before .before .before .before .before .before .before .before .before .before) in let d = nc .ends in (omega arith, rw (c .before .before .before .before .enter .ensures .0) (branches-ready (c .before .before .before .before .before .before .before .before .before .before .before .before .before .before .before .before .before .before .before .before .before .before .before .before .before .before .before .before .before .before .before .args .store .now) (c .before .before .before .before .before .before .before .before .before .before .before .before .before .before .before .before .before .before .before .before .before .before .before .before .before .before .before .before .before .before .before .args .node .level) (c .before .before .before .before .before .before .before .before .before .before .before .before .before .before .before .before .before .before .before .before .before .before .before .before .before .before .before .before .before .before .before .args .node .num) (c .before .before .before .before .before .before .before .before .before .before .before .before .before .before .before .before .before .before .before .before .before .before .before .before .before .before .before .before .before .before .before .args .node .position .prefix) (c .before .before .before .before .before .before .before .before .before .before .before .before .before .before .before .before .before .before .before .before .before .before .before .before .before .before .before .before .before .before .before .args .node .position .trail) (c .before .before .before .before .before .before .before .before .before .before .before .before .before .before .before .before .before .before .before .before .before .before .before .before .before .before .before .before .before .before .before .pre .1 .0) (c .before .before .before .before .before .before .before .before .before .before .before .before .before .before .before .before .before .before .before .before .before .before .before .before .before .before .before .before .before .before .before .args .lo .now) (c .before .before .before .before .before .before .before .before .before .before .before .before .before .before .before .before .before .before .before .before .before .before .before .before .before .before .before .before .before .before .before .args .hi .now) (c .before .before .before .before .before .before .before .before .before .before .before .before .before .before .before .before .before .before .before .before .before .before .before .before .common-length .result) (c .before .before .before .before .before .before .before .before .before .before .before .before .before .before .before .before .before .before .before .before .before .before .before .before .common-length .ensures .0) (c .before .before .before .before .before .before .before .before .before .before .before .before .before .before .before .before .before .before .before .before .extend .result) (c .before .before .before .before .before .before .before .before .before .before .before .before .before .before .before .before .before .before .before .before .extend .ensures .0) (c .before .before .before .before .before .before .before .before .before .before .before .before .before .u16-at .result) _ (c .before .before .before .before .before .before .before .before .before .before .before .before .before .u16-at .ensures .0) refl (omega arith) (c .before .before .before .before .before .before .before .before .before .first .given .0 .0) (c .before .before .before .before .before .before .before .before .before .first .given .0 .1 .0) (c .before .before .before .before .before .before .before .before .before .first .given .0 .1 .1 .0) nc (c .before .before .before .before .enter .result .trail) (c .before .before .before .before .enter .ensures .1) (omega arith) (omega arith), sound-branches (c .before .before .before .before .before .before .before .before .before .before .before .before .before .before .before .before .before .before .before .before .before .before .before .before .before .before .before .before .before .before .before .args .store .now) (c .before .before .before .before .before .before .before .before .before .before .before .before .before .before .before .before .before .before .before .before .before .before .before .before .before .before .before .before .before .before .before .args .node .level) (c .before .before .before .before .before .before .before .before .before .before .before .before .before .before .before .before .before .before .before .before .before .before .before .before .before .before .before .before .before .before .before .args .node .num) (c .before .before .before .before .before .before .before .before .before .before .before .before .before .before .before .before .before .before .before .before .before .before .before .before .before .before .before .before .before .before .before .args .node .position .prefix) (c .before .before .before .before .before .before .before .before .before .before .before .before .before .before .before .before .before .before .before .before .before .before .before .before .before .before .before .before .before .before .before .args .node .position .trail) (c .before .before .before .before .before .before .before .before .before .before .before .before .before .before .before .before .before .before .before .before .before .before .before .before .before .before .before .before .before .before .before .pre .1 .0) (c .before .before .before .before .before .before .before .before .before .before .before .before .before .before .before .before .before .before .before .before .before .before .before .before .before .before .before .before .before .before .before .args .lo .now) (c .before .before .before .before .before .before .before .before .before .before .before .before .before .before .before .before .before .before .before .before .before .before .before .before .before .before .before .before .before .before .before .args .hi .now) (c .before .before .before .before .before .before .before .before .before .before .before .before .before .before .before .before .before .before .before .before .before .before .before .before .before .before .before .before .before .before .before .pre .1 .1) (c .before .before .before .before .before .before .before .before .before .before .before .before .before .before .before .before .before .before .before .before .before .before .before .before .before .before .before .before .before .before .before .args .area .now) (c .before .before .before .before .before .before .before .before .before .before .before .before .before .before .before .before .before .before .before .before .before .before .before .before .before .before .before .before .before .before .before .args .m) (c .before .before .before .before .before .before .before .before .before .before .before .before .before .before .before .before .before .before .before .before .before .before .before .before .before .before .before .before .before .before .before .pre .1 .2) (c .before .before .before .before .before .before .before .before .before .before .before .before .before .before .before .before .before .before .before .before .before .before .before .before .common-length .result) (c .before .before .before .before .before .before .before .before .before .before .before .before .before .before .before .before .before .before .before .before .before .before .before .before .common-length .ensures .0) (c .before .before .before .before .before .before .before .before .before .before .before .before .before .before .before .before .before .before .before .before .extend .result) (c .before .before .before .before .before .before .before .before .before .before .before .before .before .before .before .before .before .before .before .before .extend .ensures .0) (c .before .before .before .before .before .before .before .before .before .before .before .before .before .u16-at .result) (c .before .before .before .before .before .before .before .before .before .before .before .before .before .u16-at .ensures .0) (omega arith) (c .before .before .before .before .before .before .before .before .before .first .given .0 .0) (c .before .before .before .before .before .before .before .before .before .first .given .0 .1 .0) (c .before .before .before .before .before .before .before .before .before .first .given .0 .1 .1 .0) nc, branches-room (c .before .before .before .before .before .before .before .before .before .before .before .before .before .before .before .before .before .before .before .before .before .before .before .before .before .before .before .before .before .before .before .args .store .now) (c .before .before .before .before .before .before .before .before .before .before .before .before .before .before .before .before .before .before .before .before .before .before .before .before .before .before .before .before .before .before .before .args .node .level) (c .before .before .before .before .before .before .before .before .before .before .before .before .before .before .before .before .before .before .before .before .before .before .before .before .before .before .before .before .before .before .before .args .node .num) (c .before .before .before .before .before .before .before .before .before .before .before .before .before .before .before .before .before .before .before .before .before .before .before .before .before .before .before .before .before .before .before .args .node .position .prefix) (c .before .before .before .before .before .before .before .before .before .before .before .before .before .before .before .before .before .before .before .before .before .before .before .before .before .before .before .before .before .before .before .args .node .position .trail) (c .before .before .before .before .before .before .before .before .before .before .before .before .before .before .before .before .before .before .before .before .before .before .before .before .before .before .before .before .before .before .before .pre .1 .0) (c .before .before .before .before .before .before .before .before .before .before .before .before .before .before .before .before .before .before .before .before .before .before .before .before .before .before .before .before .before .before .before .args .lo .now) (c .before .before .before .before .before .before .before .before .before .before .before .before .before .before .before .before .before .before .before .before .before .before .before .before .before .before .before .before .before .before .before .args .hi .now) (c .before .before .before .before .before .before .before .before .before .before .before .before .before .before .before .before .before .before .before .before .before .before .before .before .before .before .before .before .before .before .before .pre .1 .1) (c .before .before .before .before .before .before .before .before .before .before .before .before .before .before .before .before .before .before .before .before .before .before .before .before .before .before .before .before .before .before .before .args .area .now) (c .before .before .before .before .before .before .before .before .before .before .before .before .before .before .before .before .before .before .before .before .before .before .before .before .before .before .before .before .before .before .before .args .m) (c .before .before .before .before .before .before .before .before .before .before .before .before .before .before .before .before .before .before .before .before .before .before .before .before .before .before .before .before .before .before .before .pre .1 .2) (c .before .before .before .before .before .before .before .before .before .before .before .before .before .before .before .before .before .before .before .before .before .before .before .before .common-length .result) (c .before .before .before .before .before .before .before .before .before .before .before .before .before .before .before .before .before .before .before .before .before .before .before .before .common-length .ensures .0) (c .before .before .before .before .before .before .before .before .before .before .before .before .before .before .before .before .before .before .before .before .extend .result) (c .before .before .before .before .before .before .before .before .before .before .before .before .before .before .before .before .before .before .before .before .extend .ensures .0) (c .before .before .before .before .before .before .before .before .before .before .before .before .before .u16-at .result) (c .before .before .before .before .before .before .before .before .before .before .before .before .before .u16-at .ensures .0) (omega arith) (c .before .before .before .before .before .before .before .before .before .first .given .0 .0) (c .before .before .before .before .before .before .before .before .before .first .given .0 .1 .0) (c .before .before .before .before .before .before .before .before .before .first .given .0 .1 .1 .0) nc (c .before .before .before .before .enter .result .trail) (c .before .before .before .before .enter .ensures .1) (omega arith), branches-sound (c .before .before .before .before .before .before .before .before .before .before .before .before .before .before .before .before .before .before .before .before .before .before .before .before .before .before .before .before .before .before .before .args .node .position .prefix) (c .before .before .before .before .before .before .before .before .before .before .before .before .before .before .before .before .before .before .before .before .before .before .before .before .before .before .before .before .before .before .before .args .lo .now) (c .before .before .before .before .before .before .before .before .before .before .before .before .before .before .before .before .before .before .before .before .before .before .before .before .before .before .before .before .before .before .before .args .hi .now) (c .before .before .before .before .before .before .before .before .before .before .before .before .before .before .before .before .before .before .before .before .before .before .before .before .common-length .result) (c .before .before .before .before .before .before .before .before .before .before .before .before .before .before .before .before .before .before .before .before .before .before .before .before .common-length .ensures .0) (c .before .before .before .before .before .before .before .before .before .before .before .before .before .before .before .before .before .before .before .before .extend .result) (c .before .before .before .before .before .before .before .before .before .before .before .before .before .before .before .before .before .before .before .before .extend .ensures .0) (c .before .before .before .before .before .before .before .before .before .before .before .before .before .before .before .before .before .before .before .before .before .before .before .before .before .before .before .before .before .before .before .args .store .now) (c .before .before .before .before .before .before .before .before .before .before .before .before .before .before .before .before .before .before .before .before .before .before .before .before .before .before .before .before .before .before .before .args .node .level) (c .before .before .before .before .before .before .before .before .before .before .before .before .before .before .before .before .before .before .before .before .before .before .before .before .before .before .before .before .before .before .before .args .node .num) (c .before .before .before .before .before .before .before .before .before .before .before .before .before .before .before .before .before .before .before .before .before .before .before .before .before .before .before .before .before .before .before .pre .1 .0 .reads) (c .before .before .before .before .before .before .before .before .before .before .before .before .before .before .before .before .before .before .before .before .before .before .before .before .before .before .before .before .before .before .before .pre .1 .1) (c .before .before .before .before .before .before .before .before .before .before .before .before .before .u16-at .result) (c .before .before .before .before .before .before .before .before .before .before .before .before .before .u16-at .ensures .0) (omega arith) _ _ _ nc _ _ _ (told-joined _ _ _ _ _ _ (c .before .before .before .before .before .before .before .before .before .before .before .before .before .before .before .before .before .before .before .before .extend .result) _ _ _ _ (omega arith) (c .before .before .before .before .enter .ensures .1) (c .before .before .before .before .before .before .before .before .before .before .before .before .before .before .before .note-above .ensures) (c .before .before .before .before .enter .ensures .2))))
+dump-node-dump-children-requires t c κs = let st = c .before .before .before .before .before .before .before .before .before .before .before .before .before .before .before .before .before .arrive .ensures .near (c .before .before .before .before .before .before .before .before .before .before .before .before .before .before .before .if1 .left) in let q = c .before .before .before .before .before .before .before .before .before .before .before .before .before .before .before .before .before .before .before .before .before .before .before .pre .0 in let v = c .before .before .before .before .before .before .before .before .before .before .before .before .if2 .left in let w = node-inside (c .before .before .before .before .before .before .before .before .before .before .before .before .before .before .before .before .before .before .before .before .before .before .before .args .store .now) (c .before .before .before .before .before .before .before .before .before .before .before .before .before .before .before .before .before .before .before .before .before .before .before .args .node .num) (c .before .before .before .before .before .before .before .before .before .before .before .before .before .before .before .before .before .before .before .before .before .before .before .args .node .level) ((c .before .before .before .before .before .before .before .before .before .before .before .before .before .before .before .before .before .before .before .before .before .before .before .pre .1 .0) .reads) in let nc = first-next t (c .before .before .before .before .before .before .before .before) in let d = nc .ends in
+    (omega arith, rw (c .before .before .before .before .enter .ensures .0) (branches-ready (c .before .before .before .before .before .before .before .before .before .before .before .before .before .before .before .before .before .before .before .before .before .before .before .args .store .now) (c .before .before .before .before .before .before .before .before .before .before .before .before .before .before .before .before .before .before .before .before .before .before .before .args .node .level) (c .before .before .before .before .before .before .before .before .before .before .before .before .before .before .before .before .before .before .before .before .before .before .before .args .node .num) (c .before .before .before .before .before .before .before .before .before .before .before .before .before .before .before .before .before .before .before .before .before .before .before .args .node .position .prefix) (c .before .before .before .before .before .before .before .before .before .before .before .before .before .before .before .before .before .before .before .before .before .before .before .args .node .position .trail) (c .before .before .before .before .before .before .before .before .before .before .before .before .before .before .before .before .before .before .before .before .before .before .before .pre .1 .0) (c .before .before .before .before .before .before .before .before .before .before .before .before .before .before .before .before .before .before .before .before .before .before .before .args .lo .now) (c .before .before .before .before .before .before .before .before .before .before .before .before .before .before .before .before .before .before .before .before .before .before .before .args .hi .now) (c .before .before .before .before .before .before .before .before .before .before .before .before .before .before .before .before .before .arrive .result .lifted) (c .before .before .before .before .before .before .before .before .before .before .before .before .before .before .before .before .before .arrive .ensures .lifts) (c .before .before .before .before .before .before .before .before .before .before .before .before .before .before .before .before .before .arrive .result .position .prefix) (st .prefix) (c .before .before .before .before .before .before .before .before .before .before .before .before .before .read-length .result) _ (c .before .before .before .before .before .before .before .before .before .before .before .before .before .read-length .ensures .0) refl (omega arith) (c .before .before .before .before .before .before .before .before .before .first .given .0 .0) (c .before .before .before .before .before .before .before .before .before .first .given .0 .1 .0) (c .before .before .before .before .before .before .before .before .before .first .given .0 .1 .1 .0) nc (c .before .before .before .before .enter .result .trail) (rw (st .trail) at (c .before .before .before .before .enter .ensures .1)) (omega arith) (st .room), sound-branches (c .before .before .before .before .before .before .before .before .before .before .before .before .before .before .before .before .before .before .before .before .before .before .before .args .store .now) (c .before .before .before .before .before .before .before .before .before .before .before .before .before .before .before .before .before .before .before .before .before .before .before .args .node .level) (c .before .before .before .before .before .before .before .before .before .before .before .before .before .before .before .before .before .before .before .before .before .before .before .args .node .num) (c .before .before .before .before .before .before .before .before .before .before .before .before .before .before .before .before .before .before .before .before .before .before .before .args .node .position .prefix) (c .before .before .before .before .before .before .before .before .before .before .before .before .before .before .before .before .before .before .before .before .before .before .before .args .node .position .trail) (c .before .before .before .before .before .before .before .before .before .before .before .before .before .before .before .before .before .before .before .before .before .before .before .pre .1 .0) (c .before .before .before .before .before .before .before .before .before .before .before .before .before .before .before .before .before .before .before .before .before .before .before .args .lo .now) (c .before .before .before .before .before .before .before .before .before .before .before .before .before .before .before .before .before .before .before .before .before .before .before .args .hi .now) (c .before .before .before .before .before .before .before .before .before .before .before .before .before .before .before .before .before .before .before .before .before .before .before .pre .1 .1) (c .before .before .before .before .before .before .before .before .before .before .before .before .before .before .before .before .before .before .before .before .before .before .before .args .area .now) (c .before .before .before .before .before .before .before .before .before .before .before .before .before .before .before .before .before .before .before .before .before .before .before .args .m) (c .before .before .before .before .before .before .before .before .before .before .before .before .before .before .before .before .before .before .before .before .before .before .before .pre .1 .2) (c .before .before .before .before .before .before .before .before .before .before .before .before .before .before .before .before .before .arrive .result .lifted) (c .before .before .before .before .before .before .before .before .before .before .before .before .before .before .before .before .before .arrive .ensures .lifts) (c .before .before .before .before .before .before .before .before .before .before .before .before .before .before .before .before .before .arrive .result .position .prefix) (st .prefix) (c .before .before .before .before .before .before .before .before .before .before .before .before .before .read-length .result) (c .before .before .before .before .before .before .before .before .before .before .before .before .before .read-length .ensures .0) (omega arith) (c .before .before .before .before .before .before .before .before .before .first .given .0 .0) (c .before .before .before .before .before .before .before .before .before .first .given .0 .1 .0) (c .before .before .before .before .before .before .before .before .before .first .given .0 .1 .1 .0) nc, branches-room (c .before .before .before .before .before .before .before .before .before .before .before .before .before .before .before .before .before .before .before .before .before .before .before .args .store .now) (c .before .before .before .before .before .before .before .before .before .before .before .before .before .before .before .before .before .before .before .before .before .before .before .args .node .level) (c .before .before .before .before .before .before .before .before .before .before .before .before .before .before .before .before .before .before .before .before .before .before .before .args .node .num) (c .before .before .before .before .before .before .before .before .before .before .before .before .before .before .before .before .before .before .before .before .before .before .before .args .node .position .prefix) (c .before .before .before .before .before .before .before .before .before .before .before .before .before .before .before .before .before .before .before .before .before .before .before .args .node .position .trail) (c .before .before .before .before .before .before .before .before .before .before .before .before .before .before .before .before .before .before .before .before .before .before .before .pre .1 .0) (c .before .before .before .before .before .before .before .before .before .before .before .before .before .before .before .before .before .before .before .before .before .before .before .args .lo .now) (c .before .before .before .before .before .before .before .before .before .before .before .before .before .before .before .before .before .before .before .before .before .before .before .args .hi .now) (c .before .before .before .before .before .before .before .before .before .before .before .before .before .before .before .before .before .before .before .before .before .before .before .pre .1 .1) (c .before .before .before .before .before .before .before .before .before .before .before .before .before .before .before .before .before .before .before .before .before .before .before .args .area .now) (c .before .before .before .before .before .before .before .before .before .before .before .before .before .before .before .before .before .before .before .before .before .before .before .args .m) (c .before .before .before .before .before .before .before .before .before .before .before .before .before .before .before .before .before .before .before .before .before .before .before .pre .1 .2) (c .before .before .before .before .before .before .before .before .before .before .before .before .before .before .before .before .before .arrive .result .lifted) (c .before .before .before .before .before .before .before .before .before .before .before .before .before .before .before .before .before .arrive .ensures .lifts) (c .before .before .before .before .before .before .before .before .before .before .before .before .before .before .before .before .before .arrive .result .position .prefix) (st .prefix) (c .before .before .before .before .before .before .before .before .before .before .before .before .before .read-length .result) (c .before .before .before .before .before .before .before .before .before .before .before .before .before .read-length .ensures .0) (omega arith) (c .before .before .before .before .before .before .before .before .before .first .given .0 .0) (c .before .before .before .before .before .before .before .before .before .first .given .0 .1 .0) (c .before .before .before .before .before .before .before .before .before .first .given .0 .1 .1 .0) nc (c .before .before .before .before .enter .result .trail) (rw (st .trail) at (c .before .before .before .before .enter .ensures .1)) (st .inside), branches-sound (c .before .before .before .before .before .before .before .before .before .before .before .before .before .before .before .before .before .before .before .before .before .before .before .args .node .position .prefix) (c .before .before .before .before .before .before .before .before .before .before .before .before .before .before .before .before .before .before .before .before .before .before .before .args .lo .now) (c .before .before .before .before .before .before .before .before .before .before .before .before .before .before .before .before .before .before .before .before .before .before .before .args .hi .now) (c .before .before .before .before .before .before .before .before .before .before .before .before .before .before .before .before .before .arrive .result .lifted) (c .before .before .before .before .before .before .before .before .before .before .before .before .before .before .before .before .before .arrive .ensures .lifts) (c .before .before .before .before .before .before .before .before .before .before .before .before .before .before .before .before .before .arrive .result .position .prefix) (st .prefix) (c .before .before .before .before .before .before .before .before .before .before .before .before .before .before .before .before .before .before .before .before .before .before .before .args .store .now) (c .before .before .before .before .before .before .before .before .before .before .before .before .before .before .before .before .before .before .before .before .before .before .before .args .node .level) (c .before .before .before .before .before .before .before .before .before .before .before .before .before .before .before .before .before .before .before .before .before .before .before .args .node .num) (c .before .before .before .before .before .before .before .before .before .before .before .before .before .before .before .before .before .before .before .before .before .before .before .pre .1 .0 .reads) (c .before .before .before .before .before .before .before .before .before .before .before .before .before .before .before .before .before .before .before .before .before .before .before .pre .1 .1) (c .before .before .before .before .before .before .before .before .before .before .before .before .before .read-length .result) (c .before .before .before .before .before .before .before .before .before .before .before .before .before .read-length .ensures .0) (omega arith) _ _ _ nc _ _ _ (told-joined _ _ _ _ _ _ (c .before .before .before .before .before .before .before .before .before .before .before .before .before .before .before .before .before .arrive .result .position .prefix) _ _ _ _ (st .inside) (c .before .before .before .before .enter .ensures .1) (st .tells) (c .before .before .before .before .enter .ensures .2))))
 
 dump-node-insert-puts-requires : (t : ℕ) → dump-node-lts.Need-insert-puts-requires (
-  common-length-reads.Asked,
-  common-length-reads.Learnt,
-  extend-reads.Asked,
-  extend-reads.Learnt,
-  note-above-reads.Asked,
-  note-above-reads.Learnt,
-  u16-at-reads.Asked,
-  u16-at-reads.Learnt,
+  arrive-reads.Asked,
+  arrive-reads.Learnt,
+  read-length-reads.Asked,
+  read-length-reads.Learnt,
   append-pairs-reads.Asked,
   append-pairs-reads.Learnt,
   read-child-reads.Asked,
@@ -1341,17 +814,14 @@ dump-node-insert-puts-requires : (t : ℕ) → dump-node-lts.Need-insert-puts-re
   merge-rows-reads.Asked,
   merge-rows-reads.Learnt,
 ) (dump-node-at t) dump-node.Post
-dump-node-insert-puts-requires t c κs = let w = node-inside (c .before .before .before .before .before .before .before .before .before .before .before .before .before .before .before .before .before .before .before .before .before .before .before .before .before .before .before .before .before .before .before .before .before .before .before .args .store .now) (c .before .before .before .before .before .before .before .before .before .before .before .before .before .before .before .before .before .before .before .before .before .before .before .before .before .before .before .before .before .before .before .before .before .before .before .args .node .num) (c .before .before .before .before .before .before .before .before .before .before .before .before .before .before .before .before .before .before .before .before .before .before .before .before .before .before .before .before .before .before .before .before .before .before .before .args .node .level) ((c .before .before .before .before .before .before .before .before .before .before .before .before .before .before .before .before .before .before .before .before .before .before .before .before .before .before .before .before .before .before .before .before .before .before .before .pre .1 .0) .reads) in let hs = here-short t (c .before .before .before .before .before .before .before .before .before .before .before .before .before .before .before .before .before .before .before .before .before .before .before .before) in let ul = (c .before .before .before .before .before .before .before .before .before .before .before .before .before .before .before .before .before .u16-at .ensures .0) in let nc = first-next t (c .before .before .before .before .before .before .before .before .before .before .before .before) in let z = here-length t (c .before .before .before .before .before .before .before .before .before .before .before .before .before .before .before .before .before .before .before .before .before .before .before .before) in (omega arith, omega arith, trail-wider (c .before .before .before .before .before .before .before .before .before .before .before .before .before .before .before .before .before .before .before .before .before .before .before .before .before .before .before .before .before .before .before .before .before .before .before .args .store .now) ((c .before .before .before .before .before .before .before .before .before .before .before .before .before .before .before .before .before .before .before .before .before .before .before .before .before .before .before .before .before .before .before .before .before .before .before .args .node .position .prefix) .len) ((c .before .before .before .before .before .before .before .before .before .before .before .before .before .before .before .before .before .before .before .before .before .before .before .before .extend .result) .len) (c .before .before .before .before .before .before .before .before .before .before .before .before .before .before .before .before .before .before .before .before .before .before .before .before .before .before .before .before .before .before .before .before .before .before .before .args .node .position .trail) (omega arith) ((c .before .before .before .before .before .before .before .before .before .before .before .before .before .before .before .before .before .before .before .before .before .before .before .before .before .before .before .before .before .before .before .before .before .before .before .pre .1 .0) .trail), puts-open (c .before .before .before .before .before .before .before .before .before .before .before .before .before .before .before .before .before .before .before .before .before .before .before .before .before .before .before .before .before .before .before .before .before .before .before .args .store .now) (c .before .before .before .before .before .before .before .before .before .before .before .before .before .before .before .before .before .before .before .before .before .before .before .before .before .before .before .before .before .before .before .before .before .before .before .args .node .level) (c .before .before .before .before .before .before .before .before .before .before .before .before .before .before .before .before .before .before .before .before .before .before .before .before .before .before .before .before .before .before .before .before .before .before .before .args .node .num) (c .before .before .before .before .before .before .before .before .before .before .before .before .before .before .before .before .before .before .before .before .before .before .before .before .before .before .before .before .before .before .before .before .before .before .before .args .node .position .prefix) (c .before .before .before .before .before .before .before .before .before .before .before .before .before .before .before .before .before .before .before .before .before .before .before .before .before .before .before .before .before .before .before .before .before .before .before .args .node .position .trail) (c .before .before .before .before .before .before .before .before .before .before .before .before .before .before .before .before .before .before .before .before .before .before .before .before .before .before .before .before .before .before .before .before .before .before .before .pre .1 .0) (c .before .before .before .before .before .before .before .before .before .before .before .before .before .before .before .before .before .before .before .before .before .before .before .before .before .before .before .before .before .before .before .before .before .before .before .args .lo .now) (c .before .before .before .before .before .before .before .before .before .before .before .before .before .before .before .before .before .before .before .before .before .before .before .before .before .before .before .before .before .before .before .before .before .before .before .args .hi .now) (c .before .before .before .before .before .before .before .before .before .before .before .before .before .before .before .before .before .before .before .before .before .before .before .before .before .before .before .before .before .before .before .before .before .before .before .pre .1 .1) (c .before .before .before .before .before .before .before .before .before .before .before .before .before .before .before .before .before .before .before .before .before .before .before .before .before .before .before .before .before .before .before .before .before .before .before .args .area .now) (c .before .before .before .before .before .before .before .before .before .before .before .before .before .before .before .before .before .before .before .before .before .before .before .before .before .before .before .before .before .before .before .before .before .before .before .args .m) (c .before .before .before .before .before .before .before .before .before .before .before .before .before .before .before .before .before .before .before .before .before .before .before .before .before .before .before .before .before .before .before .before .before .before .before .pre .1 .2) (c .before .before .before .before .before .before .before .before .before .before .before .before .before .before .before .before .before .before .before .before .before .before .before .before .before .before .before .before .common-length .result) (c .before .before .before .before .before .before .before .before .before .before .before .before .before .before .before .before .before .before .before .before .before .before .before .before .before .before .before .before .common-length .ensures .0) (c .before .before .before .before .before .before .before .before .before .before .before .before .before .before .before .before .before .before .before .before .before .before .before .before .extend .result) (c .before .before .before .before .before .before .before .before .before .before .before .before .before .before .before .before .before .before .before .before .before .before .before .before .extend .ensures .0) (c .before .before .before .before .before .before .before .before .before .before .before .before .before .before .before .before .before .u16-at .result) (c .before .before .before .before .before .before .before .before .before .before .before .before .before .before .before .before .before .u16-at .ensures .0) (omega arith) (c .before .before .before .before .before .before .before .before .before .before .before .before .before .first .given .0 .0) (c .before .before .before .before .before .before .before .before .before .before .before .before .before .first .given .0 .1 .0) (c .before .before .before .before .before .before .before .before .before .before .before .before .before .first .given .0 .1 .1 .0) nc (c .before .before .before .before .before .before .before .before .enter .result .trail) (c .before .before .before .before .before .before .before .before .enter .ensures .1) (omega arith) _ _ (rw (c .before .before .before .before .before .before .before .before .enter .ensures .0) at (c .before .before .before .dump-children .ensures)))
+dump-node-insert-puts-requires t c κs = let w = node-inside (c .before .before .before .before .before .before .before .before .before .before .before .before .before .before .before .before .before .before .before .before .before .before .before .before .before .before .before .args .store .now) (c .before .before .before .before .before .before .before .before .before .before .before .before .before .before .before .before .before .before .before .before .before .before .before .before .before .before .before .args .node .num) (c .before .before .before .before .before .before .before .before .before .before .before .before .before .before .before .before .before .before .before .before .before .before .before .before .before .before .before .args .node .level) ((c .before .before .before .before .before .before .before .before .before .before .before .before .before .before .before .before .before .before .before .before .before .before .before .before .before .before .before .pre .1 .0) .reads) in let st = c .before .before .before .before .before .before .before .before .before .before .before .before .before .before .before .before .before .before .before .before .before .arrive .ensures .near (c .before .before .before .before .before .before .before .before .before .before .before .before .before .before .before .before .before .before .before .if1 .left) in let v = c .before .before .before .before .before .before .before .before .before .before .before .before .before .before .before .before .if2 .left in let ul = c .before .before .before .before .before .before .before .before .before .before .before .before .before .before .before .before .before .read-length .ensures .0 in let nc = first-next t (c .before .before .before .before .before .before .before .before .before .before .before .before) in
+    (omega arith, st .room, st .fits, rw (st .trail) (puts-open (c .before .before .before .before .before .before .before .before .before .before .before .before .before .before .before .before .before .before .before .before .before .before .before .before .before .before .before .args .store .now) (c .before .before .before .before .before .before .before .before .before .before .before .before .before .before .before .before .before .before .before .before .before .before .before .before .before .before .before .args .node .level) (c .before .before .before .before .before .before .before .before .before .before .before .before .before .before .before .before .before .before .before .before .before .before .before .before .before .before .before .args .node .num) (c .before .before .before .before .before .before .before .before .before .before .before .before .before .before .before .before .before .before .before .before .before .before .before .before .before .before .before .args .node .position .prefix) (c .before .before .before .before .before .before .before .before .before .before .before .before .before .before .before .before .before .before .before .before .before .before .before .before .before .before .before .args .node .position .trail) (c .before .before .before .before .before .before .before .before .before .before .before .before .before .before .before .before .before .before .before .before .before .before .before .before .before .before .before .pre .1 .0) (c .before .before .before .before .before .before .before .before .before .before .before .before .before .before .before .before .before .before .before .before .before .before .before .before .before .before .before .args .lo .now) (c .before .before .before .before .before .before .before .before .before .before .before .before .before .before .before .before .before .before .before .before .before .before .before .before .before .before .before .args .hi .now) (c .before .before .before .before .before .before .before .before .before .before .before .before .before .before .before .before .before .before .before .before .before .before .before .before .before .before .before .pre .1 .1) (c .before .before .before .before .before .before .before .before .before .before .before .before .before .before .before .before .before .before .before .before .before .before .before .before .before .before .before .args .area .now) (c .before .before .before .before .before .before .before .before .before .before .before .before .before .before .before .before .before .before .before .before .before .before .before .before .before .before .before .args .m) (c .before .before .before .before .before .before .before .before .before .before .before .before .before .before .before .before .before .before .before .before .before .before .before .before .before .before .before .pre .1 .2) (c .before .before .before .before .before .before .before .before .before .before .before .before .before .before .before .before .before .before .before .before .before .arrive .result .lifted) (c .before .before .before .before .before .before .before .before .before .before .before .before .before .before .before .before .before .before .before .before .before .arrive .ensures .lifts) (c .before .before .before .before .before .before .before .before .before .before .before .before .before .before .before .before .before .before .before .before .before .arrive .result .position .prefix) (st .prefix) (c .before .before .before .before .before .before .before .before .before .before .before .before .before .before .before .before .before .read-length .result) (c .before .before .before .before .before .before .before .before .before .before .before .before .before .before .before .before .before .read-length .ensures .0) (omega arith) (c .before .before .before .before .before .before .before .before .before .before .before .before .before .first .given .0 .0) (c .before .before .before .before .before .before .before .before .before .before .before .before .before .first .given .0 .1 .0) (c .before .before .before .before .before .before .before .before .before .before .before .before .before .first .given .0 .1 .1 .0) nc (c .before .before .before .before .before .before .before .before .enter .result .trail) (rw (st .trail) at (c .before .before .before .before .before .before .before .before .enter .ensures .1)) (st .inside) _ _ (rw (c .before .before .before .before .before .before .before .before .enter .ensures .0) at (c .before .before .before .dump-children .ensures))))
 
 dump-node-merge-rows-requires : (t : ℕ) → dump-node-lts.Need-merge-rows-requires (
-  common-length-reads.Asked,
-  common-length-reads.Learnt,
-  extend-reads.Asked,
-  extend-reads.Learnt,
-  note-above-reads.Asked,
-  note-above-reads.Learnt,
-  u16-at-reads.Asked,
-  u16-at-reads.Learnt,
+  arrive-reads.Asked,
+  arrive-reads.Learnt,
+  read-length-reads.Asked,
+  read-length-reads.Learnt,
   append-pairs-reads.Asked,
   append-pairs-reads.Learnt,
   read-child-reads.Asked,
@@ -1365,17 +835,13 @@ dump-node-merge-rows-requires : (t : ℕ) → dump-node-lts.Need-merge-rows-requ
   merge-rows-reads.Asked,
   merge-rows-reads.Learnt,
 ) (dump-node-at t) dump-node.Post
-dump-node-merge-rows-requires t c κs = let v = (c .before .before .before .before .before .before .before .before .before .before .before .before .before .before .before .before .before .before .before .before .if2 .left) in let hs = here-short t (c .before .before .before .before .before .before .before .before .before .before .before .before .before .before .before .before .before .before .before .before .before .before .before .before .before .before .before .before) in let nc = first-next t (c .before .before .before .before .before .before .before .before .before .before .before .before .before .before .before .before) in let z = here-length t (c .before .before .before .before .before .before .before .before .before .before .before .before .before .before .before .before .before .before .before .before .before .before .before .before .before .before .before .before) in puts-apart (c .before .before .before .before .before .before .before .before .before .before .before .before .before .before .before .before .before .before .before .before .before .before .before .before .before .before .before .before .before .before .before .before .before .before .before .before .before .before .before .args .store .now) (c .before .before .before .before .before .before .before .before .before .before .before .before .before .before .before .before .before .before .before .before .before .before .before .before .before .before .before .before .before .before .before .before .before .before .before .before .before .before .before .args .node .level) (c .before .before .before .before .before .before .before .before .before .before .before .before .before .before .before .before .before .before .before .before .before .before .before .before .before .before .before .before .before .before .before .before .before .before .before .before .before .before .before .args .node .num) (c .before .before .before .before .before .before .before .before .before .before .before .before .before .before .before .before .before .before .before .before .before .before .before .before .before .before .before .before .before .before .before .before .before .before .before .before .before .before .before .args .node .position .prefix) (c .before .before .before .before .before .before .before .before .before .before .before .before .before .before .before .before .before .before .before .before .before .before .before .before .before .before .before .before .before .before .before .before .before .before .before .before .before .before .before .args .node .position .trail) (c .before .before .before .before .before .before .before .before .before .before .before .before .before .before .before .before .before .before .before .before .before .before .before .before .before .before .before .before .before .before .before .before .before .before .before .before .before .before .before .pre .1 .0) (c .before .before .before .before .before .before .before .before .before .before .before .before .before .before .before .before .before .before .before .before .before .before .before .before .before .before .before .before .before .before .before .before .before .before .before .before .before .before .before .args .lo .now) (c .before .before .before .before .before .before .before .before .before .before .before .before .before .before .before .before .before .before .before .before .before .before .before .before .before .before .before .before .before .before .before .before .before .before .before .before .before .before .before .args .hi .now) (c .before .before .before .before .before .before .before .before .before .before .before .before .before .before .before .before .before .before .before .before .before .before .before .before .before .before .before .before .before .before .before .before .before .before .before .before .before .before .before .pre .1 .1) (c .before .before .before .before .before .before .before .before .before .before .before .before .before .before .before .before .before .before .before .before .before .before .before .before .before .before .before .before .before .before .before .before .before .before .before .before .before .before .before .args .area .now) (c .before .before .before .before .before .before .before .before .before .before .before .before .before .before .before .before .before .before .before .before .before .before .before .before .before .before .before .before .before .before .before .before .before .before .before .before .before .before .before .args .m) (c .before .before .before .before .before .before .before .before .before .before .before .before .before .before .before .before .before .before .before .before .before .before .before .before .before .before .before .before .before .before .before .before .before .before .before .before .before .before .before .pre .1 .2) (c .before .before .before .before .before .before .before .before .before .before .before .before .before .before .before .before .before .before .before .before .before .before .before .before .before .before .before .before .before .before .before .before .common-length .result) (c .before .before .before .before .before .before .before .before .before .before .before .before .before .before .before .before .before .before .before .before .before .before .before .before .before .before .before .before .before .before .before .before .common-length .ensures .0) (c .before .before .before .before .before .before .before .before .before .before .before .before .before .before .before .before .before .before .before .before .before .before .before .before .before .before .before .before .extend .result) (c .before .before .before .before .before .before .before .before .before .before .before .before .before .before .before .before .before .before .before .before .before .before .before .before .before .before .before .before .extend .ensures .0) (c .before .before .before .before .before .before .before .before .before .before .before .before .before .before .before .before .before .before .before .before .before .u16-at .result) (c .before .before .before .before .before .before .before .before .before .before .before .before .before .before .before .before .before .before .before .before .before .u16-at .ensures .0) (omega arith) (c .before .before .before .before .before .before .before .before .before .before .before .before .before .before .before .before .before .first .given .0 .0) (c .before .before .before .before .before .before .before .before .before .before .before .before .before .before .before .before .before .first .given .0 .1 .0) (c .before .before .before .before .before .before .before .before .before .before .before .before .before .before .before .before .before .first .given .0 .1 .1 .0) nc (c .before .before .before .before .before .before .before .before .before .before .before .before .enter .result .trail) (c .before .before .before .before .before .before .before .before .before .before .before .before .enter .ensures .1) (omega arith) _ _ (rw (c .before .before .before .before .before .before .before .before .before .before .before .before .enter .ensures .0) at (c .before .before .before .before .before .before .before .dump-children .ensures)) _ _ (c .before .before .before .insert-puts .ensures)
+dump-node-merge-rows-requires t c κs = let v = c .before .before .before .before .before .before .before .before .before .before .before .before .before .before .before .before .before .before .before .before .if2 .left in let st = c .before .before .before .before .before .before .before .before .before .before .before .before .before .before .before .before .before .before .before .before .before .before .before .before .before .arrive .ensures .near (c .before .before .before .before .before .before .before .before .before .before .before .before .before .before .before .before .before .before .before .before .before .before .before .if1 .left) in let nc = first-next t (c .before .before .before .before .before .before .before .before .before .before .before .before .before .before .before .before) in puts-apart (c .before .before .before .before .before .before .before .before .before .before .before .before .before .before .before .before .before .before .before .before .before .before .before .before .before .before .before .before .before .before .before .args .store .now) (c .before .before .before .before .before .before .before .before .before .before .before .before .before .before .before .before .before .before .before .before .before .before .before .before .before .before .before .before .before .before .before .args .node .level) (c .before .before .before .before .before .before .before .before .before .before .before .before .before .before .before .before .before .before .before .before .before .before .before .before .before .before .before .before .before .before .before .args .node .num) (c .before .before .before .before .before .before .before .before .before .before .before .before .before .before .before .before .before .before .before .before .before .before .before .before .before .before .before .before .before .before .before .args .node .position .prefix) (c .before .before .before .before .before .before .before .before .before .before .before .before .before .before .before .before .before .before .before .before .before .before .before .before .before .before .before .before .before .before .before .args .node .position .trail) (c .before .before .before .before .before .before .before .before .before .before .before .before .before .before .before .before .before .before .before .before .before .before .before .before .before .before .before .before .before .before .before .pre .1 .0) (c .before .before .before .before .before .before .before .before .before .before .before .before .before .before .before .before .before .before .before .before .before .before .before .before .before .before .before .before .before .before .before .args .lo .now) (c .before .before .before .before .before .before .before .before .before .before .before .before .before .before .before .before .before .before .before .before .before .before .before .before .before .before .before .before .before .before .before .args .hi .now) (c .before .before .before .before .before .before .before .before .before .before .before .before .before .before .before .before .before .before .before .before .before .before .before .before .before .before .before .before .before .before .before .pre .1 .1) (c .before .before .before .before .before .before .before .before .before .before .before .before .before .before .before .before .before .before .before .before .before .before .before .before .before .before .before .before .before .before .before .args .area .now) (c .before .before .before .before .before .before .before .before .before .before .before .before .before .before .before .before .before .before .before .before .before .before .before .before .before .before .before .before .before .before .before .args .m) (c .before .before .before .before .before .before .before .before .before .before .before .before .before .before .before .before .before .before .before .before .before .before .before .before .before .before .before .before .before .before .before .pre .1 .2) (c .before .before .before .before .before .before .before .before .before .before .before .before .before .before .before .before .before .before .before .before .before .before .before .before .before .arrive .result .lifted) (c .before .before .before .before .before .before .before .before .before .before .before .before .before .before .before .before .before .before .before .before .before .before .before .before .before .arrive .ensures .lifts) (c .before .before .before .before .before .before .before .before .before .before .before .before .before .before .before .before .before .before .before .before .before .before .before .before .before .arrive .result .position .prefix) (st .prefix) (c .before .before .before .before .before .before .before .before .before .before .before .before .before .before .before .before .before .before .before .before .before .read-length .result) (c .before .before .before .before .before .before .before .before .before .before .before .before .before .before .before .before .before .before .before .before .before .read-length .ensures .0) (omega arith) (c .before .before .before .before .before .before .before .before .before .before .before .before .before .before .before .before .before .first .given .0 .0) (c .before .before .before .before .before .before .before .before .before .before .before .before .before .before .before .before .before .first .given .0 .1 .0) (c .before .before .before .before .before .before .before .before .before .before .before .before .before .before .before .before .before .first .given .0 .1 .1 .0) nc (c .before .before .before .before .before .before .before .before .before .before .before .before .enter .result .trail) (rw (st .trail) at (c .before .before .before .before .before .before .before .before .before .before .before .before .enter .ensures .1)) (st .inside) _ _ (rw (c .before .before .before .before .before .before .before .before .before .before .before .before .enter .ensures .0) at (c .before .before .before .before .before .before .before .dump-children .ensures)) _ _ (rw (st .trail) at (c .before .before .before .insert-puts .ensures))
 
 dump-node-same-length-2 : (t : ℕ) → dump-node-lts.Need-same-length-2 (
-  common-length-reads.Asked,
-  common-length-reads.Learnt,
-  extend-reads.Asked,
-  extend-reads.Learnt,
-  note-above-reads.Asked,
-  note-above-reads.Learnt,
-  u16-at-reads.Asked,
-  u16-at-reads.Learnt,
+  arrive-reads.Asked,
+  arrive-reads.Learnt,
+  read-length-reads.Asked,
+  read-length-reads.Learnt,
   append-pairs-reads.Asked,
   append-pairs-reads.Learnt,
   read-child-reads.Asked,
@@ -1392,14 +858,10 @@ dump-node-same-length-2 : (t : ℕ) → dump-node-lts.Need-same-length-2 (
 dump-node-same-length-2 t c = let a = (c .before .before .merge-rows .kept .0) in let b = (c .before .before .before .before .before .before .insert-puts .kept .0) in let d = (c .before .before .before .before .before .before .before .before .before .before .dump-children .kept .0) in omega arith
 
 dump-node-returns-4 : (t : ℕ) → dump-node-lts.Need-returns-4 (
-  common-length-reads.Asked,
-  common-length-reads.Learnt,
-  extend-reads.Asked,
-  extend-reads.Learnt,
-  note-above-reads.Asked,
-  note-above-reads.Learnt,
-  u16-at-reads.Asked,
-  u16-at-reads.Learnt,
+  arrive-reads.Asked,
+  arrive-reads.Learnt,
+  read-length-reads.Asked,
+  read-length-reads.Learnt,
   append-pairs-reads.Asked,
   append-pairs-reads.Learnt,
   read-child-reads.Asked,
@@ -1413,7 +875,7 @@ dump-node-returns-4 : (t : ℕ) → dump-node-lts.Need-returns-4 (
   merge-rows-reads.Asked,
   merge-rows-reads.Learnt,
 ) (dump-node-at t) dump-node.Post
-dump-node-returns-4 t c = let v = (c .before .before .before .before .before .before .before .before .before .before .before .before .before .before .before .before .before .before .before .before .before .before .before .if2 .left) in let hs = here-short t (c .before .before .before .before .before .before .before .before .before .before .before .before .before .before .before .before .before .before .before .before .before .before .before .before .before .before .before .before .before .before .before) in let nc = first-next t (c .before .before .before .before .before .before .before .before .before .before .before .before .before .before .before .before .before .before .before) in let z = here-length t (c .before .before .before .before .before .before .before .before .before .before .before .before .before .before .before .before .before .before .before .before .before .before .before .before .before .before .before .before .before .before .before) in node-inner (c .before .before .before .before .before .before .before .before .before .before .before .before .before .before .before .before .before .before .before .before .before .before .before .before .before .before .before .before .before .before .before .before .before .before .before .before .before .before .before .before .before .before .args .store .now) (c .before .before .before .before .before .before .before .before .before .before .before .before .before .before .before .before .before .before .before .before .before .before .before .before .before .before .before .before .before .before .before .before .before .before .before .before .before .before .before .before .before .before .args .node .level) (c .before .before .before .before .before .before .before .before .before .before .before .before .before .before .before .before .before .before .before .before .before .before .before .before .before .before .before .before .before .before .before .before .before .before .before .before .before .before .before .before .before .before .args .node .num) (c .before .before .before .before .before .before .before .before .before .before .before .before .before .before .before .before .before .before .before .before .before .before .before .before .before .before .before .before .before .before .before .before .before .before .before .before .before .before .before .before .before .before .args .node .position .prefix) (c .before .before .before .before .before .before .before .before .before .before .before .before .before .before .before .before .before .before .before .before .before .before .before .before .before .before .before .before .before .before .before .before .before .before .before .before .before .before .before .before .before .before .args .node .position .trail) (c .before .before .before .before .before .before .before .before .before .before .before .before .before .before .before .before .before .before .before .before .before .before .before .before .before .before .before .before .before .before .before .before .before .before .before .before .before .before .before .before .before .before .pre .1 .0) (c .before .before .before .before .before .before .before .before .before .before .before .before .before .before .before .before .before .before .before .before .before .before .before .before .before .before .before .before .before .before .before .before .before .before .before .before .before .before .before .before .before .before .args .lo .now) (c .before .before .before .before .before .before .before .before .before .before .before .before .before .before .before .before .before .before .before .before .before .before .before .before .before .before .before .before .before .before .before .before .before .before .before .before .before .before .before .before .before .before .args .hi .now) (c .before .before .before .before .before .before .before .before .before .before .before .before .before .before .before .before .before .before .before .before .before .before .before .before .before .before .before .before .before .before .before .before .before .before .before .before .before .before .before .before .before .before .pre .1 .1) (c .before .before .before .before .before .before .before .before .before .before .before .before .before .before .before .before .before .before .before .before .before .before .before .before .before .before .before .before .before .before .before .before .before .before .before .before .before .before .before .before .before .before .args .area .now) (c .before .before .before .before .before .before .before .before .before .before .before .before .before .before .before .before .before .before .before .before .before .before .before .before .before .before .before .before .before .before .before .before .before .before .before .before .before .before .before .before .before .before .args .m) (c .before .before .before .before .before .before .before .before .before .before .before .before .before .before .before .before .before .before .before .before .before .before .before .before .before .before .before .before .before .before .before .before .before .before .before .before .before .before .before .before .before .before .pre .1 .2) (c .before .before .before .before .before .before .before .before .before .before .before .before .before .before .before .before .before .before .before .before .before .before .before .before .before .before .before .before .before .before .before .before .before .before .before .common-length .result) (c .before .before .before .before .before .before .before .before .before .before .before .before .before .before .before .before .before .before .before .before .before .before .before .before .before .before .before .before .before .before .before .before .before .before .before .common-length .ensures .0) (c .before .before .before .before .before .before .before .before .before .before .before .before .before .before .before .before .before .before .before .before .before .before .before .before .before .before .before .before .before .before .before .extend .result) (c .before .before .before .before .before .before .before .before .before .before .before .before .before .before .before .before .before .before .before .before .before .before .before .before .before .before .before .before .before .before .before .extend .ensures .0) (c .before .before .before .before .before .before .before .before .before .before .before .before .before .before .before .before .before .before .before .before .before .before .before .before .u16-at .result) (c .before .before .before .before .before .before .before .before .before .before .before .before .before .before .before .before .before .before .before .before .before .before .before .before .u16-at .ensures .0) (omega arith) (c .before .before .before .before .before .before .before .before .before .before .before .before .before .before .before .before .before .before .before .before .first .given .0 .0) (c .before .before .before .before .before .before .before .before .before .before .before .before .before .before .before .before .before .before .before .before .first .given .0 .1 .0) (c .before .before .before .before .before .before .before .before .before .before .before .before .before .before .before .before .before .before .before .before .first .given .0 .1 .1 .0) nc (c .before .before .before .before .before .before .before .before .before .before .before .before .before .before .before .enter .result .trail) (c .before .before .before .before .before .before .before .before .before .before .before .before .before .before .before .enter .ensures .1) (omega arith) _ _ (rw (c .before .before .before .before .before .before .before .before .before .before .before .before .before .before .before .enter .ensures .0) at (c .before .before .before .before .before .before .before .before .before .before .dump-children .ensures)) _ _ (c .before .before .before .before .before .before .insert-puts .ensures) _ (c .before .before .merge-rows .kept .0) (c .before .before .merge-rows .ensures)
+dump-node-returns-4 t c = let v = c .before .before .before .before .before .before .before .before .before .before .before .before .before .before .before .before .before .before .before .before .before .before .before .if2 .left in let st = c .before .before .before .before .before .before .before .before .before .before .before .before .before .before .before .before .before .before .before .before .before .before .before .before .before .before .before .before .arrive .ensures .near (c .before .before .before .before .before .before .before .before .before .before .before .before .before .before .before .before .before .before .before .before .before .before .before .before .before .before .if1 .left) in let nc = first-next t (c .before .before .before .before .before .before .before .before .before .before .before .before .before .before .before .before .before .before .before) in node-inner (c .before .before .before .before .before .before .before .before .before .before .before .before .before .before .before .before .before .before .before .before .before .before .before .before .before .before .before .before .before .before .before .before .before .before .args .store .now) (c .before .before .before .before .before .before .before .before .before .before .before .before .before .before .before .before .before .before .before .before .before .before .before .before .before .before .before .before .before .before .before .before .before .before .args .node .level) (c .before .before .before .before .before .before .before .before .before .before .before .before .before .before .before .before .before .before .before .before .before .before .before .before .before .before .before .before .before .before .before .before .before .before .args .node .num) (c .before .before .before .before .before .before .before .before .before .before .before .before .before .before .before .before .before .before .before .before .before .before .before .before .before .before .before .before .before .before .before .before .before .before .args .node .position .prefix) (c .before .before .before .before .before .before .before .before .before .before .before .before .before .before .before .before .before .before .before .before .before .before .before .before .before .before .before .before .before .before .before .before .before .before .args .node .position .trail) (c .before .before .before .before .before .before .before .before .before .before .before .before .before .before .before .before .before .before .before .before .before .before .before .before .before .before .before .before .before .before .before .before .before .before .pre .1 .0) (c .before .before .before .before .before .before .before .before .before .before .before .before .before .before .before .before .before .before .before .before .before .before .before .before .before .before .before .before .before .before .before .before .before .before .args .lo .now) (c .before .before .before .before .before .before .before .before .before .before .before .before .before .before .before .before .before .before .before .before .before .before .before .before .before .before .before .before .before .before .before .before .before .before .args .hi .now) (c .before .before .before .before .before .before .before .before .before .before .before .before .before .before .before .before .before .before .before .before .before .before .before .before .before .before .before .before .before .before .before .before .before .before .pre .1 .1) (c .before .before .before .before .before .before .before .before .before .before .before .before .before .before .before .before .before .before .before .before .before .before .before .before .before .before .before .before .before .before .before .before .before .before .args .area .now) (c .before .before .before .before .before .before .before .before .before .before .before .before .before .before .before .before .before .before .before .before .before .before .before .before .before .before .before .before .before .before .before .before .before .before .args .m) (c .before .before .before .before .before .before .before .before .before .before .before .before .before .before .before .before .before .before .before .before .before .before .before .before .before .before .before .before .before .before .before .before .before .before .pre .1 .2) (c .before .before .before .before .before .before .before .before .before .before .before .before .before .before .before .before .before .before .before .before .before .before .before .before .before .before .before .before .arrive .result .lifted) (c .before .before .before .before .before .before .before .before .before .before .before .before .before .before .before .before .before .before .before .before .before .before .before .before .before .before .before .before .arrive .ensures .lifts) (c .before .before .before .before .before .before .before .before .before .before .before .before .before .before .before .before .before .before .before .before .before .before .before .before .before .before .before .before .arrive .result .position .prefix) (st .prefix) (c .before .before .before .before .before .before .before .before .before .before .before .before .before .before .before .before .before .before .before .before .before .before .before .before .read-length .result) (c .before .before .before .before .before .before .before .before .before .before .before .before .before .before .before .before .before .before .before .before .before .before .before .before .read-length .ensures .0) (omega arith) (c .before .before .before .before .before .before .before .before .before .before .before .before .before .before .before .before .before .before .before .before .first .given .0 .0) (c .before .before .before .before .before .before .before .before .before .before .before .before .before .before .before .before .before .before .before .before .first .given .0 .1 .0) (c .before .before .before .before .before .before .before .before .before .before .before .before .before .before .before .before .before .before .before .before .first .given .0 .1 .1 .0) nc (c .before .before .before .before .before .before .before .before .before .before .before .before .before .before .before .enter .result .trail) (rw (st .trail) at (c .before .before .before .before .before .before .before .before .before .before .before .before .before .before .before .enter .ensures .1)) (st .inside) _ _ (rw (c .before .before .before .before .before .before .before .before .before .before .before .before .before .before .before .enter .ensures .0) at (c .before .before .before .before .before .before .before .before .before .before .dump-children .ensures)) _ _ (rw (st .trail) at (c .before .before .before .before .before .before .insert-puts .ensures)) _ (c .before .before .merge-rows .kept .0) (c .before .before .merge-rows .ensures)
 
 pub +dump-children+dump-node-spec : {M : Type 1} → statement M
 +dump-children+dump-node-spec = close μ-dump-children μ-dump-node (λ t. dump-children-lts.spec (
@@ -1446,14 +908,10 @@ pub +dump-children+dump-node-spec : {M : Type 1} → statement M
     (dump-children-loop-less t)
     (dump-children-loop-again t))
     λ t. dump-node-lts.spec (
-      common-length-reads.Asked,
-      common-length-reads.Learnt,
-      extend-reads.Asked,
-      extend-reads.Learnt,
-      note-above-reads.Asked,
-      note-above-reads.Learnt,
-      u16-at-reads.Asked,
-      u16-at-reads.Learnt,
+      arrive-reads.Asked,
+      arrive-reads.Learnt,
+      read-length-reads.Asked,
+      read-length-reads.Learnt,
       append-pairs-reads.Asked,
       append-pairs-reads.Learnt,
       read-child-reads.Asked,
@@ -1469,26 +927,11 @@ pub +dump-children+dump-node-spec : {M : Type 1} → statement M
     )
     (dump-node-at t)
     dump-node.Post
-    (dump-node-common-length-requires t)
-    (dump-node-sub-room t)
+    (dump-node-slice-aggregate-arrive t)
+    (dump-node-arrive-requires t)
     (dump-node-returns t)
-    (dump-node-sub-extend t)
-    (dump-node-part-extend-start t)
-    (dump-node-part-extend-end t)
-    (dump-node-extend-requires t)
-    (dump-node-sub-note-above t)
-    (dump-node-part-note-above-start t)
-    (dump-node-part-note-above-end t)
-    (dump-node-sub-note-above-2 t)
-    (dump-node-part-note-above-start-2 t)
-    (dump-node-part-note-above-end-2 t)
-    (dump-node-sub-note-above-3 t)
-    (dump-node-part-note-above-start-3 t)
-    (dump-node-part-note-above-end-3 t)
-    (dump-node-slice-aggregate-note-above t)
-    (dump-node-note-above-requires t)
     (dump-node-mul-at t)
-    (dump-node-u16-at-requires t)
+    (dump-node-read-length-requires t)
     (dump-node-add-from t)
     (dump-node-add-end t)
     (dump-node-append-pairs-requires t)

@@ -1,7 +1,7 @@
 -- The loop over a leaf's pairs: the rows so far and those of the entries to come make all (specs/AppendSteps).
-use Rattle.live.specs.Walk.{passing}
-use Rattle.live.specs.Noted.{LeafTold}
-use Rattle.live.specs.PathBuffers.{pathIn}
+use Rattle.live_count.specs.Walk.{passing}
+use Rattle.live_count.specs.Noted.{LeafTold}
+use Rattle.live_count.specs.PathBuffers.{pathIn}
 use Rattle.node.specs.Places.{Next, entry-wider}
 use Rattle.node.specs.declared.Entry.{Entry}
 use Rattle.node.specs.Entries.{listed, listed-end}

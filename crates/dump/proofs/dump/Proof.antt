@@ -2,24 +2,24 @@
 -- any node with the pivots of the root (specs/RootSteps).
 use Rattle.dump.specs.RootSteps.{dump-long, dump-ready, dump-sound, dump-room, dump-done}
 use Rattle.dump.specs.RootPuts.{root-inside}
-use Rattle.live.specs.NotedSteps.{root-told}
+use Rattle.live_count.specs.NotedSteps.{root-told}
 use borrow.Author.Needs.{needs}
 use native.Mathlib.Omega.{arith}
 use mathlib.Core.Path.{refl, sym, _∙_}
 use Rattle.dump.proofs.dump.Statement.{statement}
 use Rattle.dump.proofs.dump.Tie as tie
 
-u16-at-requires : tie.Need-u16-at-requires
-u16-at-requires c κs = let l = dump-long (c .before .before .args .store .now) (c .before .before .pre .0) in omega arith
+read-root-requires : tie.Need-read-root-requires
+read-root-requires c κs = let l = dump-long (c .before .before .args .store .now) (c .before .before .pre .0) in omega arith
 
-u16-at-requires-2 : tie.Need-u16-at-requires-2
-u16-at-requires-2 c κs = let l = dump-long (c .before .before .before .args .store .now) (c .before .before .before .pre .0) in omega arith
+read-levels-requires : tie.Need-read-levels-requires
+read-levels-requires c κs = let l = dump-long (c .before .before .before .args .store .now) (c .before .before .before .pre .0) in omega arith
 
 only-puts-requires : tie.Need-only-puts-requires
-only-puts-requires c κs = root-inside (c .before .before .before .before .before .args .store .now) (c .before .before .before .before .before .pre .0) _ _ (c .before .before .u16-at .ensures .0) (c .before .u16-at2 .ensures .0)
+only-puts-requires c κs = root-inside (c .before .before .before .before .before .args .store .now) (c .before .before .before .before .before .pre .0) _ _ (c .before .before .read-root .ensures .0) (c .before .read-levels .ensures .0)
 
 dump-putting-requires : tie.Need-dump-putting-requires
-dump-putting-requires c κs = (record { num = c .before .before .before .before .before .u16-at .ensures .0; level = c .before .before .before .before .u16-at2 .ensures .0; prefix = refl; trail = refl; noted = refl }, c .before .before .before .before .before .before .before .before .pre .0, c .before .before .before .before .before .before .before .before .pre .1, omega arith, sym (c .before .before .only-puts .ensures) ∙ c .before .if2 .taken)
+dump-putting-requires c κs = (record { num = c .before .before .before .before .before .read-root .ensures .0; level = c .before .before .before .before .read-levels .ensures .0; prefix = refl; trail = refl; noted = refl }, c .before .before .before .before .before .before .before .before .pre .0, c .before .before .before .before .before .before .before .before .pre .1, omega arith, sym (c .before .before .only-puts .ensures) ∙ c .before .if2 .taken)
 
 same-length : tie.Need-same-length
 same-length c = search needs
@@ -40,20 +40,20 @@ slice-aggregate-dump-node : tie.Need-slice-aggregate-dump-node
 slice-aggregate-dump-node c = search needs
 
 dump-node-requires : tie.Need-dump-node-requires
-dump-node-requires c κs = (dump-ready (c .before .before .before .before .before .before .before .before .before .before .args .store .now) (c .before .before .before .before .before .before .before .before .before .before .pre .0) _ _ (c .before .before .before .before .before .before .before .u16-at .ensures .0) (c .before .before .before .before .before .before .u16-at2 .ensures .0) _ refl _ refl, dump-sound (c .before .before .before .before .before .before .before .before .before .before .args .store .now) (c .before .before .before .before .before .before .before .before .before .before .pre .0) _ _ (c .before .before .before .before .before .before .before .u16-at .ensures .0) (c .before .before .before .before .before .before .u16-at2 .ensures .0) _ refl _ _ refl refl, dump-room (c .before .before .before .before .before .before .before .before .before .before .args .store .now) (c .before .before .before .before .before .before .before .before .before .before .pre .0) _ _ (c .before .before .before .before .before .before .before .u16-at .ensures .0) (c .before .before .before .before .before .before .u16-at2 .ensures .0) _ refl _ _ refl refl _ refl _ (c .before .before .before .before .before .before .before .before .before .before .pre .1), root-told _ _ _ _ _ _ refl)
+dump-node-requires c κs = (dump-ready (c .before .before .before .before .before .before .before .before .before .before .args .store .now) (c .before .before .before .before .before .before .before .before .before .before .pre .0) _ _ (c .before .before .before .before .before .before .before .read-root .ensures .0) (c .before .before .before .before .before .before .read-levels .ensures .0) _ refl _ refl, dump-sound (c .before .before .before .before .before .before .before .before .before .before .args .store .now) (c .before .before .before .before .before .before .before .before .before .before .pre .0) _ _ (c .before .before .before .before .before .before .before .read-root .ensures .0) (c .before .before .before .before .before .before .read-levels .ensures .0) _ refl _ _ refl refl, dump-room (c .before .before .before .before .before .before .before .before .before .before .args .store .now) (c .before .before .before .before .before .before .before .before .before .before .pre .0) _ _ (c .before .before .before .before .before .before .before .read-root .ensures .0) (c .before .before .before .before .before .before .read-levels .ensures .0) _ refl _ _ refl refl _ refl _ (c .before .before .before .before .before .before .before .before .before .before .pre .1), root-told _ _ _ _ _ _ refl)
 
 same-length-2 : tie.Need-same-length-2
 same-length-2 c = search needs
 
 returns-2 : tie.Need-returns-2
-returns-2 c = dump-done (c .before .before .before .before .before .before .before .before .before .before .before .before .before .args .store .now) (c .before .before .before .before .before .before .before .before .before .before .before .before .before .pre .0) _ _ (c .before .before .before .before .before .before .before .before .before .before .u16-at .ensures .0) (c .before .before .before .before .before .before .before .before .before .u16-at2 .ensures .0) _ refl _ _ refl refl _ refl _ _ _ (c .before .before .dump-node .ensures)
+returns-2 c = dump-done (c .before .before .before .before .before .before .before .before .before .before .before .before .before .args .store .now) (c .before .before .before .before .before .before .before .before .before .before .before .before .before .pre .0) _ _ (c .before .before .before .before .before .before .before .before .before .before .read-root .ensures .0) (c .before .before .before .before .before .before .before .before .before .read-levels .ensures .0) _ refl _ _ refl refl _ refl _ _ _ (c .before .before .dump-node .ensures)
 
 pub dump-spec : {M : Type 1} → statement M
 dump-spec =
     tie.close
     (tie.spec
-    u16-at-requires
-    u16-at-requires-2
+    read-root-requires
+    read-levels-requires
     only-puts-requires
     dump-putting-requires
     same-length

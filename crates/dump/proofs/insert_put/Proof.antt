@@ -1,5 +1,5 @@
 -- One put: told of later, hidden by a message above, or inserted at its place (specs/InsertSteps).
-use Rattle.live.specs.Walk.{passing}
+use Rattle.live_count.specs.Walk.{passing}
 use Rattle.node.specs.Entries.{listed}
 use Rattle.dump.specs.InsertSteps.{put-told, put-hidden, put-value, put-room, full-absent, put-placed}
 use Rattle.dump.specs.AppendSteps.{key-short, full-short, path-short, value-short}

@@ -1,6 +1,6 @@
 -- The loop over an interior node's entries: the rows so far, with the entries to come, make the same table (specs/InsertSteps).
-use Rattle.live.specs.Walk.{passing}
-use Rattle.live.specs.PathBuffers.{pathIn}
+use Rattle.live_count.specs.Walk.{passing}
+use Rattle.live_count.specs.PathBuffers.{pathIn}
 use Rattle.node.specs.Places.{step-read-is, step-bad-is, entry-wider}
 use Rattle.node.specs.Entries.{listed, listed-end}
 use Rattle.packed.specs.Rows.Area.{rowsOf}

@@ -18,7 +18,7 @@ use Rattle.laws.specs.Rising.{rising-with}
 use Rattle.packed.specs.Rows.Area.{rowAt, rowsOf, RowsFit, rows-step}
 use Rattle.packed.specs.Rows.Steps.{rows-length}
 use Rattle.packed.specs.Build.Rows.{RowPut}
-use Rattle.live.specs.KeepLaws.{with-length}
+use Rattle.live_count.specs.KeepLaws.{with-length}
 use Rattle.dump.specs.Insertion.Insertion.{rank, Inserted, Replaced, Apart, Laid, laid}
 use Rattle.dump.specs.Insertion.Ranks.{absent-end, absent-at, with-over, found-at}
 use Rattle.dump.specs.Insertion.Merge.{none-lacks, put-through, put-among, apart-none, with-more}

@@ -6,14 +6,14 @@ use borrow.Author.Needs.{needs}
 use Rattle.edit.proofs.free_above.Statement.{statement}
 use Rattle.edit.proofs.free_above.Tie as tie
 
-has-messages-at-root-requires : tie.Need-has-messages-at-root-requires
-has-messages-at-root-requires c κs = sound-but-live _ (c .before .pre .1)
+waiting-at-root-requires : tie.Need-waiting-at-root-requires
+waiting-at-root-requires c κs = sound-but-live _ (c .before .pre .1)
 
 returns : tie.Need-returns
 returns c = above-none _
 
-u16-at-requires : tie.Need-u16-at-requires
-u16-at-requires c κs = omega (arith, few-nodes _ (c .before .before .before .pre .0) .1)
+read-levels-requires : tie.Need-read-levels-requires
+read-levels-requires c κs = omega (arith, few-nodes _ (c .before .before .before .pre .0) .1)
 
 returns-2 : tie.Need-returns-2
 returns-2 c = above-none _
@@ -22,7 +22,7 @@ first-free-requires : tie.Need-first-free-requires
 first-free-requires c κs = let w = few-nodes _ (c .before .before .before .before .before .before .pre .0) in omega (arith, w .0)
 
 returns-3 : tie.Need-returns-3
-returns-3 c = above-found _ _ _ _ _ (marked-here _ _ _ (c .before .before .before .before .before .before .before .pre .2) (c .before .if3 .taken)) (nodes-are _) (c .before .before .before .u16-at .ensures .0) (omega arith) (c .first-free .ensures)
+returns-3 c = above-found _ _ _ _ _ (marked-here _ _ _ (c .before .before .before .before .before .before .before .pre .2) (c .before .if3 .taken)) (nodes-are _) (c .before .before .before .read-levels .ensures .0) (omega arith) (c .first-free .ensures)
 
 mark-nodes-requires : tie.Need-mark-nodes-requires
 mark-nodes-requires c κs = (c .before .before .before .before .before .before .before .pre .0, c .before .before .before .before .before .before .before .pre .1)
@@ -31,15 +31,15 @@ first-free-requires-2 : tie.Need-first-free-requires-2
 first-free-requires-2 c κs = let w = few-nodes _ (c .before .before .before .before .before .before .before .before .before .pre .0) in omega (arith, w .0)
 
 returns-4 : tie.Need-returns-4
-returns-4 c = above-found _ _ _ _ _ (c .before .before .mark-nodes .ensures .0) (nodes-are _) (c .before .before .before .before .before .before .u16-at .ensures .0) (omega arith) (c .first-free2 .ensures)
+returns-4 c = above-found _ _ _ _ _ (c .before .before .mark-nodes .ensures .0) (nodes-are _) (c .before .before .before .before .before .before .read-levels .ensures .0) (omega arith) (c .first-free2 .ensures)
 
 pub free-above-spec : {M : Type 1} → statement M
 free-above-spec =
     tie.close
     (tie.spec
-    has-messages-at-root-requires
+    waiting-at-root-requires
     returns
-    u16-at-requires
+    read-levels-requires
     returns-2
     first-free-requires
     returns-3

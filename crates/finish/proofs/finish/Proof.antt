@@ -1,12 +1,12 @@
 -- `finish` meets its contract: a count, and then conclude. Relies on the contract of live.
-use Rattle.live.specs.RootSteps.{countable}
+use Rattle.live_count.specs.RootSteps.{countable}
 use borrow.Author.Needs.{needs}
 use Prim.Native.Nat.{_-_}
 use Rattle.finish.proofs.finish.Statement.{statement}
 use Rattle.finish.proofs.finish.Tie as tie
 
-live-count-requires : tie.Need-live-count-requires
-live-count-requires c κs = countable _ (c .before .before .before .pre .1)
+count-paths-requires : tie.Need-count-paths-requires
+count-paths-requires c κs = countable _ (c .before .before .before .pre .1)
 
 conclude-requires : tie.Need-conclude-requires
 conclude-requires c κs = search needs
@@ -22,4 +22,4 @@ returns c = search needs
 
 pub finish-spec : {M : Type 1} → statement M
 finish-spec =
-    tie.close (tie.spec live-count-requires conclude-requires same-length same-length-2 returns)
+    tie.close (tie.spec count-paths-requires conclude-requires same-length same-length-2 returns)

@@ -1,7 +1,7 @@
 -- `inclusion::holds_entries` meets the contract: the paths of the entries that are left decide (specs/Steps).
 use Rattle.inclusion.specs.Held.{allHeld}
 use Rattle.inclusion.specs.Steps.{held-nothing, first-fails, first-passes, no-paths, paths-split}
-use Rattle.seek.specs.Walk.{pathsOf}
+use Rattle.successor.specs.Walk.{pathsOf}
 use Rattle.node.specs.Entries.{listed, listed-end}
 use Rattle.node.specs.Places.{Next, step-bad-is, step-read-is, entry-wider}
 use Rattle.laws.specs.Reading.SeekHere.{under}

@@ -1,8 +1,8 @@
 -- `inclusion::holds_entry` meets the contract: the entry's path, if it has one, is asked for (specs/Steps).
 use Rattle.inclusion.specs.Steps.{entry-held, entry-other}
-use Rattle.seek.specs.Steps.{suffix-place}
-use Rattle.seek.specs.Suffixes.{suffixIs}
-use Rattle.seek.specs.declared.Suffix.{Suffix}
+use Rattle.successor.specs.Steps.{suffix-place}
+use Rattle.successor.specs.Suffixes.{suffixIs}
+use Rattle.successor.specs.declared.Suffix.{Suffix}
 use Rattle.node.specs.Places.{Within}
 use lib.ListN.{length}
 use mathlib.Core.Path.{_≡_, sym, _∙_}

@@ -1,6 +1,6 @@
 -- `inclusion::is_included` meets the contract: the root is ready, and the walk over all its paths decides (specs/Root).
 use Rattle.inclusion.specs.Root.{root-decides}
-use Rattle.seek.specs.Present.{root-ready}
+use Rattle.successor.specs.Present.{root-ready}
 use Rattle.lookup.specs.Root.{long-enough}
 use mathlib.Core.Path.{_∙_}
 use native.Mathlib.Omega.{arith}
@@ -8,11 +8,11 @@ use borrow.Author.Needs.{needs}
 use Rattle.inclusion.proofs.is_included.Statement.{statement}
 use Rattle.inclusion.proofs.is_included.Tie as tie
 
-u16-at-requires : tie.Need-u16-at-requires
-u16-at-requires c κs = let l = long-enough (c .before .before .args .store .now) (c .before .before .pre .0) in omega arith
+read-root-requires : tie.Need-read-root-requires
+read-root-requires c κs = let l = long-enough (c .before .before .args .store .now) (c .before .before .pre .0) in omega arith
 
-u16-at-requires-2 : tie.Need-u16-at-requires-2
-u16-at-requires-2 c κs = let l = long-enough (c .before .before .before .args .store .now) (c .before .before .before .pre .0) in omega arith
+read-levels-requires : tie.Need-read-levels-requires
+read-levels-requires c κs = let l = long-enough (c .before .before .before .args .store .now) (c .before .before .before .pre .0) in omega arith
 
 sub-holds-node : tie.Need-sub-holds-node
 sub-holds-node c = search needs
@@ -27,17 +27,17 @@ slice-aggregate-holds-node : tie.Need-slice-aggregate-holds-node
 slice-aggregate-holds-node c = search needs
 
 holds-node-requires : tie.Need-holds-node-requires
-holds-node-requires c κs = (c .before .before .before .before .before .before .pre .1, root-ready (c .before .before .before .before .before .before .args .store .now) _ _ (c .before .before .before .before .before .before .pre .0) (c .before .before .before .u16-at .ensures .0) (c .before .before .u16-at2 .ensures .0))
+holds-node-requires c κs = (c .before .before .before .before .before .before .pre .1, root-ready (c .before .before .before .before .before .before .args .store .now) _ _ (c .before .before .before .before .before .before .pre .0) (c .before .before .before .read-root .ensures .0) (c .before .before .read-levels .ensures .0))
 
 returns : tie.Need-returns
-returns c = c .holds-node .ensures ∙ root-decides (c .before .before .before .before .before .before .before .args .store .now) (c .before .before .before .before .before .before .before .args .other .now) (c .before .before .before .before .before .before .before .pre .0) (c .before .before .before .before .before .before .before .pre .1) _ _ (c .before .before .before .before .u16-at .ensures .0) (c .before .before .before .u16-at2 .ensures .0)
+returns c = c .holds-node .ensures ∙ root-decides (c .before .before .before .before .before .before .before .args .store .now) (c .before .before .before .before .before .before .before .args .other .now) (c .before .before .before .before .before .before .before .pre .0) (c .before .before .before .before .before .before .before .pre .1) _ _ (c .before .before .before .before .read-root .ensures .0) (c .before .before .before .read-levels .ensures .0)
 
 pub is-included-spec : {M : Type 1} → statement M
 is-included-spec =
     tie.close
     (tie.spec
-    u16-at-requires
-    u16-at-requires-2
+    read-root-requires
+    read-levels-requires
     sub-holds-node
     part-holds-node-start
     part-holds-node-end

@@ -15,6 +15,7 @@ use Rattle.image.specs.Meaning.{highOf, apply, applyAll, rows, rowsIn}
 use Rattle.image.specs.Sound.{soundTree, soundForest, soundMessage, soundMessages}
 use Rattle.octets.specs.Order.{and-left, and-right, and-assoc, not-so, not-true, same-eq, before-trans, before-irrefl, before-le}
 use Rattle.laws.specs.Tables.{find-nil, find-no, find-with-other, find-without, find-without-other, find-cleared, find-spared, find-append-none}
+use Rattle.laws.specs.Frame.{or-left, or-right}
 use Rattle.laws.specs.Rising.{both}
 use Rattle.laws.specs.LookupTable.{parts, inner, not-low, under-high, does-own}
 use Rattle.laws.specs.Next.{Fits, least-is, least-none}
@@ -154,13 +155,6 @@ isKey k (m ∷ ms) = same k m || isKey k ms
 
 unfoldable pub present : List ℕ → List Row → Bool
 present k t = isSome (find k t)
-
-or-left : (a b : Bool) → a ≡ true → a || b ≡ true
-or-left a b e = rw e
-
-or-right : (a b : Bool) → b ≡ true → a || b ≡ true
-or-right true b e = refl
-or-right false b e = e
 
 key-left : (k : List ℕ) (a b : List (List ℕ)) → isKey k a ≡ true → isKey k (a ++ b) ≡ true
 unfolding isKey

@@ -9,7 +9,7 @@ use Rattle.lookup.proofs.lookup.Reads as lookup
 use Rattle.lookup.proofs.lookup.Kinds as lookup-kinds
 use Rattle.lookup.proofs.+lookup.Lts-lookup as lookup-lts
 use Rattle.octets.proofs.common_length.Reads as common-length-reads
-use Rattle.octets.proofs.u16_at.Reads as u16-at-reads
+use Rattle.node.proofs.header.read_length.Reads as read-length-reads
 use Rattle.node.proofs.search.find.Reads as find-reads
 use Rattle.node.proofs.search.newest.Reads as newest-reads
 use Rattle.node.proofs.search.owner_of.Reads as owner-of-reads
@@ -26,8 +26,8 @@ abbrev lookup-below : ℕ → In 3 lookup-kinds.ps
 lookup-below t = and 3 lookup-kinds.ps (falls 3 lookup-kinds.ps _<_ μ-lookup t) lookup.Pre
 
 lookup-mul-at : (t : ℕ) → lookup-lts.Need-mul-at (
-  u16-at-reads.Asked,
-  u16-at-reads.Learnt,
+  read-length-reads.Asked,
+  read-length-reads.Learnt,
   find-reads.Asked,
   find-reads.Learnt,
   newest-reads.Asked,
@@ -41,9 +41,9 @@ lookup-mul-at : (t : ℕ) → lookup-lts.Need-mul-at (
 ) (lookup-at t) lookup.Post
 lookup-mul-at t c = let w = node-inside (c .before .before .before .args .store .now) (c .before .before .before .args .num) (c .before .before .before .args .level) (c .before .before .before .pre .1) in omega arith
 
-lookup-u16-at-requires : (t : ℕ) → lookup-lts.Need-u16-at-requires (
-  u16-at-reads.Asked,
-  u16-at-reads.Learnt,
+lookup-read-length-requires : (t : ℕ) → lookup-lts.Need-read-length-requires (
+  read-length-reads.Asked,
+  read-length-reads.Learnt,
   find-reads.Asked,
   find-reads.Learnt,
   newest-reads.Asked,
@@ -55,11 +55,11 @@ lookup-u16-at-requires : (t : ℕ) → lookup-lts.Need-u16-at-requires (
   lookup-below t,
   lookup.Post,
 ) (lookup-at t) lookup.Post
-lookup-u16-at-requires t c κs = let w = node-inside (c .before .before .before .args .store .now) (c .before .before .before .args .num) (c .before .before .before .args .level) (c .before .before .before .pre .1) in omega arith
+lookup-read-length-requires t c κs = let w = node-inside (c .before .before .before .args .store .now) (c .before .before .before .args .num) (c .before .before .before .args .level) (c .before .before .before .pre .1) in omega arith
 
 lookup-add-from : (t : ℕ) → lookup-lts.Need-add-from (
-  u16-at-reads.Asked,
-  u16-at-reads.Learnt,
+  read-length-reads.Asked,
+  read-length-reads.Learnt,
   find-reads.Asked,
   find-reads.Learnt,
   newest-reads.Asked,
@@ -74,8 +74,8 @@ lookup-add-from : (t : ℕ) → lookup-lts.Need-add-from (
 lookup-add-from t c = let w = node-inside (c .before .before .before .before .args .store .now) (c .before .before .before .before .args .num) (c .before .before .before .before .args .level) (c .before .before .before .before .pre .1) in omega arith
 
 lookup-add-end : (t : ℕ) → lookup-lts.Need-add-end (
-  u16-at-reads.Asked,
-  u16-at-reads.Learnt,
+  read-length-reads.Asked,
+  read-length-reads.Learnt,
   find-reads.Asked,
   find-reads.Learnt,
   newest-reads.Asked,
@@ -90,8 +90,8 @@ lookup-add-end : (t : ℕ) → lookup-lts.Need-add-end (
 lookup-add-end t c = let w = node-inside (c .before .before .before .before .args .store .now) (c .before .before .before .before .args .num) (c .before .before .before .before .args .level) (c .before .before .before .before .pre .1) in omega arith
 
 lookup-find-requires : (t : ℕ) → lookup-lts.Need-find-requires (
-  u16-at-reads.Asked,
-  u16-at-reads.Learnt,
+  read-length-reads.Asked,
+  read-length-reads.Learnt,
   find-reads.Asked,
   find-reads.Learnt,
   newest-reads.Asked,
@@ -106,8 +106,8 @@ lookup-find-requires : (t : ℕ) → lookup-lts.Need-find-requires (
 lookup-find-requires t c κs = let w = node-inside (c .before .before .before .before .before .args .store .now) (c .before .before .before .before .before .args .num) (c .before .before .before .before .before .args .level) (c .before .before .before .before .before .pre .1) in omega arith
 
 lookup-returns : (t : ℕ) → lookup-lts.Need-returns (
-  u16-at-reads.Asked,
-  u16-at-reads.Learnt,
+  read-length-reads.Asked,
+  read-length-reads.Learnt,
   find-reads.Asked,
   find-reads.Learnt,
   newest-reads.Asked,
@@ -119,11 +119,11 @@ lookup-returns : (t : ℕ) → lookup-lts.Need-returns (
   lookup-below t,
   lookup.Post,
 ) (lookup-at t) lookup.Post
-lookup-returns t c = look-leaf (c .before .before .before .before .before .before .args .store .now) (c .before .before .before .before .before .before .args .num) (c .before .before .before .before .before .before .args .level) (c .before .before .before .before .before .before .pre .1) (c .before .before .before .before .before .before .args .hi .now) (c .before .before .before .before .before .before .args .rest .now) (c .before .before .u16-at .result) (c .before .before .u16-at .ensures .0) (omega arith) _ (c .find .ensures)
+lookup-returns t c = look-leaf (c .before .before .before .before .before .before .args .store .now) (c .before .before .before .before .before .before .args .num) (c .before .before .before .before .before .before .args .level) (c .before .before .before .before .before .before .pre .1) (c .before .before .before .before .before .before .args .hi .now) (c .before .before .before .before .before .before .args .rest .now) (c .before .before .read-length .result) (c .before .before .read-length .ensures .0) (omega arith) _ (c .find .ensures)
 
 lookup-newest-requires : (t : ℕ) → lookup-lts.Need-newest-requires (
-  u16-at-reads.Asked,
-  u16-at-reads.Learnt,
+  read-length-reads.Asked,
+  read-length-reads.Learnt,
   find-reads.Asked,
   find-reads.Learnt,
   newest-reads.Asked,
@@ -138,8 +138,8 @@ lookup-newest-requires : (t : ℕ) → lookup-lts.Need-newest-requires (
 lookup-newest-requires t c κs = let w = node-inside (c .before .before .before .before .before .args .store .now) (c .before .before .before .before .before .args .num) (c .before .before .before .before .before .args .level) (c .before .before .before .before .before .pre .1) in omega arith
 
 lookup-enum-known-m : (t : ℕ) → lookup-lts.Need-enum-known-m (
-  u16-at-reads.Asked,
-  u16-at-reads.Learnt,
+  read-length-reads.Asked,
+  read-length-reads.Learnt,
   find-reads.Asked,
   find-reads.Learnt,
   newest-reads.Asked,
@@ -154,8 +154,8 @@ lookup-enum-known-m : (t : ℕ) → lookup-lts.Need-enum-known-m (
 lookup-enum-known-m t c = search needs
 
 lookup-enum-told : (t : ℕ) → lookup-lts.Need-enum-told (
-  u16-at-reads.Asked,
-  u16-at-reads.Learnt,
+  read-length-reads.Asked,
+  read-length-reads.Learnt,
   find-reads.Asked,
   find-reads.Learnt,
   newest-reads.Asked,
@@ -170,8 +170,8 @@ lookup-enum-told : (t : ℕ) → lookup-lts.Need-enum-told (
 lookup-enum-told t c = search needs
 
 lookup-enum-told-2 : (t : ℕ) → lookup-lts.Need-enum-told-2 (
-  u16-at-reads.Asked,
-  u16-at-reads.Learnt,
+  read-length-reads.Asked,
+  read-length-reads.Learnt,
   find-reads.Asked,
   find-reads.Learnt,
   newest-reads.Asked,
@@ -186,8 +186,8 @@ lookup-enum-told-2 : (t : ℕ) → lookup-lts.Need-enum-told-2 (
 lookup-enum-told-2 t c = search needs
 
 lookup-owner-of-requires : (t : ℕ) → lookup-lts.Need-owner-of-requires (
-  u16-at-reads.Asked,
-  u16-at-reads.Learnt,
+  read-length-reads.Asked,
+  read-length-reads.Learnt,
   find-reads.Asked,
   find-reads.Learnt,
   newest-reads.Asked,
@@ -202,8 +202,8 @@ lookup-owner-of-requires : (t : ℕ) → lookup-lts.Need-owner-of-requires (
 lookup-owner-of-requires t c κs = let w = node-inside (c .before .before .before .before .before .before .before .before .args .store .now) (c .before .before .before .before .before .before .before .before .args .num) (c .before .before .before .before .before .before .before .before .args .level) (c .before .before .before .before .before .before .before .before .pre .1) in omega arith
 
 lookup-enum-known-o : (t : ℕ) → lookup-lts.Need-enum-known-o (
-  u16-at-reads.Asked,
-  u16-at-reads.Learnt,
+  read-length-reads.Asked,
+  read-length-reads.Learnt,
   find-reads.Asked,
   find-reads.Learnt,
   newest-reads.Asked,
@@ -218,8 +218,8 @@ lookup-enum-known-o : (t : ℕ) → lookup-lts.Need-enum-known-o (
 lookup-enum-known-o t c = search needs
 
 lookup-sub-common-length : (t : ℕ) → lookup-lts.Need-sub-common-length (
-  u16-at-reads.Asked,
-  u16-at-reads.Learnt,
+  read-length-reads.Asked,
+  read-length-reads.Learnt,
   find-reads.Asked,
   find-reads.Learnt,
   newest-reads.Asked,
@@ -234,8 +234,8 @@ lookup-sub-common-length : (t : ℕ) → lookup-lts.Need-sub-common-length (
 lookup-sub-common-length t c = let w = inner-places _ _ _ _ _ _ _ (c .before .before .before .owner-of .ensures) (c .before .o .given .1) in omega arith
 
 lookup-part-common-length-start : (t : ℕ) → lookup-lts.Need-part-common-length-start (
-  u16-at-reads.Asked,
-  u16-at-reads.Learnt,
+  read-length-reads.Asked,
+  read-length-reads.Learnt,
   find-reads.Asked,
   find-reads.Learnt,
   newest-reads.Asked,
@@ -250,8 +250,8 @@ lookup-part-common-length-start : (t : ℕ) → lookup-lts.Need-part-common-leng
 lookup-part-common-length-start t c = let w = inner-places _ _ _ _ _ _ _ (c .before .before .before .owner-of .ensures) (c .before .o .given .1) in omega arith
 
 lookup-part-common-length-end : (t : ℕ) → lookup-lts.Need-part-common-length-end (
-  u16-at-reads.Asked,
-  u16-at-reads.Learnt,
+  read-length-reads.Asked,
+  read-length-reads.Learnt,
   find-reads.Asked,
   find-reads.Learnt,
   newest-reads.Asked,
@@ -266,8 +266,8 @@ lookup-part-common-length-end : (t : ℕ) → lookup-lts.Need-part-common-length
 lookup-part-common-length-end t c = let w = inner-places _ _ _ _ _ _ _ (c .before .before .before .owner-of .ensures) (c .before .o .given .1) in omega arith
 
 lookup-sub-common-length-2 : (t : ℕ) → lookup-lts.Need-sub-common-length-2 (
-  u16-at-reads.Asked,
-  u16-at-reads.Learnt,
+  read-length-reads.Asked,
+  read-length-reads.Learnt,
   find-reads.Asked,
   find-reads.Learnt,
   newest-reads.Asked,
@@ -282,8 +282,8 @@ lookup-sub-common-length-2 : (t : ℕ) → lookup-lts.Need-sub-common-length-2 (
 lookup-sub-common-length-2 t c = let w = inner-places _ _ _ _ _ _ _ (c .before .before .before .before .owner-of .ensures) (c .before .before .o .given .1) in omega arith
 
 lookup-part-common-length-start-2 : (t : ℕ) → lookup-lts.Need-part-common-length-start-2 (
-  u16-at-reads.Asked,
-  u16-at-reads.Learnt,
+  read-length-reads.Asked,
+  read-length-reads.Learnt,
   find-reads.Asked,
   find-reads.Learnt,
   newest-reads.Asked,
@@ -298,8 +298,8 @@ lookup-part-common-length-start-2 : (t : ℕ) → lookup-lts.Need-part-common-le
 lookup-part-common-length-start-2 t c = let w = inner-places _ _ _ _ _ _ _ (c .before .before .before .before .owner-of .ensures) (c .before .before .o .given .1) in omega arith
 
 lookup-part-common-length-end-2 : (t : ℕ) → lookup-lts.Need-part-common-length-end-2 (
-  u16-at-reads.Asked,
-  u16-at-reads.Learnt,
+  read-length-reads.Asked,
+  read-length-reads.Learnt,
   find-reads.Asked,
   find-reads.Learnt,
   newest-reads.Asked,
@@ -314,8 +314,8 @@ lookup-part-common-length-end-2 : (t : ℕ) → lookup-lts.Need-part-common-leng
 lookup-part-common-length-end-2 t c = let w = inner-places _ _ _ _ _ _ _ (c .before .before .before .before .owner-of .ensures) (c .before .before .o .given .1) in omega arith
 
 lookup-common-length-requires : (t : ℕ) → lookup-lts.Need-common-length-requires (
-  u16-at-reads.Asked,
-  u16-at-reads.Learnt,
+  read-length-reads.Asked,
+  read-length-reads.Learnt,
   find-reads.Asked,
   find-reads.Learnt,
   newest-reads.Asked,
@@ -330,8 +330,8 @@ lookup-common-length-requires : (t : ℕ) → lookup-lts.Need-common-length-requ
 lookup-common-length-requires t c κs = search needs
 
 lookup-add-z : (t : ℕ) → lookup-lts.Need-add-z (
-  u16-at-reads.Asked,
-  u16-at-reads.Learnt,
+  read-length-reads.Asked,
+  read-length-reads.Learnt,
   find-reads.Asked,
   find-reads.Learnt,
   newest-reads.Asked,
@@ -346,8 +346,8 @@ lookup-add-z : (t : ℕ) → lookup-lts.Need-add-z (
 lookup-add-z t c = let w = inner-places _ _ _ _ _ _ _ (c .before .before .before .before .before .before .owner-of .ensures) (c .before .before .before .before .o .given .1) in let l = cut-length (c .before .before .before .before .before .before .before .before .before .before .before .before .before .before .before .args .store .now) ((c .before .before .before .before .o .given .0 .1 .1 .0) .start) ((c .before .before .before .before .o .given .0 .1 .1 .0) .stop) (omega arith) (omega arith) in omega arith
 
 lookup-sub-lookup : (t : ℕ) → lookup-lts.Need-sub-lookup (
-  u16-at-reads.Asked,
-  u16-at-reads.Learnt,
+  read-length-reads.Asked,
+  read-length-reads.Learnt,
   find-reads.Asked,
   find-reads.Learnt,
   newest-reads.Asked,
@@ -362,8 +362,8 @@ lookup-sub-lookup : (t : ℕ) → lookup-lts.Need-sub-lookup (
 lookup-sub-lookup t c = search needs
 
 lookup-sub-lookup-2 : (t : ℕ) → lookup-lts.Need-sub-lookup-2 (
-  u16-at-reads.Asked,
-  u16-at-reads.Learnt,
+  read-length-reads.Asked,
+  read-length-reads.Learnt,
   find-reads.Asked,
   find-reads.Learnt,
   newest-reads.Asked,
@@ -378,8 +378,8 @@ lookup-sub-lookup-2 : (t : ℕ) → lookup-lts.Need-sub-lookup-2 (
 lookup-sub-lookup-2 t c = let w = inner-places _ _ _ _ _ _ _ (c .before .before .before .before .before .before .owner-of .ensures) (c .before .before .before .before .o .given .1) in let l = cut-length (c .before .before .before .before .before .before .before .before .before .before .before .before .before .before .before .args .store .now) ((c .before .before .before .before .o .given .0 .1 .1 .0) .start) ((c .before .before .before .before .o .given .0 .1 .1 .0) .stop) (omega arith) (omega arith) in omega arith
 
 lookup-part-lookup-start : (t : ℕ) → lookup-lts.Need-part-lookup-start (
-  u16-at-reads.Asked,
-  u16-at-reads.Learnt,
+  read-length-reads.Asked,
+  read-length-reads.Learnt,
   find-reads.Asked,
   find-reads.Learnt,
   newest-reads.Asked,
@@ -394,8 +394,8 @@ lookup-part-lookup-start : (t : ℕ) → lookup-lts.Need-part-lookup-start (
 lookup-part-lookup-start t c = let w = inner-places _ _ _ _ _ _ _ (c .before .before .before .before .before .before .owner-of .ensures) (c .before .before .before .before .o .given .1) in let l = cut-length (c .before .before .before .before .before .before .before .before .before .before .before .before .before .before .before .args .store .now) ((c .before .before .before .before .o .given .0 .1 .1 .0) .start) ((c .before .before .before .before .o .given .0 .1 .1 .0) .stop) (omega arith) (omega arith) in omega arith
 
 lookup-part-lookup-end : (t : ℕ) → lookup-lts.Need-part-lookup-end (
-  u16-at-reads.Asked,
-  u16-at-reads.Learnt,
+  read-length-reads.Asked,
+  read-length-reads.Learnt,
   find-reads.Asked,
   find-reads.Learnt,
   newest-reads.Asked,
@@ -410,8 +410,8 @@ lookup-part-lookup-end : (t : ℕ) → lookup-lts.Need-part-lookup-end (
 lookup-part-lookup-end t c = let w = inner-places _ _ _ _ _ _ _ (c .before .before .before .before .before .before .owner-of .ensures) (c .before .before .before .before .o .given .1) in let l = cut-length (c .before .before .before .before .before .before .before .before .before .before .before .before .before .before .before .args .store .now) ((c .before .before .before .before .o .given .0 .1 .1 .0) .start) ((c .before .before .before .before .o .given .0 .1 .1 .0) .stop) (omega arith) (omega arith) in omega arith
 
 lookup-sub-lookup-3 : (t : ℕ) → lookup-lts.Need-sub-lookup-3 (
-  u16-at-reads.Asked,
-  u16-at-reads.Learnt,
+  read-length-reads.Asked,
+  read-length-reads.Learnt,
   find-reads.Asked,
   find-reads.Learnt,
   newest-reads.Asked,
@@ -423,11 +423,11 @@ lookup-sub-lookup-3 : (t : ℕ) → lookup-lts.Need-sub-lookup-3 (
   lookup-below t,
   lookup.Post,
 ) (lookup-at t) lookup.Post
-lookup-sub-lookup-3 t c = let l = inner-short (c .before .before .before .before .before .before .before .before .before .before .before .before .before .before .before .before .args .store .now) (c .before .before .before .before .before .before .before .before .before .before .before .before .before .before .before .before .args .num) (c .before .before .before .before .before .before .before .before .before .before .before .before .before .before .before .before .args .level) (c .before .before .before .before .before .before .before .before .before .before .before .before .before .before .before .before .pre .1) (c .before .before .before .before .before .before .before .before .before .before .before .before .before .before .before .before .args .hi .now) (c .before .before .before .before .before .before .before .before .before .before .before .before .before .before .before .before .args .rest .now) (c .before .before .before .before .before .before .before .before .before .before .before .before .u16-at .result) (c .before .before .before .before .before .before .before .before .before .before .before .before .u16-at .ensures .0) (omega arith) (c .before .before .before .before .before .before .before .before .before .before .newest .result) (c .before .before .before .before .before .before .before .before .before .before .newest .ensures) (c .before .before .before .before .before .before .before .before .enum-told2 .given .1) (c .before .before .before .before .before .before .before .owner-of .result) (c .before .before .before .before .before .before .before .owner-of .ensures) (c .before .before .before .before .before .o .given .0 .0) (c .before .before .before .before .before .o .given .0 .1 .0) (c .before .before .before .before .before .o .given .0 .1 .1 .0) (c .before .before .before .before .before .o .given .1) (c .before .common-length .result) (c .before .common-length .ensures .0) in omega arith
+lookup-sub-lookup-3 t c = let l = inner-short (c .before .before .before .before .before .before .before .before .before .before .before .before .before .before .before .before .args .store .now) (c .before .before .before .before .before .before .before .before .before .before .before .before .before .before .before .before .args .num) (c .before .before .before .before .before .before .before .before .before .before .before .before .before .before .before .before .args .level) (c .before .before .before .before .before .before .before .before .before .before .before .before .before .before .before .before .pre .1) (c .before .before .before .before .before .before .before .before .before .before .before .before .before .before .before .before .args .hi .now) (c .before .before .before .before .before .before .before .before .before .before .before .before .before .before .before .before .args .rest .now) (c .before .before .before .before .before .before .before .before .before .before .before .before .read-length .result) (c .before .before .before .before .before .before .before .before .before .before .before .before .read-length .ensures .0) (omega arith) (c .before .before .before .before .before .before .before .before .before .before .newest .result) (c .before .before .before .before .before .before .before .before .before .before .newest .ensures) (c .before .before .before .before .before .before .before .before .enum-told2 .given .1) (c .before .before .before .before .before .before .before .owner-of .result) (c .before .before .before .before .before .before .before .owner-of .ensures) (c .before .before .before .before .before .o .given .0 .0) (c .before .before .before .before .before .o .given .0 .1 .0) (c .before .before .before .before .before .o .given .0 .1 .1 .0) (c .before .before .before .before .before .o .given .1) (c .before .common-length .result) (c .before .common-length .ensures .0) in omega arith
 
 lookup-part-lookup-start-2 : (t : ℕ) → lookup-lts.Need-part-lookup-start-2 (
-  u16-at-reads.Asked,
-  u16-at-reads.Learnt,
+  read-length-reads.Asked,
+  read-length-reads.Learnt,
   find-reads.Asked,
   find-reads.Learnt,
   newest-reads.Asked,
@@ -439,11 +439,11 @@ lookup-part-lookup-start-2 : (t : ℕ) → lookup-lts.Need-part-lookup-start-2 (
   lookup-below t,
   lookup.Post,
 ) (lookup-at t) lookup.Post
-lookup-part-lookup-start-2 t c = let l = inner-short (c .before .before .before .before .before .before .before .before .before .before .before .before .before .before .before .before .args .store .now) (c .before .before .before .before .before .before .before .before .before .before .before .before .before .before .before .before .args .num) (c .before .before .before .before .before .before .before .before .before .before .before .before .before .before .before .before .args .level) (c .before .before .before .before .before .before .before .before .before .before .before .before .before .before .before .before .pre .1) (c .before .before .before .before .before .before .before .before .before .before .before .before .before .before .before .before .args .hi .now) (c .before .before .before .before .before .before .before .before .before .before .before .before .before .before .before .before .args .rest .now) (c .before .before .before .before .before .before .before .before .before .before .before .before .u16-at .result) (c .before .before .before .before .before .before .before .before .before .before .before .before .u16-at .ensures .0) (omega arith) (c .before .before .before .before .before .before .before .before .before .before .newest .result) (c .before .before .before .before .before .before .before .before .before .before .newest .ensures) (c .before .before .before .before .before .before .before .before .enum-told2 .given .1) (c .before .before .before .before .before .before .before .owner-of .result) (c .before .before .before .before .before .before .before .owner-of .ensures) (c .before .before .before .before .before .o .given .0 .0) (c .before .before .before .before .before .o .given .0 .1 .0) (c .before .before .before .before .before .o .given .0 .1 .1 .0) (c .before .before .before .before .before .o .given .1) (c .before .common-length .result) (c .before .common-length .ensures .0) in omega arith
+lookup-part-lookup-start-2 t c = let l = inner-short (c .before .before .before .before .before .before .before .before .before .before .before .before .before .before .before .before .args .store .now) (c .before .before .before .before .before .before .before .before .before .before .before .before .before .before .before .before .args .num) (c .before .before .before .before .before .before .before .before .before .before .before .before .before .before .before .before .args .level) (c .before .before .before .before .before .before .before .before .before .before .before .before .before .before .before .before .pre .1) (c .before .before .before .before .before .before .before .before .before .before .before .before .before .before .before .before .args .hi .now) (c .before .before .before .before .before .before .before .before .before .before .before .before .before .before .before .before .args .rest .now) (c .before .before .before .before .before .before .before .before .before .before .before .before .read-length .result) (c .before .before .before .before .before .before .before .before .before .before .before .before .read-length .ensures .0) (omega arith) (c .before .before .before .before .before .before .before .before .before .before .newest .result) (c .before .before .before .before .before .before .before .before .before .before .newest .ensures) (c .before .before .before .before .before .before .before .before .enum-told2 .given .1) (c .before .before .before .before .before .before .before .owner-of .result) (c .before .before .before .before .before .before .before .owner-of .ensures) (c .before .before .before .before .before .o .given .0 .0) (c .before .before .before .before .before .o .given .0 .1 .0) (c .before .before .before .before .before .o .given .0 .1 .1 .0) (c .before .before .before .before .before .o .given .1) (c .before .common-length .result) (c .before .common-length .ensures .0) in omega arith
 
 lookup-part-lookup-end-2 : (t : ℕ) → lookup-lts.Need-part-lookup-end-2 (
-  u16-at-reads.Asked,
-  u16-at-reads.Learnt,
+  read-length-reads.Asked,
+  read-length-reads.Learnt,
   find-reads.Asked,
   find-reads.Learnt,
   newest-reads.Asked,
@@ -458,8 +458,8 @@ lookup-part-lookup-end-2 : (t : ℕ) → lookup-lts.Need-part-lookup-end-2 (
 lookup-part-lookup-end-2 t c = search needs
 
 lookup-lookup-requires : (t : ℕ) → lookup-lts.Need-lookup-requires (
-  u16-at-reads.Asked,
-  u16-at-reads.Learnt,
+  read-length-reads.Asked,
+  read-length-reads.Learnt,
   find-reads.Asked,
   find-reads.Learnt,
   newest-reads.Asked,
@@ -471,11 +471,11 @@ lookup-lookup-requires : (t : ℕ) → lookup-lts.Need-lookup-requires (
   lookup-below t,
   lookup.Post,
 ) (lookup-at t) lookup.Post
-lookup-lookup-requires t c κs = (omega arith, inner-usable (c .before .before .before .before .before .before .before .before .before .before .before .before .before .before .before .before .before .args .store .now) (c .before .before .before .before .before .before .before .before .before .before .before .before .before .before .before .before .before .args .num) (c .before .before .before .before .before .before .before .before .before .before .before .before .before .before .before .before .before .args .level) (c .before .before .before .before .before .before .before .before .before .before .before .before .before .before .before .before .before .pre .1) (c .before .before .before .before .before .before .before .before .before .before .before .before .before .before .before .before .before .args .hi .now) (c .before .before .before .before .before .before .before .before .before .before .before .before .before .before .before .before .before .args .rest .now) (c .before .before .before .before .before .before .before .before .before .before .before .before .before .u16-at .result) (c .before .before .before .before .before .before .before .before .before .before .before .before .before .u16-at .ensures .0) (omega arith) (c .before .before .before .before .before .before .before .before .before .before .before .newest .result) (c .before .before .before .before .before .before .before .before .before .before .before .newest .ensures) (c .before .before .before .before .before .before .before .before .before .enum-told2 .given .1) (c .before .before .before .before .before .before .before .before .owner-of .result) (c .before .before .before .before .before .before .before .before .owner-of .ensures) (c .before .before .before .before .before .before .o .given .0 .0) (c .before .before .before .before .before .before .o .given .0 .1 .0) (c .before .before .before .before .before .before .o .given .0 .1 .1 .0) (c .before .before .before .before .before .before .o .given .1))
+lookup-lookup-requires t c κs = (omega arith, inner-usable (c .before .before .before .before .before .before .before .before .before .before .before .before .before .before .before .before .before .args .store .now) (c .before .before .before .before .before .before .before .before .before .before .before .before .before .before .before .before .before .args .num) (c .before .before .before .before .before .before .before .before .before .before .before .before .before .before .before .before .before .args .level) (c .before .before .before .before .before .before .before .before .before .before .before .before .before .before .before .before .before .pre .1) (c .before .before .before .before .before .before .before .before .before .before .before .before .before .before .before .before .before .args .hi .now) (c .before .before .before .before .before .before .before .before .before .before .before .before .before .before .before .before .before .args .rest .now) (c .before .before .before .before .before .before .before .before .before .before .before .before .before .read-length .result) (c .before .before .before .before .before .before .before .before .before .before .before .before .before .read-length .ensures .0) (omega arith) (c .before .before .before .before .before .before .before .before .before .before .before .newest .result) (c .before .before .before .before .before .before .before .before .before .before .before .newest .ensures) (c .before .before .before .before .before .before .before .before .before .enum-told2 .given .1) (c .before .before .before .before .before .before .before .before .owner-of .result) (c .before .before .before .before .before .before .before .before .owner-of .ensures) (c .before .before .before .before .before .before .o .given .0 .0) (c .before .before .before .before .before .before .o .given .0 .1 .0) (c .before .before .before .before .before .before .o .given .0 .1 .1 .0) (c .before .before .before .before .before .before .o .given .1))
 
 lookup-enum-known-o-2 : (t : ℕ) → lookup-lts.Need-enum-known-o-2 (
-  u16-at-reads.Asked,
-  u16-at-reads.Learnt,
+  read-length-reads.Asked,
+  read-length-reads.Learnt,
   find-reads.Asked,
   find-reads.Learnt,
   newest-reads.Asked,
@@ -490,8 +490,8 @@ lookup-enum-known-o-2 : (t : ℕ) → lookup-lts.Need-enum-known-o-2 (
 lookup-enum-known-o-2 t c = search needs
 
 lookup-sub-common-length-3 : (t : ℕ) → lookup-lts.Need-sub-common-length-3 (
-  u16-at-reads.Asked,
-  u16-at-reads.Learnt,
+  read-length-reads.Asked,
+  read-length-reads.Learnt,
   find-reads.Asked,
   find-reads.Learnt,
   newest-reads.Asked,
@@ -506,8 +506,8 @@ lookup-sub-common-length-3 : (t : ℕ) → lookup-lts.Need-sub-common-length-3 (
 lookup-sub-common-length-3 t c = let w = last-places _ _ _ _ _ _ (c .before .before .before .owner-of .ensures) (c .before .o2 .given .1) in omega arith
 
 lookup-part-common-length-start-3 : (t : ℕ) → lookup-lts.Need-part-common-length-start-3 (
-  u16-at-reads.Asked,
-  u16-at-reads.Learnt,
+  read-length-reads.Asked,
+  read-length-reads.Learnt,
   find-reads.Asked,
   find-reads.Learnt,
   newest-reads.Asked,
@@ -522,8 +522,8 @@ lookup-part-common-length-start-3 : (t : ℕ) → lookup-lts.Need-part-common-le
 lookup-part-common-length-start-3 t c = let w = last-places _ _ _ _ _ _ (c .before .before .before .owner-of .ensures) (c .before .o2 .given .1) in omega arith
 
 lookup-part-common-length-end-3 : (t : ℕ) → lookup-lts.Need-part-common-length-end-3 (
-  u16-at-reads.Asked,
-  u16-at-reads.Learnt,
+  read-length-reads.Asked,
+  read-length-reads.Learnt,
   find-reads.Asked,
   find-reads.Learnt,
   newest-reads.Asked,
@@ -538,8 +538,8 @@ lookup-part-common-length-end-3 : (t : ℕ) → lookup-lts.Need-part-common-leng
 lookup-part-common-length-end-3 t c = let w = last-places _ _ _ _ _ _ (c .before .before .before .owner-of .ensures) (c .before .o2 .given .1) in omega arith
 
 lookup-common-length-requires-2 : (t : ℕ) → lookup-lts.Need-common-length-requires-2 (
-  u16-at-reads.Asked,
-  u16-at-reads.Learnt,
+  read-length-reads.Asked,
+  read-length-reads.Learnt,
   find-reads.Asked,
   find-reads.Learnt,
   newest-reads.Asked,
@@ -554,8 +554,8 @@ lookup-common-length-requires-2 : (t : ℕ) → lookup-lts.Need-common-length-re
 lookup-common-length-requires-2 t c κs = search needs
 
 lookup-sub-lookup-4 : (t : ℕ) → lookup-lts.Need-sub-lookup-4 (
-  u16-at-reads.Asked,
-  u16-at-reads.Learnt,
+  read-length-reads.Asked,
+  read-length-reads.Learnt,
   find-reads.Asked,
   find-reads.Learnt,
   newest-reads.Asked,
@@ -570,8 +570,8 @@ lookup-sub-lookup-4 : (t : ℕ) → lookup-lts.Need-sub-lookup-4 (
 lookup-sub-lookup-4 t c = search needs
 
 lookup-sub-lookup-5 : (t : ℕ) → lookup-lts.Need-sub-lookup-5 (
-  u16-at-reads.Asked,
-  u16-at-reads.Learnt,
+  read-length-reads.Asked,
+  read-length-reads.Learnt,
   find-reads.Asked,
   find-reads.Learnt,
   newest-reads.Asked,
@@ -586,8 +586,8 @@ lookup-sub-lookup-5 : (t : ℕ) → lookup-lts.Need-sub-lookup-5 (
 lookup-sub-lookup-5 t c = search needs
 
 lookup-part-lookup-start-3 : (t : ℕ) → lookup-lts.Need-part-lookup-start-3 (
-  u16-at-reads.Asked,
-  u16-at-reads.Learnt,
+  read-length-reads.Asked,
+  read-length-reads.Learnt,
   find-reads.Asked,
   find-reads.Learnt,
   newest-reads.Asked,
@@ -602,8 +602,8 @@ lookup-part-lookup-start-3 : (t : ℕ) → lookup-lts.Need-part-lookup-start-3 (
 lookup-part-lookup-start-3 t c = search needs
 
 lookup-part-lookup-end-3 : (t : ℕ) → lookup-lts.Need-part-lookup-end-3 (
-  u16-at-reads.Asked,
-  u16-at-reads.Learnt,
+  read-length-reads.Asked,
+  read-length-reads.Learnt,
   find-reads.Asked,
   find-reads.Learnt,
   newest-reads.Asked,
@@ -618,8 +618,8 @@ lookup-part-lookup-end-3 : (t : ℕ) → lookup-lts.Need-part-lookup-end-3 (
 lookup-part-lookup-end-3 t c = search needs
 
 lookup-sub-lookup-6 : (t : ℕ) → lookup-lts.Need-sub-lookup-6 (
-  u16-at-reads.Asked,
-  u16-at-reads.Learnt,
+  read-length-reads.Asked,
+  read-length-reads.Learnt,
   find-reads.Asked,
   find-reads.Learnt,
   newest-reads.Asked,
@@ -631,11 +631,11 @@ lookup-sub-lookup-6 : (t : ℕ) → lookup-lts.Need-sub-lookup-6 (
   lookup-below t,
   lookup.Post,
 ) (lookup-at t) lookup.Post
-lookup-sub-lookup-6 t c = let l = last-short (c .before .before .before .before .before .before .before .before .before .before .before .before .before .before .before .args .store .now) (c .before .before .before .before .before .before .before .before .before .before .before .before .before .before .before .args .num) (c .before .before .before .before .before .before .before .before .before .before .before .before .before .before .before .args .level) (c .before .before .before .before .before .before .before .before .before .before .before .before .before .before .before .pre .1) (c .before .before .before .before .before .before .before .before .before .before .before .before .before .before .before .args .hi .now) (c .before .before .before .before .before .before .before .before .before .before .before .before .before .before .before .args .rest .now) (c .before .before .before .before .before .before .before .before .before .before .before .u16-at .result) (c .before .before .before .before .before .before .before .before .before .before .before .u16-at .ensures .0) (omega arith) (c .before .before .before .before .before .before .before .before .before .newest .result) (c .before .before .before .before .before .before .before .before .before .newest .ensures) (c .before .before .before .before .before .before .before .enum-told2 .given .1) (c .before .before .before .before .before .before .owner-of .result) (c .before .before .before .before .before .before .owner-of .ensures) (c .before .before .before .before .o2 .given .0 .0) (c .before .before .before .before .o2 .given .0 .1 .0) (c .before .before .before .before .o2 .given .1) (c .before .common-length2 .result) (c .before .common-length2 .ensures .0) in omega arith
+lookup-sub-lookup-6 t c = let l = last-short (c .before .before .before .before .before .before .before .before .before .before .before .before .before .before .before .args .store .now) (c .before .before .before .before .before .before .before .before .before .before .before .before .before .before .before .args .num) (c .before .before .before .before .before .before .before .before .before .before .before .before .before .before .before .args .level) (c .before .before .before .before .before .before .before .before .before .before .before .before .before .before .before .pre .1) (c .before .before .before .before .before .before .before .before .before .before .before .before .before .before .before .args .hi .now) (c .before .before .before .before .before .before .before .before .before .before .before .before .before .before .before .args .rest .now) (c .before .before .before .before .before .before .before .before .before .before .before .read-length .result) (c .before .before .before .before .before .before .before .before .before .before .before .read-length .ensures .0) (omega arith) (c .before .before .before .before .before .before .before .before .before .newest .result) (c .before .before .before .before .before .before .before .before .before .newest .ensures) (c .before .before .before .before .before .before .before .enum-told2 .given .1) (c .before .before .before .before .before .before .owner-of .result) (c .before .before .before .before .before .before .owner-of .ensures) (c .before .before .before .before .o2 .given .0 .0) (c .before .before .before .before .o2 .given .0 .1 .0) (c .before .before .before .before .o2 .given .1) (c .before .common-length2 .result) (c .before .common-length2 .ensures .0) in omega arith
 
 lookup-part-lookup-start-4 : (t : ℕ) → lookup-lts.Need-part-lookup-start-4 (
-  u16-at-reads.Asked,
-  u16-at-reads.Learnt,
+  read-length-reads.Asked,
+  read-length-reads.Learnt,
   find-reads.Asked,
   find-reads.Learnt,
   newest-reads.Asked,
@@ -647,11 +647,11 @@ lookup-part-lookup-start-4 : (t : ℕ) → lookup-lts.Need-part-lookup-start-4 (
   lookup-below t,
   lookup.Post,
 ) (lookup-at t) lookup.Post
-lookup-part-lookup-start-4 t c = let l = last-short (c .before .before .before .before .before .before .before .before .before .before .before .before .before .before .before .args .store .now) (c .before .before .before .before .before .before .before .before .before .before .before .before .before .before .before .args .num) (c .before .before .before .before .before .before .before .before .before .before .before .before .before .before .before .args .level) (c .before .before .before .before .before .before .before .before .before .before .before .before .before .before .before .pre .1) (c .before .before .before .before .before .before .before .before .before .before .before .before .before .before .before .args .hi .now) (c .before .before .before .before .before .before .before .before .before .before .before .before .before .before .before .args .rest .now) (c .before .before .before .before .before .before .before .before .before .before .before .u16-at .result) (c .before .before .before .before .before .before .before .before .before .before .before .u16-at .ensures .0) (omega arith) (c .before .before .before .before .before .before .before .before .before .newest .result) (c .before .before .before .before .before .before .before .before .before .newest .ensures) (c .before .before .before .before .before .before .before .enum-told2 .given .1) (c .before .before .before .before .before .before .owner-of .result) (c .before .before .before .before .before .before .owner-of .ensures) (c .before .before .before .before .o2 .given .0 .0) (c .before .before .before .before .o2 .given .0 .1 .0) (c .before .before .before .before .o2 .given .1) (c .before .common-length2 .result) (c .before .common-length2 .ensures .0) in omega arith
+lookup-part-lookup-start-4 t c = let l = last-short (c .before .before .before .before .before .before .before .before .before .before .before .before .before .before .before .args .store .now) (c .before .before .before .before .before .before .before .before .before .before .before .before .before .before .before .args .num) (c .before .before .before .before .before .before .before .before .before .before .before .before .before .before .before .args .level) (c .before .before .before .before .before .before .before .before .before .before .before .before .before .before .before .pre .1) (c .before .before .before .before .before .before .before .before .before .before .before .before .before .before .before .args .hi .now) (c .before .before .before .before .before .before .before .before .before .before .before .before .before .before .before .args .rest .now) (c .before .before .before .before .before .before .before .before .before .before .before .read-length .result) (c .before .before .before .before .before .before .before .before .before .before .before .read-length .ensures .0) (omega arith) (c .before .before .before .before .before .before .before .before .before .newest .result) (c .before .before .before .before .before .before .before .before .before .newest .ensures) (c .before .before .before .before .before .before .before .enum-told2 .given .1) (c .before .before .before .before .before .before .owner-of .result) (c .before .before .before .before .before .before .owner-of .ensures) (c .before .before .before .before .o2 .given .0 .0) (c .before .before .before .before .o2 .given .0 .1 .0) (c .before .before .before .before .o2 .given .1) (c .before .common-length2 .result) (c .before .common-length2 .ensures .0) in omega arith
 
 lookup-part-lookup-end-4 : (t : ℕ) → lookup-lts.Need-part-lookup-end-4 (
-  u16-at-reads.Asked,
-  u16-at-reads.Learnt,
+  read-length-reads.Asked,
+  read-length-reads.Learnt,
   find-reads.Asked,
   find-reads.Learnt,
   newest-reads.Asked,
@@ -666,8 +666,8 @@ lookup-part-lookup-end-4 : (t : ℕ) → lookup-lts.Need-part-lookup-end-4 (
 lookup-part-lookup-end-4 t c = search needs
 
 lookup-lookup-requires-2 : (t : ℕ) → lookup-lts.Need-lookup-requires-2 (
-  u16-at-reads.Asked,
-  u16-at-reads.Learnt,
+  read-length-reads.Asked,
+  read-length-reads.Learnt,
   find-reads.Asked,
   find-reads.Learnt,
   newest-reads.Asked,
@@ -679,11 +679,11 @@ lookup-lookup-requires-2 : (t : ℕ) → lookup-lts.Need-lookup-requires-2 (
   lookup-below t,
   lookup.Post,
 ) (lookup-at t) lookup.Post
-lookup-lookup-requires-2 t c κs = (omega arith, last-usable (c .before .before .before .before .before .before .before .before .before .before .before .before .before .before .before .before .args .store .now) (c .before .before .before .before .before .before .before .before .before .before .before .before .before .before .before .before .args .num) (c .before .before .before .before .before .before .before .before .before .before .before .before .before .before .before .before .args .level) (c .before .before .before .before .before .before .before .before .before .before .before .before .before .before .before .before .pre .1) (c .before .before .before .before .before .before .before .before .before .before .before .before .before .before .before .before .args .hi .now) (c .before .before .before .before .before .before .before .before .before .before .before .before .before .before .before .before .args .rest .now) (c .before .before .before .before .before .before .before .before .before .before .before .before .u16-at .result) (c .before .before .before .before .before .before .before .before .before .before .before .before .u16-at .ensures .0) (omega arith) (c .before .before .before .before .before .before .before .before .before .before .newest .result) (c .before .before .before .before .before .before .before .before .before .before .newest .ensures) (c .before .before .before .before .before .before .before .before .enum-told2 .given .1) (c .before .before .before .before .before .before .before .owner-of .result) (c .before .before .before .before .before .before .before .owner-of .ensures) (c .before .before .before .before .before .o2 .given .0 .0) (c .before .before .before .before .before .o2 .given .0 .1 .0) (c .before .before .before .before .before .o2 .given .1))
+lookup-lookup-requires-2 t c κs = (omega arith, last-usable (c .before .before .before .before .before .before .before .before .before .before .before .before .before .before .before .before .args .store .now) (c .before .before .before .before .before .before .before .before .before .before .before .before .before .before .before .before .args .num) (c .before .before .before .before .before .before .before .before .before .before .before .before .before .before .before .before .args .level) (c .before .before .before .before .before .before .before .before .before .before .before .before .before .before .before .before .pre .1) (c .before .before .before .before .before .before .before .before .before .before .before .before .before .before .before .before .args .hi .now) (c .before .before .before .before .before .before .before .before .before .before .before .before .before .before .before .before .args .rest .now) (c .before .before .before .before .before .before .before .before .before .before .before .before .read-length .result) (c .before .before .before .before .before .before .before .before .before .before .before .before .read-length .ensures .0) (omega arith) (c .before .before .before .before .before .before .before .before .before .before .newest .result) (c .before .before .before .before .before .before .before .before .before .before .newest .ensures) (c .before .before .before .before .before .before .before .before .enum-told2 .given .1) (c .before .before .before .before .before .before .before .owner-of .result) (c .before .before .before .before .before .before .before .owner-of .ensures) (c .before .before .before .before .before .o2 .given .0 .0) (c .before .before .before .before .before .o2 .given .0 .1 .0) (c .before .before .before .before .before .o2 .given .1))
 
 lookup-enum-told-3 : (t : ℕ) → lookup-lts.Need-enum-told-3 (
-  u16-at-reads.Asked,
-  u16-at-reads.Learnt,
+  read-length-reads.Asked,
+  read-length-reads.Learnt,
   find-reads.Asked,
   find-reads.Learnt,
   newest-reads.Asked,
@@ -698,8 +698,8 @@ lookup-enum-told-3 : (t : ℕ) → lookup-lts.Need-enum-told-3 (
 lookup-enum-told-3 t c = search needs
 
 lookup-returns-2 : (t : ℕ) → lookup-lts.Need-returns-2 (
-  u16-at-reads.Asked,
-  u16-at-reads.Learnt,
+  read-length-reads.Asked,
+  read-length-reads.Learnt,
   find-reads.Asked,
   find-reads.Learnt,
   newest-reads.Asked,
@@ -711,11 +711,11 @@ lookup-returns-2 : (t : ℕ) → lookup-lts.Need-returns-2 (
   lookup-below t,
   lookup.Post,
 ) (lookup-at t) lookup.Post
-lookup-returns-2 t c = look-value (c .before .before .before .before .before .before .before .before .before .args .store .now) (c .before .before .before .before .before .before .before .before .before .args .num) (c .before .before .before .before .before .before .before .before .before .args .level) (c .before .before .before .before .before .before .before .before .before .pre .1) (c .before .before .before .before .before .before .before .before .before .args .hi .now) (c .before .before .before .before .before .before .before .before .before .args .rest .now) (c .before .before .before .before .before .u16-at .result) (c .before .before .before .before .before .u16-at .ensures .0) (omega arith) (c .before .before .before .newest .result) (c .before .before .before .newest .ensures) _ (c .before .m .given .1)
+lookup-returns-2 t c = look-value (c .before .before .before .before .before .before .before .before .before .args .store .now) (c .before .before .before .before .before .before .before .before .before .args .num) (c .before .before .before .before .before .before .before .before .before .args .level) (c .before .before .before .before .before .before .before .before .before .pre .1) (c .before .before .before .before .before .before .before .before .before .args .hi .now) (c .before .before .before .before .before .before .before .before .before .args .rest .now) (c .before .before .before .before .before .read-length .result) (c .before .before .before .before .before .read-length .ensures .0) (omega arith) (c .before .before .before .newest .result) (c .before .before .before .newest .ensures) _ (c .before .m .given .1)
 
 lookup-returns-3 : (t : ℕ) → lookup-lts.Need-returns-3 (
-  u16-at-reads.Asked,
-  u16-at-reads.Learnt,
+  read-length-reads.Asked,
+  read-length-reads.Learnt,
   find-reads.Asked,
   find-reads.Learnt,
   newest-reads.Asked,
@@ -727,11 +727,11 @@ lookup-returns-3 : (t : ℕ) → lookup-lts.Need-returns-3 (
   lookup-below t,
   lookup.Post,
 ) (lookup-at t) lookup.Post
-lookup-returns-3 t c = look-gone (c .before .before .before .before .before .before .before .before .args .store .now) (c .before .before .before .before .before .before .before .before .args .num) (c .before .before .before .before .before .before .before .before .args .level) (c .before .before .before .before .before .before .before .before .pre .1) (c .before .before .before .before .before .before .before .before .args .hi .now) (c .before .before .before .before .before .before .before .before .args .rest .now) (c .before .before .before .before .u16-at .result) (c .before .before .before .before .u16-at .ensures .0) (omega arith) (c .before .before .newest .result) (c .before .before .newest .ensures) (c .enum-told .given .1)
+lookup-returns-3 t c = look-gone (c .before .before .before .before .before .before .before .before .args .store .now) (c .before .before .before .before .before .before .before .before .args .num) (c .before .before .before .before .before .before .before .before .args .level) (c .before .before .before .before .before .before .before .before .pre .1) (c .before .before .before .before .before .before .before .before .args .hi .now) (c .before .before .before .before .before .before .before .before .args .rest .now) (c .before .before .before .before .read-length .result) (c .before .before .before .before .read-length .ensures .0) (omega arith) (c .before .before .newest .result) (c .before .before .newest .ensures) (c .enum-told .given .1)
 
 lookup-returns-4 : (t : ℕ) → lookup-lts.Need-returns-4 (
-  u16-at-reads.Asked,
-  u16-at-reads.Learnt,
+  read-length-reads.Asked,
+  read-length-reads.Learnt,
   find-reads.Asked,
   find-reads.Learnt,
   newest-reads.Asked,
@@ -744,11 +744,11 @@ lookup-returns-4 : (t : ℕ) → lookup-lts.Need-returns-4 (
   lookup.Post,
 ) (lookup-at t) lookup.Post
 lookup-returns-4 t c = let w = inner-places _ _ _ _ _ _ _ (c .before .before .before .before .before .before .before .before .before .owner-of .ensures) (c .before .before .before .before .before .before .before .o .given .1) in let l = cut-length (c .before .before .before .before .before .before .before .before .before .before .before .before .before .before .before .before .before .before .args .store .now) ((c .before .before .before .before .before .before .before .o .given .0 .1 .1 .0) .start) ((c .before .before .before .before .before .before .before .o .given .0 .1 .1 .0) .stop) (omega arith) (omega arith) in
-    look-inner (c .before .before .before .before .before .before .before .before .before .before .before .before .before .before .before .before .before .before .args .store .now) (c .before .before .before .before .before .before .before .before .before .before .before .before .before .before .before .before .before .before .args .num) (c .before .before .before .before .before .before .before .before .before .before .before .before .before .before .before .before .before .before .args .level) (c .before .before .before .before .before .before .before .before .before .before .before .before .before .before .before .before .before .before .pre .1) (c .before .before .before .before .before .before .before .before .before .before .before .before .before .before .before .before .before .before .args .hi .now) (c .before .before .before .before .before .before .before .before .before .before .before .before .before .before .before .before .before .before .args .rest .now) (c .before .before .before .before .before .before .before .before .before .before .before .before .before .before .u16-at .result) (c .before .before .before .before .before .before .before .before .before .before .before .before .before .before .u16-at .ensures .0) (omega arith) (c .before .before .before .before .before .before .before .before .before .before .before .before .newest .result) (c .before .before .before .before .before .before .before .before .before .before .before .before .newest .ensures) (c .before .before .before .before .before .before .before .before .before .before .enum-told2 .given .1) (c .before .before .before .before .before .before .before .before .before .owner-of .result) (c .before .before .before .before .before .before .before .before .before .owner-of .ensures) (c .before .before .before .before .before .before .before .o .given .0 .0) (c .before .before .before .before .before .before .before .o .given .0 .1 .0) (c .before .before .before .before .before .before .before .o .given .0 .1 .1 .0) (c .before .before .before .before .before .before .before .o .given .1) (c .before .before .before .common-length .result) (c .before .before .before .common-length .ensures .0) (omega arith) _ (c .lookup .ensures)
+    look-inner (c .before .before .before .before .before .before .before .before .before .before .before .before .before .before .before .before .before .before .args .store .now) (c .before .before .before .before .before .before .before .before .before .before .before .before .before .before .before .before .before .before .args .num) (c .before .before .before .before .before .before .before .before .before .before .before .before .before .before .before .before .before .before .args .level) (c .before .before .before .before .before .before .before .before .before .before .before .before .before .before .before .before .before .before .pre .1) (c .before .before .before .before .before .before .before .before .before .before .before .before .before .before .before .before .before .before .args .hi .now) (c .before .before .before .before .before .before .before .before .before .before .before .before .before .before .before .before .before .before .args .rest .now) (c .before .before .before .before .before .before .before .before .before .before .before .before .before .before .read-length .result) (c .before .before .before .before .before .before .before .before .before .before .before .before .before .before .read-length .ensures .0) (omega arith) (c .before .before .before .before .before .before .before .before .before .before .before .before .newest .result) (c .before .before .before .before .before .before .before .before .before .before .before .before .newest .ensures) (c .before .before .before .before .before .before .before .before .before .before .enum-told2 .given .1) (c .before .before .before .before .before .before .before .before .before .owner-of .result) (c .before .before .before .before .before .before .before .before .before .owner-of .ensures) (c .before .before .before .before .before .before .before .o .given .0 .0) (c .before .before .before .before .before .before .before .o .given .0 .1 .0) (c .before .before .before .before .before .before .before .o .given .0 .1 .1 .0) (c .before .before .before .before .before .before .before .o .given .1) (c .before .before .before .common-length .result) (c .before .before .before .common-length .ensures .0) (omega arith) _ (c .lookup .ensures)
 
 lookup-returns-5 : (t : ℕ) → lookup-lts.Need-returns-5 (
-  u16-at-reads.Asked,
-  u16-at-reads.Learnt,
+  read-length-reads.Asked,
+  read-length-reads.Learnt,
   find-reads.Asked,
   find-reads.Learnt,
   newest-reads.Asked,
@@ -760,11 +760,11 @@ lookup-returns-5 : (t : ℕ) → lookup-lts.Need-returns-5 (
   lookup-below t,
   lookup.Post,
 ) (lookup-at t) lookup.Post
-lookup-returns-5 t c = look-last (c .before .before .before .before .before .before .before .before .before .before .before .before .before .before .before .before .before .args .store .now) (c .before .before .before .before .before .before .before .before .before .before .before .before .before .before .before .before .before .args .num) (c .before .before .before .before .before .before .before .before .before .before .before .before .before .before .before .before .before .args .level) (c .before .before .before .before .before .before .before .before .before .before .before .before .before .before .before .before .before .pre .1) (c .before .before .before .before .before .before .before .before .before .before .before .before .before .before .before .before .before .args .hi .now) (c .before .before .before .before .before .before .before .before .before .before .before .before .before .before .before .before .before .args .rest .now) (c .before .before .before .before .before .before .before .before .before .before .before .before .before .u16-at .result) (c .before .before .before .before .before .before .before .before .before .before .before .before .before .u16-at .ensures .0) (omega arith) (c .before .before .before .before .before .before .before .before .before .before .before .newest .result) (c .before .before .before .before .before .before .before .before .before .before .before .newest .ensures) (c .before .before .before .before .before .before .before .before .before .enum-told2 .given .1) (c .before .before .before .before .before .before .before .before .owner-of .result) (c .before .before .before .before .before .before .before .before .owner-of .ensures) (c .before .before .before .before .before .before .o2 .given .0 .0) (c .before .before .before .before .before .before .o2 .given .0 .1 .0) (c .before .before .before .before .before .before .o2 .given .1) (c .before .before .before .common-length2 .result) (c .before .before .before .common-length2 .ensures .0) _ (c .lookup2 .ensures)
+lookup-returns-5 t c = look-last (c .before .before .before .before .before .before .before .before .before .before .before .before .before .before .before .before .before .args .store .now) (c .before .before .before .before .before .before .before .before .before .before .before .before .before .before .before .before .before .args .num) (c .before .before .before .before .before .before .before .before .before .before .before .before .before .before .before .before .before .args .level) (c .before .before .before .before .before .before .before .before .before .before .before .before .before .before .before .before .before .pre .1) (c .before .before .before .before .before .before .before .before .before .before .before .before .before .before .before .before .before .args .hi .now) (c .before .before .before .before .before .before .before .before .before .before .before .before .before .before .before .before .before .args .rest .now) (c .before .before .before .before .before .before .before .before .before .before .before .before .before .read-length .result) (c .before .before .before .before .before .before .before .before .before .before .before .before .before .read-length .ensures .0) (omega arith) (c .before .before .before .before .before .before .before .before .before .before .before .newest .result) (c .before .before .before .before .before .before .before .before .before .before .before .newest .ensures) (c .before .before .before .before .before .before .before .before .before .enum-told2 .given .1) (c .before .before .before .before .before .before .before .before .owner-of .result) (c .before .before .before .before .before .before .before .before .owner-of .ensures) (c .before .before .before .before .before .before .o2 .given .0 .0) (c .before .before .before .before .before .before .o2 .given .0 .1 .0) (c .before .before .before .before .before .before .o2 .given .1) (c .before .before .before .common-length2 .result) (c .before .before .before .common-length2 .ensures .0) _ (c .lookup2 .ensures)
 
 lookup-returns-6 : (t : ℕ) → lookup-lts.Need-returns-6 (
-  u16-at-reads.Asked,
-  u16-at-reads.Learnt,
+  read-length-reads.Asked,
+  read-length-reads.Learnt,
   find-reads.Asked,
   find-reads.Learnt,
   newest-reads.Asked,
@@ -776,12 +776,12 @@ lookup-returns-6 : (t : ℕ) → lookup-lts.Need-returns-6 (
   lookup-below t,
   lookup.Post,
 ) (lookup-at t) lookup.Post
-lookup-returns-6 t c = look-nobody (c .before .before .before .before .before .before .before .before .before .before .before .args .store .now) (c .before .before .before .before .before .before .before .before .before .before .before .args .num) (c .before .before .before .before .before .before .before .before .before .before .before .args .level) (c .before .before .before .before .before .before .before .before .before .before .before .pre .1) (c .before .before .before .before .before .before .before .before .before .before .before .args .hi .now) (c .before .before .before .before .before .before .before .before .before .before .before .args .rest .now) (c .before .before .before .before .before .before .before .u16-at .result) (c .before .before .before .before .before .before .before .u16-at .ensures .0) (omega arith) (c .before .before .before .before .before .newest .result) (c .before .before .before .before .before .newest .ensures) (c .before .before .before .enum-told2 .given .1) (c .before .before .owner-of .result) (c .before .before .owner-of .ensures) (c .enum-told3 .given .1)
+lookup-returns-6 t c = look-nobody (c .before .before .before .before .before .before .before .before .before .before .before .args .store .now) (c .before .before .before .before .before .before .before .before .before .before .before .args .num) (c .before .before .before .before .before .before .before .before .before .before .before .args .level) (c .before .before .before .before .before .before .before .before .before .before .before .pre .1) (c .before .before .before .before .before .before .before .before .before .before .before .args .hi .now) (c .before .before .before .before .before .before .before .before .before .before .before .args .rest .now) (c .before .before .before .before .before .before .before .read-length .result) (c .before .before .before .before .before .before .before .read-length .ensures .0) (omega arith) (c .before .before .before .before .before .newest .result) (c .before .before .before .before .before .newest .ensures) (c .before .before .before .enum-told2 .given .1) (c .before .before .owner-of .result) (c .before .before .owner-of .ensures) (c .enum-told3 .given .1)
 
 pub +lookup-spec : {M : Type 1} → statement M
 +lookup-spec = close μ-lookup λ t. lookup-lts.spec (
-  u16-at-reads.Asked,
-  u16-at-reads.Learnt,
+  read-length-reads.Asked,
+  read-length-reads.Learnt,
   find-reads.Asked,
   find-reads.Learnt,
   newest-reads.Asked,
@@ -796,7 +796,7 @@ pub +lookup-spec : {M : Type 1} → statement M
     (lookup-at t)
     lookup.Post
     (lookup-mul-at t)
-    (lookup-u16-at-requires t)
+    (lookup-read-length-requires t)
     (lookup-add-from t)
     (lookup-add-end t)
     (lookup-find-requires t)

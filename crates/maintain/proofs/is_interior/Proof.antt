@@ -16,17 +16,14 @@ element-copy-out-if2 c = let n = node-count _ (c .before .before .pre .0) in ome
 returns-2 : tie.Need-returns-2
 returns-2 c = unmarked _ _ _ (c .before .before .before .before .pre .0) (c .before .before .before .before .pre .1) (c .before .before .before .before .pre .2) (omega arith) (λ h. omega arith)
 
-mul-u16-at : tie.Need-mul-u16-at
-mul-u16-at c = search needs
+mul-read-kind : tie.Need-mul-read-kind
+mul-read-kind c = search needs
 
-add-u16-at : tie.Need-add-u16-at
-add-u16-at c = search needs
-
-u16-at-requires : tie.Need-u16-at-requires
-u16-at-requires c κs = search needs
+read-kind-requires : tie.Need-read-kind-requires
+read-kind-requires c κs = search needs
 
 returns-3 : tie.Need-returns-3
-returns-3 c = marked _ _ _ (c .before .before .before .before .before .pre .0) (c .before .before .before .before .before .pre .1) (c .before .before .before .before .before .pre .2) (omega arith) (omega arith) _ (c .u16-at .ensures .0)
+returns-3 c = marked _ _ _ (c .before .before .before .before .before .pre .0) (c .before .before .before .before .before .pre .1) (c .before .before .before .before .before .pre .2) (omega arith) (omega arith) _ (c .read-kind .ensures .0)
 
 pub is-interior-spec : {M : Type 1} → statement M
 is-interior-spec =
@@ -35,7 +32,6 @@ is-interior-spec =
     returns
     element-copy-out-if2
     returns-2
-    mul-u16-at
-    add-u16-at
-    u16-at-requires
+    mul-read-kind
+    read-kind-requires
     returns-3)

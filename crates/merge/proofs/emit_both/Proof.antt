@@ -32,7 +32,7 @@ part-emit-node-end : tie.Need-part-emit-node-end
 part-emit-node-end c = search needs
 
 emit-node-requires : tie.Need-emit-node-requires
-emit-node-requires c κs = let j = both-join (c .before .before .before .before .before .before .before .before .before .before .before .before .args .store .now) (c .before .before .before .before .before .before .before .before .before .before .before .before .args .left) (c .before .before .before .before .before .before .before .before .before .before .before .before .args .right) (c .before .before .before .before .before .before .before .before .before .before .before .before .args .lo .now) (c .before .before .before .before .before .before .before .before .before .before .before .before .args .mid .now) (c .before .before .before .before .before .before .before .before .before .before .before .before .args .hi .now) (c .before .before .before .before .before .before .before .before .before .before .before .before .pre .0) in (j .left-in, j .left-short, j .left-small, left-fits (c .before .before .before .before .before .before .before .before .before .before .before .before .args .store .now) (c .before .before .before .before .before .before .before .before .before .before .before .before .args .left) (c .before .before .before .before .before .before .before .before .before .before .before .before .args .right) (c .before .before .before .before .before .before .before .before .before .before .before .before .args .lo .now) (c .before .before .before .before .before .before .before .before .before .before .before .before .args .mid .now) (c .before .before .before .before .before .before .before .before .before .before .before .before .args .hi .now) (c .before .before .before .before .before .before .before .before .before .before .before .before .pre .0) _ _ (left-part (c .before .before .before .before .before .before .before .before .before .before .before .before .args .lo .now) (c .before .before .before .before .before .before .before .before .before .before .before .before .args .mid .now) (c .before .before .before .before .before .before .before .before .before .before .before .before .args .hi .now) _ _ _ (c .before .before .before .before .before .before .common-length .ensures .0) (c .before .before .before .before .before .common-length2 .ensures .0) (c .before .before .before .lesser .ensures .0)) (c .before .before .before .before .before .before .before .before .before .before .before .before .pre .1), omega arith)
+emit-node-requires c κs = let j = both-join (c .before .before .before .before .before .before .before .before .before .before .before .before .args .store .now) (c .before .before .before .before .before .before .before .before .before .before .before .before .args .left) (c .before .before .before .before .before .before .before .before .before .before .before .before .args .right) (c .before .before .before .before .before .before .before .before .before .before .before .before .args .lo .now) (c .before .before .before .before .before .before .before .before .before .before .before .before .args .mid .now) (c .before .before .before .before .before .before .before .before .before .before .before .before .args .hi .now) (c .before .before .before .before .before .before .before .before .before .before .before .before .pre .0) in ((j .left-in, j .left-short), j .left-small, left-fits (c .before .before .before .before .before .before .before .before .before .before .before .before .args .store .now) (c .before .before .before .before .before .before .before .before .before .before .before .before .args .left) (c .before .before .before .before .before .before .before .before .before .before .before .before .args .right) (c .before .before .before .before .before .before .before .before .before .before .before .before .args .lo .now) (c .before .before .before .before .before .before .before .before .before .before .before .before .args .mid .now) (c .before .before .before .before .before .before .before .before .before .before .before .before .args .hi .now) (c .before .before .before .before .before .before .before .before .before .before .before .before .pre .0) _ _ (left-part (c .before .before .before .before .before .before .before .before .before .before .before .before .args .lo .now) (c .before .before .before .before .before .before .before .before .before .before .before .before .args .mid .now) (c .before .before .before .before .before .before .before .before .before .before .before .before .args .hi .now) _ _ _ (c .before .before .before .before .before .before .common-length .ensures .0) (c .before .before .before .before .before .common-length2 .ensures .0) (c .before .before .before .lesser .ensures .0)) (c .before .before .before .before .before .before .before .before .before .before .before .before .pre .1), omega arith)
 
 sub-emit-node-2 : tie.Need-sub-emit-node-2
 sub-emit-node-2 c = search needs
@@ -44,7 +44,7 @@ part-emit-node-end-2 : tie.Need-part-emit-node-end-2
 part-emit-node-end-2 c = search needs
 
 emit-node-requires-2 : tie.Need-emit-node-requires-2
-emit-node-requires-2 c κs = let j = both-join (c .before .before .before .before .before .before .before .before .before .before .before .before .before .before .before .before .before .args .store .now) (c .before .before .before .before .before .before .before .before .before .before .before .before .before .before .before .before .before .args .left) (c .before .before .before .before .before .before .before .before .before .before .before .before .before .before .before .before .before .args .right) (c .before .before .before .before .before .before .before .before .before .before .before .before .before .before .before .before .before .args .lo .now) (c .before .before .before .before .before .before .before .before .before .before .before .before .before .before .before .before .before .args .mid .now) (c .before .before .before .before .before .before .before .before .before .before .before .before .before .before .before .before .before .args .hi .now) (c .before .before .before .before .before .before .before .before .before .before .before .before .before .before .before .before .before .pre .0) in (j .right-in, j .right-short, j .right-small, both-fit (c .before .before .before .before .before .before .before .before .before .before .before .before .before .before .before .before .before .args .store .now) (c .before .before .before .before .before .before .before .before .before .before .before .before .before .before .before .before .before .args .left) (c .before .before .before .before .before .before .before .before .before .before .before .before .before .before .before .before .before .args .right) (c .before .before .before .before .before .before .before .before .before .before .before .before .before .before .before .before .before .args .lo .now) (c .before .before .before .before .before .before .before .before .before .before .before .before .before .before .before .before .before .args .mid .now) (c .before .before .before .before .before .before .before .before .before .before .before .before .before .before .before .before .before .args .hi .now) (c .before .before .before .before .before .before .before .before .before .before .before .before .before .before .before .before .before .pre .0) _ _ _ _ (left-part (c .before .before .before .before .before .before .before .before .before .before .before .before .before .before .before .before .before .args .lo .now) (c .before .before .before .before .before .before .before .before .before .before .before .before .before .before .before .before .before .args .mid .now) (c .before .before .before .before .before .before .before .before .before .before .before .before .before .before .before .before .before .args .hi .now) _ _ _ (c .before .before .before .before .before .before .before .before .before .before .before .common-length .ensures .0) (c .before .before .before .before .before .before .before .before .before .before .common-length2 .ensures .0) (c .before .before .before .before .before .before .before .before .lesser .ensures .0)) (right-part (c .before .before .before .before .before .before .before .before .before .before .before .before .before .before .before .before .before .args .lo .now) (c .before .before .before .before .before .before .before .before .before .before .before .before .before .before .before .before .before .args .mid .now) (c .before .before .before .before .before .before .before .before .before .before .before .before .before .before .before .before .before .args .hi .now) _ _ _ (c .before .before .before .before .before .before .before .before .before .before .before .common-length .ensures .0) (c .before .before .before .before .before .before .before .before .before .common-length3 .ensures .0) (c .before .before .before .before .before .before .before .lesser2 .ensures .0)) (c .before .before .before .before .emit-node .kept .0 ∙ c .before .before .before .before .before .before .before .before .before .before .before .before .before .before .before .before .before .pre .1) (c .before .before .before .before .emit-node .ensures .1), search needs)
+emit-node-requires-2 c κs = let j = both-join (c .before .before .before .before .before .before .before .before .before .before .before .before .before .before .before .before .before .args .store .now) (c .before .before .before .before .before .before .before .before .before .before .before .before .before .before .before .before .before .args .left) (c .before .before .before .before .before .before .before .before .before .before .before .before .before .before .before .before .before .args .right) (c .before .before .before .before .before .before .before .before .before .before .before .before .before .before .before .before .before .args .lo .now) (c .before .before .before .before .before .before .before .before .before .before .before .before .before .before .before .before .before .args .mid .now) (c .before .before .before .before .before .before .before .before .before .before .before .before .before .before .before .before .before .args .hi .now) (c .before .before .before .before .before .before .before .before .before .before .before .before .before .before .before .before .before .pre .0) in ((j .right-in, j .right-short), j .right-small, both-fit (c .before .before .before .before .before .before .before .before .before .before .before .before .before .before .before .before .before .args .store .now) (c .before .before .before .before .before .before .before .before .before .before .before .before .before .before .before .before .before .args .left) (c .before .before .before .before .before .before .before .before .before .before .before .before .before .before .before .before .before .args .right) (c .before .before .before .before .before .before .before .before .before .before .before .before .before .before .before .before .before .args .lo .now) (c .before .before .before .before .before .before .before .before .before .before .before .before .before .before .before .before .before .args .mid .now) (c .before .before .before .before .before .before .before .before .before .before .before .before .before .before .before .before .before .args .hi .now) (c .before .before .before .before .before .before .before .before .before .before .before .before .before .before .before .before .before .pre .0) _ _ _ _ (left-part (c .before .before .before .before .before .before .before .before .before .before .before .before .before .before .before .before .before .args .lo .now) (c .before .before .before .before .before .before .before .before .before .before .before .before .before .before .before .before .before .args .mid .now) (c .before .before .before .before .before .before .before .before .before .before .before .before .before .before .before .before .before .args .hi .now) _ _ _ (c .before .before .before .before .before .before .before .before .before .before .before .common-length .ensures .0) (c .before .before .before .before .before .before .before .before .before .before .common-length2 .ensures .0) (c .before .before .before .before .before .before .before .before .lesser .ensures .0)) (right-part (c .before .before .before .before .before .before .before .before .before .before .before .before .before .before .before .before .before .args .lo .now) (c .before .before .before .before .before .before .before .before .before .before .before .before .before .before .before .before .before .args .mid .now) (c .before .before .before .before .before .before .before .before .before .before .before .before .before .before .before .before .before .args .hi .now) _ _ _ (c .before .before .before .before .before .before .before .before .before .before .before .common-length .ensures .0) (c .before .before .before .before .before .before .before .before .before .common-length3 .ensures .0) (c .before .before .before .before .before .before .before .lesser2 .ensures .0)) (c .before .before .before .before .emit-node .kept .0 ∙ c .before .before .before .before .before .before .before .before .before .before .before .before .before .before .before .before .before .pre .1) (c .before .before .before .before .emit-node .ensures .1), search needs)
 
 same-length : tie.Need-same-length
 same-length c = search needs

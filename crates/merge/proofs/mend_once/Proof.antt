@@ -10,14 +10,11 @@ use Rattle.merge.proofs.mend_once.Tie as tie
 mul-at : tie.Need-mul-at
 mul-at c = let i = node-in (c .before .before .args .store .now) (c .before .before .args .num) (c .before .before .args .hi .now) (c .before .before .pre) in omega arith
 
-u16-at-requires : tie.Need-u16-at-requires
-u16-at-requires c κs = let i = node-in (c .before .before .before .args .store .now) (c .before .before .before .args .num) (c .before .before .before .args .hi .now) (c .before .before .before .pre) in omega arith
+read-length-requires : tie.Need-read-length-requires
+read-length-requires c κs = let i = node-in (c .before .before .before .args .store .now) (c .before .before .before .args .num) (c .before .before .before .args .hi .now) (c .before .before .before .pre) in omega arith
 
-add-u16-at : tie.Need-add-u16-at
-add-u16-at c = let i = node-in (c .before .before .before .before .before .args .store .now) (c .before .before .before .before .before .args .num) (c .before .before .before .before .before .args .hi .now) (c .before .before .before .before .before .pre) in omega arith
-
-u16-at-requires-2 : tie.Need-u16-at-requires-2
-u16-at-requires-2 c κs = let i = node-in (c .before .before .before .before .before .args .store .now) (c .before .before .before .before .before .args .num) (c .before .before .before .before .before .args .hi .now) (c .before .before .before .before .before .pre) in omega arith
+read-level-requires : tie.Need-read-level-requires
+read-level-requires c κs = let i = node-in (c .before .before .before .before .before .args .store .now) (c .before .before .before .before .before .args .num) (c .before .before .before .before .before .args .hi .now) (c .before .before .before .before .before .pre) in omega arith
 
 add-stop : tie.Need-add-stop
 add-stop c = search needs
@@ -45,23 +42,22 @@ slice-aggregate-join-first c = search needs
 
 join-first-requires : tie.Need-join-first-requires
 unfolding zerosOf
-join-first-requires c κs = room (c .before .before .before .before .before .before .before .before .before .before .before .before .before .args .store .now) (c .before .before .before .before .before .before .before .before .before .before .before .before .before .args .num) (c .before .before .before .before .before .before .before .before .before .before .before .before .before .args .hi .now) (c .before .before .before .before .before .before .before .before .before .before .before .before .before .pre) _ _ (c .before .before .before .before .before .before .before .before .before .u16-at .ensures .0) (c .before .before .before .before .before .before .before .u16-at2 .ensures .1) _ (c .before .before .before .copy-at .ensures)
+join-first-requires c κs = room (c .before .before .before .before .before .before .before .before .before .before .before .before .before .args .store .now) (c .before .before .before .before .before .before .before .before .before .before .before .before .before .args .num) (c .before .before .before .before .before .before .before .before .before .before .before .before .before .args .hi .now) (c .before .before .before .before .before .before .before .before .before .before .before .before .before .pre) _ _ (c .before .before .before .before .before .before .before .before .before .read-length .ensures .0) (c .before .before .before .before .before .before .before .read-level .ensures .1) _ (c .before .before .before .copy-at .ensures)
 
 same-length : tie.Need-same-length
 same-length c = search needs
 
 returns : tie.Need-returns
 unfolding zerosOf
-returns c = once-done (c .before .before .before .before .before .before .before .before .before .before .before .before .before .before .before .before .args .store .now) (c .before .before .before .before .before .before .before .before .before .before .before .before .before .before .before .before .args .num) (c .before .before .before .before .before .before .before .before .before .before .before .before .before .before .before .before .args .hi .now) (c .before .before .before .before .before .before .before .before .before .before .before .before .before .before .before .before .pre) (c .before .before .before .before .before .before .before .before .before .before .before .before .u16-at .result) (c .before .before .before .before .before .before .before .before .before .before .u16-at2 .result) (c .before .before .before .before .before .before .before .before .before .before .before .before .u16-at .ensures .0) (c .before .before .before .before .before .before .before .before .before .before .u16-at2 .ensures .1) _ (c .before .before .before .before .before .before .copy-at .ensures) (c .before .before .before .before .before .before .before .before .before .before .u16-at2 .ensures .0) _ _ (c .before .before .join-first .ensures .0) (c .before .before .join-first .ensures .1)
+returns c = once-done (c .before .before .before .before .before .before .before .before .before .before .before .before .before .before .before .before .args .store .now) (c .before .before .before .before .before .before .before .before .before .before .before .before .before .before .before .before .args .num) (c .before .before .before .before .before .before .before .before .before .before .before .before .before .before .before .before .args .hi .now) (c .before .before .before .before .before .before .before .before .before .before .before .before .before .before .before .before .pre) (c .before .before .before .before .before .before .before .before .before .before .before .before .read-length .result) (c .before .before .before .before .before .before .before .before .before .before .read-level .result) (c .before .before .before .before .before .before .before .before .before .before .before .before .read-length .ensures .0) (c .before .before .before .before .before .before .before .before .before .before .read-level .ensures .1) _ (c .before .before .before .before .before .before .copy-at .ensures) (c .before .before .before .before .before .before .before .before .before .before .read-level .ensures .0) _ _ (c .before .before .join-first .ensures .0) (c .before .before .join-first .ensures .1)
 
 pub mend-once-spec : {M : Type 1} → statement M
 mend-once-spec =
     tie.close
     (tie.spec
     mul-at
-    u16-at-requires
-    add-u16-at
-    u16-at-requires-2
+    read-length-requires
+    read-level-requires
     add-stop
     add-end
     slice-aggregate-copy-at

@@ -1,21 +1,22 @@
 -- The child at a cursor: what is read where there is one, and where there is none.
 -- Relies on the cursor's contract (Places) and on the children among entries (Own).
 use Prim.Native.Nat.{ℕ, _+_, _≤_}
-use mathlib.Core.Path.{_≡_, subst}
+use mathlib.Core.Path.{_≡_, ap, subst, _∙_}
 use mathlib.Core.List.{List, [], _∷_}
 use native.Mathlib.Omega.{arith}
 use lib.ListN.{length}
-use Rattle.node.specs.Places.{part, Within, Next}
+use Rattle.node.specs.Places.{part, entryIn, Within, Next}
 use Rattle.node.specs.Entries.{listed}
 use Rattle.node.specs.declared.Place.{Place}
 use Rattle.node.specs.declared.Cursor.{Cursor}
 use Rattle.node.specs.declared.Entry.{Entry}
 use Rattle.node.specs.declared.search.Branch.{Branch}
 use Rattle.node.specs.declared.search.Pending.{Pending}
-use Rattle.node.specs.Search.Own.{branch, branchIs, branchesAmong, branch-place, branches-none, branches-other, branches-more}
+use Rattle.node.specs.Search.Own.{branch, branchIs, branchesAmong, child-entry, branch-place, branches-none, branches-other, branches-more}
 
 -- the child at a cursor and the cursor after it, or that no child is there
 pub record NextChild (s : List ℕ) (at end k : ℕ) (p : Place) (c : Cursor) : Type 0 where
+  pub entry : listed s at end ≡ entryIn s (Entry.Child k p) ∷ listed s (c .at) (c .end)
   pub lists : branchesAmong (listed s at end) ≡ branch k (part s p) ∷ branchesAmong (listed s (c .at) (c .end))
   pub moves : at + 4 ≤ c .at
   pub stays : c .at ≤ end
@@ -40,6 +41,7 @@ unfolding Pends
 child-next s at end e c k p f n h =
     let w = branch-place at end e k p h (n .reachable) in
     record {
+      entry = n .lists ∙ ap (λ x. entryIn s x ∷ listed s (c .at) (c .end)) (child-entry e k p h);
       lists = branches-more e k p s (listed s at end) (listed s (c .at) (c .end)) (n .lists) h;
       moves = n .moves;
       stays = n .stays;

@@ -1,5 +1,6 @@
--- Whether entries hold a message, and the steps of the search for one, entry by entry.
-use Prim.Native.Nat.{ℕ}
+-- Whether entries hold a message, how many they hold, and the steps of the two walks, entry by entry.
+use Prim.Native.Nat.{ℕ, _+_}
+use native.Mathlib.Omega.{arith}
 use mathlib.Core.Path.{_≡_, sym, _∙_}
 use mathlib.Core.List.{List, [], _∷_}
 use mathlib.Core.Bool.{Bool, true, false, cond}
@@ -17,6 +18,10 @@ isMessage (defined.message m) = true
 unfoldable pub hasMessage : List defined.Entry → Bool
 hasMessage [] = false
 hasMessage (e ∷ es) = cond (isMessage e) true (hasMessage es)
+
+unfoldable pub messagesAmong : List defined.Entry → ℕ
+messagesAmong [] = 0
+messagesAmong (e ∷ es) = cond (isMessage e) (1 + messagesAmong es) (messagesAmong es)
 
 -- an entry, by its kind
 pub pair-message : (e : Entry) (p v : Place) → e ≡ Entry.Pair p v → (s : List ℕ) → false ≡ isMessage (entryIn s e)
@@ -47,4 +52,23 @@ module _ (s : List ℕ) (e : Entry) (es ts : List defined.Entry) (b answer : Boo
   unfolding hasMessage
   message-on t =
       let z : cond (isMessage (entryIn s e)) true (hasMessage ts) ≡ answer = rw q at inv in
+      rw (sym h ∙ t) at z
+
+-- the count: what was counted and what is left are all of them
+pub count-end : (es : List defined.Entry) (count answer : ℕ) → es ≡ [] → count + messagesAmong es ≡ answer → count ≡ answer
+unfolding messagesAmong
+count-end es count answer q inv = let z : count + 0 ≡ answer = rw q at inv in omega arith
+
+module _ (s : List ℕ) (e : Entry) (es ts : List defined.Entry) (b : Bool) (count answer : ℕ) (q : es ≡ entryIn s e ∷ ts) (h : b ≡ isMessage (entryIn s e)) (inv : count + messagesAmong es ≡ answer) where
+  pub count-here : b ≡ true → count + 1 + messagesAmong ts ≡ answer
+  unfolding messagesAmong
+  count-here t =
+      let z : count + cond (isMessage (entryIn s e)) (1 + messagesAmong ts) (messagesAmong ts) ≡ answer = rw q at inv in
+      let y : count + (1 + messagesAmong ts) ≡ answer = rw (sym h ∙ t) at z in
+      omega arith
+
+  pub count-on : b ≡ false → count + messagesAmong ts ≡ answer
+  unfolding messagesAmong
+  count-on t =
+      let z : count + cond (isMessage (entryIn s e)) (1 + messagesAmong ts) (messagesAmong ts) ≡ answer = rw q at inv in
       rw (sym h ∙ t) at z

@@ -6,21 +6,21 @@ use Rattle.query.specs.SameSteps.{counts-differ, counts-agree}
 use Rattle.query.proofs.same_paths.Statement.{statement}
 use Rattle.query.proofs.same_paths.Tie as tie
 
-u16-at-requires : tie.Need-u16-at-requires
-u16-at-requires c κs = let l = long-enough (c .before .before .args .store .now) (c .before .before .pre .0) in omega arith
+read-live-requires : tie.Need-read-live-requires
+read-live-requires c κs = let l = long-enough (c .before .before .args .store .now) (c .before .before .pre .0) in omega arith
 
-u16-at-requires-2 : tie.Need-u16-at-requires-2
-u16-at-requires-2 c κs = let l = long-enough (c .before .before .before .args .other .now) (c .before .before .before .pre .1) in omega arith
+read-live-requires-2 : tie.Need-read-live-requires-2
+read-live-requires-2 c κs = let l = long-enough (c .before .before .before .args .other .now) (c .before .before .before .pre .1) in omega arith
 
 returns : tie.Need-returns
-returns c = counts-differ (c .before .before .before .before .before .args .store .now) (c .before .before .before .before .before .args .other .now) (c .before .before .before .before .before .pre .0) (c .before .before .before .before .before .pre .1) (c .before .before .u16-at .result) (c .before .u16-at2 .result) (c .before .before .u16-at .ensures .0) (c .before .u16-at2 .ensures .0) (λ h. omega arith)
+returns c = counts-differ (c .before .before .before .before .before .args .store .now) (c .before .before .before .before .before .args .other .now) (c .before .before .before .before .before .pre .0) (c .before .before .before .before .before .pre .1) (c .before .before .read-live .result) (c .before .read-live2 .result) (c .before .before .read-live .ensures .0) (c .before .read-live2 .ensures .0) (λ h. omega arith)
 
 is-included-requires : tie.Need-is-included-requires
 is-included-requires c κs = search needs
 
 returns-2 : tie.Need-returns-2
-returns-2 c = counts-agree (c .before .before .before .before .before .before .args .store .now) (c .before .before .before .before .before .before .args .other .now) (c .before .before .before .before .before .before .pre .0) (c .before .before .before .before .before .before .pre .1) (c .before .before .before .u16-at .result) (c .before .before .u16-at2 .result) (c .before .before .before .u16-at .ensures .0) (c .before .before .u16-at2 .ensures .0) (omega arith) _ (c .is-included .ensures)
+returns-2 c = counts-agree (c .before .before .before .before .before .before .args .store .now) (c .before .before .before .before .before .before .args .other .now) (c .before .before .before .before .before .before .pre .0) (c .before .before .before .before .before .before .pre .1) (c .before .before .before .read-live .result) (c .before .before .read-live2 .result) (c .before .before .before .read-live .ensures .0) (c .before .before .read-live2 .ensures .0) (omega arith) _ (c .is-included .ensures)
 
 pub same-paths-spec : {M : Type 1} → statement M
 same-paths-spec =
-    tie.close (tie.spec u16-at-requires u16-at-requires-2 returns is-included-requires returns-2)
+    tie.close (tie.spec read-live-requires read-live-requires-2 returns is-included-requires returns-2)

@@ -1,5 +1,5 @@
 -- The steps of the questions as code.
--- Relies on seek/specs/BufferSteps (what next hands back) and on Below, Judge and Shorter.
+-- Relies on successor/specs/BufferSteps (what next hands back) and on Below, Judge and Shorter.
 use Prim.Native.Nat.{ℕ, _<_, _≤_}
 use mathlib.Core.Path.{_≡_, refl, sym, ap, ap₂, _∙_}
 use mathlib.Core.List.{List, []}
@@ -18,13 +18,13 @@ use Rattle.path.specs.Shape as defined
 use Rattle.path.specs.Fed.{shapeIs}
 use Rattle.path.specs.declared.Shape.{Shape}
 use Rattle.node.specs.declared.PathBuffer.{PathBuffer}
-use Rattle.seek.specs.Buffer.{bufferIs}
+use Rattle.successor.specs.Buffer.{bufferIs}
 use Rattle.rebuild.specs.StoreTable.{table-formed}
 use Rattle.rename.specs.Asks.Judge.{restFits, restsFit, nine-is}
 use Rattle.rename.specs.Asks.Shorter.{noWider, quick-yes}
 use Rattle.rename.specs.Asks.Below as below
-use Rattle.seek.specs.BufferSteps.{held, empty-handed}
-use Rattle.seek.specs.Walk.{unfit}
+use Rattle.successor.specs.BufferSteps.{held, empty-handed}
+use Rattle.successor.specs.Walk.{unfit}
 use Rattle.rename.specs.Asks.Below.{none-below, some-below, none-fails}
 
 -- QUESTION 7

@@ -1,7 +1,8 @@
 -- The cycle of the check: a node, the list of children in it, which calls itself for the rest of the list, the last of them with the messages after
 -- it, and one child, which is a node again. The measure: the level first; then for the list what is left of the parent's entries (at most 1,016
 -- bytes), 2 for the last child, 1 for a child, 0 for a node. Relies on the exits in specs (NodeSteps, ChildSteps, HeldSteps).
-use Rattle.tree_check.specs.NodeSteps.{number-low, number-past, reached-before, level-zero, node-leaf, no-first, leads, branches-stop, branches-done}
+use Rattle.tree_check.specs.NodeSteps.{number-low, number-past, reached-before, level-zero, node-leaf, no-first, branches-stop, branches-done}
+use Rattle.tree_check.specs.First.{first-child-is}
 use Rattle.tree_check.specs.ChildSteps.{child-out, child-flat, child-walk, last-stops, last-done, next-place}
 use Rattle.tree_check.specs.HeldSteps.{list-last, list-messages, list-unread, list-stops, list-goes, as-told}
 use Rattle.tree_check.specs.Held.{parentIs}
@@ -1244,7 +1245,7 @@ check-node-returns-6 : (t : ℕ) → check-node-lts.Need-returns-6 (
   tally-of-reads.Asked,
   tally-of-reads.Learnt,
 ) (check-node-at t) check-node.Post
-check-node-returns-6 t c = no-first (c .before .before .before .before .before .before .before .before .before .before .before .before .before .args .t1 .now) (c .before .before .before .before .before .before .before .before .before .before .before .before .before .args .num) (c .before .before .before .before .before .before .before .before .before .before .before .before .before .args .level) (shapeIs (c .before .before .before .before .before .before .before .before .before .before .before .before .before .args .sh)) (c .before .before .before .before .before .before .before .before .before .before .before .before .before .args .lo .now) (c .before .before .before .before .before .before .before .before .before .before .before .before .before .args .t5 .now) (c .before .before .before .before .before .before .before .before .before .before .before .before .before .args .seen .now) _ (c .before .before .before .before .before .before .before .before .node-count .ensures) (omega arith) (omega arith) (omega arith) (omega arith) _ (c .before .before .first-child .ensures) (c .enum-told .given .1) _
+check-node-returns-6 t c = no-first (c .before .before .before .before .before .before .before .before .before .before .before .before .before .args .t1 .now) (c .before .before .before .before .before .before .before .before .before .before .before .before .before .args .num) (c .before .before .before .before .before .before .before .before .before .before .before .before .before .args .level) (shapeIs (c .before .before .before .before .before .before .before .before .before .before .before .before .before .args .sh)) (c .before .before .before .before .before .before .before .before .before .before .before .before .before .args .lo .now) (c .before .before .before .before .before .before .before .before .before .before .before .before .before .args .t5 .now) (c .before .before .before .before .before .before .before .before .before .before .before .before .before .args .seen .now) (omega arith) _ (c .before .before .first-child .ensures) (c .enum-told .given .1) _
 
 check-node-flattened-requires : (t : ℕ) → check-node-lts.Need-flattened-requires (
   node-count-reads.Asked,
@@ -1276,7 +1277,7 @@ check-node-check-children-requires : (t : ℕ) → check-node-lts.Need-check-chi
   tally-of-reads.Asked,
   tally-of-reads.Learnt,
 ) (check-node-at t) check-node.Post
-check-node-check-children-requires t c κs = let l = leads (c .before .before .before .before .before .before .before .before .before .before .before .before .before .before .before .before .before .before .before .before .args .t1 .now) (c .before .before .before .before .before .before .before .before .before .before .before .before .before .before .before .before .before .before .before .before .args .num) (c .before .before .before .before .before .before .before .before .before .before .before .before .before .before .before .before .before .before .before .before .args .level) (shapeIs (c .before .before .before .before .before .before .before .before .before .before .before .before .before .before .before .before .before .before .before .before .args .sh)) (c .before .before .before .before .before .before .before .before .before .before .before .before .before .before .before .before .before .before .before .before .args .lo .now) (c .before .before .before .before .before .before .before .before .before .before .before .before .before .before .before .before .before .before .before .before .args .t5 .now) (c .before .before .before .before .before .before .before .before .before .before .before .before .before .before .before .before .before .before .before .before .args .seen .now) _ (c .before .before .before .before .before .before .before .before .before .before .before .before .before .before .before .node-count .ensures) (omega (arith, c .before .before .before .before .before .before .before .before .before .before .before .before .before .before .before .before .if1 .left)) (omega (arith, c .before .before .before .before .before .before .before .before .before .before .before .before .before .before .if2 .left)) (omega (arith, c .before .before .before .before .before .before .before .before .before .before .before .if4 .left)) (omega (arith, c .before .before .before .before .before .before .before .before .before .before .before .before .before .if3 .left, c .before .before .before .before .before .before .before .before .before .before .if5 .left)) _ (c .before .before .before .before .before .before .before .before .before .first-child .ensures) _ _ _ (c .before .before .before .before .before .before .before .child .given .1) in (omega (arith, c .before .before .before .before .before .before .before .before .before .before .before .before .before .before .before .before .before .before .before .before .pre .0, ap (λ (q : Parent). q .level) (c .before .before .before .before .before .flattened .ensures), ap (λ (q : Parent). q .end) (c .before .before .before .before .before .flattened .ensures)), (c .before .before .before .before .before .before .before .before .before .before .before .before .before .before .before .before .before .before .before .before .pre .1, subst (λ (q : Parent). q .end ≤ length (c .before .before .before .before .before .before .before .before .before .before .before .before .before .before .before .before .before .before .before .before .args .t1 .now)) (sym (c .before .before .before .before .before .flattened .ensures)) (l .fits), l .place, subst (λ (q : Parent). Within 0 (length (c .before .before .before .before .before .before .before .before .before .before .before .before .before .before .before .before .before .before .before .before .args .t1 .now)) (q .low)) (sym (c .before .before .before .before .before .flattened .ensures)) (l .place)))
+check-node-check-children-requires t c κs = let l = first-child-is (c .before .before .before .before .before .before .before .before .before .before .before .before .before .before .before .before .before .before .before .before .args .t1 .now) (c .before .before .before .before .before .before .before .before .before .before .before .before .before .before .before .before .before .before .before .before .args .num) (c .before .before .before .before .before .before .before .before .before .before .before .before .before .before .before .before .before .before .before .before .args .level) (c .before .before .before .before .before .before .before .before .before .before .before .before .before .before .before .before .before .before .before .before .args .lo .now) _ _ _ _ (c .before .before .before .before .before .before .before .before .before .first-child .ensures) (c .before .before .before .before .before .before .before .child .given .1) in (omega (arith, c .before .before .before .before .before .before .before .before .before .before .before .before .before .before .before .before .before .before .before .before .pre .0, ap (λ (q : Parent). q .level) (c .before .before .before .before .before .flattened .ensures), ap (λ (q : Parent). q .end) (c .before .before .before .before .before .flattened .ensures)), (c .before .before .before .before .before .before .before .before .before .before .before .before .before .before .before .before .before .before .before .before .pre .1, subst (λ (q : Parent). q .end ≤ length (c .before .before .before .before .before .before .before .before .before .before .before .before .before .before .before .before .before .before .before .before .args .t1 .now)) (sym (c .before .before .before .before .before .flattened .ensures)) (l .fits), l .place, subst (λ (q : Parent). Within 0 (length (c .before .before .before .before .before .before .before .before .before .before .before .before .before .before .before .before .before .before .before .before .args .t1 .now)) (q .low)) (sym (c .before .before .before .before .before .flattened .ensures)) (l .place)))
 
 check-node-returns-7 : (t : ℕ) → check-node-lts.Need-returns-7 (
   node-count-reads.Asked,

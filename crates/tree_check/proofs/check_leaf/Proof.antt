@@ -10,8 +10,8 @@ use mathlib.Core.Path.{refl}
 use Rattle.tree_check.proofs.check_leaf.Statement.{statement}
 use Rattle.tree_check.proofs.check_leaf.Tie as tie
 
-few : (c : tie.After-u16-at) → c .u16-at .result ≤ 1016
-few c = leaf-few (c .before .before .before .before .before .before .args .store .now) (c .before .before .before .before .before .before .args .num) (shapeIs (c .before .before .before .before .before .before .args .sh)) (c .before .before .before .before .before .before .args .lo .now) (c .before .before .before .before .before .before .args .hi .now) (c .before .before .before .before .before .before .pre) _ (c .before .before .laid-out .ensures) (not-false _ (c .before .if1 .left)) _ (c .u16-at .ensures .0)
+few : (c : tie.After-read-length) → c .read-length .result ≤ 1016
+few c = leaf-few (c .before .before .before .before .before .before .args .store .now) (c .before .before .before .before .before .before .args .num) (shapeIs (c .before .before .before .before .before .before .args .sh)) (c .before .before .before .before .before .before .args .lo .now) (c .before .before .before .before .before .before .args .hi .now) (c .before .before .before .before .before .before .pre) _ (c .before .before .laid-out .ensures) (not-false _ (c .before .if1 .left)) _ (c .read-length .ensures .0)
 
 laid-out-requires : tie.Need-laid-out-requires
 laid-out-requires c κs = search needs
@@ -22,8 +22,8 @@ returns c = leaf-unlaid (c .before .before .before .before .before .args .store 
 mul-at : tie.Need-mul-at
 mul-at c = search needs
 
-u16-at-requires : tie.Need-u16-at-requires
-u16-at-requires c κs = search needs
+read-length-requires : tie.Need-read-length-requires
+read-length-requires c κs = search needs
 
 add-from : tie.Need-add-from
 add-from c = search needs
@@ -41,10 +41,10 @@ enum-told : tie.Need-enum-told
 enum-told c = search needs
 
 returns-2 : tie.Need-returns-2
-returns-2 c = leaf-unsound (c .before .before .before .before .before .before .before .before .before .args .store .now) (c .before .before .before .before .before .before .before .before .before .args .num) (shapeIs (c .before .before .before .before .before .before .before .before .before .args .sh)) (c .before .before .before .before .before .before .before .before .before .args .lo .now) (c .before .before .before .before .before .before .before .before .before .args .hi .now) (c .before .before .before .before .before .before .before .before .before .pre) _ (c .before .before .before .before .before .laid-out .ensures) (not-false _ (c .before .before .before .before .if1 .left)) _ (c .before .before .before .u16-at .ensures .0) _ refl (counts-no _ _ _ (c .before .before .check-leaf .ensures) (c .enum-told .given .1))
+returns-2 c = leaf-unsound (c .before .before .before .before .before .before .before .before .before .args .store .now) (c .before .before .before .before .before .before .before .before .before .args .num) (shapeIs (c .before .before .before .before .before .before .before .before .before .args .sh)) (c .before .before .before .before .before .before .before .before .before .args .lo .now) (c .before .before .before .before .before .before .before .before .before .args .hi .now) (c .before .before .before .before .before .before .before .before .before .pre) _ (c .before .before .before .before .before .laid-out .ensures) (not-false _ (c .before .before .before .before .if1 .left)) _ (c .before .before .before .read-length .ensures .0) _ refl (counts-no _ _ _ (c .before .before .check-leaf .ensures) (c .enum-told .given .1))
 
 returns-3 : tie.Need-returns-3
-returns-3 c = leaf-all-sound (c .before .before .before .before .before .before .before .before .before .before .args .store .now) (c .before .before .before .before .before .before .before .before .before .before .args .num) (shapeIs (c .before .before .before .before .before .before .before .before .before .before .args .sh)) (c .before .before .before .before .before .before .before .before .before .before .args .lo .now) (c .before .before .before .before .before .before .before .before .before .before .args .hi .now) (c .before .before .before .before .before .before .before .before .before .before .pre) _ (c .before .before .before .before .before .before .laid-out .ensures) (not-false _ (c .before .before .before .before .before .if1 .left)) _ (c .before .before .before .before .u16-at .ensures .0) _ refl (counts-yes _ _ _ (c .before .before .before .check-leaf .ensures) _ (c .before .pairs .given .1)) _ (c .before .before .before .check-leaf .ensures .number _ (c .before .pairs .given .1))
+returns-3 c = leaf-all-sound (c .before .before .before .before .before .before .before .before .before .before .args .store .now) (c .before .before .before .before .before .before .before .before .before .before .args .num) (shapeIs (c .before .before .before .before .before .before .before .before .before .before .args .sh)) (c .before .before .before .before .before .before .before .before .before .before .args .lo .now) (c .before .before .before .before .before .before .before .before .before .before .args .hi .now) (c .before .before .before .before .before .before .before .before .before .before .pre) _ (c .before .before .before .before .before .before .laid-out .ensures) (not-false _ (c .before .before .before .before .before .if1 .left)) _ (c .before .before .before .before .read-length .ensures .0) _ refl (counts-yes _ _ _ (c .before .before .before .check-leaf .ensures) _ (c .before .pairs .given .1)) _ (c .before .before .before .check-leaf .ensures .number _ (c .before .pairs .given .1))
 
 pub check-leaf-spec : {M : Type 1} → statement M
 check-leaf-spec =
@@ -53,7 +53,7 @@ check-leaf-spec =
     laid-out-requires
     returns
     mul-at
-    u16-at-requires
+    read-length-requires
     add-from
     add-end
     check-leaf-requires

@@ -18,11 +18,11 @@ returns c = bad-head _ _ (c .before .header-good .ensures) (not-true _ (c .if1 .
 clear-requires : tie.Need-clear-requires
 clear-requires c κs = search needs
 
-u16-at-requires : tie.Need-u16-at-requires
-u16-at-requires c κs = search needs
+read-root-requires : tie.Need-read-root-requires
+read-root-requires c κs = search needs
 
-u16-at-requires-2 : tie.Need-u16-at-requires-2
-u16-at-requires-2 c κs = search needs
+read-levels-requires : tie.Need-read-levels-requires
+read-levels-requires c κs = search needs
 
 sub-check-node : tie.Need-sub-check-node
 sub-check-node c = search needs
@@ -42,7 +42,7 @@ check-node-requires c κs = search needs
 returns-2 : tie.Need-returns-2
 returns-2 c =
     let h : length (c .before .before .before .before .before .before .before .before .before .before .before .args .seen .now) ≡ 1024 = search needs in
-    from-root (c .before .before .before .before .before .before .before .before .before .before .before .args .store .now) (c .before .before .before .before .before .before .before .before .before .before .before .pre .0) _ (c .before .before .before .before .before .before .before .before .before .header-good .ensures) (not-false _ (c .before .before .before .before .before .before .before .before .if1 .left)) (length (c .before .before .before .before .before .before .before .before .before .before .before .args .seen .now)) (omega (arith, c .before .before .before .before .before .before .before .before .before .before .before .pre .1)) _ (c .before .before .before .before .before .before .clear .ensures) _ _ (c .before .before .before .before .before .u16-at .ensures .0) (c .before .before .before .before .u16-at2 .ensures .0) _ _ (c .check-node .ensures)
+    from-root (c .before .before .before .before .before .before .before .before .before .before .before .args .store .now) (c .before .before .before .before .before .before .before .before .before .before .before .pre .0) _ (c .before .before .before .before .before .before .before .before .before .header-good .ensures) (not-false _ (c .before .before .before .before .before .before .before .before .if1 .left)) (length (c .before .before .before .before .before .before .before .before .before .before .before .args .seen .now)) (omega (arith, c .before .before .before .before .before .before .before .before .before .before .before .pre .1)) _ (c .before .before .before .before .before .before .clear .ensures) _ _ (c .before .before .before .before .before .read-root .ensures .0) (c .before .before .before .before .read-levels .ensures .0) _ _ (c .check-node .ensures)
 
 pub check-tree-spec : {M : Type 1} → statement M
 check-tree-spec =
@@ -51,8 +51,8 @@ check-tree-spec =
     header-good-requires
     returns
     clear-requires
-    u16-at-requires
-    u16-at-requires-2
+    read-root-requires
+    read-levels-requires
     sub-check-node
     part-check-node-start
     part-check-node-end

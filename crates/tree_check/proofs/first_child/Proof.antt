@@ -11,7 +11,7 @@ use Rattle.tree_check.proofs.first_child.Statement.{statement}
 use Rattle.tree_check.proofs.first_child.Tie as tie
 
 place-in : (c : tie.After-known-told2) → Within 0 (length (c .before .before .before .before .before .before .before .before .before .before .before .before .before .args .store .now)) (c .before .child .given .0 .1 .0)
-place-in c = first-place (c .before .before .before .before .before .before .before .before .before .before .before .before .before .args .store .now) (c .before .before .before .before .before .before .before .before .before .before .before .before .before .args .num) (c .before .before .before .before .before .before .before .before .before .before .before .before .before .args .level) (c .before .before .before .before .before .before .before .before .before .before .before .before .before .args .lo .now) (c .before .before .before .before .before .before .before .before .before .before .before .before .before .pre) _ (c .before .before .before .before .before .before .before .before .before .before .laid-out .ensures) (not-false _ (c .before .before .before .before .before .before .before .before .before .if1 .left)) _ (c .before .before .before .before .before .before .before .before .u16-at .ensures .0) _ (c .before .before .before .before .before .before .before .step .ensures) _ _ (c .before .before .before .before .before .e .given .1) _ _ (sym (c .before .before .before .branch-of .ensures) ∙ c .before .child .given .1)
+place-in c = first-place (c .before .before .before .before .before .before .before .before .before .before .before .before .before .args .store .now) (c .before .before .before .before .before .before .before .before .before .before .before .before .before .args .num) (c .before .before .before .before .before .before .before .before .before .before .before .before .before .args .level) (c .before .before .before .before .before .before .before .before .before .before .before .before .before .args .lo .now) (c .before .before .before .before .before .before .before .before .before .before .before .before .before .pre) _ (c .before .before .before .before .before .before .before .before .before .before .laid-out .ensures) (not-false _ (c .before .before .before .before .before .before .before .before .before .if1 .left)) _ (c .before .before .before .before .before .before .before .before .read-length .ensures .0) _ (c .before .before .before .before .before .before .before .step .ensures) _ _ (c .before .before .before .before .before .e .given .1) _ _ (sym (c .before .before .before .branch-of .ensures) ∙ c .before .child .given .1)
 
 laid-out-requires : tie.Need-laid-out-requires
 laid-out-requires c κs = search needs
@@ -22,8 +22,8 @@ returns c = not-laid (c .before .before .before .before .args .store .now) (c .b
 mul-at : tie.Need-mul-at
 mul-at c = search needs
 
-u16-at-requires : tie.Need-u16-at-requires
-u16-at-requires c κs = search needs
+read-length-requires : tie.Need-read-length-requires
+read-length-requires c κs = search needs
 
 add-from : tie.Need-add-from
 add-from c = search needs
@@ -32,7 +32,7 @@ add-equal : tie.Need-add-equal
 add-equal c = search needs
 
 step-requires : tie.Need-step-requires
-step-requires c κs = let f = few (c .before .before .before .before .before .args .store .now) (c .before .before .before .before .before .args .num) (c .before .before .before .before .before .args .level) (c .before .before .before .before .before .args .lo .now) (c .before .before .before .before .before .pre) _ (c .before .before .laid-out .ensures) (not-false _ (c .before .if1 .left)) _ (c .u16-at .ensures .0) in omega arith
+step-requires c κs = let f = few (c .before .before .before .before .before .args .store .now) (c .before .before .before .before .before .args .num) (c .before .before .before .before .before .args .level) (c .before .before .before .before .before .args .lo .now) (c .before .before .before .before .before .pre) _ (c .before .before .laid-out .ensures) (not-false _ (c .before .if1 .left)) _ (c .read-length .ensures .0) in omega arith
 
 enum-known-e : tie.Need-enum-known-e
 enum-known-e c = search needs
@@ -41,7 +41,7 @@ enum-told : tie.Need-enum-told
 enum-told c = search needs
 
 returns-2 : tie.Need-returns-2
-returns-2 c = no-entry (c .before .before .before .before .before .before .before .before .args .store .now) (c .before .before .before .before .before .before .before .before .args .num) (c .before .before .before .before .before .before .before .before .args .level) (c .before .before .before .before .before .before .before .before .args .lo .now) (c .before .before .before .before .before .before .before .before .pre) _ (c .before .before .before .before .before .laid-out .ensures) (not-false _ (c .before .before .before .before .if1 .left)) _ (c .before .before .before .u16-at .ensures .0) _ (c .before .before .step .ensures) (c .enum-told .given .1)
+returns-2 c = no-entry (c .before .before .before .before .before .before .before .before .args .store .now) (c .before .before .before .before .before .before .before .before .args .num) (c .before .before .before .before .before .before .before .before .args .level) (c .before .before .before .before .before .before .before .before .args .lo .now) (c .before .before .before .before .before .before .before .before .pre) _ (c .before .before .before .before .before .laid-out .ensures) (not-false _ (c .before .before .before .before .if1 .left)) _ (c .before .before .before .read-length .ensures .0) _ (c .before .before .step .ensures) (c .enum-told .given .1)
 
 branch-of-requires : tie.Need-branch-of-requires
 branch-of-requires c κs = search needs
@@ -53,7 +53,7 @@ enum-told-2 : tie.Need-enum-told-2
 enum-told-2 c = search needs
 
 returns-3 : tie.Need-returns-3
-returns-3 c = no-child (c .before .before .before .before .before .before .before .before .before .before .before .before .args .store .now) (c .before .before .before .before .before .before .before .before .before .before .before .before .args .num) (c .before .before .before .before .before .before .before .before .before .before .before .before .args .level) (c .before .before .before .before .before .before .before .before .before .before .before .before .args .lo .now) (c .before .before .before .before .before .before .before .before .before .before .before .before .pre) _ (c .before .before .before .before .before .before .before .before .before .laid-out .ensures) (not-false _ (c .before .before .before .before .before .before .before .before .if1 .left)) _ (c .before .before .before .before .before .before .before .u16-at .ensures .0) _ (c .before .before .before .before .before .before .step .ensures) _ _ (c .before .before .before .before .e .given .1) (sym (c .before .before .branch-of .ensures) ∙ c .enum-told2 .given .1)
+returns-3 c = no-child (c .before .before .before .before .before .before .before .before .before .before .before .before .args .store .now) (c .before .before .before .before .before .before .before .before .before .before .before .before .args .num) (c .before .before .before .before .before .before .before .before .before .before .before .before .args .level) (c .before .before .before .before .before .before .before .before .before .before .before .before .args .lo .now) (c .before .before .before .before .before .before .before .before .before .before .before .before .pre) _ (c .before .before .before .before .before .before .before .before .before .laid-out .ensures) (not-false _ (c .before .before .before .before .before .before .before .before .if1 .left)) _ (c .before .before .before .before .before .before .before .read-length .ensures .0) _ (c .before .before .before .before .before .before .step .ensures) _ _ (c .before .before .before .before .e .given .1) (sym (c .before .before .branch-of .ensures) ∙ c .enum-told2 .given .1)
 
 sub-equal : tie.Need-sub-equal
 sub-equal c = let w = place-in c in omega arith
@@ -68,10 +68,10 @@ equal-requires : tie.Need-equal-requires
 equal-requires c κs = search needs
 
 returns-4 : tie.Need-returns-4
-returns-4 c = other-pivot (c .before .before .before .before .before .before .before .before .before .before .before .before .before .before .before .before .args .store .now) (c .before .before .before .before .before .before .before .before .before .before .before .before .before .before .before .before .args .num) (c .before .before .before .before .before .before .before .before .before .before .before .before .before .before .before .before .args .level) (c .before .before .before .before .before .before .before .before .before .before .before .before .before .before .before .before .args .lo .now) (c .before .before .before .before .before .before .before .before .before .before .before .before .before .before .before .before .pre) _ (c .before .before .before .before .before .before .before .before .before .before .before .before .before .laid-out .ensures) (not-false _ (c .before .before .before .before .before .before .before .before .before .before .before .before .if1 .left)) _ (c .before .before .before .before .before .before .before .before .before .before .before .u16-at .ensures .0) _ (c .before .before .before .before .before .before .before .before .before .before .step .ensures) _ _ (c .before .before .before .before .before .before .before .before .e .given .1) _ _ (sym (c .before .before .before .before .before .before .branch-of .ensures) ∙ c .before .before .before .before .child .given .1) (c .before .equal .result) (c .before .equal .ensures) (not-true _ (c .if2 .taken))
+returns-4 c = other-pivot (c .before .before .before .before .before .before .before .before .before .before .before .before .before .before .before .before .args .store .now) (c .before .before .before .before .before .before .before .before .before .before .before .before .before .before .before .before .args .num) (c .before .before .before .before .before .before .before .before .before .before .before .before .before .before .before .before .args .level) (c .before .before .before .before .before .before .before .before .before .before .before .before .before .before .before .before .args .lo .now) (c .before .before .before .before .before .before .before .before .before .before .before .before .before .before .before .before .pre) _ (c .before .before .before .before .before .before .before .before .before .before .before .before .before .laid-out .ensures) (not-false _ (c .before .before .before .before .before .before .before .before .before .before .before .before .if1 .left)) _ (c .before .before .before .before .before .before .before .before .before .before .before .read-length .ensures .0) _ (c .before .before .before .before .before .before .before .before .before .before .step .ensures) _ _ (c .before .before .before .before .before .before .before .before .e .given .1) _ _ (sym (c .before .before .before .before .before .before .branch-of .ensures) ∙ c .before .before .before .before .child .given .1) (c .before .equal .result) (c .before .equal .ensures) (not-true _ (c .if2 .taken))
 
 returns-5 : tie.Need-returns-5
-returns-5 c = first-child (c .before .before .before .before .before .before .before .before .before .before .before .before .before .before .before .before .args .store .now) (c .before .before .before .before .before .before .before .before .before .before .before .before .before .before .before .before .args .num) (c .before .before .before .before .before .before .before .before .before .before .before .before .before .before .before .before .args .level) (c .before .before .before .before .before .before .before .before .before .before .before .before .before .before .before .before .args .lo .now) (c .before .before .before .before .before .before .before .before .before .before .before .before .before .before .before .before .pre) _ (c .before .before .before .before .before .before .before .before .before .before .before .before .before .laid-out .ensures) (not-false _ (c .before .before .before .before .before .before .before .before .before .before .before .before .if1 .left)) _ (c .before .before .before .before .before .before .before .before .before .before .before .u16-at .ensures .0) _ (c .before .before .before .before .before .before .before .before .before .before .step .ensures) _ _ (c .before .before .before .before .before .before .before .before .e .given .1) _ _ (sym (c .before .before .before .before .before .before .branch-of .ensures) ∙ c .before .before .before .before .child .given .1) (c .before .equal .result) (c .before .equal .ensures) (not-false _ (c .if2 .left))
+returns-5 c = first-child (c .before .before .before .before .before .before .before .before .before .before .before .before .before .before .before .before .args .store .now) (c .before .before .before .before .before .before .before .before .before .before .before .before .before .before .before .before .args .num) (c .before .before .before .before .before .before .before .before .before .before .before .before .before .before .before .before .args .level) (c .before .before .before .before .before .before .before .before .before .before .before .before .before .before .before .before .args .lo .now) (c .before .before .before .before .before .before .before .before .before .before .before .before .before .before .before .before .pre) _ (c .before .before .before .before .before .before .before .before .before .before .before .before .before .laid-out .ensures) (not-false _ (c .before .before .before .before .before .before .before .before .before .before .before .before .if1 .left)) _ (c .before .before .before .before .before .before .before .before .before .before .before .read-length .ensures .0) _ (c .before .before .before .before .before .before .before .before .before .before .step .ensures) _ _ (c .before .before .before .before .before .before .before .before .e .given .1) _ _ (sym (c .before .before .before .before .before .before .branch-of .ensures) ∙ c .before .before .before .before .child .given .1) (c .before .equal .result) (c .before .equal .ensures) (not-false _ (c .if2 .left))
 
 pub first-child-spec : {M : Type 1} → statement M
 first-child-spec =
@@ -80,7 +80,7 @@ first-child-spec =
     laid-out-requires
     returns
     mul-at
-    u16-at-requires
+    read-length-requires
     add-from
     add-equal
     step-requires

@@ -21,20 +21,20 @@ abbrev μ-loop : tie.MeasureT-loop
 mul-at : tie.Need-mul-at Inv-loop μ-loop
 mul-at c = let a = c .before .pre .0 in omega arith
 
-u16-at-requires : tie.Need-u16-at-requires Inv-loop μ-loop
-u16-at-requires c κs = let a = c .before .pre .0 in omega arith
+read-length-requires : tie.Need-read-length-requires Inv-loop μ-loop
+read-length-requires c κs = let a = c .before .pre .0 in omega arith
 
 add-from : tie.Need-add-from Inv-loop μ-loop
 add-from c = let a = c .before .before .pre .0 in omega arith
 
 add-end : tie.Need-add-end Inv-loop μ-loop
-add-end c = let a = c .before .before .pre .0 in let b = c .before .before .pre .1 in let d = c .u16-at .ensures .0 in omega arith
+add-end c = let a = c .before .before .pre .0 in let b = c .before .before .pre .1 in let d = c .read-length .ensures .0 in omega arith
 
 loop-holds : tie.Need-loop-holds Inv-loop μ-loop
-loop-holds c = (refl, ap (λ n. onlyPuts (listed (c .before .before .args .store .now) (c .before .before .args .num * 1024 + 8) (c .before .before .args .num * 1024 + 8 + n))) (c .u16-at .ensures .0))
+loop-holds c = (refl, ap (λ n. onlyPuts (listed (c .before .before .args .store .now) (c .before .before .args .num * 1024 + 8) (c .before .before .args .num * 1024 + 8 + n))) (c .read-length .ensures .0))
 
 step-requires : tie.Need-step-requires Inv-loop μ-loop
-step-requires c κs = let a = c .before .before .loop .inv .0 in let b = c .before .before .before .before .before .pre .0 in let d = c .before .before .before .before .before .pre .1 in let e = c .before .before .before .u16-at .ensures .0 in omega arith
+step-requires c κs = let a = c .before .before .loop .inv .0 in let b = c .before .before .before .before .before .pre .0 in let d = c .before .before .before .before .before .pre .1 in let e = c .before .before .before .read-length .ensures .0 in omega arith
 
 enum-known-e : tie.Need-enum-known-e Inv-loop μ-loop
 enum-known-e c = search needs
@@ -67,7 +67,7 @@ only-puts-spec =
     Inv-loop
     μ-loop
     mul-at
-    u16-at-requires
+    read-length-requires
     add-from
     add-end
     loop-holds

@@ -14,12 +14,12 @@ returns c = (node-out _ _ _ _ (c .if1 .taken), omega arith)
 mul-at : tie.Need-mul-at
 mul-at c = search needs
 
-u16-at-requires : tie.Need-u16-at-requires
-u16-at-requires c κs = search needs
+read-length-requires : tie.Need-read-length-requires
+read-length-requires c κs = search needs
 
 returns-2 : tie.Need-returns-2
 unfolding nodesOf
-returns-2 c = (node-long _ _ _ _ _ (c .before .before .if1 .left) (c .before .u16-at .ensures .0) (c .if2 .taken), omega arith)
+returns-2 c = (node-long _ _ _ _ _ (c .before .before .if1 .left) (c .before .read-length .ensures .0) (c .if2 .taken), omega arith)
 
 add-from : tie.Need-add-from
 add-from c = search needs
@@ -32,7 +32,7 @@ weigh-entries-requires c κs = search needs
 
 returns-3 : tie.Need-returns-3
 unfolding nodesOf
-returns-3 c = (node-weighs _ _ _ _ _ _ (c .before .before .before .if1 .left) (c .before .before .u16-at .ensures .0) (c .before .if2 .left) (listing-as (c .before .before .before .before .before .args .store .now) (c .before .before .before .before .before .args .num) (c .before .before .u16-at .result) (c .before .before .before .before .before .args .k) (c .before .before .before .before .before .args .used) _ (c .before .before .u16-at .ensures .0) (c .weigh-entries .ensures .0)), c .weigh-entries .ensures .1)
+returns-3 c = (node-weighs _ _ _ _ _ _ (c .before .before .before .if1 .left) (c .before .before .read-length .ensures .0) (c .before .if2 .left) (listing-as (c .before .before .before .before .before .args .store .now) (c .before .before .before .before .before .args .num) (c .before .before .read-length .result) (c .before .before .before .before .before .args .k) (c .before .before .before .before .before .args .used) _ (c .before .before .read-length .ensures .0) (c .weigh-entries .ensures .0)), c .weigh-entries .ensures .1)
 
 pub weigh-node-spec : {M : Type 1} → statement M
 weigh-node-spec =
@@ -40,7 +40,7 @@ weigh-node-spec =
     (tie.spec
     returns
     mul-at
-    u16-at-requires
+    read-length-requires
     returns-2
     add-from
     add-weigh-entries

@@ -28,7 +28,7 @@ use Rattle.push.proofs.high.+search_children+search_node.Lts-search_nod
 use Rattle.node.proofs.search.read_child.Reads as read-child-reads
 use Rattle.push.proofs.high.keep_high.Reads as keep-high-reads
 use Rattle.octets.proofs.common_length.Reads as common-length-reads
-use Rattle.octets.proofs.u16_at.Reads as u16-at-reads
+use Rattle.node.proofs.header.read_length.Reads as read-length-reads
 use Rattle.push.proofs.high.+search_children+search_node.{statement}
 use Rattle.push.proofs.high.+search_children+search_node.Tie.{close}
 
@@ -82,13 +82,13 @@ first-next : (t : ℕ) (c : search-node-lts.After-known-told (
   common-length-reads.Learnt,
   keep-high-reads.Asked,
   keep-high-reads.Learnt,
-  u16-at-reads.Asked,
-  u16-at-reads.Learnt,
+  read-length-reads.Asked,
+  read-length-reads.Learnt,
   read-child-reads.Asked,
   read-child-reads.Learnt,
   search-children-below t,
   search-children.Post,
-) (search-node-at t) search-node.Post) → NextChild (c .before .before .before .before .before .before .before .before .before .before .before .before .args .store .now) (c .before .before .before .before .before .before .before .before .before .before .before .before .args .cur * 1024 + 8) (c .before .before .before .before .before .before .before .before .before .before .before .before .args .cur * 1024 + 8 + c .before .before .before .before .u16-at .result) (c .before .first .given .0 .0) (c .before .first .given .0 .1 .0) (c .before .first .given .0 .1 .1 .0)
+) (search-node-at t) search-node.Post) → NextChild (c .before .before .before .before .before .before .before .before .before .before .before .before .args .store .now) (c .before .before .before .before .before .before .before .before .before .before .before .before .args .cur * 1024 + 8) (c .before .before .before .before .before .before .before .before .before .before .before .before .args .cur * 1024 + 8 + c .before .before .before .before .read-length .result) (c .before .first .given .0 .0) (c .before .first .given .0 .1 .0) (c .before .first .given .0 .1 .1 .0)
 first-next t c = pends-child _ _ _ _ _ _ _ (c .before .before .before .read-child .ensures) (c .before .first .given .1)
 
 search-children-loop-holds : (t : ℕ) → search-children-lts.Need-loop-holds (
@@ -282,8 +282,8 @@ search-node-returns : (t : ℕ) → search-node-lts.Need-returns (
   common-length-reads.Learnt,
   keep-high-reads.Asked,
   keep-high-reads.Learnt,
-  u16-at-reads.Asked,
-  u16-at-reads.Learnt,
+  read-length-reads.Asked,
+  read-length-reads.Learnt,
   read-child-reads.Asked,
   read-child-reads.Learnt,
   search-children-below t,
@@ -296,8 +296,8 @@ search-node-common-length-requires : (t : ℕ) → search-node-lts.Need-common-l
   common-length-reads.Learnt,
   keep-high-reads.Asked,
   keep-high-reads.Learnt,
-  u16-at-reads.Asked,
-  u16-at-reads.Learnt,
+  read-length-reads.Asked,
+  read-length-reads.Learnt,
   read-child-reads.Asked,
   read-child-reads.Learnt,
   search-children-below t,
@@ -310,8 +310,8 @@ search-node-sub-keep-high : (t : ℕ) → search-node-lts.Need-sub-keep-high (
   common-length-reads.Learnt,
   keep-high-reads.Asked,
   keep-high-reads.Learnt,
-  u16-at-reads.Asked,
-  u16-at-reads.Learnt,
+  read-length-reads.Asked,
+  read-length-reads.Learnt,
   read-child-reads.Asked,
   read-child-reads.Learnt,
   search-children-below t,
@@ -324,8 +324,8 @@ search-node-part-keep-high-start : (t : ℕ) → search-node-lts.Need-part-keep-
   common-length-reads.Learnt,
   keep-high-reads.Asked,
   keep-high-reads.Learnt,
-  u16-at-reads.Asked,
-  u16-at-reads.Learnt,
+  read-length-reads.Asked,
+  read-length-reads.Learnt,
   read-child-reads.Asked,
   read-child-reads.Learnt,
   search-children-below t,
@@ -338,8 +338,8 @@ search-node-part-keep-high-end : (t : ℕ) → search-node-lts.Need-part-keep-hi
   common-length-reads.Learnt,
   keep-high-reads.Asked,
   keep-high-reads.Learnt,
-  u16-at-reads.Asked,
-  u16-at-reads.Learnt,
+  read-length-reads.Asked,
+  read-length-reads.Learnt,
   read-child-reads.Asked,
   read-child-reads.Learnt,
   search-children-below t,
@@ -352,8 +352,8 @@ search-node-keep-high-requires : (t : ℕ) → search-node-lts.Need-keep-high-re
   common-length-reads.Learnt,
   keep-high-reads.Asked,
   keep-high-reads.Learnt,
-  u16-at-reads.Asked,
-  u16-at-reads.Learnt,
+  read-length-reads.Asked,
+  read-length-reads.Learnt,
   read-child-reads.Asked,
   read-child-reads.Learnt,
   search-children-below t,
@@ -366,8 +366,8 @@ search-node-same-length : (t : ℕ) → search-node-lts.Need-same-length (
   common-length-reads.Learnt,
   keep-high-reads.Asked,
   keep-high-reads.Learnt,
-  u16-at-reads.Asked,
-  u16-at-reads.Learnt,
+  read-length-reads.Asked,
+  read-length-reads.Learnt,
   read-child-reads.Asked,
   read-child-reads.Learnt,
   search-children-below t,
@@ -380,8 +380,8 @@ search-node-returns-2 : (t : ℕ) → search-node-lts.Need-returns-2 (
   common-length-reads.Learnt,
   keep-high-reads.Asked,
   keep-high-reads.Learnt,
-  u16-at-reads.Asked,
-  u16-at-reads.Learnt,
+  read-length-reads.Asked,
+  read-length-reads.Learnt,
   read-child-reads.Asked,
   read-child-reads.Learnt,
   search-children-below t,
@@ -394,8 +394,8 @@ search-node-mul-at : (t : ℕ) → search-node-lts.Need-mul-at (
   common-length-reads.Learnt,
   keep-high-reads.Asked,
   keep-high-reads.Learnt,
-  u16-at-reads.Asked,
-  u16-at-reads.Learnt,
+  read-length-reads.Asked,
+  read-length-reads.Learnt,
   read-child-reads.Asked,
   read-child-reads.Learnt,
   search-children-below t,
@@ -403,27 +403,27 @@ search-node-mul-at : (t : ℕ) → search-node-lts.Need-mul-at (
 ) (search-node-at t) search-node.Post
 search-node-mul-at t c = let w = node-inside (c .before .before .before .before .before .before .before .args .store .now) (c .before .before .before .before .before .before .before .args .cur) (c .before .before .before .before .before .before .before .args .level) (c .before .before .before .before .before .before .before .pre .1) in omega arith
 
-search-node-u16-at-requires : (t : ℕ) → search-node-lts.Need-u16-at-requires (
+search-node-read-length-requires : (t : ℕ) → search-node-lts.Need-read-length-requires (
   common-length-reads.Asked,
   common-length-reads.Learnt,
   keep-high-reads.Asked,
   keep-high-reads.Learnt,
-  u16-at-reads.Asked,
-  u16-at-reads.Learnt,
+  read-length-reads.Asked,
+  read-length-reads.Learnt,
   read-child-reads.Asked,
   read-child-reads.Learnt,
   search-children-below t,
   search-children.Post,
 ) (search-node-at t) search-node.Post
-search-node-u16-at-requires t c κs = let w = node-inside (c .before .before .before .before .before .before .before .args .store .now) (c .before .before .before .before .before .before .before .args .cur) (c .before .before .before .before .before .before .before .args .level) (c .before .before .before .before .before .before .before .pre .1) in omega arith
+search-node-read-length-requires t c κs = let w = node-inside (c .before .before .before .before .before .before .before .args .store .now) (c .before .before .before .before .before .before .before .args .cur) (c .before .before .before .before .before .before .before .args .level) (c .before .before .before .before .before .before .before .pre .1) in omega arith
 
 search-node-add-from : (t : ℕ) → search-node-lts.Need-add-from (
   common-length-reads.Asked,
   common-length-reads.Learnt,
   keep-high-reads.Asked,
   keep-high-reads.Learnt,
-  u16-at-reads.Asked,
-  u16-at-reads.Learnt,
+  read-length-reads.Asked,
+  read-length-reads.Learnt,
   read-child-reads.Asked,
   read-child-reads.Learnt,
   search-children-below t,
@@ -436,8 +436,8 @@ search-node-add-end : (t : ℕ) → search-node-lts.Need-add-end (
   common-length-reads.Learnt,
   keep-high-reads.Asked,
   keep-high-reads.Learnt,
-  u16-at-reads.Asked,
-  u16-at-reads.Learnt,
+  read-length-reads.Asked,
+  read-length-reads.Learnt,
   read-child-reads.Asked,
   read-child-reads.Learnt,
   search-children-below t,
@@ -450,8 +450,8 @@ search-node-read-child-requires : (t : ℕ) → search-node-lts.Need-read-child-
   common-length-reads.Learnt,
   keep-high-reads.Asked,
   keep-high-reads.Learnt,
-  u16-at-reads.Asked,
-  u16-at-reads.Learnt,
+  read-length-reads.Asked,
+  read-length-reads.Learnt,
   read-child-reads.Asked,
   read-child-reads.Learnt,
   search-children-below t,
@@ -464,8 +464,8 @@ search-node-enum-known-first : (t : ℕ) → search-node-lts.Need-enum-known-fir
   common-length-reads.Learnt,
   keep-high-reads.Asked,
   keep-high-reads.Learnt,
-  u16-at-reads.Asked,
-  u16-at-reads.Learnt,
+  read-length-reads.Asked,
+  read-length-reads.Learnt,
   read-child-reads.Asked,
   read-child-reads.Learnt,
   search-children-below t,
@@ -478,8 +478,8 @@ search-node-enum-told : (t : ℕ) → search-node-lts.Need-enum-told (
   common-length-reads.Learnt,
   keep-high-reads.Asked,
   keep-high-reads.Learnt,
-  u16-at-reads.Asked,
-  u16-at-reads.Learnt,
+  read-length-reads.Asked,
+  read-length-reads.Learnt,
   read-child-reads.Asked,
   read-child-reads.Learnt,
   search-children-below t,
@@ -492,22 +492,22 @@ search-node-returns-3 : (t : ℕ) → search-node-lts.Need-returns-3 (
   common-length-reads.Learnt,
   keep-high-reads.Asked,
   keep-high-reads.Learnt,
-  u16-at-reads.Asked,
-  u16-at-reads.Learnt,
+  read-length-reads.Asked,
+  read-length-reads.Learnt,
   read-child-reads.Asked,
   read-child-reads.Learnt,
   search-children-below t,
   search-children.Post,
 ) (search-node-at t) search-node.Post
-search-node-returns-3 t c = node-bare (c .before .before .before .before .before .before .before .before .before .before .before .args .num) (c .before .before .before .before .before .before .before .before .before .before .before .args .level) (c .before .before .before .before .before .before .before .before .before .before .before .args .store .now) (c .before .before .before .before .before .before .before .before .before .before .before .args .cur) (c .before .before .before .before .before .before .before .before .before .before .before .pre .1) (omega arith) (c .before .before .before .before .before .before .before .before .before .before .before .args .lo .now) (c .before .before .before .before .before .before .before .before .before .before .before .args .hi .now) (c .before .before .before .before .before .common-length .result) (c .before .before .before .before .before .common-length .ensures .0) (λ h. omega arith) (c .before .before .before .u16-at .result) (c .before .before .before .u16-at .ensures .0) _ (pends-end _ _ _ _ (c .before .before .read-child .ensures) (c .enum-told .given .1))
+search-node-returns-3 t c = node-bare (c .before .before .before .before .before .before .before .before .before .before .before .args .num) (c .before .before .before .before .before .before .before .before .before .before .before .args .level) (c .before .before .before .before .before .before .before .before .before .before .before .args .store .now) (c .before .before .before .before .before .before .before .before .before .before .before .args .cur) (c .before .before .before .before .before .before .before .before .before .before .before .pre .1) (omega arith) (c .before .before .before .before .before .before .before .before .before .before .before .args .lo .now) (c .before .before .before .before .before .before .before .before .before .before .before .args .hi .now) (c .before .before .before .before .before .common-length .result) (c .before .before .before .before .before .common-length .ensures .0) (λ h. omega arith) (c .before .before .before .read-length .result) (c .before .before .before .read-length .ensures .0) _ (pends-end _ _ _ _ (c .before .before .read-child .ensures) (c .enum-told .given .1))
 
 search-node-sub-down : (t : ℕ) → search-node-lts.Need-sub-down (
   common-length-reads.Asked,
   common-length-reads.Learnt,
   keep-high-reads.Asked,
   keep-high-reads.Learnt,
-  u16-at-reads.Asked,
-  u16-at-reads.Learnt,
+  read-length-reads.Asked,
+  read-length-reads.Learnt,
   read-child-reads.Asked,
   read-child-reads.Learnt,
   search-children-below t,
@@ -520,8 +520,8 @@ search-node-sub-search-children : (t : ℕ) → search-node-lts.Need-sub-search-
   common-length-reads.Learnt,
   keep-high-reads.Asked,
   keep-high-reads.Learnt,
-  u16-at-reads.Asked,
-  u16-at-reads.Learnt,
+  read-length-reads.Asked,
+  read-length-reads.Learnt,
   read-child-reads.Asked,
   read-child-reads.Learnt,
   search-children-below t,
@@ -534,8 +534,8 @@ search-node-part-search-children-start : (t : ℕ) → search-node-lts.Need-part
   common-length-reads.Learnt,
   keep-high-reads.Asked,
   keep-high-reads.Learnt,
-  u16-at-reads.Asked,
-  u16-at-reads.Learnt,
+  read-length-reads.Asked,
+  read-length-reads.Learnt,
   read-child-reads.Asked,
   read-child-reads.Learnt,
   search-children-below t,
@@ -548,8 +548,8 @@ search-node-part-search-children-end : (t : ℕ) → search-node-lts.Need-part-s
   common-length-reads.Learnt,
   keep-high-reads.Asked,
   keep-high-reads.Learnt,
-  u16-at-reads.Asked,
-  u16-at-reads.Learnt,
+  read-length-reads.Asked,
+  read-length-reads.Learnt,
   read-child-reads.Asked,
   read-child-reads.Learnt,
   search-children-below t,
@@ -562,22 +562,22 @@ search-node-search-children-requires : (t : ℕ) → search-node-lts.Need-search
   common-length-reads.Learnt,
   keep-high-reads.Asked,
   keep-high-reads.Learnt,
-  u16-at-reads.Asked,
-  u16-at-reads.Learnt,
+  read-length-reads.Asked,
+  read-length-reads.Learnt,
   read-child-reads.Asked,
   read-child-reads.Learnt,
   search-children-below t,
   search-children.Post,
 ) (search-node-at t) search-node.Post
-search-node-search-children-requires t c κs = let w = node-inside (c .before .before .before .before .before .before .before .before .before .before .before .before .before .before .args .store .now) (c .before .before .before .before .before .before .before .before .before .before .before .before .before .before .args .cur) (c .before .before .before .before .before .before .before .before .before .before .before .before .before .before .args .level) (c .before .before .before .before .before .before .before .before .before .before .before .before .before .before .pre .1) in let n = first-next t (c .before .before) in (omega arith, branches-ready (c .before .before .before .before .before .before .before .before .before .before .before .before .before .before .args .num) (c .before .before .before .before .before .before .before .before .before .before .before .before .before .before .args .level) (c .before .before .before .before .before .before .before .before .before .before .before .before .before .before .args .store .now) (c .before .before .before .before .before .before .before .before .before .before .before .before .before .before .args .cur) (c .before .before .before .before .before .before .before .before .before .before .before .before .before .before .pre .1) (omega arith) (c .before .before .before .before .before .before .before .before .before .before .before .before .before .before .args .lo .now) (c .before .before .before .before .before .before .before .before .before .before .before .before .before .before .args .hi .now) (c .before .before .before .before .before .before .before .before .common-length .result) (c .before .before .before .before .before .before .before .before .common-length .ensures .0) (λ h. omega arith) (c .before .before .before .before .before .before .u16-at .result) (c .before .before .before .before .before .before .u16-at .ensures .0) _ _ _ n (omega arith))
+search-node-search-children-requires t c κs = let w = node-inside (c .before .before .before .before .before .before .before .before .before .before .before .before .before .before .args .store .now) (c .before .before .before .before .before .before .before .before .before .before .before .before .before .before .args .cur) (c .before .before .before .before .before .before .before .before .before .before .before .before .before .before .args .level) (c .before .before .before .before .before .before .before .before .before .before .before .before .before .before .pre .1) in let n = first-next t (c .before .before) in (omega arith, branches-ready (c .before .before .before .before .before .before .before .before .before .before .before .before .before .before .args .num) (c .before .before .before .before .before .before .before .before .before .before .before .before .before .before .args .level) (c .before .before .before .before .before .before .before .before .before .before .before .before .before .before .args .store .now) (c .before .before .before .before .before .before .before .before .before .before .before .before .before .before .args .cur) (c .before .before .before .before .before .before .before .before .before .before .before .before .before .before .pre .1) (omega arith) (c .before .before .before .before .before .before .before .before .before .before .before .before .before .before .args .lo .now) (c .before .before .before .before .before .before .before .before .before .before .before .before .before .before .args .hi .now) (c .before .before .before .before .before .before .before .before .common-length .result) (c .before .before .before .before .before .before .before .before .common-length .ensures .0) (λ h. omega arith) (c .before .before .before .before .before .before .read-length .result) (c .before .before .before .before .before .before .read-length .ensures .0) _ _ _ n (omega arith))
 
 search-node-same-length-2 : (t : ℕ) → search-node-lts.Need-same-length-2 (
   common-length-reads.Asked,
   common-length-reads.Learnt,
   keep-high-reads.Asked,
   keep-high-reads.Learnt,
-  u16-at-reads.Asked,
-  u16-at-reads.Learnt,
+  read-length-reads.Asked,
+  read-length-reads.Learnt,
   read-child-reads.Asked,
   read-child-reads.Learnt,
   search-children-below t,
@@ -590,14 +590,14 @@ search-node-returns-4 : (t : ℕ) → search-node-lts.Need-returns-4 (
   common-length-reads.Learnt,
   keep-high-reads.Asked,
   keep-high-reads.Learnt,
-  u16-at-reads.Asked,
-  u16-at-reads.Learnt,
+  read-length-reads.Asked,
+  read-length-reads.Learnt,
   read-child-reads.Asked,
   read-child-reads.Learnt,
   search-children-below t,
   search-children.Post,
 ) (search-node-at t) search-node.Post
-search-node-returns-4 t c = let n = first-next t (c .before .before .before .before .before) in node-above (c .before .before .before .before .before .before .before .before .before .before .before .before .before .before .before .before .before .args .num) (c .before .before .before .before .before .before .before .before .before .before .before .before .before .before .before .before .before .args .level) (c .before .before .before .before .before .before .before .before .before .before .before .before .before .before .before .before .before .args .store .now) (c .before .before .before .before .before .before .before .before .before .before .before .before .before .before .before .before .before .args .cur) (c .before .before .before .before .before .before .before .before .before .before .before .before .before .before .before .before .before .pre .1) (omega arith) (c .before .before .before .before .before .before .before .before .before .before .before .before .before .before .before .before .before .args .lo .now) (c .before .before .before .before .before .before .before .before .before .before .before .before .before .before .before .before .before .args .hi .now) (c .before .before .before .before .before .before .before .before .before .before .before .common-length .result) (c .before .before .before .before .before .before .before .before .before .before .before .common-length .ensures .0) (λ h. omega arith) (c .before .before .before .before .before .before .before .before .before .u16-at .result) (c .before .before .before .before .before .before .before .before .before .u16-at .ensures .0) _ _ _ n _ _ (c .before .before .search-children .ensures)
+search-node-returns-4 t c = let n = first-next t (c .before .before .before .before .before) in node-above (c .before .before .before .before .before .before .before .before .before .before .before .before .before .before .before .before .before .args .num) (c .before .before .before .before .before .before .before .before .before .before .before .before .before .before .before .before .before .args .level) (c .before .before .before .before .before .before .before .before .before .before .before .before .before .before .before .before .before .args .store .now) (c .before .before .before .before .before .before .before .before .before .before .before .before .before .before .before .before .before .args .cur) (c .before .before .before .before .before .before .before .before .before .before .before .before .before .before .before .before .before .pre .1) (omega arith) (c .before .before .before .before .before .before .before .before .before .before .before .before .before .before .before .before .before .args .lo .now) (c .before .before .before .before .before .before .before .before .before .before .before .before .before .before .before .before .before .args .hi .now) (c .before .before .before .before .before .before .before .before .before .before .before .common-length .result) (c .before .before .before .before .before .before .before .before .before .before .before .common-length .ensures .0) (λ h. omega arith) (c .before .before .before .before .before .before .before .before .before .read-length .result) (c .before .before .before .before .before .before .before .before .before .read-length .ensures .0) _ _ _ n _ _ (c .before .before .search-children .ensures)
 
 pub +search-children+search-node-spec : {M : Type 1} → statement M
 +search-children+search-node-spec =
@@ -639,8 +639,8 @@ pub +search-children+search-node-spec : {M : Type 1} → statement M
       common-length-reads.Learnt,
       keep-high-reads.Asked,
       keep-high-reads.Learnt,
-      u16-at-reads.Asked,
-      u16-at-reads.Learnt,
+      read-length-reads.Asked,
+      read-length-reads.Learnt,
       read-child-reads.Asked,
       read-child-reads.Learnt,
       search-children-below t,
@@ -657,7 +657,7 @@ pub +search-children+search-node-spec : {M : Type 1} → statement M
     (search-node-same-length t)
     (search-node-returns-2 t)
     (search-node-mul-at t)
-    (search-node-u16-at-requires t)
+    (search-node-read-length-requires t)
     (search-node-add-from t)
     (search-node-add-end t)
     (search-node-read-child-requires t)

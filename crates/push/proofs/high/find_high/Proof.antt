@@ -8,11 +8,11 @@ use borrow.Author.Needs.{needs}
 use Rattle.push.proofs.high.find_high.Statement.{statement}
 use Rattle.push.proofs.high.find_high.Tie as tie
 
-u16-at-requires : tie.Need-u16-at-requires
-u16-at-requires c κs = let l = long-enough (c .before .before .args .store .now) (c .before .before .pre) in omega arith
+read-root-requires : tie.Need-read-root-requires
+read-root-requires c κs = let l = long-enough (c .before .before .args .store .now) (c .before .before .pre) in omega arith
 
-u16-at-requires-2 : tie.Need-u16-at-requires-2
-u16-at-requires-2 c κs = let l = long-enough (c .before .before .before .args .store .now) (c .before .before .before .pre) in omega arith
+read-levels-requires : tie.Need-read-levels-requires
+read-levels-requires c κs = let l = long-enough (c .before .before .before .args .store .now) (c .before .before .before .pre) in omega arith
 
 sub-search-node : tie.Need-sub-search-node
 sub-search-node c = search needs
@@ -27,20 +27,20 @@ slice-aggregate-search-node : tie.Need-slice-aggregate-search-node
 slice-aggregate-search-node c = search needs
 
 search-node-requires : tie.Need-search-node-requires
-search-node-requires c κs = root-usable (c .before .before .before .before .before .before .before .before .args .store .now) _ _ (c .before .before .before .before .before .before .before .before .pre) (c .before .before .before .before .before .u16-at .ensures .0) (c .before .before .before .before .u16-at2 .ensures .0)
+search-node-requires c κs = root-usable (c .before .before .before .before .before .before .before .before .args .store .now) _ _ (c .before .before .before .before .before .before .before .before .pre) (c .before .before .before .before .before .read-root .ensures .0) (c .before .before .before .before .read-levels .ensures .0)
 
 same-length : tie.Need-same-length
 same-length c = search needs
 
 returns : tie.Need-returns
-returns c = root-seen (c .before .before .before .before .before .before .before .before .before .before .before .args .num) (c .before .before .before .before .before .before .before .before .before .before .before .args .store .now) _ _ _ _ _ (c .before .before .before .before .before .before .before .before .before .before .before .pre) (c .before .before .before .before .before .before .before .before .u16-at .ensures .0) (c .before .before .before .before .before .before .before .u16-at2 .ensures .0) refl (c .before .before .search-node .ensures)
+returns c = root-seen (c .before .before .before .before .before .before .before .before .before .before .before .args .num) (c .before .before .before .before .before .before .before .before .before .before .before .args .store .now) _ _ _ _ _ (c .before .before .before .before .before .before .before .before .before .before .before .pre) (c .before .before .before .before .before .before .before .before .read-root .ensures .0) (c .before .before .before .before .before .before .before .read-levels .ensures .0) refl (c .before .before .search-node .ensures)
 
 pub find-high-spec : {M : Type 1} → statement M
 find-high-spec =
     tie.close
     (tie.spec
-    u16-at-requires
-    u16-at-requires-2
+    read-root-requires
+    read-levels-requires
     sub-search-node
     part-search-node-start
     part-search-node-end

@@ -43,7 +43,7 @@ returns : tie.Need-returns Inv-loop μ-loop
 returns c = all-taken (listed (c .before .before .before .before .before .before .before .before .before .before .args .node .now) (c .before .before .before .before .before .loop .c .at) (c .before .before .before .before .before .loop .c .end)) (c .before .before .before .before .before .before .before .before .before .before .args .num) (c .before .before .before .before .before .before .before .before .before .before .args .lo .now) (c .before .before .before .before .before .before .before .before .before .before .args .hi .now) (c .before .before .before .before .before .loop .store) _ (step-bad-is _ _ _ _ (c .before .before .step .ensures) (c .enum-told .given .1) .1) (c .before .before .before .before .before .loop .inv .3)
 
 take-entry-requires : tie.Need-take-entry-requires Inv-loop μ-loop
-take-entry-requires c κs = let n = next-is (c .before) in (entry-wider (c .before .before .before .before .before .before .before .loop .c .at) (c .before .before .before .before .before .before .before .loop .c .end) 0 (length (c .before .before .before .before .before .before .before .before .before .before .before .before .args .node .now)) (c .before .before .e .given .0 .0) (omega arith) (omega arith) (n .reachable), entry-inside (listed (c .before .before .before .before .before .before .before .before .before .before .before .before .args .node .now) (c .before .before .before .before .before .before .before .loop .c .at) (c .before .before .before .before .before .before .before .loop .c .end)) (listed (c .before .before .before .before .before .before .before .before .before .before .before .before .args .node .now) (c .before .before .e .given .0 .1 .0 .at) (c .before .before .e .given .0 .1 .0 .end)) (entryIn (c .before .before .before .before .before .before .before .before .before .before .before .before .args .node .now) (c .before .before .e .given .0 .0)) (n .lists) (c .before .before .before .before .before .before .before .before .before .before .before .before .args .num) (c .before .before .before .before .before .before .before .before .before .before .before .before .args .lo .now) (c .before .before .before .before .before .before .before .before .before .before .before .before .args .hi .now) (c .before .before .before .before .before .before .before .loop .store) (c .before .before .before .before .before .before .before .loop .inv .2), entry-fits (listed (c .before .before .before .before .before .before .before .before .before .before .before .before .args .node .now) (c .before .before .before .before .before .before .before .loop .c .at) (c .before .before .before .before .before .before .before .loop .c .end)) (listed (c .before .before .before .before .before .before .before .before .before .before .before .before .args .node .now) (c .before .before .e .given .0 .1 .0 .at) (c .before .before .e .given .0 .1 .0 .end)) (entryIn (c .before .before .before .before .before .before .before .before .before .before .before .before .args .node .now) (c .before .before .e .given .0 .0)) (n .lists) (c .before .before .before .before .before .before .before .before .before .before .before .before .args .num) (c .before .before .before .before .before .before .before .before .before .before .before .before .args .lo .now) (c .before .before .before .before .before .before .before .before .before .before .before .before .args .hi .now) (c .before .before .before .before .before .before .before .loop .store) (c .before .before .before .before .before .before .before .loop .inv .2))
+take-entry-requires c κs = let n = next-is (c .before) in (entry-wider (c .before .before .before .before .before .before .before .loop .c .at) (c .before .before .before .before .before .before .before .loop .c .end) 0 (length (c .before .before .before .before .before .before .before .before .before .before .before .before .args .node .now)) (c .before .before .e .given .0 .0) (omega arith) (omega arith) (n .reachable), (entry-inside (listed (c .before .before .before .before .before .before .before .before .before .before .before .before .args .node .now) (c .before .before .before .before .before .before .before .loop .c .at) (c .before .before .before .before .before .before .before .loop .c .end)) (listed (c .before .before .before .before .before .before .before .before .before .before .before .before .args .node .now) (c .before .before .e .given .0 .1 .0 .at) (c .before .before .e .given .0 .1 .0 .end)) (entryIn (c .before .before .before .before .before .before .before .before .before .before .before .before .args .node .now) (c .before .before .e .given .0 .0)) (n .lists) (c .before .before .before .before .before .before .before .before .before .before .before .before .args .num) (c .before .before .before .before .before .before .before .before .before .before .before .before .args .lo .now) (c .before .before .before .before .before .before .before .before .before .before .before .before .args .hi .now) (c .before .before .before .before .before .before .before .loop .store) (c .before .before .before .before .before .before .before .loop .inv .2), entry-fits (listed (c .before .before .before .before .before .before .before .before .before .before .before .before .args .node .now) (c .before .before .before .before .before .before .before .loop .c .at) (c .before .before .before .before .before .before .before .loop .c .end)) (listed (c .before .before .before .before .before .before .before .before .before .before .before .before .args .node .now) (c .before .before .e .given .0 .1 .0 .at) (c .before .before .e .given .0 .1 .0 .end)) (entryIn (c .before .before .before .before .before .before .before .before .before .before .before .before .args .node .now) (c .before .before .e .given .0 .0)) (n .lists) (c .before .before .before .before .before .before .before .before .before .before .before .before .args .num) (c .before .before .before .before .before .before .before .before .before .before .before .before .args .lo .now) (c .before .before .before .before .before .before .before .before .before .before .before .before .args .hi .now) (c .before .before .before .before .before .before .before .loop .store) (c .before .before .before .before .before .before .before .loop .inv .2)))
 
 loop-less : tie.Need-loop-less Inv-loop μ-loop
 loop-less c = let n = next-is (c .before .before .before .before) in omega arith

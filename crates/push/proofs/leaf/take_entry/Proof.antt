@@ -29,7 +29,7 @@ common-length-requires : tie.Need-common-length-requires
 common-length-requires c κs = search needs
 
 apply-message-requires : tie.Need-apply-message-requires
-apply-message-requires c κs = let z = ap length (brought-yes (c .before .before .before .before .before .before .before .before .before .before .before .args .node .now) (c .before .before .before .before .before .before .before .before .before .before .before .args .lo .now) (c .before .before .before .before .before .before .before .before .before .before .before .args .hi .now) (c .before .before .before .before .before .before .before .before .before .before .before .args .e) _ (c .before .before .before .before .before .e .given .1) _ (c .before .before .before .touches-child .ensures) (c .before .before .if1 .left) _ (c .before .common-length .ensures .0)) in (message-places _ _ _ (c .before .before .before .before .before .before .before .before .before .before .before .pre .0) (c .before .before .before .before .before .e .given .1), c .before .before .before .before .before .before .before .before .before .before .before .pre .1, omega arith)
+apply-message-requires c κs = let z = ap length (brought-yes (c .before .before .before .before .before .before .before .before .before .before .before .args .node .now) (c .before .before .before .before .before .before .before .before .before .before .before .args .lo .now) (c .before .before .before .before .before .before .before .before .before .before .before .args .hi .now) (c .before .before .before .before .before .before .before .before .before .before .before .args .e) _ (c .before .before .before .before .before .e .given .1) _ (c .before .before .before .touches-child .ensures) (c .before .before .if1 .left) _ (c .before .common-length .ensures .0)) in (message-places _ _ _ (c .before .before .before .before .before .before .before .before .before .before .before .pre .0) (c .before .before .before .before .before .e .given .1), (c .before .before .before .before .before .before .before .before .before .before .before .pre .1 .0, omega (arith, c .before .before .before .before .before .before .before .before .before .before .before .pre .1 .1)))
 
 returns-2 : tie.Need-returns-2
 returns-2 c = takes-pair (c .before .before .before .before .before .before .args .node .now) (c .before .before .before .before .before .before .args .e) (c .before .before .before .before .before .before .args .num) (c .before .before .before .before .before .before .args .lo .now) (c .before .before .before .before .before .before .args .hi .now) (c .before .before .before .before .before .before .args .store .now) _ _ (c .enum-told .given .1)

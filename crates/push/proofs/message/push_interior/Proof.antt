@@ -12,14 +12,11 @@ use Rattle.push.proofs.message.push_interior.Tie as tie
 mul-at : tie.Need-mul-at
 mul-at c = let i = room-inside (listed (c .before .before .before .before .args .node .now) 8 (c .before .before .before .before .args .stop)) (c .before .before .before .before .args .num) (c .before .before .before .before .args .lo .now) (c .before .before .before .before .args .hi .now) (c .before .before .before .before .args .store .now) (c .before .before .before .before .pre .2) in let f = room-fits (listed (c .before .before .before .before .args .node .now) 8 (c .before .before .before .before .args .stop)) (c .before .before .before .before .args .num) (c .before .before .before .before .args .lo .now) (c .before .before .before .before .args .hi .now) (c .before .before .before .before .args .store .now) (c .before .before .before .before .pre .2) in omega arith
 
-u16-at-requires : tie.Need-u16-at-requires
-u16-at-requires c κs = let i = room-inside (listed (c .before .before .before .before .before .args .node .now) 8 (c .before .before .before .before .before .args .stop)) (c .before .before .before .before .before .args .num) (c .before .before .before .before .before .args .lo .now) (c .before .before .before .before .before .args .hi .now) (c .before .before .before .before .before .args .store .now) (c .before .before .before .before .before .pre .2) in let f = room-fits (listed (c .before .before .before .before .before .args .node .now) 8 (c .before .before .before .before .before .args .stop)) (c .before .before .before .before .before .args .num) (c .before .before .before .before .before .args .lo .now) (c .before .before .before .before .before .args .hi .now) (c .before .before .before .before .before .args .store .now) (c .before .before .before .before .before .pre .2) in omega arith
+read-length-requires : tie.Need-read-length-requires
+read-length-requires c κs = let i = room-inside (listed (c .before .before .before .before .before .args .node .now) 8 (c .before .before .before .before .before .args .stop)) (c .before .before .before .before .before .args .num) (c .before .before .before .before .before .args .lo .now) (c .before .before .before .before .before .args .hi .now) (c .before .before .before .before .before .args .store .now) (c .before .before .before .before .before .pre .2) in let f = room-fits (listed (c .before .before .before .before .before .args .node .now) 8 (c .before .before .before .before .before .args .stop)) (c .before .before .before .before .before .args .num) (c .before .before .before .before .before .args .lo .now) (c .before .before .before .before .before .args .hi .now) (c .before .before .before .before .before .args .store .now) (c .before .before .before .before .before .pre .2) in omega arith
 
-add-u16-at : tie.Need-add-u16-at
-add-u16-at c = let i = room-inside (listed (c .before .before .before .before .before .before .before .args .node .now) 8 (c .before .before .before .before .before .before .before .args .stop)) (c .before .before .before .before .before .before .before .args .num) (c .before .before .before .before .before .before .before .args .lo .now) (c .before .before .before .before .before .before .before .args .hi .now) (c .before .before .before .before .before .before .before .args .store .now) (c .before .before .before .before .before .before .before .pre .2) in let f = room-fits (listed (c .before .before .before .before .before .before .before .args .node .now) 8 (c .before .before .before .before .before .before .before .args .stop)) (c .before .before .before .before .before .before .before .args .num) (c .before .before .before .before .before .before .before .args .lo .now) (c .before .before .before .before .before .before .before .args .hi .now) (c .before .before .before .before .before .before .before .args .store .now) (c .before .before .before .before .before .before .before .pre .2) in omega arith
-
-u16-at-requires-2 : tie.Need-u16-at-requires-2
-u16-at-requires-2 c κs = let i = room-inside (listed (c .before .before .before .before .before .before .before .args .node .now) 8 (c .before .before .before .before .before .before .before .args .stop)) (c .before .before .before .before .before .before .before .args .num) (c .before .before .before .before .before .before .before .args .lo .now) (c .before .before .before .before .before .before .before .args .hi .now) (c .before .before .before .before .before .before .before .args .store .now) (c .before .before .before .before .before .before .before .pre .2) in let f = room-fits (listed (c .before .before .before .before .before .before .before .args .node .now) 8 (c .before .before .before .before .before .before .before .args .stop)) (c .before .before .before .before .before .before .before .args .num) (c .before .before .before .before .before .before .before .args .lo .now) (c .before .before .before .before .before .before .before .args .hi .now) (c .before .before .before .before .before .before .before .args .store .now) (c .before .before .before .before .before .before .before .pre .2) in omega arith
+read-level-requires : tie.Need-read-level-requires
+read-level-requires c κs = let i = room-inside (listed (c .before .before .before .before .before .before .before .args .node .now) 8 (c .before .before .before .before .before .before .before .args .stop)) (c .before .before .before .before .before .before .before .args .num) (c .before .before .before .before .before .before .before .args .lo .now) (c .before .before .before .before .before .before .before .args .hi .now) (c .before .before .before .before .before .before .before .args .store .now) (c .before .before .before .before .before .before .before .pre .2) in let f = room-fits (listed (c .before .before .before .before .before .before .before .args .node .now) 8 (c .before .before .before .before .before .before .before .args .stop)) (c .before .before .before .before .before .before .before .args .num) (c .before .before .before .before .before .before .before .args .lo .now) (c .before .before .before .before .before .before .before .args .hi .now) (c .before .before .before .before .before .before .before .args .store .now) (c .before .before .before .before .before .before .before .pre .2) in omega arith
 
 add-from : tie.Need-add-from
 add-from c = let i = room-inside (listed (c .before .before .before .before .before .before .before .before .args .node .now) 8 (c .before .before .before .before .before .before .before .before .args .stop)) (c .before .before .before .before .before .before .before .before .args .num) (c .before .before .before .before .before .before .before .before .args .lo .now) (c .before .before .before .before .before .before .before .before .args .hi .now) (c .before .before .before .before .before .before .before .before .args .store .now) (c .before .before .before .before .before .before .before .before .pre .2) in let f = room-fits (listed (c .before .before .before .before .before .before .before .before .args .node .now) 8 (c .before .before .before .before .before .before .before .before .args .stop)) (c .before .before .before .before .before .before .before .before .args .num) (c .before .before .before .before .before .before .before .before .args .lo .now) (c .before .before .before .before .before .before .before .before .args .hi .now) (c .before .before .before .before .before .before .before .before .args .store .now) (c .before .before .before .before .before .before .before .before .pre .2) in omega arith
@@ -65,16 +62,15 @@ same-length c = search needs
 
 returns : tie.Need-returns
 unfolding zerosOf
-returns c = interior-written (listed (c .before .before .before .before .before .before .before .before .before .before .before .before .before .before .before .before .before .before .before .before .before .before .args .node .now) 8 (c .before .before .before .before .before .before .before .before .before .before .before .before .before .before .before .before .before .before .before .before .before .before .args .stop)) (c .before .before .before .before .before .before .before .before .before .before .before .before .before .before .before .before .before .before .before .before .before .before .args .num) (c .before .before .before .before .before .before .before .before .before .before .before .before .before .before .before .before .before .before .before .before .before .before .args .lo .now) (c .before .before .before .before .before .before .before .before .before .before .before .before .before .before .before .before .before .before .before .before .before .before .args .hi .now) (c .before .before .before .before .before .before .before .before .before .before .before .before .before .before .before .before .before .before .before .before .before .before .args .store .now) (c .before .before .before .before .before .before .before .before .before .before .before .before .before .before .before .before .before .before .before .before .before .before .pre .2) (c .before .before .before .before .before .before .before .before .before .before .before .before .before .before .before .before .u16-at .result) (c .before .before .before .before .before .before .before .before .before .before .before .before .before .before .u16-at2 .result) (c .before .before .before .before .before .before .before .emit-messages .result) _ _ _ (c .before .before .before .before .before .before .before .before .before .before .before .before .before .before .before .before .u16-at .ensures .0) (c .before .before .before .before .before .before .before .before .before .before .before .before .before .before .u16-at2 .ensures .0) (c .before .before .before .before .before .before .before .before .before .before .copy-at .ensures) (c .before .before .before .before .before .before .before .emit-messages .ensures .0) (c .before .before .before .before .before .before .before .emit-messages .ensures .1) (c .before .before .before .write-page .ensures)
+returns c = interior-written (listed (c .before .before .before .before .before .before .before .before .before .before .before .before .before .before .before .before .before .before .before .before .before .before .args .node .now) 8 (c .before .before .before .before .before .before .before .before .before .before .before .before .before .before .before .before .before .before .before .before .before .before .args .stop)) (c .before .before .before .before .before .before .before .before .before .before .before .before .before .before .before .before .before .before .before .before .before .before .args .num) (c .before .before .before .before .before .before .before .before .before .before .before .before .before .before .before .before .before .before .before .before .before .before .args .lo .now) (c .before .before .before .before .before .before .before .before .before .before .before .before .before .before .before .before .before .before .before .before .before .before .args .hi .now) (c .before .before .before .before .before .before .before .before .before .before .before .before .before .before .before .before .before .before .before .before .before .before .args .store .now) (c .before .before .before .before .before .before .before .before .before .before .before .before .before .before .before .before .before .before .before .before .before .before .pre .2) (c .before .before .before .before .before .before .before .before .before .before .before .before .before .before .before .before .read-length .result) (c .before .before .before .before .before .before .before .before .before .before .before .before .before .before .read-level .result) (c .before .before .before .before .before .before .before .emit-messages .result) _ _ _ (c .before .before .before .before .before .before .before .before .before .before .before .before .before .before .before .before .read-length .ensures .0) (c .before .before .before .before .before .before .before .before .before .before .before .before .before .before .read-level .ensures .0) (c .before .before .before .before .before .before .before .before .before .before .copy-at .ensures) (c .before .before .before .before .before .before .before .emit-messages .ensures .0) (c .before .before .before .before .before .before .before .emit-messages .ensures .1) (c .before .before .before .write-page .ensures)
 
 pub push-interior-spec : {M : Type 1} → statement M
 push-interior-spec =
     tie.close
     (tie.spec
     mul-at
-    u16-at-requires
-    add-u16-at
-    u16-at-requires-2
+    read-length-requires
+    read-level-requires
     add-from
     add-to
     slice-aggregate-copy-at

@@ -11,19 +11,19 @@ returns : tie.Need-returns
 unfolding nodesOf
 returns c = room-no _ _ _ _ _ (omega arith)
 
-mul-u16-at : tie.Need-mul-u16-at
-mul-u16-at c = search needs
+mul-read-length : tie.Need-mul-read-length
+mul-read-length c = search needs
 
-u16-at-requires : tie.Need-u16-at-requires
-u16-at-requires c κs = search needs
+read-length-requires : tie.Need-read-length-requires
+read-length-requires c κs = search needs
 
 messages-fit-requires : tie.Need-messages-fit-requires
 messages-fit-requires c κs = search needs
 
 returns-2 : tie.Need-returns-2
 unfolding nodesOf
-returns-2 c = room-is _ _ _ _ _ _ _ (omega arith) (c .before .u16-at .ensures .0) (c .messages-fit .ensures)
+returns-2 c = room-is _ _ _ _ _ _ _ (omega arith) (c .before .read-length .ensures .0) (c .messages-fit .ensures)
 
 pub child-fits-spec : {M : Type 1} → statement M
 child-fits-spec =
-    tie.close (tie.spec returns mul-u16-at u16-at-requires messages-fit-requires returns-2)
+    tie.close (tie.spec returns mul-read-length read-length-requires messages-fit-requires returns-2)

@@ -9,8 +9,8 @@ use Rattle.rename.proofs.prepare.make_ready.Tie as tie
 free-list-requires : tie.Need-free-list-requires
 free-list-requires c κs = let k = node-few (c .before .before .before .before .args .store .now) (c .before .before .before .before .pre .0 .whole) in (omega (arith, k .2), omega (arith, k .2))
 
-u16-at-requires : tie.Need-u16-at-requires
-u16-at-requires c κs = let k = node-few (c .before .before .before .before .before .before .before .before .args .store .now) (c .before .before .before .before .before .before .before .before .pre .0 .whole) in omega (arith, k .0)
+read-levels-requires : tie.Need-read-levels-requires
+read-levels-requires c κs = let k = node-few (c .before .before .before .before .before .before .before .before .args .store .now) (c .before .before .before .before .before .before .before .before .pre .0 .whole) in omega (arith, k .0)
 
 may-swing-requires : tie.Need-may-swing-requires
 may-swing-requires c κs = search needs
@@ -22,7 +22,7 @@ same-length-2 : tie.Need-same-length-2
 same-length-2 c = search needs
 
 returns : tie.Need-returns
-returns c = ready-now _ _ _ _ _ (c .before .before .before .before .before .before .before .before .before .before .before .pre .0) (c .before .before .before .before .before .before .before .before .before .before .before .pre .1) (c .before .before .before .before .before .before .before .before .before .before .before .pre .2) _ _ _ refl (c .before .before .before .before .before .before .free-list .ensures .0) (c .before .before .u16-at .ensures .0) _ (c .before .may-swing .ensures) (c .if1 .taken)
+returns c = ready-now _ _ _ _ _ (c .before .before .before .before .before .before .before .before .before .before .before .pre .0) (c .before .before .before .before .before .before .before .before .before .before .before .pre .1) (c .before .before .before .before .before .before .before .before .before .before .before .pre .2) _ _ _ refl (c .before .before .before .before .before .before .free-list .ensures .0) (c .before .before .read-levels .ensures .0) _ (c .before .may-swing .ensures) (c .if1 .taken)
 
 rebuild-requires : tie.Need-rebuild-requires
 rebuild-requires c κs = search needs
@@ -40,14 +40,14 @@ same-length-5 : tie.Need-same-length-5
 same-length-5 c = search needs
 
 returns-2 : tie.Need-returns-2
-returns-2 c = ready-rebuilt _ _ _ _ _ (c .before .before .before .before .before .before .before .before .before .before .before .before .before .before .before .before .before .before .before .before .before .before .pre .0) (c .before .before .before .before .before .before .before .before .before .before .before .before .before .before .before .before .before .before .before .before .before .before .pre .1) (c .before .before .before .before .before .before .before .before .before .before .before .before .before .before .before .before .before .before .before .before .before .before .pre .2) _ _ _ refl (c .before .before .before .before .before .before .before .before .before .before .before .before .before .before .before .before .before .free-list .ensures .0) (c .before .before .before .before .before .before .before .before .before .before .before .before .before .u16-at .ensures .0) _ (c .before .before .before .before .before .before .before .before .before .before .before .before .may-swing .ensures) _ _ _ _ (c .before .before .before .before .before .before .before .before .before .before .before .if1 .left) (c .before .before .before .before .before .before .before .before .rebuild .ensures) (c .before .before .list-upper .ensures .0) (c .before .before .list-upper .ensures .1)
+returns-2 c = ready-rebuilt _ _ _ _ _ (c .before .before .before .before .before .before .before .before .before .before .before .before .before .before .before .before .before .before .before .before .before .before .pre .0) (c .before .before .before .before .before .before .before .before .before .before .before .before .before .before .before .before .before .before .before .before .before .before .pre .1) (c .before .before .before .before .before .before .before .before .before .before .before .before .before .before .before .before .before .before .before .before .before .before .pre .2) _ _ _ refl (c .before .before .before .before .before .before .before .before .before .before .before .before .before .before .before .before .before .free-list .ensures .0) (c .before .before .before .before .before .before .before .before .before .before .before .before .before .read-levels .ensures .0) _ (c .before .before .before .before .before .before .before .before .before .before .before .before .may-swing .ensures) _ _ _ _ (c .before .before .before .before .before .before .before .before .before .before .before .if1 .left) (c .before .before .before .before .before .before .before .before .rebuild .ensures) (c .before .before .list-upper .ensures .0) (c .before .before .list-upper .ensures .1)
 
 pub make-ready-spec : {M : Type 1} → statement M
 make-ready-spec =
     tie.close
     (tie.spec
     free-list-requires
-    u16-at-requires
+    read-levels-requires
     may-swing-requires
     same-length
     same-length-2

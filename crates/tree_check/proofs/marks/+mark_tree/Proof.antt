@@ -18,7 +18,7 @@ use Rattle.tree_check.proofs.marks.mark_tree.Kinds as mark-tree-kinds
 use Rattle.tree_check.proofs.marks.+mark_tree.Lts-mark_tree as mark-tree-lts
 use Rattle.node.proofs.Cursor.step.Reads as step-reads
 use Rattle.node.proofs.search.branch_of.Reads as branch-of-reads
-use Rattle.octets.proofs.u16_at.Reads as u16-at-reads
+use Rattle.node.proofs.header.read_length.Reads as read-length-reads
 use Rattle.tree_check.proofs.marks.both.Reads as both-reads
 use Rattle.tree_check.proofs.marks.+mark_tree.{statement}
 use Rattle.tree_check.proofs.marks.+mark_tree.Tie.{close}
@@ -41,8 +41,8 @@ mark-tree-μ-loop store num level seen₀ at len from c₀ quiet₀ seen c quiet
 
 -- the entry that was read, and where it leaves the cursor
 next-is : (t : ℕ) (c : mark-tree-lts.After-known-told (
-  u16-at-reads.Asked,
-  u16-at-reads.Learnt,
+  read-length-reads.Asked,
+  read-length-reads.Learnt,
   step-reads.Asked,
   step-reads.Learnt,
   branch-of-reads.Asked,
@@ -56,8 +56,8 @@ next-is : (t : ℕ) (c : mark-tree-lts.After-known-told (
 next-is t c = step-read-is _ _ _ _ _ _ (c .before .before .before .step .ensures) (c .before .e .given .1)
 
 mark-tree-element-write-seen : (t : ℕ) → mark-tree-lts.Need-element-write-seen (
-  u16-at-reads.Asked,
-  u16-at-reads.Learnt,
+  read-length-reads.Asked,
+  read-length-reads.Learnt,
   step-reads.Asked,
   step-reads.Learnt,
   branch-of-reads.Asked,
@@ -70,8 +70,8 @@ mark-tree-element-write-seen : (t : ℕ) → mark-tree-lts.Need-element-write-se
 mark-tree-element-write-seen t c = number-low (c .before .args .store .now) (c .before .args .level) (c .before .args .num) (c .before .pre .1 .1) (c .before .pre .1 .0)
 
 mark-tree-returns : (t : ℕ) → mark-tree-lts.Need-returns (
-  u16-at-reads.Asked,
-  u16-at-reads.Learnt,
+  read-length-reads.Asked,
+  read-length-reads.Learnt,
   step-reads.Asked,
   step-reads.Learnt,
   branch-of-reads.Asked,
@@ -84,8 +84,8 @@ mark-tree-returns : (t : ℕ) → mark-tree-lts.Need-returns (
 mark-tree-returns t c = leaf-marked _ _ _ (c .before .before .pre .1 .1) _ (omega arith)
 
 mark-tree-mul-at : (t : ℕ) → mark-tree-lts.Need-mul-at (
-  u16-at-reads.Asked,
-  u16-at-reads.Learnt,
+  read-length-reads.Asked,
+  read-length-reads.Learnt,
   step-reads.Asked,
   step-reads.Learnt,
   branch-of-reads.Asked,
@@ -97,9 +97,9 @@ mark-tree-mul-at : (t : ℕ) → mark-tree-lts.Need-mul-at (
 ) (mark-tree-at t) mark-tree.Post mark-tree-Inv-loop mark-tree-μ-loop
 mark-tree-mul-at t c = let w = node-inside (c .before .before .args .store .now) (c .before .before .args .num) (c .before .before .args .level) (c .before .before .pre .1 .1) in omega arith
 
-mark-tree-u16-at-requires : (t : ℕ) → mark-tree-lts.Need-u16-at-requires (
-  u16-at-reads.Asked,
-  u16-at-reads.Learnt,
+mark-tree-read-length-requires : (t : ℕ) → mark-tree-lts.Need-read-length-requires (
+  read-length-reads.Asked,
+  read-length-reads.Learnt,
   step-reads.Asked,
   step-reads.Learnt,
   branch-of-reads.Asked,
@@ -109,11 +109,11 @@ mark-tree-u16-at-requires : (t : ℕ) → mark-tree-lts.Need-u16-at-requires (
   both-reads.Asked,
   both-reads.Learnt,
 ) (mark-tree-at t) mark-tree.Post mark-tree-Inv-loop mark-tree-μ-loop
-mark-tree-u16-at-requires t c κs = let w = node-inside (c .before .before .args .store .now) (c .before .before .args .num) (c .before .before .args .level) (c .before .before .pre .1 .1) in omega arith
+mark-tree-read-length-requires t c κs = let w = node-inside (c .before .before .args .store .now) (c .before .before .args .num) (c .before .before .args .level) (c .before .before .pre .1 .1) in omega arith
 
 mark-tree-add-from : (t : ℕ) → mark-tree-lts.Need-add-from (
-  u16-at-reads.Asked,
-  u16-at-reads.Learnt,
+  read-length-reads.Asked,
+  read-length-reads.Learnt,
   step-reads.Asked,
   step-reads.Learnt,
   branch-of-reads.Asked,
@@ -126,8 +126,8 @@ mark-tree-add-from : (t : ℕ) → mark-tree-lts.Need-add-from (
 mark-tree-add-from t c = let w = node-inside (c .before .before .before .args .store .now) (c .before .before .before .args .num) (c .before .before .before .args .level) (c .before .before .before .pre .1 .1) in omega arith
 
 mark-tree-add-t16 : (t : ℕ) → mark-tree-lts.Need-add-t16 (
-  u16-at-reads.Asked,
-  u16-at-reads.Learnt,
+  read-length-reads.Asked,
+  read-length-reads.Learnt,
   step-reads.Asked,
   step-reads.Learnt,
   branch-of-reads.Asked,
@@ -140,8 +140,8 @@ mark-tree-add-t16 : (t : ℕ) → mark-tree-lts.Need-add-t16 (
 mark-tree-add-t16 t c = let w = node-inside (c .before .before .before .args .store .now) (c .before .before .before .args .num) (c .before .before .before .args .level) (c .before .before .before .pre .1 .1) in omega arith
 
 mark-tree-loop-holds : (t : ℕ) → mark-tree-lts.Need-loop-holds (
-  u16-at-reads.Asked,
-  u16-at-reads.Learnt,
+  read-length-reads.Asked,
+  read-length-reads.Learnt,
   step-reads.Asked,
   step-reads.Learnt,
   branch-of-reads.Asked,
@@ -151,11 +151,11 @@ mark-tree-loop-holds : (t : ℕ) → mark-tree-lts.Need-loop-holds (
   both-reads.Asked,
   both-reads.Learnt,
 ) (mark-tree-at t) mark-tree.Post mark-tree-Inv-loop mark-tree-μ-loop
-mark-tree-loop-holds t c = let w = node-inside (c .before .before .before .args .store .now) (c .before .before .before .args .num) (c .before .before .before .args .level) (c .before .before .before .pre .1 .1) in (omega arith, left-start _ _ _ (c .before .before .before .pre .1 .1) _ (omega arith) _ (c .u16-at .ensures .0))
+mark-tree-loop-holds t c = let w = node-inside (c .before .before .before .args .store .now) (c .before .before .before .args .num) (c .before .before .before .args .level) (c .before .before .before .pre .1 .1) in (omega arith, left-start _ _ _ (c .before .before .before .pre .1 .1) _ (omega arith) _ (c .read-length .ensures .0))
 
 mark-tree-step-requires : (t : ℕ) → mark-tree-lts.Need-step-requires (
-  u16-at-reads.Asked,
-  u16-at-reads.Learnt,
+  read-length-reads.Asked,
+  read-length-reads.Learnt,
   step-reads.Asked,
   step-reads.Learnt,
   branch-of-reads.Asked,
@@ -168,8 +168,8 @@ mark-tree-step-requires : (t : ℕ) → mark-tree-lts.Need-step-requires (
 mark-tree-step-requires t c κs = c .loop .inv .0
 
 mark-tree-enum-known-e : (t : ℕ) → mark-tree-lts.Need-enum-known-e (
-  u16-at-reads.Asked,
-  u16-at-reads.Learnt,
+  read-length-reads.Asked,
+  read-length-reads.Learnt,
   step-reads.Asked,
   step-reads.Learnt,
   branch-of-reads.Asked,
@@ -182,8 +182,8 @@ mark-tree-enum-known-e : (t : ℕ) → mark-tree-lts.Need-enum-known-e (
 mark-tree-enum-known-e t c = search needs
 
 mark-tree-enum-told : (t : ℕ) → mark-tree-lts.Need-enum-told (
-  u16-at-reads.Asked,
-  u16-at-reads.Learnt,
+  read-length-reads.Asked,
+  read-length-reads.Learnt,
   step-reads.Asked,
   step-reads.Learnt,
   branch-of-reads.Asked,
@@ -196,8 +196,8 @@ mark-tree-enum-told : (t : ℕ) → mark-tree-lts.Need-enum-told (
 mark-tree-enum-told t c = search needs
 
 mark-tree-returns-2 : (t : ℕ) → mark-tree-lts.Need-returns-2 (
-  u16-at-reads.Asked,
-  u16-at-reads.Learnt,
+  read-length-reads.Asked,
+  read-length-reads.Learnt,
   step-reads.Asked,
   step-reads.Learnt,
   branch-of-reads.Asked,
@@ -210,8 +210,8 @@ mark-tree-returns-2 : (t : ℕ) → mark-tree-lts.Need-returns-2 (
 mark-tree-returns-2 t c = left-end _ _ _ _ _ _ _ _ (c .before .before .before .loop .inv .1) _ refl (step-bad-is _ _ _ _ (c .before .before .step .ensures) (c .enum-told .given .1) .1)
 
 mark-tree-branch-of-requires : (t : ℕ) → mark-tree-lts.Need-branch-of-requires (
-  u16-at-reads.Asked,
-  u16-at-reads.Learnt,
+  read-length-reads.Asked,
+  read-length-reads.Learnt,
   step-reads.Asked,
   step-reads.Learnt,
   branch-of-reads.Asked,
@@ -224,8 +224,8 @@ mark-tree-branch-of-requires : (t : ℕ) → mark-tree-lts.Need-branch-of-requir
 mark-tree-branch-of-requires t c κs = search needs
 
 mark-tree-enum-known-child : (t : ℕ) → mark-tree-lts.Need-enum-known-child (
-  u16-at-reads.Asked,
-  u16-at-reads.Learnt,
+  read-length-reads.Asked,
+  read-length-reads.Learnt,
   step-reads.Asked,
   step-reads.Learnt,
   branch-of-reads.Asked,
@@ -238,8 +238,8 @@ mark-tree-enum-known-child : (t : ℕ) → mark-tree-lts.Need-enum-known-child (
 mark-tree-enum-known-child t c = search needs
 
 mark-tree-enum-told-2 : (t : ℕ) → mark-tree-lts.Need-enum-told-2 (
-  u16-at-reads.Asked,
-  u16-at-reads.Learnt,
+  read-length-reads.Asked,
+  read-length-reads.Learnt,
   step-reads.Asked,
   step-reads.Learnt,
   branch-of-reads.Asked,
@@ -252,8 +252,8 @@ mark-tree-enum-told-2 : (t : ℕ) → mark-tree-lts.Need-enum-told-2 (
 mark-tree-enum-told-2 t c = search needs
 
 mark-tree-returns-3 : (t : ℕ) → mark-tree-lts.Need-returns-3 (
-  u16-at-reads.Asked,
-  u16-at-reads.Learnt,
+  read-length-reads.Asked,
+  read-length-reads.Learnt,
   step-reads.Asked,
   step-reads.Learnt,
   branch-of-reads.Asked,
@@ -266,8 +266,8 @@ mark-tree-returns-3 : (t : ℕ) → mark-tree-lts.Need-returns-3 (
 mark-tree-returns-3 t c = left-message _ _ _ _ _ _ _ _ (c .before .before .before .before .before .before .before .loop .inv .1) _ _ (next-is t (c .before .before .before) .lists) _ refl (sym (c .before .before .branch-of .ensures) ∙ c .enum-told2 .given .1)
 
 mark-tree-sub-mark-tree : (t : ℕ) → mark-tree-lts.Need-sub-mark-tree (
-  u16-at-reads.Asked,
-  u16-at-reads.Learnt,
+  read-length-reads.Asked,
+  read-length-reads.Learnt,
   step-reads.Asked,
   step-reads.Learnt,
   branch-of-reads.Asked,
@@ -280,8 +280,8 @@ mark-tree-sub-mark-tree : (t : ℕ) → mark-tree-lts.Need-sub-mark-tree (
 mark-tree-sub-mark-tree t c = omega arith
 
 mark-tree-mark-tree-requires : (t : ℕ) → mark-tree-lts.Need-mark-tree-requires (
-  u16-at-reads.Asked,
-  u16-at-reads.Learnt,
+  read-length-reads.Asked,
+  read-length-reads.Learnt,
   step-reads.Asked,
   step-reads.Learnt,
   branch-of-reads.Asked,
@@ -294,8 +294,8 @@ mark-tree-mark-tree-requires : (t : ℕ) → mark-tree-lts.Need-mark-tree-requir
 mark-tree-mark-tree-requires t c κs = (omega arith, (c .before .before .before .before .before .before .before .before .before .before .before .before .before .pre .1 .0, child-usable _ _ _ _ _ _ _ _ (c .before .before .before .before .before .before .before .before .before .loop .inv .1) _ _ (next-is t (c .before .before .before .before .before) .lists) _ _ (sym (c .before .before .before .before .branch-of .ensures) ∙ c .before .before .child .given .1)))
 
 mark-tree-both-requires : (t : ℕ) → mark-tree-lts.Need-both-requires (
-  u16-at-reads.Asked,
-  u16-at-reads.Learnt,
+  read-length-reads.Asked,
+  read-length-reads.Learnt,
   step-reads.Asked,
   step-reads.Learnt,
   branch-of-reads.Asked,
@@ -308,8 +308,8 @@ mark-tree-both-requires : (t : ℕ) → mark-tree-lts.Need-both-requires (
 mark-tree-both-requires t c κs = search needs
 
 mark-tree-loop-less : (t : ℕ) → mark-tree-lts.Need-loop-less (
-  u16-at-reads.Asked,
-  u16-at-reads.Learnt,
+  read-length-reads.Asked,
+  read-length-reads.Learnt,
   step-reads.Asked,
   step-reads.Learnt,
   branch-of-reads.Asked,
@@ -322,8 +322,8 @@ mark-tree-loop-less : (t : ℕ) → mark-tree-lts.Need-loop-less (
 mark-tree-loop-less t c = let n = next-is t (c .before .before .before .before .before .before .before) in omega arith
 
 mark-tree-loop-again : (t : ℕ) → mark-tree-lts.Need-loop-again (
-  u16-at-reads.Asked,
-  u16-at-reads.Learnt,
+  read-length-reads.Asked,
+  read-length-reads.Learnt,
   step-reads.Asked,
   step-reads.Learnt,
   branch-of-reads.Asked,
@@ -337,8 +337,8 @@ mark-tree-loop-again t c = let n = next-is t (c .before .before .before .before 
 
 pub +mark-tree-spec : {M : Type 1} → statement M
 +mark-tree-spec = close μ-mark-tree λ t. mark-tree-lts.spec (
-  u16-at-reads.Asked,
-  u16-at-reads.Learnt,
+  read-length-reads.Asked,
+  read-length-reads.Learnt,
   step-reads.Asked,
   step-reads.Learnt,
   branch-of-reads.Asked,
@@ -355,7 +355,7 @@ pub +mark-tree-spec : {M : Type 1} → statement M
     (mark-tree-element-write-seen t)
     (mark-tree-returns t)
     (mark-tree-mul-at t)
-    (mark-tree-u16-at-requires t)
+    (mark-tree-read-length-requires t)
     (mark-tree-add-from t)
     (mark-tree-add-t16 t)
     (mark-tree-loop-holds t)

@@ -12,21 +12,21 @@ use Rattle.tree_check.proofs.marks.mark_nodes.Tie as tie
 clear-requires : tie.Need-clear-requires
 clear-requires c κs = search needs
 
-u16-at-requires : tie.Need-u16-at-requires
-u16-at-requires c κs = let l = long-enough (c .before .before .before .args .store .now) (c .before .before .before .pre .1) in omega arith
+read-root-requires : tie.Need-read-root-requires
+read-root-requires c κs = let l = long-enough (c .before .before .before .args .store .now) (c .before .before .before .pre .1) in omega arith
 
-u16-at-requires-2 : tie.Need-u16-at-requires-2
-u16-at-requires-2 c κs = let l = long-enough (c .before .before .before .before .args .store .now) (c .before .before .before .before .pre .1) in omega arith
+read-levels-requires : tie.Need-read-levels-requires
+read-levels-requires c κs = let l = long-enough (c .before .before .before .before .args .store .now) (c .before .before .before .before .pre .1) in omega arith
 
 mark-tree-requires : tie.Need-mark-tree-requires
-mark-tree-requires c κs = (whole-parts _ (c .before .before .before .before .before .before .pre .0) .few, root-usable _ _ _ (c .before .before .before .before .before .before .pre .1) (c .before .before .u16-at .ensures .0) (c .before .u16-at2 .ensures .0))
+mark-tree-requires c κs = (whole-parts _ (c .before .before .before .before .before .before .pre .0) .few, root-usable _ _ _ (c .before .before .before .before .before .before .pre .1) (c .before .before .read-root .ensures .0) (c .before .read-levels .ensures .0))
 
 returns : tie.Need-returns
 returns c =
     let h : length (c .before .before .before .before .before .before .before .args .seen .now) ≡ 1024 = search needs in
-    store-marked (c .before .before .before .before .before .before .before .args .store .now) (length (c .before .before .before .before .before .before .before .args .seen .now)) _ _ _ (c .before .before .before .before .before .before .before .pre .1) (omega (arith, whole-parts (length (c .before .before .before .before .before .before .before .args .store .now)) (c .before .before .before .before .before .before .before .pre .0) .few)) (c .before .before .before .before .clear .ensures) (c .before .before .before .u16-at .ensures .0) (c .before .before .u16-at2 .ensures .0) _ _ (c .mark-tree .ensures)
+    store-marked (c .before .before .before .before .before .before .before .args .store .now) (length (c .before .before .before .before .before .before .before .args .seen .now)) _ _ _ (c .before .before .before .before .before .before .before .pre .1) (omega (arith, whole-parts (length (c .before .before .before .before .before .before .before .args .store .now)) (c .before .before .before .before .before .before .before .pre .0) .few)) (c .before .before .before .before .clear .ensures) (c .before .before .before .read-root .ensures .0) (c .before .before .read-levels .ensures .0) _ _ (c .mark-tree .ensures)
 
 pub mark-nodes-spec : {M : Type 1} → statement M
 mark-nodes-spec =
     tie.close
-    (tie.spec clear-requires u16-at-requires u16-at-requires-2 mark-tree-requires returns)
+    (tie.spec clear-requires read-root-requires read-levels-requires mark-tree-requires returns)

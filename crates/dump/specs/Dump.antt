@@ -1,5 +1,5 @@
 -- What the walk writes of a node's entries, and what each of its functions asks and gives. Definitions only; the laws are beside.
--- Relies on live_count/specs (which entry decides a path) and on rows/specs/Area (the rows of the work area).
+-- Relies on live_count/specs (which entry decides a path) and on packed/specs/Rows/Area (the rows of the work area).
 use Prim.Native.Nat.{ℕ, _+_, _*_, _-_, _≤_}
 use mathlib.Core.Path.{_≡_}
 use mathlib.Core.List.{List, [], _∷_, _++_}

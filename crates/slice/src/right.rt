@@ -1,5 +1,5 @@
 // The part of a tree from a cut on: wide, an edge and a rest a level; narrow, one node a level. Everything is told from inside a node.
-// Relies on slicing's `rightWrite` and on pieces, which writes the pages.
+// Relies on `rightWrite` of specs/Slicing and on pieces, which writes the pages.
 use crate::Cut;
 use crate::Parts;
 use crate::pairs;

@@ -1,5 +1,5 @@
 -- What a caller is told who puts the rows into the area.
--- A row is path length, value length, u16 mark, 64 bytes for the path, 60 for the value (rows/specs/Area).
+-- A row is path length, value length, u16 mark, 64 bytes for the path, 60 for the value (specs/Rows/Area).
 use Prim.Native.Nat.{ℕ, _+_, _*_}
 use mathlib.Core.Path.{_≡_}
 use mathlib.Core.List.{List, [], _∷_, _++_}

@@ -1,5 +1,5 @@
 -- The steps of the rebuild: what build asks and gives, and how the parts of the work area come back.
--- Relies on build/specs/BuiltLaws and on packed/specs (the packed image has at most three levels).
+-- Relies on packed/specs/Build/BuiltLaws and on packed/specs (the packed image has at most three levels).
 use Prim.Native.Nat.{ℕ, zero, suc, _+_, _*_, _-_, _/_, _≤_}
 use mathlib.Core.Path.{_≡_, refl, sym, ap, ap₂, subst, _∙_}
 use mathlib.Core.List.{List, _++_, append-nil}

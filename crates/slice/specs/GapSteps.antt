@@ -1,4 +1,4 @@
--- What the chain of empty nodes asks, and its step lemmas. Relies on moving's `gapWrite`.
+-- What the chain of empty nodes asks, and its step lemmas. Relies on specs/Moving's `gapWrite`.
 use Prim.Native.Nat.{ℕ, suc, _+_, _*_, _-_, _<_, _≤_}
 use mathlib.Core.Path.{_≡_, refl, sym, ap, ap₂, _∙_}
 use mathlib.Core.List.{List, [], _++_, append-nil}

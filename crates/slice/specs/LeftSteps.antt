@@ -1,5 +1,5 @@
 -- Step lemmas of the left part: what is composed of a leaf and of an interior node, what the child that holds the cut is asked, and that
--- the pages written are those of `leftWrite`. Relies on PointLaws and on slicing's laws of stripped pivots.
+-- the pages written are those of `leftWrite`. Relies on PointLaws and on specs/Slicing's laws of stripped pivots.
 use Prim.Native.Nat.{ℕ, zero, suc, _+_, _*_, _-_, _≤_}
 use mathlib.Core.Path.{_≡_, refl, sym, ap, ap₂, subst, _∙_}
 use mathlib.Core.List.{List, [], _∷_, _++_, append-nil}

@@ -1,5 +1,5 @@
 -- Step lemmas of the right part: what is composed of a leaf and of an interior node, what the child that holds the cut is asked, and that
--- the pages written are those of `rightWrite`. Relies on RightPieces, RightLaws and on slicing's laws of stripped pivots.
+-- the pages written are those of `rightWrite`. Relies on RightPieces, RightLaws and on specs/Slicing's laws of stripped pivots.
 use Prim.Native.Nat.{ℕ, zero, suc, _+_, _*_, _-_, _≤_}
 use mathlib.Core.Path.{_≡_, refl, sym, ap, ap₂, subst, _∙_}
 use mathlib.Core.List.{List, [], _∷_, _++_}

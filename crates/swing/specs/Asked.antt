@@ -1,5 +1,5 @@
 -- The plan of a swing from what it asks: the laws of moving, with the list of free nodes as the code reads it; and its image as `swungWith`.
--- Relies on moving's laws of the supply of free nodes.
+-- Relies on slice/Moving's laws of the supply of free nodes.
 use Prim.Native.Nat.{ℕ, zero, suc, _+_, _*_, _-_, _/_, _≤_, _<_}
 use mathlib.Core.Path.{_≡_, refl, sym, ap, ap₂, subst, _∙_}
 use mathlib.Core.List.{List, []}

@@ -1,4 +1,4 @@
--- The swing from its steps: what each call in it asks, and that the image at its end is moving's.
+-- The swing from its steps: what each call in it asks, and that the image at its end is slice/Moving's.
 -- Relies on Steps (what the plan gives), RootLaws (the new root's page) and Head (node 0).
 use Prim.Native.Nat.{ℕ, suc, _+_, _*_, _-_, _/_, _≤_, _<_}
 use mathlib.Core.Path.{_≡_, refl, sym, ap, ap₂, subst, _∙_}

@@ -1,5 +1,5 @@
 -- The images between the cuts of a swing, each computed from the store that a step is handed; what each step asks, and what it tells.
--- Definitions only, over slicing's functions on images.
+-- Definitions only, over slice/Slicing's functions on images.
 use Prim.Native.Nat.{ℕ, _+_, _*_, _-_, _≤_}
 use mathlib.Core.Path.{_≡_}
 use mathlib.Core.List.{List, []}

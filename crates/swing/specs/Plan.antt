@@ -63,12 +63,12 @@ swungOver s free bound limit up =
     writeNode (imageOver (freshIn free) (headerOf s .levels) (treeOf s) (front bound) (front limit) up s) 0
     (headPage (nodesOf (length s)) (freshIn free (10 * headerOf s .levels)) (suc (headerOf s .levels)) (headerOf s .live))
 
--- What the swing leaves: moving's image, with the old live count; and every node that was reachable keeps its bytes (node 0 is none of them).
+-- What the swing leaves: slice/Moving's image, with the old live count; and every node that was reachable keeps its bytes (node 0 is none of them).
 pub record Swings (s s′ free from to : List ℕ) : Type 0 where
   pub exact : s′ ≡ swungWith (headerOf s .live) s (handed free) from to
   pub spares : (j : ℕ) → isIn j (numbers (treeOf s)) ≡ true → nodeBytes s′ j ≡ nodeBytes s j
 
--- What the steps of a swing rely on: the facts of moving's laws, of the store before it.
+-- What the steps of a swing rely on: the facts of slice/Moving's laws, of the store before it.
 pub record Plan (s free p r : List ℕ) (up : Bool) : Type 0 where
   pub good : Good (headerOf s .levels) (treeOf s) [] highest
   pub fit : fits (treeOf s) ≡ true

@@ -1,5 +1,5 @@
--- What the root's writer writes is the page of the move's root: moving's pieces, as the bytes of Root.
--- Relies on moving's definitions of the pieces, and on slicing's of a right part.
+-- What the root's writer writes is the page of the move's root: slice/Moving's pieces, as the bytes of Root.
+-- Relies on slice/Moving's definitions of the pieces, and on slice/Slicing's of a right part.
 use Prim.Native.Nat.{ℕ, suc, _≤_}
 use mathlib.Core.Path.{_≡_, refl, sym, ap, ap₂, _∙_}
 use mathlib.Core.List.{List, [], _∷_, _++_, append-assoc}

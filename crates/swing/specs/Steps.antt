@@ -1,5 +1,5 @@
--- What each step of a swing asks, from the plan; and the image that it leaves, as moving's laws have it.
--- Relies on moving's MoveWrite (what is read between the cuts) and on slice's Callers.
+-- What each step of a swing asks, from the plan; and the image that it leaves, as slice/Moving's laws have it.
+-- Relies on slice/Moving's MoveWrite (what is read between the cuts) and on slice's Callers.
 use Prim.Native.Nat.{ℕ, zero, suc, _+_, _*_, _-_, _≤_}
 use mathlib.Core.Path.{_≡_, refl, sym, ap, ap₂, subst, _∙_}
 use mathlib.Core.List.{List, []}

@@ -1,5 +1,5 @@
 -- A new root above the old one, with one message: the bytes that stand there afterwards, that they are sound, and what they mean.
--- Relies on upkeep's Page for the new node, on NodeZero for node 0, and on laws' Frame for the old tree, which stays whole.
+-- Relies on laws' Page for the new node, on NodeZero for node 0, and on laws' Frame for the old tree, which stays whole.
 use Prim.Native.Nat.{ℕ, zero, suc, _+_, _*_, _≤_, _<_}
 use mathlib.Core.Path.{_≡_, refl, sym, ap, ap₂, subst, _∙_}
 use mathlib.Core.List.{List, [], _∷_, _++_, append-nil}

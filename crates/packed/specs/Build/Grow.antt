@@ -1,5 +1,5 @@
 -- One turn of a pass over the rows: the marks of the rows behind row i and before row j go, row i gets the mark of its new node.
--- The same law serves the leaves, whose rows may carry any marks before, and the levels above. Relies on rows/specs/Remark.
+-- The same law serves the leaves, whose rows may carry any marks before, and the levels above. Relies on specs/Rows/Remark.
 use Prim.Native.Nat.{ℕ, zero, suc, _+_, _-_, _≤_, _<_}
 use mathlib.Core.Path.{_≡_, refl, ap, ap₂, _∙_}
 use mathlib.Core.Logic.{_⊎_, inl, inr}

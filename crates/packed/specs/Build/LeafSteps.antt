@@ -1,5 +1,5 @@
 -- Steps of the pass that writes the leaves and marks the first row of each: what holds before each turn, and one turn.
--- Rely on rows/specs/Steps (one leaf, and on) and on the turn of the marks (Grow).
+-- Rely on specs/Rows/Steps (one leaf, and on) and on the turn of the marks (Grow).
 use Prim.Native.Nat.{ℕ, suc, _+_, _*_, _-_, _/_, _≤_, _<_}
 use mathlib.Core.Path.{_≡_, refl, sym, ap, ap₂, _∙_}
 use mathlib.Core.List.{List, [], _∷_, _++_, append-assoc, append-nil}

@@ -1,5 +1,5 @@
 -- Steps of the pass that writes one level of interior nodes and makes its marks, with numbers from the list.
--- Rely on rows/specs/Branches (one node, and on) and on the turn of the marks (Grow).
+-- Rely on specs/Rows/Branches (one node, and on) and on the turn of the marks (Grow).
 use Prim.Native.Nat.{ℕ, suc, _+_, _*_, _-_, _/_, _≤_, _<_}
 use mathlib.Core.Path.{_≡_, refl, sym, ap, ap₂, _∙_}
 use mathlib.Core.List.{List, [], _∷_, _++_, append-assoc, append-nil}

@@ -1,5 +1,5 @@
 -- The pairs of the rows from i up to j, as the bytes of a leaf, without the first k bytes of each path.
--- These name what the leaf writer's contracts cite; the page itself is `leafPage` of rows/specs/Steps.
+-- These name what the leaf writer's contracts cite; the page itself is `leafPage` of specs/Rows/Steps.
 use Prim.Native.Nat.{ℕ, _+_, _*_, _-_}
 use mathlib.Core.List.{List}
 use mathlib.Core.Bool.{cond}

@@ -1,5 +1,5 @@
 -- The call move from its steps: the questions in order, the path that stays, and the swing with the live count made right.
--- Relies on moving's swung (what the swing leaves), on Prepared, and on finish's Finished.
+-- Relies on slice/Moving's swung (what the swing leaves), on Prepared, and on finish's Finished.
 use Prim.Native.Nat.{ℕ, zero, suc, _+_, _*_, _-_, _/_, _≤_}
 use mathlib.Core.Path.{_≡_, refl, sym, ap, ap₂, subst, _∙_}
 use mathlib.Core.List.{List}

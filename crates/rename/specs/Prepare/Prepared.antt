@@ -1,5 +1,5 @@
 -- A store that is ready for the swing, and how it came from the store before.
--- Relies on moving's Free (what the swing asks of the free nodes) and on the paper's definitions.
+-- Relies on slice/Moving's Free (what the swing asks of the free nodes) and on the paper's definitions.
 use Prim.Native.Nat.{ℕ, _+_, _*_, _≤_}
 use mathlib.Core.Path.{_≡_}
 use mathlib.Core.List.{List}

@@ -1,5 +1,5 @@
 -- The numbers of the nodes that are not marked; with the marks of the nodes in use they are the free nodes, rising.
--- Relies on tree_check's Marks (what the marks say) and on moving's free list.
+-- Relies on tree_check's Marks (what the marks say) and on slice/Moving's free list.
 use Prim.Native.Nat.{ℕ, zero, suc, _+_, _-_, _≤_, _<_}
 use mathlib.Core.Path.{_≡_, refl, sym, ap, _∙_}
 use mathlib.Core.List.{List, [], _∷_}

@@ -1,5 +1,5 @@
 -- The steps of free_list: what is listed so far, with what is still to be looked at, is the whole list.
--- Relies on build's laws of numbers put one after another.
+-- Relies on packed's laws of numbers put one after another.
 use Prim.Native.Nat.{ℕ, zero, suc, _+_, _*_, _-_, _≤_, _<_}
 use mathlib.Core.Path.{_≡_, refl, sym, ap, ap₂, _∙_}
 use mathlib.Core.List.{List, [], _∷_, _++_, append-assoc, append-nil}

@@ -1,10 +1,5 @@
 -- For those who call: from the code's equation to the record of what a message at the root leaves. Relies on append's Laws.
-use Prim.Native.Nat.{ℕ, _+_, _≤_, _<_}
-use mathlib.Core.Path.{_≡_, sym, subst}
-use mathlib.Core.List.{List}
-use mathlib.Core.Bool.{true, false}
-use native.Mathlib.Omega.{arith}
-use lib.ListN.{length}
+use Rattle.image.specs.Prelude.{ℕ, _+_, _≤_, _<_, _≡_, sym, subst, List, true, false, arith, length}
 use Rattle.image.specs.Bytes.{u16}
 use Rattle.image.specs.Entry.{Message, puts, drops, clears, message}
 use Rattle.image.specs.Image.{nodesOf, treeOf}

@@ -1,12 +1,6 @@
 -- How many messages wait in the root of a sound image, and that the walk over its entries counts them.
 -- Relies on lookup's account of a node that a reader finds.
-use Prim.Native.Nat.{ℕ, _+_, _-_, _*_, _<_, _≤_}
-use mathlib.Core.Path.{_≡_, refl, sym, ap, subst, _∙_}
-use mathlib.Core.List.{List, [], _∷_}
-use mathlib.Core.Bool.{true}
-use mathlib.Core.Option.{Option, none, some, Option·some-injective, Option·none-ne-some}
-use native.Mathlib.Omega.{arith}
-use lib.ListN.{length}
+use Rattle.image.specs.Prelude.{ℕ, _+_, _-_, _*_, _<_, _≤_, _≡_, refl, sym, ap, subst, _∙_, List, [], _∷_, true, Option, none, some, Option·some-injective, Option·none-ne-some, arith, length}
 use Rattle.image.specs.Bytes.{u16}
 use Rattle.image.specs.Entry as defined
 use Rattle.image.specs.Image.{Tree, unread, leaf, interior, Inside, nodesOf, headerOf, messageThen, messagesOf, noBranches, branchThen, insideOf, treeAt, treeOf}

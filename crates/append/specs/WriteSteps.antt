@@ -1,13 +1,6 @@
 -- The steps of the writers: each put after the last one is one put, and the whole is what append's Laws defines.
 -- Relies on octets' `put-put`.
-use Prim.Native.Nat.{ℕ, _+_, _*_, _-_, _≤_, _<_}
-use mathlib.Core.Path.{_≡_, refl, sym, ap, ap₂, _∙_}
-use mathlib.Core.List.{List, [], _++_, append-nil}
-use mathlib.Core.Bool.{true, false}
-use native.Mathlib.Omega.{arith}
-use lib.ListN.{length, length-append}
-use lib.Dec.{leb}
-use borrow.Author.Tests.{lt-leb, le-leb}
+use Rattle.image.specs.Prelude.{ℕ, _+_, _*_, _-_, _≤_, _<_, _≡_, refl, sym, ap, ap₂, _∙_, List, [], _++_, append-nil, true, false, arith, length, length-append, leb, lt-leb, le-leb}
 use Rattle.image.specs.Bytes.{u16, u16Bytes}
 use Rattle.image.specs.Entry.{Message, child, message}
 use Rattle.image.specs.Image.{wholeNodes}

@@ -1,10 +1,7 @@
 // put, drop and clear as one message at the root: appended where it has room, or held by a new root above the old one.
 // The root lifts nothing, so a message there has the full path as its suffix. The laws of what is written are in specs/Laws.
 use node::writer;
-ghost use mathlib.Core.Path.{_≡_};
-ghost use mathlib.Core.Bool.{true};
-ghost use Prim.Native.Nat.{_+_, _*_, _<_, _≤_};
-ghost use lib.ListN.{length};
+ghost use Rattle.image.specs.Prelude.{_≡_, true, _+_, _*_, _<_, _≤_, length};
 ghost use Rattle.image.specs.Bytes.{u16Bytes};
 ghost use Rattle.image.specs.Entry.{puts, drops, clears};
 ghost use Rattle.image.specs.Image.{wholeNodes, nodesOf, treeOf};

@@ -1,11 +1,6 @@
 -- The requests of a batch one by one, their calls and answers one after another, and a run of calls with one more at its end.
 -- Relies on the definitions of image's Batch and Contract.
-use Prim.Native.Nat.{ℕ, zero, suc, _+_, _≤_}
-use mathlib.Core.Path.{_≡_, refl, sym, ap, _∙_}
-use mathlib.Core.List.{List, [], _∷_, _++_, append-assoc}
-use mathlib.Core.Option.{none, some}
-use native.Mathlib.Omega.{arith}
-use lib.ListN.{length, length-drop}
+use Rattle.image.specs.Prelude.{ℕ, zero, suc, _+_, _≤_, _≡_, refl, sym, ap, _∙_, List, [], _∷_, _++_, append-assoc, none, some, arith, length, length-drop}
 use Rattle.image.specs.Bytes.{u16}
 use Rattle.image.specs.Calls.{Call, Answer}
 use Rattle.image.specs.Contract.{Meets, Run, stop, call}

@@ -1,10 +1,6 @@
 -- What a batch keeps from turn to turn, and what each part of it promises.
 -- Relies on image's Batch (requests, answers, the contract) and on questions (1 and 2 are a yes).
-use Prim.Native.Nat.{ℕ, _+_, _-_, _<_, _≤_}
-use mathlib.Core.Path.{_≡_}
-use mathlib.Core.List.{List, [], _++_}
-use mathlib.Core.Option.{Option, none, some}
-use lib.ListN.{length, drop}
+use Rattle.image.specs.Prelude.{ℕ, _+_, _-_, _<_, _≤_, _≡_, List, [], _++_, Option, none, some, length, drop}
 use Rattle.image.specs.Image.{nodesOf}
 use Rattle.image.specs.Calls.{Answer}
 use Rattle.image.specs.Contract.{Meets, Run}

@@ -1,13 +1,8 @@
 -- The calls of a batch: what each part of the code leaves, from the contracts of the calls' own parts.
 -- Relies on questions (Acted), requests (what was read) and image's Batch.
-use Prim.Native.Nat.{ℕ, zero, suc, _+_, _-_, _<_, _≤_}
-use mathlib.Core.Path.{_≡_, refl, sym, ap, subst, _∙_}
-use mathlib.Core.List.{List, [], _++_}
-use mathlib.Core.Option.{some}
-use native.Mathlib.Omega.{arith}
-use lib.ListN.{length, take, drop, length-append, length-take}
+use Rattle.image.specs.Prelude.{ℕ, zero, suc, _+_, _-_, _<_, _≤_, _≡_, refl, sym, ap, subst, _∙_, List, [], _++_, some, arith, length, take, drop, length-append, length-take}
 use Rattle.image.specs.Bytes.{u16Bytes}
-use Rattle.image.specs.Path.{valueLimit, pathLimit}
+use Rattle.image.specs.Path.{valueLimit}
 use Rattle.image.specs.Image.{nodesOf}
 use Rattle.image.specs.Calls as calls
 use Rattle.image.specs.Calls.{Act, Upkeep, acts, keeps, asks}
@@ -120,7 +115,7 @@ bytes-short (Found.Refused q) buffer = omega arith
 module _ (s b out out′ buffer : List ℕ) (at end : ℕ) (found : Found) (q : Query)
     (written : (out′ ≡ put out at (answerBytes (foundAnswer found buffer))) × (end ≡ at + length (answerBytes (foundAnswer found buffer))))
     (room : at + queryMost q ≤ length out) where
-  pub got : (p : Place) → q ≡ Query.Get p → foundLength found ≤ 32 → Meets s (asks (calls.get (part b p)) freshBuffer) (foundAnswer found buffer) s []
+  pub got : (p : Place) → q ≡ Query.Get p → foundLength found ≤ valueLimit → Meets s (asks (calls.get (part b p)) freshBuffer) (foundAnswer found buffer) s []
       → Written s (queryIn b q) out at out′ end
   got p e short m =
       record {
@@ -128,7 +123,7 @@ module _ (s b out out′ buffer : List ℕ) (at end : ℕ) (found : Found) (q : 
         met = λ w. unfold callOf queryIn in rw e m;
         bytes = written .0;
         ends = written .1;
-        fits = (let z : queryMost q ≡ 36 = ap queryMost e ∙ unfold queryMost in refl in let y = bytes-short found buffer in omega (arith, written .1));
+        fits = (let z : queryMost q ≡ 4 + valueLimit = ap queryMost e ∙ unfold queryMost in refl in let y = bytes-short found buffer in omega (arith, written .1));
       }
 
   pub stepped : (p p′ : Place) → q ≡ Query.Next p p′ → foundLength found ≤ 64 → Meets s (asks (calls.next (part b p) (part b p′)) freshBuffer) (foundAnswer found buffer) s []
@@ -163,7 +158,7 @@ most-change b (Change.Flush i) = refl
 most-change b (Change.Heal i) = refl
 
 most-query : (b : List ℕ) (q : Query) → mostBytes (queryIn b q) ≡ queryMost q
-unfolding mostBytes queryIn queryMost valueLimit pathLimit
+unfolding mostBytes queryIn queryMost
 most-query b (Query.Get p) = refl
 most-query b (Query.Next p q) = refl
 

@@ -1,11 +1,5 @@
 -- Turn after turn: the loop of a batch, and the contract of the whole. Relies on Requests and on what a call keeps (demands' Contracts).
-use Prim.Native.Nat.{ℕ, suc, _+_, _*_, _-_, _/_, _<_, _≤_}
-use mathlib.Core.Path.{_≡_, refl, sym, ap, ap₂, subst, _∙_}
-use mathlib.Core.List.{List, [], _∷_, _++_, append-assoc}
-use mathlib.Core.Option.{Option, none, some}
-use native.Mathlib.Omega.{arith}
-use lib.ListN.{length, take, drop, length-append}
-use lib.Seq.{take-at, drop-at}
+use Rattle.image.specs.Prelude.{ℕ, suc, _+_, _*_, _-_, _/_, _<_, _≤_, _≡_, refl, sym, ap, ap₂, subst, _∙_, List, [], _∷_, _++_, append-assoc, Option, none, some, arith, length, take, drop, length-append, take-at, drop-at}
 use Rattle.image.specs.Image.{nodesOf, wholeNodes}
 use Rattle.image.specs.Sound.{sound}
 use Rattle.image.specs.Calls.{acts, settle, workPerNode, workLong, questions, actQuestions}
@@ -16,6 +10,7 @@ use Rattle.image.specs.declared.Refusal.{Refusal}
 use Rattle.octets.specs.Put.{put, put-put, put-size, put-nil}
 use Rattle.demands.specs.Contracts.{stays-sound}
 use Rattle.laws.specs.Page.{zerosOf}
+use Rattle.laws.specs.Refusals.{refusal-some}
 use Rattle.rebuild.specs.Rebuild.{cleared}
 use Rattle.questions.specs.Callers.{to-act, plain-settle, plain-number}
 use Rattle.finish.specs.Finished.{cleared-size, cleared-later, cleared-again}
@@ -49,19 +44,16 @@ begins s w calls out f =
     }
 
 module _ (s₀ w₀ calls out₀ s w out : List ℕ) (at done written : ℕ) (f : SoFar s₀ w₀ calls out₀ s w out at done written) where
+  out-size : length out ≡ length out₀
+  out-size = ap length (f .bytes) ∙ put-size out₀ 0 (answersBytes (f .given)) (let a = f .length-is in let b = f .fits in omega arith)
+
   -- what a turn asks
   pub turn-asks : Fresh s w × (at ≤ length calls) × (written ≤ length out)
   turn-asks = (
     subst (Fresh s) (sym (f .area)) (f .fresh),
     f .place,
-    (let z : length out ≡ length out₀ = same-out in omega (arith, f .fits)),
+    omega (arith, f .fits, out-size),
   )
-    where
-      same-out : length out ≡ length out₀
-      same-out = ap length (f .bytes) ∙ put-size out₀ 0 (answersBytes (f .given)) (let a = f .length-is in let b = f .fits in omega arith)
-
-  out-size : length out ≡ length out₀
-  out-size = ap length (f .bytes) ∙ put-size out₀ 0 (answersBytes (f .given)) (let a = f .length-is in let b = f .fits in omega arith)
 
   module _ (s′ w′ out′ : List ℕ) (turn : Turn) (t : Turned s w calls at out written s′ w′ out′ turn) where
     pub went : (end behind′ : ℕ) → turn ≡ Turn.Goes end behind′ → Goes s w calls at out written s′ w′ out′ end behind′
@@ -180,19 +172,6 @@ number-is : (s w : List ℕ) → firstNoOn s (acts settle w) ≡ batchNo s w
 unfolding firstNoOn batchNo nodeQuestions questions actQuestions workLong
 number-is s w = refl
 
-refusal-some : (k : ℕ) (q : Refusal) → refusalNumber q ≡ k → (k ≡ 0 → ⊥)
-unfolding refusalNumber
-refusal-some k Refusal.Length e = λ z. omega arith
-refusal-some k Refusal.Unsound e = λ z. omega arith
-refusal-some k Refusal.Malformed e = λ z. omega arith
-refusal-some k Refusal.LongValue e = λ z. omega arith
-refusal-some k Refusal.ShortBuffer e = λ z. omega arith
-refusal-some k Refusal.NotInterior e = λ z. omega arith
-refusal-some k Refusal.Nested e = λ z. omega arith
-refusal-some k Refusal.Absent e = λ z. omega arith
-refusal-some k Refusal.BecomesMalformed e = λ z. omega arith
-refusal-some k Refusal.Full e = λ z. omega arith
-
 module _ (s w calls out seen : List ℕ) (r : Admission) (a : Asked s w seen r) where
   pub refused : (q : Refusal) → r ≡ Admission.Refused q → (k : ℕ) → k ≡ refusalNumber q → BatchMeets s w calls out k 0 0 s w out
   refused q e k z =
@@ -200,7 +179,7 @@ module _ (s w calls out seen : List ℕ) (r : Admission) (a : Asked s w seen r) 
       record {
         answer = z ∙ sym n;
         refuses = λ j h. (refl, refl, refl, refl, refl);
-        runs = λ h. absurd (refusal-some (refusalNumber q) q refl (sym n ∙ h));
+        runs = λ h. absurd (omega (arith, refusal-some q, sym n ∙ h));
       }
 
   module _ (t : Tally) (e : r ≡ Admission.Fit t) where

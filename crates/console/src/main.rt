@@ -1,8 +1,6 @@
 // The program: makes a 64-node store, reads standard input, and prints what each line says. Script has the work; here are the reads, the
 // writes and the loop. With a file's name as its one argument, it leaves the image there at the end. Relies on: script, make, io, os and libc.
-ghost use Prim.Native.Nat.{_≤_};
-ghost use mathlib.Core.Path.{_≡_};
-ghost use lib.ListN.{length};
+ghost use Rattle.image.specs.Prelude.{_≤_, length};
 ghost use Rattle.script.specs.Answered.{Held};
 
 // Writes some of the text: how many bytes, 0 where standard output takes none. A signal can interrupt a call, so a call that fails is made

@@ -1,14 +1,7 @@
 -- Demand 3 for a batch: what a function that runs promises of a whole list of calls, whatever bytes it is handed. With the number 0 the store
 -- was sound; the answers of the calls done are the plain map's on them, from the table that the store had, and stand byte for byte in the
 -- buffer; the store after them is sound and means the plain map's table. Relies on the contract of a batch (image) and on Demand.
-use Prim.Native.Nat.{ℕ, _*_, _≤_}
-use mathlib.Core.Path.{_≡_, refl, sym, ap, _∙_}
-use mathlib.Core.List.{List, [], _∷_, _++_}
-use mathlib.Core.Bool.{Bool, true, false, _&&_, false≢true}
-use native.Mathlib.Omega.{arith}
-use lib.ListN.{length, take, drop}
-use lib.Dec.{leb}
-use borrow.Author.Tests.{le-leb}
+use Rattle.image.specs.Prelude.{ℕ, _*_, _≤_, _≡_, refl, sym, ap, _∙_, List, [], _∷_, _++_, Bool, true, false, _&&_, false≢true, arith, length, take, drop, leb, le-leb}
 use Rattle.image.specs.Table.{find}
 use Rattle.image.specs.Image.{nodesOf, wholeNodes}
 use Rattle.image.specs.Sound.{sound, tableOf, valueIn}

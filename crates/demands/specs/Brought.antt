@@ -1,20 +1,12 @@
 -- Demand 2, nothing else can be read, and nothing is lost: after any list of calls on a sound image a path has just the value that the
 -- history brought to it. The first image had it, a put gave it or a move brought it, and no call touched it since. So get and next.
 -- Relies on the contracts of the calls (image), on Touches and, that lookup finds what the table has, on laws.
-use Prim.Native.Nat.{ℕ, _≤_}
-use mathlib.Core.Path.{_≡_, refl, sym, ap, subst, _∙_}
-use mathlib.Core.List.{List, [], _∷_, _++_}
-use mathlib.Core.Bool.{Bool, true, false, _||_, not, false≢true}
-use mathlib.Core.Option.{Option, none, some, Option·some-injective, Option·none-ne-some}
-use lib.ListN.{length, drop}
-use lib.Dec.{eqb}
-use borrow.Author.Tests.{eqb-true}
+use Rattle.image.specs.Prelude.{ℕ, _≤_, _≡_, refl, sym, ap, subst, _∙_, List, [], _∷_, _++_, Bool, true, false, _||_, not, false≢true, Option, none, some, Option·some-injective, Option·none-ne-some, length, drop, eqb, eqb-true}
 use Rattle.image.specs.Bytes.{same, before, begins}
-use Rattle.image.specs.Path.{below}
+use Rattle.image.specs.Path.{below, valueLimit}
 use Rattle.image.specs.Table.{Row, find, isSome, moved, leastAfter, leads, rising}
 use Rattle.image.specs.Sound.{sound, tableOf, valueIn}
-use Rattle.image.specs.Calls.{Call, acts, keeps, asks, Act, put, drops, clear, move, settle, tidy, get, next}
-use Rattle.image.specs.Calls.{Answer, filled, numberOf, foundBy, actTable, tableAfter, tableAt}
+use Rattle.image.specs.Calls.{Call, acts, keeps, asks, Act, put, drops, clear, move, settle, tidy, get, next, Answer, filled, numberOf, foundBy, actTable, tableAfter, tableAt}
 use Rattle.image.specs.Contract.{firstNoOn, Besides, Meets, Run, stop, call}
 use Rattle.octets.specs.Order.{and-left, and-right, not-true, same-eq, begins-split}
 use Rattle.laws.specs.Tables.{find-with, find-without, find-cleared}
@@ -173,7 +165,7 @@ pub record Listed (first : List Row) (h : List Done) (p q buffer : List ℕ) (le
   pub greater : before q path ≡ true
   pub len-is : len ≡ length path
   pub out-is : out ≡ path ++ drop (length path) buffer
-  pub reads : {s′ w′ room : List ℕ} {a : Answer} → Meets s (asks (get path) room) a s′ w′ → 32 ≤ length room
+  pub reads : {s′ w′ room : List ℕ} {a : Answer} → Meets s (asks (get path) room) a s′ w′ → valueLimit ≤ length room
       → a ≡ filled 0 (length value) (value ++ drop (length value) room)
 
 -- what next finds is there, below p and after q

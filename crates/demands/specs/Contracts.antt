@@ -1,20 +1,12 @@
 -- What the contract of a call tells at once: its answer's number is its first no, so of an accepted call every question is a yes; a call,
 -- and a list of calls, keeps the store's size and its soundness; a get of a path that is there reads it.
 -- For the other files of this crate. Relies on the contracts (image) alone.
-use Prim.Native.Nat.{ℕ, zero, suc, _≤_}
-use mathlib.Core.Path.{_≡_, refl, sym, ap, _∙_}
-use mathlib.Core.List.{List, _∷_, _++_}
-use mathlib.Core.Bool.{Bool, true, false, false≢true}
-use mathlib.Core.Option.{Option, none, some}
-use native.Mathlib.Omega.{arith}
-use lib.ListN.{length, drop}
-use borrow.Author.Tests.{le-leb}
+use Rattle.image.specs.Prelude.{ℕ, zero, suc, _≤_, _≡_, refl, sym, ap, _∙_, List, _∷_, _++_, Bool, true, false, false≢true, Option, none, some, arith, length, drop, le-leb}
 use Rattle.image.specs.Path.{wellFormed, valueLimit}
 use Rattle.image.specs.Table.{Row, find, isSome}
 use Rattle.image.specs.Image.{nodesOf, wholeNodes}
 use Rattle.image.specs.Sound.{sound, tableOf}
-use Rattle.image.specs.Calls.{Call, acts, keeps, asks, put, Query, get, next, Question, ask, firstNo, workLong, actQuestions, queryQuestions, questions}
-use Rattle.image.specs.Calls.{Answer, filled, numberOf, fill, foundBy, accepted, refused, answerAt}
+use Rattle.image.specs.Calls.{Call, acts, keeps, asks, put, Query, get, next, Question, ask, firstNo, workLong, actQuestions, queryQuestions, questions, Answer, filled, numberOf, fill, foundBy, accepted, refused, answerAt}
 use Rattle.image.specs.Contract.{nodeQuestions, firstNoOn, Meets, Run, stop, call}
 use Rattle.octets.specs.Order.{and-left}
 
@@ -112,13 +104,13 @@ query-answered {s} {buffer = buffer} {out = out} {q = q} {len = len} m = by-foun
         record { bytes = v; found = f; len-is = cc; out-is = cc }
 
 -- a get of a path that is there is accepted, and reads it
-get-yes : (s p v buffer : List ℕ) → wholeNodes (length s) ≡ true → sound s ≡ true → wellFormed p ≡ true → 32 ≤ length buffer
+get-yes : (s p v buffer : List ℕ) → wholeNodes (length s) ≡ true → sound s ≡ true → wellFormed p ≡ true → valueLimit ≤ length buffer
     → find p (tableOf s) ≡ some v → firstNoOn s (asks (get p) buffer) ≡ 0
-unfolding firstNoOn firstNo workLong nodeQuestions questions queryQuestions valueLimit isSome
-get-yes s p v buffer w g f l e = rw (w, g, f, le-leb 32 (length buffer) l, e)
+unfolding firstNoOn firstNo workLong nodeQuestions questions queryQuestions isSome
+get-yes s p v buffer w g f l e = rw (w, g, f, le-leb valueLimit (length buffer) l, e)
 
 pub get-reads : {s s′ w′ p buffer : List ℕ} {a : Answer} (v : List ℕ) → Meets s (asks (get p) buffer) a s′ w′
-    → wholeNodes (length s) ≡ true → sound s ≡ true → wellFormed p ≡ true → 32 ≤ length buffer
+    → wholeNodes (length s) ≡ true → sound s ≡ true → wellFormed p ≡ true → valueLimit ≤ length buffer
     → find p (tableOf s) ≡ some v → a ≡ filled 0 (length v) (v ++ drop (length v) buffer)
 unfolding answerAt accepted foundBy fill
 get-reads {s} {p = p} {buffer = buffer} v m w g f l e = m .answer ∙ rw (get-yes s p v buffer w g f l e, e)

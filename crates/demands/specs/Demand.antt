@@ -1,16 +1,11 @@
 -- Demand 3, from the contracts of the calls: for every list of calls on a store just made, the answers are the plain map's, and the image
 -- at the end is sound and means what the map then holds; and the node bound of a move. Record Demand has the statements.
 -- Relies on the contracts and the plain map (image) and, that lookup finds what the table has, on laws.
-use Prim.Native.Nat.{ℕ, zero, suc, _+_, _*_, _≤_}
-use mathlib.Core.Path.{_≡_, refl, sym, ap, _∙_}
-use mathlib.Core.List.{List, [], _∷_}
-use mathlib.Core.Bool.{Bool, true, false}
-use lib.ListN.{length}
+use Rattle.image.specs.Prelude.{ℕ, zero, suc, _+_, _*_, _≤_, _≡_, refl, sym, ap, _∙_, List, [], _∷_, Bool, true, false, length}
 use Rattle.image.specs.Table.{Row, find}
 use Rattle.image.specs.Image.{nodesOf, wholeNodes, headerOf}
 use Rattle.image.specs.Sound.{sound, tableOf, valueIn}
-use Rattle.image.specs.Calls.{Call, acts, keeps, asks, Upkeep, move, Question, ask, firstNo, workLong, questions}
-use Rattle.image.specs.Calls.{Answer, numberOf, answerAt, tableAt, tableAfter}
+use Rattle.image.specs.Calls.{Call, acts, keeps, asks, Upkeep, move, Question, ask, firstNo, workLong, questions, Answer, numberOf, answerAt, tableAt, tableAfter}
 use Rattle.laws.specs.LookupTable.{means-table}
 use Rattle.image.specs.Upkeep.{changed}
 use Rattle.image.specs.PlainMap.{plainFirstNo, reported, tableOn, answersOn}

@@ -1,11 +1,6 @@
 -- What is found in a table after a move: below `to` what was below `from`, nothing more below `from`, and elsewhere what was there before.
 -- For the theorems about single paths. Relies on the laws of the other changes of a table (crate laws).
-use Prim.Native.Nat.{ℕ}
-use mathlib.Core.Path.{_≡_, refl, sym, ap, _∙_}
-use mathlib.Core.List.{List, [], _∷_, _++_}
-use mathlib.Core.Bool.{Bool, true, false}
-use mathlib.Core.Option.{none}
-use lib.ListN.{length, drop}
+use Rattle.image.specs.Prelude.{ℕ, _≡_, refl, sym, ap, _∙_, List, [], _∷_, _++_, Bool, true, false, none, length, drop}
 use Rattle.image.specs.Bytes.{same, begins}
 use Rattle.image.specs.Path.{below}
 use Rattle.image.specs.Table.{Row, find, rowsBelow, withoutBelow, withRow, renamed, putAll, moved}

@@ -1,10 +1,6 @@
 -- Every path that a sound image holds is well formed, so a get of a path that next gave is not refused.
 -- Relies on the rules of soundness (image) and on what is found after each change of a table (laws).
-use Prim.Native.Nat.{ℕ}
-use mathlib.Core.Path.{_≡_, refl, sym, _∙_}
-use mathlib.Core.List.{List, [], _∷_, _++_}
-use mathlib.Core.Bool.{Bool, true, false}
-use mathlib.Core.Option.{none, some, Option·none-ne-some}
+use Rattle.image.specs.Prelude.{ℕ, _≡_, refl, sym, _∙_, List, [], _∷_, _++_, Bool, true, false, none, some, Option·none-ne-some}
 use Rattle.image.specs.Bytes.{begins, shared}
 use Rattle.image.specs.Path.{wellFormed}
 use Rattle.image.specs.Entry.{Message, puts, drops, clears}

@@ -1,11 +1,7 @@
 -- Demand 2, what is put is kept: after an accepted put of p, v, on any bytes whatever, and any calls that do not touch p, a get of p with
 -- room for a value gives v; and so with what a first image holds. Relies on the contracts of the calls (image), on Touches and on Formed.
-use Prim.Native.Nat.{ℕ, _≤_}
-use mathlib.Core.Path.{_≡_, refl, sym, ap, _∙_}
-use mathlib.Core.List.{List, _++_}
-use mathlib.Core.Bool.{true}
-use mathlib.Core.Option.{some}
-use lib.ListN.{length, drop}
+use Rattle.image.specs.Prelude.{ℕ, _≤_, _≡_, refl, sym, ap, _∙_, List, _++_, true, some, length, drop}
+use Rattle.image.specs.Path.{valueLimit}
 use Rattle.image.specs.Table.{find}
 use Rattle.image.specs.Image.{wholeNodes}
 use Rattle.image.specs.Sound.{sound, tableOf, valueIn}
@@ -27,7 +23,7 @@ put-there {s} {p = p} {v = v} m e = ap (find p) (m .table ∙ rw (all-yes m e)) 
 pub put-then-get : {s w s₁ w₁ s₂ s₃ w₃ p v buffer : List ℕ} {a b : Answer} {cs : List Call} {given : List Answer}
     → Meets s (acts (put p v) w) a s₁ w₁ → numberOf a ≡ 0
     → Run s₁ cs given s₂ → untouched p cs given ≡ true
-    → Meets s₂ (asks (get p) buffer) b s₃ w₃ → 32 ≤ length buffer
+    → Meets s₂ (asks (get p) buffer) b s₃ w₃ → valueLimit ≤ length buffer
     → b ≡ filled 0 (length v) (v ++ drop (length v) buffer)
 put-then-get {s} {w} {p = p} {v = v} m e r u g l =
     get-reads v g
@@ -40,7 +36,7 @@ put-then-get {s} {w} {p = p} {v = v} m e r u g l =
 -- with no call in between
 pub put-get : {s w s₁ w₁ s₂ w₂ p v buffer : List ℕ} {a b : Answer}
     → Meets s (acts (put p v) w) a s₁ w₁ → numberOf a ≡ 0
-    → Meets s₁ (asks (get p) buffer) b s₂ w₂ → 32 ≤ length buffer
+    → Meets s₁ (asks (get p) buffer) b s₂ w₂ → valueLimit ≤ length buffer
     → b ≡ filled 0 (length v) (v ++ drop (length v) buffer)
 unfolding untouched
 put-get m e g l = put-then-get m e stop refl g l
@@ -49,7 +45,7 @@ put-get m e g l = put-then-get m e stop refl g l
 pub held-then-get : {s s₁ s₂ w₂ p v buffer : List ℕ} {b : Answer} {cs : List Call} {given : List Answer}
     → wholeNodes (length s) ≡ true → sound s ≡ true → valueIn s p ≡ some v
     → Run s cs given s₁ → untouched p cs given ≡ true
-    → Meets s₁ (asks (get p) buffer) b s₂ w₂ → 32 ≤ length buffer
+    → Meets s₁ (asks (get p) buffer) b s₂ w₂ → valueLimit ≤ length buffer
     → b ≡ filled 0 (length v) (v ++ drop (length v) buffer)
 held-then-get {s} {p = p} {v = v} whole is-sound h r u g l =
     let there : find p (tableOf s) ≡ some v = sym (means-table s is-sound p) ∙ h in

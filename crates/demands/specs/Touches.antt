@@ -1,23 +1,16 @@
 -- Which paths a call touches, told from the call and its answer alone, and that a path that is not touched keeps what it has.
 -- For the theorems of demand 2 about single paths. Relies on the laws of the changes of a table (laws, FindMoved).
-use Prim.Native.Nat.{ℕ, zero, suc}
-use mathlib.Core.Path.{_≡_, refl, sym, ap, _∙_}
-use mathlib.Core.List.{List, [], _∷_, _++_}
-use mathlib.Core.Bool.{Bool, true, false, _&&_, _||_, not}
-use lib.ListN.{length, drop}
-use lib.Dec.{eqb}
+use Rattle.image.specs.Prelude.{ℕ, zero, suc, _≡_, refl, sym, ap, _∙_, List, [], _∷_, _++_, Bool, true, false, _&&_, _||_, not, length, drop, eqb}
 use Rattle.image.specs.Bytes.{same, begins}
 use Rattle.image.specs.Path.{below}
 use Rattle.image.specs.Table.{Row, find, moved}
 use Rattle.image.specs.Sound.{tableOf}
 use Rattle.image.specs.Calls.{Call, acts, keeps, asks, Act, put, drops, clear, move, settle, tidy, Answer, numberOf, actTable, tableAfter, tableAt}
 use Rattle.image.specs.Contract.{firstNoOn, Meets, Run, stop, call}
-use Rattle.octets.specs.Order.{and-left, and-right, not-true, same-eq, begins-split}
+use Rattle.octets.specs.Order.{and-left, and-right, not-true, same-eq, begins-split, or-none-right as or-right, or-none-left as or-left}
 use Rattle.laws.specs.Tables.{find-with-other, find-without-other, find-spared}
 use Rattle.demands.specs.Contracts.{number-is}
 use Rattle.demands.specs.FindMoved.{find-moved-to, find-moved-other}
-use Rattle.octets.specs.Order.{or-none-right as or-right}
-use Rattle.octets.specs.Order.{or-none-left as or-left}
 
 -- An accepted put or drop touches the path that it names; a clear every path below its own; a move every path below from and every path
 -- below to, but nothing where from equals to; settle and tidy nothing.

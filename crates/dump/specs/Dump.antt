@@ -1,10 +1,6 @@
 -- What the walk writes of a node's entries, and what each of its functions asks and gives. Definitions only; the laws are beside.
 -- Relies on live_count/specs (which entry decides a path) and on packed/specs/Rows/Area (the rows of the work area).
-use Prim.Native.Nat.{ℕ, _+_, _*_, _-_, _≤_}
-use mathlib.Core.Path.{_≡_}
-use mathlib.Core.List.{List, [], _∷_, _++_}
-use mathlib.Core.Bool.{Bool, true, _&&_, cond}
-use lib.ListN.{length, drop}
+use Rattle.image.specs.Prelude.{ℕ, _+_, _*_, _-_, _≤_, _≡_, List, [], _∷_, _++_, Bool, true, _&&_, cond, length, drop}
 use Rattle.image.specs.Path.{valueFits}
 use Rattle.image.specs.Entry.{Entry, pair, child, message, puts, drops, clears}
 use Rattle.image.specs.Table.{Row, withRow, everyKey, rising}
@@ -34,7 +30,7 @@ pairsAmong (pair k v ∷ es) = record { key = k; value = v } ∷ pairsAmong es
 pairsAmong (child i k ∷ es) = pairsAmong es
 pairsAmong (message m ∷ es) = pairsAmong es
 
--- the values of pairs and puts are at most 32 bytes
+-- the values of pairs and puts fit
 unfoldable pub entryValueFits : Entry → Bool
 entryValueFits (pair k v) = valueFits v
 entryValueFits (child i k) = true

@@ -1,14 +1,6 @@
 -- The steps of the insertion: a put that decides its path is not among the rows yet, and goes in at its place; the loop over the entries of
 -- an interior node. Relies on what insert_row promises (insertion: Inserted) and on the laws of tables.
-use Prim.Native.Nat.{ℕ, suc, _+_, _*_, _-_, _≤_}
-use mathlib.Core.Path.{_≡_, refl, sym, ap, subst, _∙_}
-use mathlib.Core.List.{List, [], _∷_, _++_}
-use mathlib.Core.Bool.{Bool, true, false, _&&_, not, cond, true≢false}
-use mathlib.Core.Option.{none}
-use native.Mathlib.Omega.{arith}
-use lib.ListN.{length, take, drop}
-use lib.Seq.{drop-append-seam}
-use borrow.Author.Tests.{not-true, not-false}
+use Rattle.image.specs.Prelude.{ℕ, suc, _+_, _*_, _-_, _≤_, _≡_, refl, sym, ap, subst, _∙_, List, [], _∷_, _++_, Bool, true, false, _&&_, not, cond, true≢false, none, arith, length, take, drop, drop-append-seam, not-true, not-false}
 use Rattle.image.specs.Path.{valueFits}
 use Rattle.image.specs.Entry as defined
 use Rattle.image.specs.Table.{Row, find, withRow, putAll, everyKey, rising}
@@ -16,7 +8,7 @@ use Rattle.image.specs.Meaning.{Said, nothing, says, newer}
 use Rattle.octets.specs.Order.{and-false, and-left, same-refl}
 use Rattle.laws.specs.Tables.{find-fails}
 use Rattle.laws.specs.Rising.{rising-with}
-use Rattle.laws.specs.Filter.{every-imp}
+use Rattle.laws.specs.Filter.{every-imp, every-with}
 use Rattle.node.specs.Places.{part, messageIn, entryIn}
 use Rattle.node.specs.declared.Place.{Place}
 use Rattle.node.specs.declared.Message.{Message}
@@ -28,7 +20,6 @@ use Rattle.dump.specs.Insertion.Insertion.{Inserted}
 use Rattle.dump.specs.Insertion.Merge.{put-among}
 use Rattle.dump.specs.Insertion.Slots.{rows-parts}
 use Rattle.live_count.specs.Live.{holdsNoMessage}
-use Rattle.laws.specs.Filter.{every-with}
 use Rattle.live_count.specs.KeepLaws.{with-length, quiet-put}
 use Rattle.live_count.specs.PathBuffers.{pathIn}
 use Rattle.node.specs.declared.PathBuffer.{PathBuffer}

@@ -1,12 +1,7 @@
 -- The steps of the walk's two functions that call each other: what each call asks, and what each exit owes.
 -- Relies on TreeLaws and on the steps of the append and of the insertion.
-use Prim.Native.Nat.{ℕ, _+_, _-_, _*_, _<_, _≤_}
-use mathlib.Core.Path.{_≡_, refl, sym, ap, ap₂, subst, _∙_}
-use mathlib.Core.List.{List, [], _∷_, _++_, append-nil, append-assoc}
-use mathlib.Core.Bool.{Bool, true, _&&_}
-use native.Mathlib.Omega.{arith}
-use lib.ListN.{length, take, drop}
-use Rattle.image.specs.Bytes.{u16, shared}
+use Rattle.image.specs.Prelude.{ℕ, _+_, _-_, _<_, _≤_, _≡_, refl, sym, ap, ap₂, subst, _∙_, List, [], _∷_, _++_, append-nil, append-assoc, Bool, true, _&&_, arith, length, take, drop}
+use Rattle.image.specs.Bytes.{shared}
 use Rattle.image.specs.Entry.{Entry}
 use Rattle.image.specs.Table.{Row, underPrefix, putAll, rising}
 use Rattle.image.specs.Image.{Branch, Forest, forestOf, treeAt}
@@ -17,7 +12,7 @@ use Rattle.laws.specs.LookupTable.{parts}
 use Rattle.laws.specs.Filter.{keep, keep-append}
 use Rattle.laws.specs.Reading.Relative.{lifts}
 use Rattle.laws.specs.Reading.SeekHere.{high-split}
-use Rattle.node.specs.Places.{part}
+use Rattle.node.specs.Places.{part, cursorOf}
 use Rattle.node.specs.Entries.{listed}
 use Rattle.node.specs.declared.Place.{Place}
 use Rattle.node.specs.declared.Cursor.{Cursor}
@@ -61,12 +56,12 @@ module _ (s : List ℕ) (level num : ℕ) (p : PathBuffer) (t : Trail) (ready : 
         added-none m area Whole (long-none (passing s t) (treeAt level s num) low high (passes-short s t) (omega arith) sound) (room .fit)
 
     -- here is the prefix of the node's own entries
-    module _ (k : ℕ) (ek : k ≡ length (shared lo hi)) (here : PathBuffer) (eh : pathIn here ≡ pathIn p ++ shared lo hi) (len : ℕ) (el : len ≡ u16 s (num * 1024)) where
+    module _ (k : ℕ) (ek : k ≡ length (shared lo hi)) (here : PathBuffer) (eh : pathIn here ≡ pathIn p ++ shared lo hi) (entries : Cursor) (ee : entries ≡ cursorOf s num) where
       abbrev own : List Entry
-      own = listed s (num * 1024 + 8) (num * 1024 + 8 + len)
+      own = listed s (entries .at) (entries .end)
 
       own-is : listing s num ≡ own
-      own-is = ap (λ n. listed s (num * 1024 + 8) (num * 1024 + 8 + n)) (sym el)
+      own-is = ap (λ x. listed s (x .at) (x .end)) (sym ee)
 
       here-is : shared low high ≡ pathIn here
       here-is = shared-append (pathIn p) lo hi ∙ sym eh
@@ -90,7 +85,7 @@ module _ (s : List ℕ) (level num : ℕ) (p : PathBuffer) (t : Trail) (ready : 
         pub node-bare : branchesAmong own ≡ [] → Added m area area m Whole
         node-bare q = absurd (has-branches s num level (ready .reads) two low high sound (ap (λ es. branchesAmong es) own-is ∙ q))
 
-        module _ (first : ℕ) (pivot : Place) (next : Cursor) (nc : NextChild s (num * 1024 + 8) (num * 1024 + 8 + len) first pivot next) where
+        module _ (first : ℕ) (pivot : Place) (next : Cursor) (nc : NextChild s (entries .at) (entries .end) first pivot next) where
           abbrev branches : List Branch
           branches = branch first (part s pivot) ∷ branchesAmong (listed s (next .at) (next .end))
 

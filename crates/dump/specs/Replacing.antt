@@ -1,10 +1,6 @@
 -- Puts that go into a table one after the other, oldest first, and what the functions that do so ask. Definitions only.
 -- Relies on specs/Dump (a table after an entry) and on specs/Insertion (rows laid in two parts).
-use Prim.Native.Nat.{ℕ, _*_, _≤_}
-use mathlib.Core.Path.{_≡_}
-use mathlib.Core.List.{List, [], _∷_, _++_}
-use mathlib.Core.Bool.{Bool, true, false, _&&_}
-use lib.ListN.{length}
+use Rattle.image.specs.Prelude.{ℕ, _*_, _≤_, _≡_, List, [], _∷_, _++_, Bool, true, false, _&&_, length}
 use Rattle.image.specs.Bytes.{u16}
 use Rattle.image.specs.Path.{valueFits}
 use Rattle.image.specs.Entry.{Entry, pair, child, message, puts, drops, clears}

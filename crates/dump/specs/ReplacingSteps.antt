@@ -1,12 +1,6 @@
 -- The steps of the puts that go into the rows of the root's children: an entry by its kind, one put, and the loop over the entries.
 -- Relies on what set_row promises (insertion: Laid) and on the laws of tables.
-use Prim.Native.Nat.{ℕ, _*_, _≤_}
-use mathlib.Core.Path.{_≡_, refl, sym, ap, subst, _∙_}
-use mathlib.Core.List.{List, [], _∷_, _++_}
-use mathlib.Core.Bool.{Bool, true, false, _&&_, not}
-use native.Mathlib.Omega.{arith}
-use lib.ListN.{length}
-use borrow.Author.Tests.{leb-true, not-true, not-false}
+use Rattle.image.specs.Prelude.{ℕ, _*_, _≤_, _≡_, refl, sym, ap, subst, _∙_, List, [], _∷_, _++_, Bool, true, false, _&&_, not, arith, length, leb-true, not-true, not-false}
 use Rattle.image.specs.Bytes.{same, before}
 use Rattle.image.specs.Path.{pathLimit, valueFits}
 use Rattle.image.specs.Entry as defined
@@ -121,7 +115,7 @@ module _ (s area : List ℕ) (m all : ℕ) (g : Message) (k v : Place) (q : g �
   this = subst (λ x. Settable area m all (defined.message (messageIn s x))) q o
 
   pub put-path : length (part s k) ≤ 64
-  unfolding putFits short pathLimit
+  unfolding putFits short
   put-path = leb-true (length (part s k)) pathLimit (and-left _ _ (this .fits))
 
   pub put-value : length (part s v) ≤ 60

@@ -1,11 +1,6 @@
 -- The steps of the dump from a root whose messages are all puts: what the walk over its children asks, and that their rows with the puts are
 -- the table of the store. Relies on specs/TreeLaws (an interior node whose messages are puts) and on the steps from the root (RootSteps).
-use Prim.Native.Nat.{ℕ, _+_, _-_, _*_, _≤_}
-use mathlib.Core.Path.{_≡_, refl, sym, ap, ap₂, subst, _∙_}
-use mathlib.Core.List.{List, [], _∷_, _++_}
-use mathlib.Core.Bool.{true}
-use native.Mathlib.Omega.{arith}
-use lib.ListN.{length}
+use Rattle.image.specs.Prelude.{ℕ, _+_, _-_, _*_, _≤_, _≡_, refl, sym, ap, ap₂, subst, _∙_, List, [], _∷_, _++_, true, arith, length}
 use Rattle.image.specs.Bytes.{u16, shared}
 use Rattle.image.specs.Entry.{Entry}
 use Rattle.image.specs.Table.{Row, putAll, everyKey, rising}
@@ -16,7 +11,7 @@ use Rattle.laws.specs.RowsRising.{rows-rise-in}
 use Rattle.laws.specs.Filter.{keep, keep-all}
 use Rattle.laws.specs.ButLive.{sound-but-live}
 use Rattle.laws.specs.Reading.Relative.{usableIn}
-use Rattle.node.specs.Places.{part}
+use Rattle.node.specs.Places.{part, cursorOf}
 use Rattle.node.specs.Entries.{listed}
 use Rattle.node.specs.declared.Place.{Place}
 use Rattle.node.specs.declared.Cursor.{Cursor}
@@ -77,17 +72,17 @@ module _ (s : List ℕ) (h : sound s ≡ true) (v : Visit) (at : AtRoot s v) whe
   unfolding shared
   nothing-lifted = refl
 
-  module _ (two : 2 ≤ level) (only : onlyPuts (listing s num) ≡ true) (len : ℕ) (el : len ≡ u16 s (num * 1024)) where
+  module _ (two : 2 ≤ level) (only : onlyPuts (listing s num) ≡ true) (entries : Cursor) (ee : entries ≡ cursorOf s num) where
     abbrev own : List Entry
-    own = listed s (num * 1024 + 8) (num * 1024 + 8 + len)
+    own = listed s (entries .at) (entries .end)
 
     own-is : listing s num ≡ own
-    own-is = ap (λ n. listed s (num * 1024 + 8) (num * 1024 + 8 + n)) (sym el)
+    own-is = ap (λ x. listed s (x .at) (x .end)) (sym ee)
 
     pub root-bare : (area : List ℕ) → branchesAmong own ≡ [] → Dumped s area area 0
     root-bare area q = absurd (has-branches s num level (ready .reads) two lowest highest root-sound (ap (λ es. branchesAmong es) own-is ∙ q))
 
-    module _ (first : ℕ) (pivot : Place) (next : Cursor) (nc : NextChild s (num * 1024 + 8) (num * 1024 + 8 + len) first pivot next)
+    module _ (first : ℕ) (pivot : Place) (next : Cursor) (nc : NextChild s (entries .at) (entries .end) first pivot next)
         (hi : List ℕ) (eh : hi ≡ highest) where
       abbrev branches : List Branch
       branches = branch first (part s pivot) ∷ branchesAmong (listed s (next .at) (next .end))

@@ -1,12 +1,6 @@
 -- The steps of the dump from the root: what the first call asks, and that its rows are the table of the store.
 -- Relies on what a sound image is (laws: ButLive) and on the steps of the count from the root (live: RootSteps).
-use Prim.Native.Nat.{ℕ, _*_, _≤_}
-use mathlib.Core.Path.{_≡_, sym, ap, ap₂, _∙_}
-use mathlib.Core.List.{List, [], _++_}
-use mathlib.Core.Bool.{true}
-use native.Mathlib.Omega.{arith}
-use lib.ListN.{length}
-use borrow.Author.Tests.{eqb-true}
+use Rattle.image.specs.Prelude.{ℕ, _*_, _≤_, _≡_, sym, ap, ap₂, _∙_, List, [], _++_, true, arith, length, eqb-true}
 use Rattle.image.specs.Bytes.{u16}
 use Rattle.image.specs.Table.{Row}
 use Rattle.image.specs.Image.{nodesOf, headerOf, treeAt, treeOf}

@@ -1,15 +1,7 @@
 -- What the walk writes of a node's entries is what the tree under the node means: a leaf's pairs are its rows, and an interior node's rows
 -- are those of its children that no message of it says anything of, with its puts that decide their paths put in.
 -- Relies on the laws that join the bytes of a node to its tree (lookup: Look), on KeepLaws of `live_count` and on the laws of sound trees.
-use Prim.Native.Nat.{ℕ, _-_, _<_, _≤_}
-use mathlib.Core.Path.{_≡_, refl, sym, ap, _∙_}
-use mathlib.Core.List.{List, [], _∷_, _++_}
-use mathlib.Core.Bool.{Bool, true, false, _&&_, not, cond, false≢true, and-comm}
-use mathlib.Core.Option.{Option, none, some}
-use native.Mathlib.Omega.{arith}
-use lib.ListN.{length, drop, length-append}
-use lib.Seq.{drop-append-seam}
-use lib.Dec.{leb}
+use Rattle.image.specs.Prelude.{ℕ, _-_, _<_, _≤_, _≡_, refl, sym, ap, _∙_, List, [], _∷_, _++_, Bool, true, false, _&&_, not, cond, false≢true, and-comm, Option, none, some, arith, length, drop, length-append, drop-append-seam, leb}
 use Rattle.image.specs.Bytes.{begins, shared}
 use Rattle.image.specs.Path.{pathLimit, wellFormed, owns, valueFits}
 use Rattle.image.specs.Entry as defined

@@ -19,11 +19,7 @@ use node::Step;
 use node::search::PairStep;
 use node::search::Pending;
 use node::search::Run;
-ghost use mathlib.Core.Path.{_≡_};
-ghost use mathlib.Core.Bool.{true};
-ghost use mathlib.Core.List.{_∷_, [], _++_};
-ghost use Prim.Native.Nat.{_*_, _-_, _≤_};
-ghost use lib.ListN.{length};
+ghost use Rattle.image.specs.Prelude.{_≡_, true, _∷_, [], _++_, _*_, _-_, _≤_, length};
 ghost use Rattle.image.specs.Path.{valueFits};
 ghost use Rattle.image.specs.Entry.{message, puts};
 ghost use Rattle.image.specs.Table.{underPrefix};
@@ -288,11 +284,7 @@ fn dump_node(
     }
     let k = arrival.lifted;
     let here = arrival.position;
-    let at = num * image::NODE_SIZE;
-    let len = node::header::read_length(store, at);
-    let from = at + image::ENTRIES_AT;
-    let end = from + len;
-    let c = Cursor { at: from, end };
+    let c = node::entries_of(store, num);
     if level <= 1 {
         return append_pairs(store, area, m, c, here, &notes);
     }
@@ -377,11 +369,7 @@ fn dump_putting(store: &[u8], area: &mut [u8], root: Visit) -> usize
         × (onlyPuts (listing (now store) (root .num)) ≡ true) ⌝ }
     ensures { λ r. ⌜ Dumped (now (store .entry)) (now (area .entry)) (now (area .exit)) r ⌝ }
 {
-    let at = root.num * image::NODE_SIZE;
-    let len = node::header::read_length(store, at);
-    let from = at + image::ENTRIES_AT;
-    let end = from + len;
-    let c = Cursor { at: from, end };
+    let c = node::entries_of(store, root.num);
     let Pending::Child(first, low, rest) = node::search::read_child(store, c) else {
         return 0;
     };

@@ -5,11 +5,7 @@ use node::Cursor;
 use node::Entry;
 use node::Message;
 use node::Step;
-ghost use mathlib.Core.Path.{_≡_};
-ghost use mathlib.Core.List.{List, []};
-ghost use mathlib.Core.Bool.{true};
-ghost use Prim.Native.Nat.{ℕ, _*_, _≤_};
-ghost use lib.ListN.{length};
+ghost use Rattle.image.specs.Prelude.{_≡_, List, [], true, ℕ, _≤_, length};
 ghost use Rattle.image.specs.Entry.{message};
 ghost use Rattle.node.specs.Whole.{HasEntries};
 ghost use Rattle.node.specs.Places.{EntryWithin, MessageWithin, entryIn, messageIn};
@@ -46,11 +42,8 @@ pub fn only_puts(store: &[u8], num: usize) -> bool
     requires { ⌜ HasEntries (now store) num ⌝ }
     ensures { λ r. ⌜ r ≡ onlyPuts (listing (now (store .entry)) num) ⌝ }
 {
-    let at = num * image::NODE_SIZE;
-    let len = node::header::read_length(store, at);
-    let from = at + image::ENTRIES_AT;
-    let end = from + len;
-    let mut c = Cursor { at: from, end };
+    let mut c = node::entries_of(store, num);
+    let end = c.end;
     while c.at < end {
         let Step::Read(e, next) = c.step(store) else {
             return true;

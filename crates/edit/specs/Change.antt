@@ -1,15 +1,8 @@
 -- A change of one path as a message at the root: the message, its size, and when the table has a place for it.
-use Prim.Native.Nat.{ℕ, _+_, _≤_}
-use mathlib.Core.Path.{_≡_, refl, sym, ap, _∙_}
-use mathlib.Core.List.{List, [], _∷_}
-use mathlib.Core.Bool.{Bool, true, false, _||_, cond, false≢true}
-use mathlib.Core.Option.{none}
-use native.Mathlib.Omega.{arith}
-use lib.ListN.{length}
-use lib.Dec.{ltb}
-use borrow.Author.Tests.{ltb-true}
+use Rattle.image.specs.Prelude.{ℕ, _+_, _≤_, _≡_, refl, sym, ap, _∙_, List, [], _∷_, Bool, true, false, _||_, cond, false≢true, none, arith, length, ltb, ltb-true}
+use Rattle.packed.specs.Form.Packed.{pairLimit}
 use Rattle.image.specs.Bytes.{same, before}
-use Rattle.image.specs.Path.{wellFormed, valueFits, below}
+use Rattle.image.specs.Path.{wellFormed, valueFits, below, valueLimit}
 use Rattle.image.specs.Entry.{Message, puts, drops, clears}
 use Rattle.image.specs.Table.{Row, find, isSome, withRow, without, withoutBelow, leads, rising}
 use Rattle.image.specs.Meaning.{apply}
@@ -17,7 +10,6 @@ use Rattle.image.specs.Sound.{soundMessage, lowest, highest}
 use Rattle.octets.specs.Order.{and-right, before-not-same, before-total}
 use Rattle.laws.specs.Rising.{find-leads}
 use Rattle.packed.specs.Form.Leaves.{value-length}
-use Rattle.laws.specs.Upkeep.Size as sizes
 use Rattle.append.specs.Laws.RootMessage.{put-sound, drop-sound, clear-sound}
 use Rattle.edit.specs.declared.Change.{Change}
 use Rattle.laws.specs.Tables.{with-length}
@@ -46,13 +38,13 @@ message-sound Change.Put p v e f = put-sound p v e f
 message-sound Change.Drop p v e f = drop-sound p e
 message-sound Change.Clear p v e f = clear-sound p e
 
-pub size-small : (c : Change) (p v : List ℕ) → wellFormed p ≡ true → valueFits v ≡ true → (sizeOf c (length p) (length v) ≤ 102) × (length p ≤ 64) × (length v ≤ 32)
+pub size-small : (c : Change) (p v : List ℕ) → wellFormed p ≡ true → valueFits v ≡ true → (sizeOf c (length p) (length v) ≤ pairLimit) × (length p ≤ 64) × (length v ≤ valueLimit)
 size-small c p v e f =
     let a = formed-length p e in
     let b = value-length v f in
     (by-change c, a, b)
   where
-    by-change : (c : Change) → sizeOf c (length p) (length v) ≤ 102
+    by-change : (c : Change) → sizeOf c (length p) (length v) ≤ pairLimit
     by-change Change.Put = let a = formed-length p e in let b = value-length v f in unfold sizeOf in omega arith
     by-change Change.Drop = let a = formed-length p e in unfold sizeOf in omega arith
     by-change Change.Clear = let a = formed-length p e in unfold sizeOf in omega arith

@@ -1,13 +1,5 @@
 -- A change carried out: what each step leaves, and the contract of put, drop and clear from it.
-use Prim.Native.Nat.{ℕ, _+_, _*_, _/_, _<_, _≤_}
-use mathlib.Core.Path.{_≡_, refl, sym, ap, subst, _∙_}
-use mathlib.Core.List.{List, [], _++_}
-use mathlib.Core.Bool.{Bool, true, false, _||_, false≢true}
-use mathlib.Core.Logic.{_⊎_}
-use native.Mathlib.Omega.{arith}
-use lib.ListN.{length, drop}
-use lib.Dec.{leb, ltb}
-use borrow.Author.Tests.{le-leb, lt-leb}
+use Rattle.image.specs.Prelude.{ℕ, _+_, _*_, _/_, _<_, _≤_, _≡_, refl, sym, ap, subst, _∙_, List, [], _++_, Bool, true, false, _||_, false≢true, _⊎_, arith, length, drop, leb, ltb, le-leb, lt-leb}
 use Rattle.image.specs.Path.{wellFormed, valueLimit, valueFits}
 use Rattle.image.specs.Entry.{Message, puts, drops, clears}
 use Rattle.image.specs.Table.{find, isSome}
@@ -37,7 +29,8 @@ use Rattle.edit.specs.declared.Change.{Change}
 use Rattle.edit.specs.declared.Spot.{Spot}
 use Rattle.edit.specs.Change.{messageOf, sizeOf, Allowed, message-sound, size-small, few-after}
 use Rattle.edit.specs.Known.{CountWith, place-told}
-use Rattle.edit.specs.Room.{Free, SpotFits, Roomy, nodes-are}
+use Rattle.edit.specs.Room.{Free, SpotFits, Roomy}
+use Rattle.tree_check.specs.Layout.{nodes-are}
 
 -- The message written, by each arm of the code.
 module _ (s s′ p v : List ℕ) (ok : sound s ≡ true) (formed : wellFormed p ≡ true) (fits : valueFits v ≡ true) where
@@ -201,39 +194,39 @@ module _ (s w : List ℕ) (whole : wholeNodes (length s) ≡ true) (ok : sound s
       clear-done v s′ w′ e =
           acted-done s s′ w′ to-act (number-by (calls.clear p) ∙ rw (sym x-is ∙ x-yes) refl) (e .is-sound) (e .table) (e .size) (e .area) tt
 
-      pub put-long : (v : List ℕ) → 32 < length v → Acted s (acts (calls.put p v) w) (Outcome.Refused Refusal.LongValue) s w w
-      unfolding actQuestions firstNo refusalNumber valueFits valueLimit
-      put-long v h = acted-refused s Refusal.LongValue to-act (number-by (calls.put p v) ∙ rw (sym x-is ∙ x-yes, lt-leb (length v) 32 h) refl)
+      pub put-long : (v : List ℕ) → valueLimit < length v → Acted s (acts (calls.put p v) w) (Outcome.Refused Refusal.LongValue) s w w
+      unfolding actQuestions firstNo refusalNumber valueFits
+      put-long v h = acted-refused s Refusal.LongValue to-act (number-by (calls.put p v) ∙ rw (sym x-is ∙ x-yes, lt-leb (length v) valueLimit h) refl)
 
       -- the count of paths once this one has a value decides question 10
-      module _ (v : List ℕ) (short : length v ≤ 32) (count n : ℕ) (n-is : n ≡ length s / 1024) (counted : CountWith p (tableOf s) count) where
+      module _ (v : List ℕ) (short : length v ≤ valueLimit) (count n : ℕ) (n-is : n ≡ length s / 1024) (counted : CountWith p (tableOf s) count) where
         place : leb count n ≡ isSome (find p (tableOf s)) || ltb (length (tableOf s)) (nodesOf (length s))
         place =
             let z : n ≡ nodesOf (length s) = n-is ∙ nodes-are (length s) in
             ap (leb count) z ∙ place-told p (tableOf s) (nodesOf (length s)) count (table-rises s ok) (table-few s ok) counted
 
         pub put-full : n < count → Acted s (acts (calls.put p v) w) (Outcome.Refused Refusal.Full) s w w
-        unfolding actQuestions firstNo refusalNumber valueFits valueLimit
+        unfolding actQuestions firstNo refusalNumber valueFits
         put-full h =
-            acted-refused s Refusal.Full to-act (number-by (calls.put p v) ∙ rw (sym x-is ∙ x-yes, le-leb (length v) 32 short, sym place ∙ lt-leb count n h) refl)
+            acted-refused s Refusal.Full to-act (number-by (calls.put p v) ∙ rw (sym x-is ∙ x-yes, le-leb (length v) valueLimit short, sym place ∙ lt-leb count n h) refl)
 
         module _ (h : count ≤ n) where
           left : isSome (find p (tableOf s)) || ltb (length (tableOf s)) (nodesOf (length s)) ≡ true
           left = sym place ∙ le-leb count n h
 
           pub put-done : (s′ w′ : List ℕ) → Edited s s′ w w′ (messageOf Change.Put p v) → Acted s (acts (calls.put p v) w) Outcome.Done s′ w w′
-          unfolding actQuestions firstNo messageOf apply tableAfter actTable Besides valueFits valueLimit
+          unfolding actQuestions firstNo messageOf apply tableAfter actTable Besides valueFits
           put-done s′ w′ e =
-              acted-done s s′ w′ to-act (number-by (calls.put p v) ∙ rw (sym x-is ∙ x-yes, le-leb (length v) 32 short, left) refl) (e .is-sound) (e .table) (e .size) (e .area) tt
+              acted-done s s′ w′ to-act (number-by (calls.put p v) ∙ rw (sym x-is ∙ x-yes, le-leb (length v) valueLimit short, left) refl) (e .is-sound) (e .table) (e .size) (e .area) tt
 
           pub put-allowed : Allowed Change.Put p v (tableOf s) (nodesOf (length s))
-          unfolding valueFits valueLimit
-          put-allowed = record { formed = sym x-is ∙ x-yes; fits = le-leb (length v) 32 short; place = λ e. left }
+          unfolding valueFits
+          put-allowed = record { formed = sym x-is ∙ x-yes; fits = le-leb (length v) valueLimit short; place = λ e. left }
 
-      pub drop-allowed : (c : Change) (v : List ℕ) → length v ≤ 32 → isPut c ≡ false → Allowed c p v (tableOf s) (nodesOf (length s))
-      unfolding valueFits valueLimit isPut
+      pub drop-allowed : (c : Change) (v : List ℕ) → length v ≤ valueLimit → isPut c ≡ false → Allowed c p v (tableOf s) (nodesOf (length s))
+      unfolding valueFits isPut
       drop-allowed c v short d =
-          record { formed = sym x-is ∙ x-yes; fits = le-leb (length v) 32 short; place = λ e. absurd (false≢true (sym d ∙ ap isPut e)) }
+          record { formed = sym x-is ∙ x-yes; fits = le-leb (length v) valueLimit short; place = λ e. absurd (false≢true (sym d ∙ ap isPut e)) }
 
 -- what the code asks between the steps
 pub spot-sized : (s : List ℕ) (size size′ : ℕ) (r : Spot) → SpotFits s size r → size ≡ size′ → SpotFits s size′ r

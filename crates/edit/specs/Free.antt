@@ -1,8 +1,5 @@
 -- A free node, found by the marks of the check.
-use Prim.Native.Nat.{ℕ, _<_, _≤_}
-use mathlib.Core.Path.{_≡_, refl}
-use mathlib.Core.List.{List}
-use lib.ListN.{getD}
+use Rattle.image.specs.Prelude.{ℕ, _<_, _≤_, _≡_, refl, List, getD}
 
 -- r is a number from 1 up to, not including, n whose byte is 0, or it is 0
 pub record FirstFree (seen : List ℕ) (n r : ℕ) : Type 0 where

@@ -1,13 +1,5 @@
 -- How many rows a table has after one change, from whether it has the path.
-use Prim.Native.Nat.{ℕ, suc, _+_, _-_, _≤_}
-use mathlib.Core.Path.{_≡_, refl, sym, ap, _∙_}
-use mathlib.Core.List.{List, [], _∷_}
-use mathlib.Core.Bool.{Bool, true, false, cond, _||_}
-use mathlib.Core.Option.{Option, none, some}
-use native.Mathlib.Omega.{arith}
-use lib.ListN.{length}
-use lib.Dec.{eqb, leb, ltb}
-use borrow.Author.Tests.{eqb-true, le-leb}
+use Rattle.image.specs.Prelude.{ℕ, suc, _+_, _-_, _≤_, _≡_, refl, sym, ap, _∙_, List, [], _∷_, Bool, true, false, cond, _||_, Option, none, some, arith, length, eqb, leb, ltb, eqb-true, le-leb}
 use Rattle.image.specs.Bytes.{same, before, u16}
 use Rattle.image.specs.Entry.{Message}
 use Rattle.image.specs.Table.{Row, find, withRow, without, leads, rising, isSome}

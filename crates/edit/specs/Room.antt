@@ -1,23 +1,21 @@
 -- Room for a message at the root: what each step of the code leaves, and that after a rebuild there always is room.
-use Prim.Native.Nat.{ℕ, _+_, _*_, _/_, _<_, _≤_}
-use mathlib.Core.Path.{_≡_, refl, sym, ap, _∙_}
-use mathlib.Core.List.{List}
-use mathlib.Core.Bool.{Bool, true, false, false≢true}
-use mathlib.Core.Logic.{_⊎_, inl, inr}
-use native.Mathlib.Omega.{arith}
-use lib.ListN.{length, drop, getD}
-use borrow.Author.Tests.{le-leb}
+use Rattle.image.specs.Prelude.{ℕ, _+_, _*_, _/_, _<_, _≤_, _≡_, refl, ap, _∙_, List, Bool, true, false, false≢true, _⊎_, inl, inr, arith, length, drop, getD, le-leb}
 use Rattle.image.specs.Bytes.{u16}
 use Rattle.image.specs.Image.{nodesOf, wholeNodes, treeOf}
 use Rattle.image.specs.Sound.{sound, tableOf, isIn, numbers}
 use Rattle.image.specs.Calls.{workPerNode}
 use Rattle.node.specs.Whole.{Whole, whole-parts}
 use Rattle.tree_check.specs.Whole.{Marks}
+use Rattle.tree_check.specs.Layout.{nodes-are}
 use Rattle.append.specs.Laws.Append.{roomAtRoot, rootAt, room-levels, room-fits, header-levels}
 use Rattle.rebuild.specs.Rebuild.{Rebuilt, cleared}
 use Rattle.finish.specs.Finished.{cleared-size, cleared-later}
 use Rattle.edit.specs.Free.{FirstFree}
 use Rattle.edit.specs.declared.Spot.{Spot}
+
+-- the code's SPARE: room is asked for together with these bytes, so that a size with them must be at most what a node holds
+abbrev pub spare : ℕ
+spare = 400
 
 -- node i is free, and a root of one level more is allowed
 pub record Free (s : List ℕ) (i : ℕ) : Type 0 where
@@ -61,11 +59,6 @@ above-found s seen n r levels held z l h f =
     some-free (low, high, g) =
         let inside : r < nodesOf (length s) = omega arith in
         record { low = low; high = inside; unused = unmarked r (isIn r (numbers (treeOf s))) refl inside g; seven = omega arith }
-
--- the number of nodes as the code computes it
-pub nodes-are : (len : ℕ) → len / 1024 ≡ nodesOf len
-unfolding nodesOf
-nodes-are len = refl
 
 pub few-nodes : (len : ℕ) → wholeNodes len ≡ true → (len / 1024 ≤ 1024) × (1024 ≤ len)
 unfolding nodesOf

@@ -7,13 +7,10 @@ use image::Outcome;
 use image::Refusal;
 use node::search::Found;
 use questions::Admission;
-ghost use mathlib.Core.Path.{_≡_};
-ghost use mathlib.Core.Bool.{true};
-ghost use Prim.Native.Nat.{_≤_};
-ghost use lib.ListN.{length};
-ghost use Rattle.image.specs.Path.{wellFormed, valueFits};
+ghost use Rattle.image.specs.Prelude.{_≡_, true, _+_, _≤_, length};
+ghost use Rattle.image.specs.Path.{wellFormed, valueFits, valueLimit};
 ghost use Rattle.image.specs.Table.{without};
-ghost use Rattle.image.specs.Image.{nodesOf, wholeNodes};
+ghost use Rattle.image.specs.Image.{nodesOf, wholeNodes, entriesLimit};
 ghost use Rattle.image.specs.Sound.{sound, tableOf};
 ghost use Rattle.laws.specs.ButLive.{soundButLive};
 ghost use Rattle.edit.specs.Free.{FirstFree};
@@ -24,14 +21,14 @@ ghost use Rattle.questions.specs.Acted.{Passed, Acted};
 ghost use Rattle.append.specs.Laws.Append.{roomAtRoot, Appended};
 ghost use Rattle.edit.specs.Change.{messageOf, sizeOf, Allowed};
 ghost use Rattle.edit.specs.Known.{Known, CountWith};
-ghost use Rattle.edit.specs.Room.{Above, Free, MarkedWhere, SpotFits, Roomy};
+ghost use Rattle.edit.specs.Room.{Above, Free, MarkedWhere, SpotFits, Roomy, spare};
 ghost use Rattle.edit.specs.Edited.{Counted, Edited};
 
 // So many messages wait in the root at most after a call: each costs every later judgement, and a rebuild that comes sooner is cheaper. A batch,
 // which judges once, keeps to it by its last change.
 pub const WAITING: usize = 8;
 
-// Bytes that a root without messages must have left for those to come, else a new root goes above it.
+// Bytes that a root without messages must have left for those to come, else a new root goes above it; specs/Room has them as `spare`.
 const SPARE: usize = 400;
 
 // What is done to a path.
@@ -75,13 +72,13 @@ fn first_free(seen: &[u8; 1024], n: usize) -> usize
     0
 }
 
-// A free node for a new root above the old one; 0 where the root holds a message, there is no level left, or no node is free. Where `seen` does
-// not hold the marks of the store, it marks into an array of its own: inside a batch, whose changes make the marks of question 2 stale.
-fn free_above(store: &[u8], seen: &[u8; 1024], marked: bool) -> usize
+// A free node for a new root above the old one, in which so many messages wait; 0 where there are any, no level is left, or no node is free. Where
+// `seen` does not hold the marks of the store, it marks into an array of its own: inside a batch, whose changes make the marks of question 2 stale.
+fn free_above(store: &[u8], seen: &[u8; 1024], marked: bool, waiting: usize) -> usize
     requires { ⌜ (wholeNodes (length (now store)) ≡ true) × (sound (now store) ≡ true) × MarkedWhere marked (now store) (now seen) ⌝ }
     ensures { λ r. ⌜ Above (now (store .entry)) r ⌝ }
 {
-    if append::waiting_at_root(store) != 0 {
+    if waiting != 0 {
         return 0;
     }
     let levels = node::header::read_levels(store);
@@ -97,13 +94,12 @@ fn free_above(store: &[u8], seen: &[u8; 1024], marked: bool) -> usize
     first_free(&own, n)
 }
 
-// Whether a message of this size goes to the root, where so many may wait. Nothing but speed depends on how many do, so that only a yes is promised
-// to have room.
-fn goes_at_root(store: &[u8], size: usize, most: usize) -> bool
-    requires { ⌜ (sound (now store) ≡ true) × (size ≤ 616) ⌝ }
+// Whether a message of this size goes to the root, where so many wait and so many may. Nothing but speed depends on how many do, so that only a yes
+// is promised to have room.
+fn goes_at_root(store: &[u8], size: usize, waiting: usize, most: usize) -> bool
+    requires { ⌜ (sound (now store) ≡ true) × (size + spare ≤ entriesLimit) ⌝ }
     ensures { λ r. ⌜ (r ≡ true → roomAtRoot (now (store .entry)) size ≡ true) ⌝ }
 {
-    let waiting = append::waiting_at_root(store);
     if waiting == 0 {
         return append::fits_at_root(store, size + SPARE);
     }
@@ -122,13 +118,14 @@ fn make_room(
     size: usize,
     terms: Terms,
 ) -> Spot
-    requires { ⌜ Passed (now store) (now work) × (size ≤ 616) × MarkedWhere (terms .marked) (now store) (now seen) ⌝ }
+    requires { ⌜ Passed (now store) (now work) × (size + spare ≤ entriesLimit) × MarkedWhere (terms .marked) (now store) (now seen) ⌝ }
     ensures { λ r. ⌜ Roomy (now (store .entry)) (now (store .exit)) (now (work .entry)) (now (work .exit)) size r ⌝ }
 {
-    if goes_at_root(store, size, terms.waiting) {
+    let waiting = append::waiting_at_root(store);
+    if goes_at_root(store, size, waiting, terms.waiting) {
         return Spot::AtRoot;
     }
-    let free = free_above(store, seen, terms.marked);
+    let free = free_above(store, seen, terms.marked, waiting);
     if free != 0 {
         return Spot::Above(free);
     }
@@ -138,7 +135,7 @@ fn make_room(
 
 // How many bytes the entry of a change has.
 fn entry_size(change: Change, path: usize, value: usize) -> usize
-    requires { ⌜ (path ≤ 64) × (value ≤ 32) ⌝ }
+    requires { ⌜ (path ≤ 64) × (value ≤ valueLimit) ⌝ }
     ensures { λ r. ⌜ r ≡ sizeOf change path value ⌝ }
 {
     match change {

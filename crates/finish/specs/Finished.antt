@@ -1,12 +1,6 @@
 -- The live count right and the work area zeroed: what the end of a call leaves.
 -- Relies on append's Laws (the live count written) and on what counting promises.
-use Prim.Native.Nat.{ℕ, _*_, _/_, _<_, _≤_}
-use mathlib.Core.Path.{_≡_, refl, sym, ap, subst, _∙_}
-use mathlib.Core.List.{List, _++_}
-use mathlib.Core.Bool.{true}
-use native.Mathlib.Omega.{arith}
-use lib.ListN.{length, drop, replicate, length-append, length-drop, length-replicate}
-use lib.Seq.{drop-at}
+use Rattle.image.specs.Prelude.{ℕ, _*_, _/_, _<_, _≤_, _≡_, refl, sym, ap, subst, _∙_, List, _++_, true, arith, length, drop, replicate, length-append, length-drop, length-replicate, drop-at}
 use Rattle.image.specs.Image.{nodesOf, wholeNodes}
 use Rattle.image.specs.Sound.{sound, tableOf}
 use Rattle.image.specs.Calls.{workPerNode}

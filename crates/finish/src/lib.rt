@@ -1,9 +1,6 @@
 // The end of a move: the live count, counted anew, is written, and the work area zeroed. Its laws serve the other calls that change the map.
 // Relies on live (the count), append (the count written) and packed (the area zeroed).
-ghost use mathlib.Core.Path.{_≡_};
-ghost use mathlib.Core.Bool.{true};
-ghost use Prim.Native.Nat.{_*_, _≤_};
-ghost use lib.ListN.{length};
+ghost use Rattle.image.specs.Prelude.{_≡_, true, _*_, _≤_, length};
 ghost use Rattle.image.specs.Image.{nodesOf, wholeNodes};
 ghost use Rattle.image.specs.Sound.{tableOf};
 ghost use Rattle.image.specs.Calls.{workPerNode};

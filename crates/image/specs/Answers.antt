@@ -1,7 +1,6 @@
 -- The answers of the code's calls are enums (src/lib.rt). Here each case gets the paper's number, and what stands beside it.
 -- Contracts speak of an answer only through these definitions.
-use Prim.Native.Nat.{ℕ}
-use mathlib.Core.List.{List}
+use Rattle.image.specs.Prelude.{ℕ, List}
 use Rattle.image.specs.Calls.{Answer, number, filled}
 use Rattle.image.specs.declared.Refusal.{Refusal}
 use Rattle.image.specs.declared.Outcome.{Outcome}

@@ -1,12 +1,6 @@
 -- A list of calls as bytes, and their answers as bytes: how a batch is read, which calls it makes, and the contract of the function that
 -- carries it out. After questions 1 and 2 the calls are those of Contract, each on the store as the last one left it.
-use Prim.Native.Nat.{ℕ, zero, suc, _+_, _*_, _-_, _<_, _≤_}
-use mathlib.Core.Path.{_≡_}
-use mathlib.Core.List.{List, [], _∷_, _++_}
-use mathlib.Core.Bool.{true, _&&_, cond}
-use mathlib.Core.Option.{Option, none, some}
-use lib.ListN.{length, take, drop, replicate}
-use lib.Dec.{leb, eqb}
+use Rattle.image.specs.Prelude.{ℕ, zero, suc, _+_, _*_, _-_, _<_, _≤_, _≡_, List, [], _∷_, _++_, true, _&&_, cond, Option, none, some, length, take, drop, replicate, leb, eqb}
 use Rattle.image.specs.Bytes.{u16, u16Bytes}
 use Rattle.image.specs.Path.{valueLimit, pathLimit}
 use Rattle.image.specs.Image.{nodesOf, wholeNodes}

@@ -1,10 +1,7 @@
 -- A few batches read by computation: each kind once, and pieces that do not read, each of which ends the batch in front of it.
-use Prim.Native.Nat.{ℕ}
-use mathlib.Core.Path.{_≡_, refl}
-use mathlib.Core.List.{List, [], _∷_, _++_}
-use lib.ListN.{length, replicate}
+use Rattle.image.specs.Prelude.{ℕ, _+_, _≡_, refl, List, [], _∷_, _++_, length, replicate}
 use Rattle.image.specs.Bytes.{u16, u16Bytes}
-use Rattle.image.specs.Path.{valueLimit, pathLimit}
+use Rattle.image.specs.Path.{valueLimit}
 use Rattle.image.specs.Calls.{put, drops, clear, move, settle, tidy, flush, heal, get, next, number, filled}
 use Rattle.image.specs.Batch.{Request, acting, keeping, asking, twoOf, nodeOf, plainOf, requestOf, firstRequest, behind, requestThen, requestsIn, requestsOf, answerBytes, mostBytes}
 
@@ -41,11 +38,11 @@ pub record BatchExamples : Type 0 where
   an-outcome : answerBytes (number 10) ≡ 0 ∷ 0 ∷ 10 ∷ 0 ∷ []
   a-value : answerBytes (filled 0 1 (7 ∷ replicate 63 0)) ≡ 1 ∷ 0 ∷ 0 ∷ 0 ∷ 7 ∷ []
   an-absence : answerBytes (filled 8 0 (replicate 64 0)) ≡ 0 ∷ 0 ∷ 8 ∷ 0 ∷ []
-  most-get : mostBytes (asking (get a)) ≡ 36
+  most-get : mostBytes (asking (get a)) ≡ 4 + valueLimit
   most-next : mostBytes (asking (next a b)) ≡ 68
 
 pub batch-examples : BatchExamples
-unfolding u16 valueLimit pathLimit twoOf nodeOf plainOf requestOf firstRequest behind requestThen requestsIn requestsOf answerBytes mostBytes
+unfolding u16 twoOf nodeOf plainOf requestOf firstRequest behind requestThen requestsIn requestsOf answerBytes mostBytes
 batch-examples =
     record {
       none-at-all = refl;

@@ -1,10 +1,6 @@
 -- Strings of bytes, their order and the numbers in them. A byte is a number below 256; a string of bytes is a `List ℕ`.
 -- Tests answer a Bool and recurse on the list, so that they compute and a contract can be an equation.
-use Prim.Native.Nat.{ℕ, _+_, _*_, _/_, _%_}
-use mathlib.Core.List.{List, [], _∷_}
-use mathlib.Core.Bool.{Bool, true, false, _&&_, _||_, cond}
-use lib.ListN.{getD}
-use lib.Dec.{ltb, eqb}
+use Rattle.image.specs.Prelude.{ℕ, _+_, _*_, _/_, _%_, List, [], _∷_, Bool, true, false, _&&_, _||_, cond, getD, ltb, eqb}
 
 -- the same bytes
 unfoldable pub same : List ℕ → List ℕ → Bool

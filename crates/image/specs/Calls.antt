@@ -1,13 +1,7 @@
 -- Document 01, "Questions before a call acts": the calls with their arguments, the questions that each is asked, in order, and the
 -- answers. (make and same stand apart, in Contract: demand 3's lists are calls on one store.)
-use Prim.Native.Nat.{ℕ, zero, suc, _*_}
-use mathlib.Core.List.{List, [], _∷_, _++_}
-use mathlib.Core.Bool.{Bool, true, false, _&&_, _||_, not}
-use mathlib.Core.Option.{Option, none, some}
-use lib.ListN.{length, drop}
-use lib.Dec.{ltb, leb}
-use Rattle.image.specs.Bytes.{same}
-use Rattle.image.specs.Path.{wellFormed, mayMove, valueFits, valueLimit, pathLimit}
+use Rattle.image.specs.Prelude.{ℕ, zero, suc, _*_, List, [], _∷_, _++_, Bool, true, false, _&&_, _||_, not, Option, none, some, length, drop, ltb, leb}
+use Rattle.image.specs.Path.{wellFormed, pathOrEmpty, mayMove, valueFits, valueLimit, pathLimit}
 use Rattle.image.specs.Table.{Row, find, isSome, withRow, without, rowsBelow, withoutBelow, moved, leastAfter, everyKey}
 
 -- The calls that are lent a work area and change the map or the whole store; upkeep of one node; the calls that are lent a buffer.
@@ -84,7 +78,7 @@ unfoldable pub queryQuestions : Query → List ℕ → List Row → List Questio
 queryQuestions (get p) buffer t =
     ask 3 (wellFormed p) ∷ ask 5 (leb valueLimit (length buffer)) ∷ ask 8 (isSome (find p t)) ∷ []
 queryQuestions (next p q) buffer t =
-    ask 3 (wellFormed p && (same q [] || wellFormed q)) ∷ ask 5 (leb pathLimit (length buffer)) ∷ ask 8 (isSome (leastAfter p q t)) ∷ []
+    ask 3 (wellFormed p && pathOrEmpty q) ∷ ask 5 (leb pathLimit (length buffer)) ∷ ask 8 (isSome (leastAfter p q t)) ∷ []
 
 unfoldable pub questions : ℕ → Call → List Row → List Question
 questions n (acts a work) t = actQuestions n a t

@@ -1,12 +1,7 @@
 -- Document 01, "Proved on the definitions, as one table".
-use Prim.Native.Nat.{ℕ, zero, suc, _*_}
-use mathlib.Core.Path.{_≡_, refl}
-use mathlib.Core.List.{List, [], _∷_, _++_}
-use mathlib.Core.Bool.{true, false}
-use mathlib.Core.Option.{none, some}
-use lib.ListN.{length, replicate}
+use Rattle.image.specs.Prelude.{ℕ, zero, suc, _*_, _≡_, refl, List, [], _∷_, _++_, true, false, none, some, length, replicate}
 use Rattle.image.specs.Bytes.{same, before, begins, shared}
-use Rattle.image.specs.Path.{letter, readsOn, wellFormed, below, properBeginning, mayMove, owns, valueLimit, valueFits, pathLimit}
+use Rattle.image.specs.Path.{letter, readsOn, wellFormed, below, properBeginning, mayMove, owns, valueFits}
 use Rattle.image.specs.Entry.{puts, clears}
 use Rattle.image.specs.Table.{Row, find, isSome, withRow, without, rowsBelow, withoutBelow, renamed, putAll, moved, rowsAfter, firstKey, leastAfter, everyKey, underPrefix}
 use Rattle.image.specs.Image.{Tree, leaf, interior, end, tree, nodesOf, wholeNodes}
@@ -98,7 +93,7 @@ pub record Cases (v w : List ℕ) : Type 0 where
   c13-value : find (0x31 ∷ 0 ∷ []) (then (put (0x31 ∷ 0 ∷ []) (7 ∷ [])) (many 32 0x30)) ≡ some (7 ∷ [])
 
 pub cases : (v w : List ℕ) → Cases v w
-unfolding same before begins shared letter readsOn wellFormed below properBeginning mayMove valueLimit valueFits pathLimit find isSome withRow without rowsBelow withoutBelow renamed putAll moved everyKey underPrefix nodesOf wholeNodes saysOf newer newest decide highOf owns lookup apply applyAll rows firstNo workLong isEmpty actQuestions queryQuestions questions actTable tableAfter tableAt leastAfter rowsAfter firstKey plainFirstNo makeNo
+unfolding same before begins shared letter readsOn wellFormed below properBeginning mayMove valueFits find isSome withRow without rowsBelow withoutBelow renamed putAll moved everyKey underPrefix nodesOf wholeNodes saysOf newer newest decide highOf owns lookup apply applyAll rows firstNo workLong isEmpty actQuestions queryQuestions questions actTable tableAfter tableAt leastAfter rowsAfter firstKey plainFirstNo makeNo
 cases v w =
     record {
       c1-31 = refl;
@@ -134,9 +129,9 @@ cases v w =
 
 -- a clear, and a move, on a table of 64 rows compute quickly too
 wide : then (clear r1) (many 64 0x30) ≡ many 64 0x30
-unfolding same before begins shared letter readsOn wellFormed below properBeginning mayMove valueLimit valueFits pathLimit find isSome withRow without rowsBelow withoutBelow renamed putAll moved everyKey underPrefix firstNo workLong isEmpty actQuestions questions actTable tableAfter tableAt plainFirstNo
+unfolding same before begins shared letter readsOn wellFormed below properBeginning mayMove valueFits find isSome withRow without rowsBelow withoutBelow renamed putAll moved everyKey underPrefix firstNo workLong isEmpty actQuestions questions actTable tableAfter tableAt plainFirstNo
 wide = refl
 
 wide-move : length (then (move (0x31 ∷ 0 ∷ []) r1) (many 64 0x30)) ≡ 64
-unfolding same before begins shared letter readsOn wellFormed below properBeginning mayMove valueLimit valueFits pathLimit find isSome withRow without rowsBelow withoutBelow renamed putAll moved everyKey underPrefix firstNo workLong isEmpty actQuestions questions actTable tableAfter tableAt plainFirstNo
+unfolding same before begins shared letter readsOn wellFormed below properBeginning mayMove valueFits find isSome withRow without rowsBelow withoutBelow renamed putAll moved everyKey underPrefix firstNo workLong isEmpty actQuestions questions actTable tableAfter tableAt plainFirstNo
 wide-move = refl

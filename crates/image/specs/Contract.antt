@@ -1,11 +1,6 @@
 -- The contract of each call: what holds of the store before, the call, its answer, and the store and the work area after it; and lists
 -- of calls. Every public function's promise is one of the records Meets, MakeMeets and SameMeets.
-use Prim.Native.Nat.{ℕ, zero, suc, _+_, _*_, _≤_}
-use mathlib.Core.Path.{_≡_}
-use mathlib.Core.List.{List, [], _∷_, _++_}
-use mathlib.Core.Bool.{Bool, true, false, _&&_, cond}
-use mathlib.Core.Option.{Option, none, some}
-use lib.ListN.{length, drop, replicate}
+use Rattle.image.specs.Prelude.{ℕ, zero, suc, _+_, _*_, _≤_, _≡_, List, [], _∷_, _++_, Bool, true, false, _&&_, cond, Option, none, some, length, drop, replicate}
 use Rattle.image.specs.Bytes.{same}
 use Rattle.image.specs.Table.{Row}
 use Rattle.image.specs.Image.{Forest, end, tree, nodesOf, wholeNodes, headerOf}

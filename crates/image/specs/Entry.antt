@@ -1,10 +1,5 @@
 -- Document 01, "The image", "Entries": what stands in a node, and how it is read.
-use Prim.Native.Nat.{ℕ, zero, suc, _-_}
-use mathlib.Core.List.{List, [], _∷_}
-use mathlib.Core.Bool.{_&&_, cond}
-use mathlib.Core.Option.{Option, none, some}
-use lib.ListN.{length, take, drop}
-use lib.Dec.{leb, eqb}
+use Rattle.image.specs.Prelude.{ℕ, zero, suc, _-_, List, [], _∷_, _&&_, cond, Option, none, some, length, take, drop, leb, eqb}
 use Rattle.image.specs.Bytes.{u16}
 
 -- "a message is a put, a drop or a clear": its suffix, and a put's value

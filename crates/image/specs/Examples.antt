@@ -1,13 +1,8 @@
 -- Examples beyond the paper's thirteen, for rules that those do not touch: the ends of a range, a whole image with its live count, upkeep.
 -- They hold by computation. Images of several levels, made and read by the second program, are in crate samples.
-use Prim.Native.Nat.{ℕ, _*_}
-use mathlib.Core.Path.{_≡_, refl}
-use mathlib.Core.List.{List, [], _∷_, _++_}
-use mathlib.Core.Bool.{true, false}
-use mathlib.Core.Option.{some}
-use lib.ListN.{replicate}
+use Rattle.image.specs.Prelude.{ℕ, _*_, _≡_, refl, List, [], _∷_, _++_, true, false, some, replicate}
 use Rattle.image.specs.Bytes.{same, before, begins, shared, zeros, u16}
-use Rattle.image.specs.Path.{letter, readsOn, wellFormed, owns, valueLimit, valueFits, pathLimit}
+use Rattle.image.specs.Path.{letter, readsOn, wellFormed, owns, valueFits}
 use Rattle.image.specs.Entry.{drops, clears, keyed, pointer, entryOf, entryThen, readAll, entriesOf}
 use Rattle.image.specs.Table.{Row, find, withRow, without, withoutBelow, everyKey, leads, rising, underPrefix}
 use Rattle.image.specs.Image.{Tree, leaf, interior, end, tree, nodesOf, wholeNodes, nodeBytes, header, headerOf, headerLaidOut, laidOut, entryBytes, nodeEntries, pairThen, pairsOf, leafOf, orNone, treeAt, treeOf}
@@ -58,7 +53,7 @@ pub record Examples : Type 0 where
   lifted-alike : isSublist a (clears b ∷ []) [] (clears (a ++ b) ∷ []) ≡ true
 
 pub examples : Examples
-unfolding same before begins shared zeros u16 letter readsOn wellFormed owns valueLimit valueFits pathLimit keyed pointer entryOf entryThen readAll entriesOf find withRow without withoutBelow everyKey leads rising underPrefix nodesOf wholeNodes nodeBytes header headerOf headerLaidOut laidOut entryBytes nodeEntries pairThen pairsOf leafOf orNone treeAt treeOf saysOf newer newest decide highOf lookup apply applyAll rows valuesFit soundTree soundMessages firstPivot numbers isIn once inRange soundHeader soundRoot sound valueIn tableOf sameMessage isSublist
+unfolding same before begins shared zeros u16 letter readsOn wellFormed owns valueFits keyed pointer entryOf entryThen readAll entriesOf find withRow without withoutBelow everyKey leads rising underPrefix nodesOf wholeNodes nodeBytes header headerOf headerLaidOut laidOut entryBytes nodeEntries pairThen pairsOf leafOf orNone treeAt treeOf saysOf newer newest decide highOf lookup apply applyAll rows valuesFit soundTree soundMessages firstPivot numbers isIn once inRange soundHeader soundRoot sound valueIn tableOf sameMessage isSublist
 examples =
     record {
       low-in = refl;

@@ -1,10 +1,5 @@
 -- Document 01, "The image": the nodes of a store, node 0, and the tree that the nodes hold.
-use Prim.Native.Nat.{ℕ, zero, suc, _+_, _*_, _/_}
-use mathlib.Core.List.{List, [], _∷_}
-use mathlib.Core.Bool.{Bool, _&&_, cond}
-use mathlib.Core.Option.{Option, none, some}
-use lib.ListN.{take, drop}
-use lib.Dec.{leb, eqb}
+use Rattle.image.specs.Prelude.{ℕ, zero, suc, _+_, _*_, _/_, List, [], _∷_, Bool, _&&_, cond, Option, none, some, take, drop, leb, eqb}
 use Rattle.image.specs.Bytes.{u16, zeros}
 use Rattle.image.specs.Entry.{Message, Entry, pair, child, message, entriesOf}
 use Rattle.image.specs.Table.{Row}

@@ -1,12 +1,6 @@
 -- Document 01: "A listing holds its place, the last path given. The place is lent to each step, which moves it on. A refused step does not
 -- change it." The definitions that the listing's contracts cite. Relies on: the questions and answers of next.
-use Prim.Native.Nat.{ℕ, zero, suc}
-use mathlib.Core.Path.{_≡_}
-use mathlib.Core.List.{List, [], _∷_}
-use mathlib.Core.Bool.{true, cond}
-use mathlib.Core.Option.{Option, some}
-use lib.ListN.{take, replicate}
-use lib.Dec.{leb}
+use Rattle.image.specs.Prelude.{ℕ, zero, suc, _≡_, List, [], _∷_, true, cond, Option, some, take, replicate, leb}
 use Rattle.image.specs.Bytes.{before}
 use Rattle.image.specs.Path.{pathLimit}
 use Rattle.image.specs.Table.{Row, leastAfter}

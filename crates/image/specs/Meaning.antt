@@ -1,10 +1,6 @@
 -- Document 01, "Meaning": `lookup` as the paper tells it, from the root down; and `rows`, the table of a tree, by the plain map's own
 -- steps. They say the same of a sound image: law `means-table` of crate laws.
-use Prim.Native.Nat.{ℕ}
-use mathlib.Core.List.{List, [], _∷_, _++_}
-use mathlib.Core.Bool.{cond}
-use mathlib.Core.Option.{Option, none, some}
-use lib.ListN.{length, drop}
+use Rattle.image.specs.Prelude.{ℕ, List, [], _∷_, _++_, cond, Option, none, some, length, drop}
 use Rattle.image.specs.Bytes.{same, begins, shared}
 use Rattle.image.specs.Path.{owns}
 use Rattle.image.specs.Entry.{Message, puts, drops, clears}

@@ -1,9 +1,5 @@
 -- Document 01, "Paths and values": which strings are paths, what is below a path, what a range owns, which values fit.
-use Prim.Native.Nat.{ℕ, suc}
-use mathlib.Core.List.{List, [], _∷_}
-use mathlib.Core.Bool.{Bool, _&&_, not, cond}
-use lib.ListN.{length}
-use lib.Dec.{leb, eqb}
+use Rattle.image.specs.Prelude.{ℕ, suc, List, [], _∷_, Bool, _&&_, _||_, not, cond, length, leb, eqb}
 use Rattle.image.specs.Bytes.{same, before, begins}
 
 -- a path, a suffix, a pivot and a value are lists of bytes
@@ -20,7 +16,7 @@ componentsLimit = 8
 abbrev pub componentLimit : ℕ
 componentLimit = 16
 
-unfoldable pub pathLimit : ℕ
+abbrev pub pathLimit : ℕ
 pathLimit = 64
 
 -- a byte of a component: "from hexadecimal 21 to 7E without 2F"
@@ -37,6 +33,10 @@ readsOn done here (b ∷ p) =
 -- a well-formed path
 unfoldable pub wellFormed : Pathname → Bool
 wellFormed p = leb (length p) pathLimit && readsOn 0 0 p
+
+-- the empty path, which stands before all others, or a well-formed one
+abbrev pub pathOrEmpty : Pathname → Bool
+pathOrEmpty p = same p [] || wellFormed p
 
 -- "A path is below each path that it begins with, itself included": p is below q
 unfoldable pub below : Pathname → Pathname → Bool
@@ -55,7 +55,7 @@ unfoldable pub owns : Pathname → Pathname → Pathname → Bool
 owns lo hi p = not (before p lo) && before p hi
 
 -- "A value is 0 to 32 bytes; an empty value is still a value."
-unfoldable pub valueLimit : ℕ
+abbrev pub valueLimit : ℕ
 valueLimit = 32
 
 unfoldable pub valueFits : Value → Bool

@@ -1,6 +1,5 @@
 -- Document 01, "The plain path map": it holds n and a table, and is fed each call's name and arguments, and nothing of the store.
-use Prim.Native.Nat.{ℕ}
-use mathlib.Core.List.{List, [], _∷_}
+use Rattle.image.specs.Prelude.{ℕ, List, [], _∷_}
 use Rattle.image.specs.Table.{Row}
 use Rattle.image.specs.Calls.{Call, acts, keeps, asks, Answer, ask, firstNo, workLong, questions, answerAt, tableAt}
 

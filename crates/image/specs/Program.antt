@@ -1,11 +1,6 @@
 -- Document 01, "The program": the lines that it reads, and the text that it prints for each, when the plain map of n nodes holds a table.
 -- Relies on: the plain map's questions, answers and tables. Text is a list of ASCII codes.
-use Prim.Native.Nat.{ℕ, zero, suc, _+_, _*_, _-_, _/_, _%_}
-use mathlib.Core.List.{List, [], _∷_, _++_}
-use mathlib.Core.Bool.{Bool, false, _||_, cond}
-use mathlib.Core.Option.{Option, none, some}
-use lib.ListN.{length, take, replicate}
-use lib.Dec.{ltb, eqb}
+use Rattle.image.specs.Prelude.{ℕ, zero, suc, _+_, _*_, _-_, _/_, _%_, List, [], _∷_, _++_, Bool, false, _||_, cond, Option, none, some, length, take, replicate, ltb, eqb}
 use Rattle.image.specs.Bytes.{same}
 use Rattle.image.specs.Path.{wellFormed, valueLimit}
 use Rattle.image.specs.Table.{Row, rowsBelow}

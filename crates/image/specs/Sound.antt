@@ -1,11 +1,6 @@
 -- Document 01, "Sound means": the rules, one definition each, and `sound`, which asks them all of the bytes of an image.
 -- Layout, kinds, levels and the reading of entries are asked by `treeOf` of Image: what breaks them is an unread node.
-use Prim.Native.Nat.{ℕ}
-use mathlib.Core.List.{List, [], _∷_, _++_}
-use mathlib.Core.Bool.{Bool, true, false, _&&_, _||_, not}
-use mathlib.Core.Option.{Option}
-use lib.ListN.{length}
-use lib.Dec.{ltb, leb, eqb}
+use Rattle.image.specs.Prelude.{ℕ, List, [], _∷_, _++_, Bool, true, false, _&&_, _||_, not, Option, length, ltb, leb, eqb}
 use Rattle.image.specs.Bytes.{same, before, shared}
 use Rattle.image.specs.Path.{wellFormed, owns, valueFits}
 use Rattle.image.specs.Entry.{Message, puts, drops, clears}

@@ -1,10 +1,6 @@
 -- Document 01, "The map and the calls" and "The plain path map": a table of paths with their values, each path at most once. The paper
 -- leaves its order free; here the paths rise, so that two tables that hold the same are equal lists.
-use Prim.Native.Nat.{ℕ}
-use mathlib.Core.List.{List, [], _∷_, _++_}
-use mathlib.Core.Bool.{Bool, true, false, _&&_, cond}
-use mathlib.Core.Option.{Option, none, some}
-use lib.ListN.{length, drop}
+use Rattle.image.specs.Prelude.{ℕ, List, [], _∷_, _++_, Bool, true, false, _&&_, cond, Option, none, some, length, drop}
 use Rattle.image.specs.Bytes.{same, before}
 use Rattle.image.specs.Path.{below}
 

@@ -1,10 +1,5 @@
 -- Document 01, "Upkeep": what flush, heal, settle and tidy leave; and the counts that demand 3's bound speaks of.
-use Prim.Native.Nat.{ℕ, zero, suc, _+_, _-_, _/_}
-use mathlib.Core.List.{List, [], _∷_, _++_}
-use mathlib.Core.Bool.{Bool, true, false, _&&_, _||_, not, cond}
-use mathlib.Core.Option.{Option, none, some}
-use lib.ListN.{length, drop}
-use lib.Dec.{leb, eqb}
+use Rattle.image.specs.Prelude.{ℕ, zero, suc, _+_, _-_, _/_, List, [], _∷_, _++_, Bool, true, false, _&&_, _||_, not, cond, Option, none, some, length, drop, leb, eqb}
 use Rattle.image.specs.Bytes.{same, before, shared}
 use Rattle.image.specs.Entry.{Message, puts, drops, clears, pivotLimit}
 use Rattle.image.specs.Table.{Row}

@@ -11,6 +11,10 @@ pub const PIVOT_LIMIT: usize = 65;
 
 pub const NODE_SIZE: usize = 1024;
 
+pub const FEWEST_NODES: usize = 32;
+
+pub const MOST_NODES: usize = 1024;
+
 pub const ENTRIES_LIMIT: usize = 1016;
 
 pub const WORK_PER_NODE: usize = 128;

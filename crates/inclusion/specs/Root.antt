@@ -1,25 +1,21 @@
 -- The walk from the root decides inclusion: it comes to every path that is present, and asks nothing of those that are not.
 -- Relies on: Held, that every present path stands in an entry (Reading/Seek), and that lookup is the table (successor/specs/Present).
-use Prim.Native.Nat.{ℕ}
-use mathlib.Core.Path.{_≡_, refl, sym, ap, _∙_}
-use mathlib.Core.List.{List, [], _∷_}
-use mathlib.Core.Bool.{Bool, true, false, _||_, not}
-use mathlib.Core.Option.{Option, none, some}
+use Rattle.image.specs.Prelude.{ℕ, _≡_, refl, sym, ap, _∙_, List, [], _∷_, Bool, true, false, _||_, not, Option, none, some}
 use Rattle.image.specs.Bytes.{shared, u16}
 use Rattle.image.specs.Table.{Row, find, isSome, everyKey}
 use Rattle.image.specs.Image.{treeAt, treeOf}
 use Rattle.image.specs.Sound.{sound, tableOf, lowest, highest}
-use Rattle.octets.specs.Order.{not-so}
+use Rattle.octets.specs.Order.{not-so, upheld}
 use Rattle.laws.specs.Rising.{both, both-ways}
 use Rattle.laws.specs.Tables.{find-fails}
 use Rattle.laws.specs.RowsRising.{every-key}
 use Rattle.laws.specs.Frame.{or-left, or-right}
 use Rattle.laws.specs.Reading.Relative.{lifts}
-use Rattle.laws.specs.Reading.Seek.{every, isKey, present, not-present, keys, stands}
+use Rattle.laws.specs.Reading.Seek.{every, isKey, present, not-present, keys, stands, key-passes}
 use Rattle.laws.specs.Reading.SeekHere.{under, keysHere, keys-here}
 use Rattle.lookup.specs.Root.{root-is}
 use Rattle.successor.specs.Walk.{isPresent}
-use Rattle.successor.specs.Present.{key-passes, present-is}
+use Rattle.successor.specs.Present.{present-is}
 use Rattle.inclusion.specs.Held.{isHeld, allHeld, included}
 
 -- 1. Every key of a table passes a test exactly if each path that is present does.
@@ -34,11 +30,7 @@ each-key test t f = every-key test t (λ k e. go k e (find k t) refl)
     go k e (some v) z = not-so (f k (there k v z)) e
 
 pub key-tested : (test : List ℕ → Bool) (t : List Row) (k : List ℕ) → everyKey test t ≡ true → present k t ≡ true → test k ≡ true
-key-tested test t k e h = go (test k) refl
-  where
-    go : (x : Bool) → test k ≡ x → test k ≡ true
-    go true f = f
-    go false f = not-so h (not-present k t (find-fails test k t e f))
+key-tested test t k e h = upheld (λ f. not-so h (not-present k t (find-fails test k t e f)))
 
 every-so : (test : List ℕ → Bool) → ((k : List ℕ) → test k ≡ true) → (ks : List (List ℕ)) → every test ks ≡ true
 unfolding every

@@ -1,10 +1,6 @@
 -- The steps of the walk: one path, the paths of an entry, and a list of paths in two parts, of which the first may decide.
 -- Relies on: Held, and successor's laws on what is present and on the paths of entries.
-use Prim.Native.Nat.{ℕ, _-_, _<_, _≤_}
-use mathlib.Core.Path.{_≡_, refl, sym, ap, _∙_}
-use mathlib.Core.List.{List, [], _∷_, _++_}
-use mathlib.Core.Bool.{Bool, true, false, _&&_, not}
-use lib.ListN.{take, drop}
+use Rattle.image.specs.Prelude.{ℕ, _-_, _<_, _≤_, _≡_, refl, sym, ap, _∙_, List, [], _∷_, _++_, Bool, true, false, _&&_, not, and-true, take, drop}
 use Rattle.image.specs.Entry as defined
 use Rattle.image.specs.Image.{Branch}
 use Rattle.image.specs.Sound.{sound, valueIn}
@@ -64,10 +60,6 @@ module _ (s t prefix : List ℕ) where
   held-one : (k : List ℕ) → isHeld s t (prefix ++ k) ≡ allHeld s t (under prefix (k ∷ []))
   unfolding allHeld every under
   held-one k = sym (and-true (isHeld s t (prefix ++ k)))
-    where
-      and-true : (x : Bool) → x && true ≡ x
-      and-true true = refl
-      and-true false = refl
 
   module _ (l a b : List (List ℕ)) (q : l ≡ a ++ b) (r : Bool) (e : r ≡ allHeld s t (under prefix a)) where
     both-held : allHeld s t (under prefix l) ≡ r && allHeld s t (under prefix b)

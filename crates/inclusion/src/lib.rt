@@ -8,11 +8,7 @@ use node::search::Found;
 use node::search::Pending;
 use node::search::Run;
 use successor::Suffix;
-ghost use mathlib.Core.Path.{_≡_};
-ghost use mathlib.Core.Bool.{true};
-ghost use mathlib.Core.List.{[], _∷_, _++_};
-ghost use Prim.Native.Nat.{_≤_};
-ghost use lib.ListN.{length};
+ghost use Rattle.image.specs.Prelude.{_≡_, true, [], _∷_, _++_, _≤_, length};
 ghost use Rattle.image.specs.Image.{treeAt};
 ghost use Rattle.image.specs.Sound.{sound, tableOf};
 ghost use Rattle.laws.specs.Reading.SeekHere.{under, keysHere};
@@ -181,11 +177,7 @@ fn holds_node(store: &[u8], other: &[u8], num: usize, level: usize, pre: &[u8], 
         ≡ allHeld (now (store .entry)) (now (other .entry))
         (under (now (pre .entry)) (keysHere (treeAt level (now (store .entry)) num) (now (hi .entry)))) ⌝ }
 {
-    let at = num * image::NODE_SIZE;
-    let len = node::header::read_length(store, at);
-    let from = at + image::ENTRIES_AT;
-    let end = from + len;
-    let c = Cursor { at: from, end };
+    let c = node::entries_of(store, num);
     if level <= 1 {
         return holds_entries(store, other, c, pre);
     }

@@ -1,16 +1,10 @@
 -- All that makes an image sound but its live count: what holds between the write of a message and the write of the new count.
 -- Relies on image's `sound`.
-use Prim.Native.Nat.{ℕ, _≤_, _<_}
-use mathlib.Core.Path.{_≡_, refl, sym, _∙_}
-use mathlib.Core.List.{List}
-use mathlib.Core.Bool.{Bool, true, false, _&&_}
-use lib.ListN.{length}
-use lib.Dec.{ltb, leb, eqb}
-use borrow.Author.Tests.{ltb-true, leb-true, eqb-true, lt-ltb, le-leb, eq-eqb}
+use Rattle.image.specs.Prelude.{ℕ, _≤_, _<_, _≡_, sym, _∙_, List, Bool, true, _&&_, length, ltb, leb, eqb, ltb-true, leb-true, eqb-true, lt-ltb, le-leb, eq-eqb}
 use Rattle.image.specs.Image.{Header, nodeBytes, nodesOf, headerOf, headerLaidOut, treeOf}
 use Rattle.image.specs.Meaning.{rows}
 use Rattle.image.specs.Sound.{sound, soundTree, soundRoot, soundHeader, once, inRange, numbers, lowest, highest, tableOf}
-use Rattle.octets.specs.Order.{and-left, and-right}
+use Rattle.octets.specs.Order.{and-left, and-right, and-assoc}
 use Rattle.laws.specs.Rising.{both}
 
 unfoldable pub soundHead : List ℕ → Bool
@@ -26,13 +20,9 @@ soundButLive image = soundHead image && soundNodes image
 pub sound-live : (image : List ℕ) → sound image ≡ soundButLive image && eqb (headerOf image .live) (length (tableOf image))
 unfolding sound soundRoot soundButLive soundHead soundNodes tableOf
 sound-live image =
-    group (headerLaidOut (nodeBytes image 0) && soundHeader (nodesOf (length image)) (headerOf image))
+    sym (and-assoc (headerLaidOut (nodeBytes image 0) && soundHeader (nodesOf (length image)) (headerOf image))
     (soundTree (treeOf image) lowest highest && once (numbers (treeOf image)) && inRange (nodesOf (length image)) (numbers (treeOf image)))
-    (eqb (headerOf image .live) (length (rows (treeOf image) lowest highest)))
-  where
-    group : (a b c : Bool) → a && (b && c) ≡ a && b && c
-    group true b c = refl
-    group false b c = refl
+    (eqb (headerOf image .live) (length (rows (treeOf image) lowest highest))))
 
 pub sound-but-live : (image : List ℕ) → sound image ≡ true → soundButLive image ≡ true
 sound-but-live image e = and-left (soundButLive image) (eqb (headerOf image .live) (length (tableOf image))) (sym (sound-live image) ∙ e)

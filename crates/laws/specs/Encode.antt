@@ -1,14 +1,5 @@
 -- Writing entries, and reading them back.
-use Prim.Native.Nat.{ℕ, zero, suc, _+_, _-_, _/_, _%_, _≤_, _*_, _<_}
-use mathlib.Core.Path.{_≡_, refl, ap, _∙_, ap₂}
-use mathlib.Core.List.{List, [], _∷_, _++_}
-use mathlib.Core.Bool.{Bool, true, _&&_, cond, false}
-use mathlib.Core.Option.{none, some, Option, Option·none-ne-some, Option·some-injective}
-use native.Mathlib.Omega.{arith}
-use lib.ListN.{length, take, drop, length-append, length-drop, List·getD-append}
-use lib.Seq.{take-append-seam, drop-append-seam, drop-append-le, take-append-le}
-use lib.Dec.{leb}
-use borrow.Author.Tests.{le-leb, leb-true}
+use Rattle.image.specs.Prelude.{ℕ, zero, suc, _+_, _-_, _/_, _%_, _≤_, _*_, _<_, _≡_, refl, ap, _∙_, ap₂, List, [], _∷_, _++_, Bool, true, _&&_, cond, false, none, some, Option, Option·none-ne-some, Option·some-injective, arith, length, take, drop, length-append, length-drop, List·getD-append, take-append-seam, drop-append-seam, drop-append-le, take-append-le, leb, le-leb, leb-true}
 use Rattle.image.specs.Bytes.{u16, u16Bytes}
 use Rattle.octets.specs.Order.{and-left, and-right}
 use Rattle.image.specs.Entry.{puts, drops, clears, Entry, pair, child, message, keyed, pointer, entryOf, entryThen, readAll, entriesOf}
@@ -121,6 +112,9 @@ entry-back (message (puts s v)) h = keyed-back (λ a b. message (puts a b)) s v
 entry-back (message (drops s)) h = refl
 entry-back (message (clears s)) h = refl
 
+pub shorter : (b : ℕ) (s : List ℕ) (m : ℕ) → length (b ∷ s) ≤ suc m → length (drop (u16 (b ∷ s) 0) (drop 4 (b ∷ s))) ≤ m
+shorter b s m h = rw (length-drop (u16 (b ∷ s) 0) (drop 4 (b ∷ s)), length-drop 4 (b ∷ s)) (omega arith)
+
 -- more fuel than bytes changes nothing
 pub fuel : (k j : ℕ) (s : List ℕ) → length s ≤ k → length s ≤ j → readAll k s ≡ readAll j s
 unfolding readAll
@@ -133,10 +127,7 @@ fuel (suc k) (suc j) [] h g = refl
 fuel (suc k) (suc j) (b ∷ s) h g =
     ap (λ r. cond (leb 4 (length (b ∷ s)) && leb (u16 (b ∷ s) 0) (length (b ∷ s) - 4))
     (entryThen (entryOf (u16 (b ∷ s) 2) (take (u16 (b ∷ s) 0) (drop 4 (b ∷ s)))) r) none)
-    (fuel k j (drop (u16 (b ∷ s) 0) (drop 4 (b ∷ s))) (shorter k h) (shorter j g))
-  where
-    shorter : (m : ℕ) → length (b ∷ s) ≤ suc m → length (drop (u16 (b ∷ s) 0) (drop 4 (b ∷ s))) ≤ m
-    shorter m l = rw (length-drop (u16 (b ∷ s) 0) (drop 4 (b ∷ s)), length-drop 4 (b ∷ s)) (omega arith)
+    (fuel k j (drop (u16 (b ∷ s) 0) (drop 4 (b ∷ s))) (shorter b s k h) (shorter b s j g))
 
 -- one entry in front of others
 step-back : (e : Entry) (r : List ℕ) → allowed e ≡ true → entriesOf (bytesOf e ++ r) ≡ entryThen (some e) (entriesOf r)

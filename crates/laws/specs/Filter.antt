@@ -1,16 +1,12 @@
 -- The rows of a table that pass a test; and rows without, and with, a common beginning of their keys.
-use Prim.Native.Nat.{ℕ}
-use mathlib.Core.Path.{_≡_, refl, sym, ap, ap₂, _∙_}
-use mathlib.Core.List.{List, [], _∷_, _++_}
-use mathlib.Core.Bool.{Bool, true, false, _&&_, not, cond}
-use lib.ListN.{length, drop}
+use Rattle.image.specs.Prelude.{ℕ, _≡_, refl, sym, ap, ap₂, _∙_, List, [], _∷_, _++_, Bool, true, false, _&&_, not, cond, length, drop, cases}
 use Rattle.image.specs.Bytes.{same, before, begins, shared}
 use Rattle.image.specs.Path.{wellFormed, owns, valueFits, below}
 use Rattle.image.specs.Table.{Row, everyKey, underPrefix, leads, rising, withRow, rowsBelow}
 use Rattle.image.specs.Image.{leaf}
 use Rattle.image.specs.Meaning.{rows}
 use Rattle.image.specs.Sound.{soundTree, valuesFit}
-use Rattle.octets.specs.Order.{and-left, and-right, not-so, not-true, not-false, before-append, before-trans, begins-split, between-begins}
+use Rattle.octets.specs.Order.{and-left, and-right, not-so, not-true, not-false, before-append, before-trans, begins-split, between-begins, refuted}
 use Rattle.laws.specs.Rising.{both, leads-trans, row-path}
 use Rattle.laws.specs.LookupTable.{not-low, under-high, does-own}
 
@@ -28,11 +24,7 @@ since k q = not (before q k)
 pub keep-append : (test : List ℕ → Bool) (t u : List Row) → keep test (t ++ u) ≡ keep test t ++ keep test u
 unfolding keep
 keep-append test [] u = refl
-keep-append test (r ∷ t) u = go (test (r .key)) refl (keep-append test t u)
-  where
-    go : (x : Bool) → test (r .key) ≡ x → keep test (t ++ u) ≡ keep test t ++ keep test u → keep test (r ∷ (t ++ u)) ≡ keep test (r ∷ t) ++ keep test u
-    go true e ih = rw e (ap (λ l. r ∷ l) ih)
-    go false e ih = rw e ih
+keep-append test (r ∷ t) u = cases (test (r .key)) (λ e. rw e (ap (λ l. r ∷ l) (keep-append test t u))) (λ e. rw e (keep-append test t u))
 
 pub keep-all : (test : List ℕ → Bool) (t : List Row) → everyKey test t ≡ true → keep test t ≡ t
 unfolding keep everyKey
@@ -67,39 +59,31 @@ pub keep-passes : (a test b : List ℕ → Bool) (t : List Row) → ((q : List �
     → everyKey b (keep test t) ≡ true
 unfolding keep everyKey
 keep-passes a test b [] h e = refl
-keep-passes a test b (r ∷ t) h e = go (test (r .key)) refl (keep-passes a test b t h (and-right (a (r .key)) _ e))
-  where
-    go : (x : Bool) → test (r .key) ≡ x → everyKey b (keep test t) ≡ true → everyKey b (keep test (r ∷ t)) ≡ true
-    go true f ih = rw f (both (h (r .key) (and-left _ _ e) f) ih)
-    go false f ih = rw f ih
+keep-passes a test b (r ∷ t) h e =
+    cases (test (r .key)) (λ f. rw f (both (h (r .key) (and-left _ _ e) f) (keep-passes a test b t h (and-right (a (r .key)) _ e))))
+    (λ f. rw f (keep-passes a test b t h (and-right (a (r .key)) _ e)))
 
 pub keep-fit : (test : List ℕ → Bool) (t : List Row) → valuesFit t ≡ true → valuesFit (keep test t) ≡ true
 unfolding keep valuesFit
 keep-fit test [] e = refl
-keep-fit test (r ∷ t) e = go (test (r .key)) refl (keep-fit test t (and-right (valueFits (r .value)) _ e))
-  where
-    go : (x : Bool) → test (r .key) ≡ x → valuesFit (keep test t) ≡ true → valuesFit (keep test (r ∷ t)) ≡ true
-    go true f ih = rw f (both (and-left (valueFits (r .value)) _ e) ih)
-    go false f ih = rw f ih
+keep-fit test (r ∷ t) e =
+    cases (test (r .key)) (λ f. rw f (both (and-left (valueFits (r .value)) _ e) (keep-fit test t (and-right (valueFits (r .value)) _ e))))
+    (λ f. rw f (keep-fit test t (and-right (valueFits (r .value)) _ e)))
 
 leads-keep : (k : List ℕ) (test : List ℕ → Bool) (t : List Row) → rising t ≡ true → leads k t ≡ true → leads k (keep test t) ≡ true
 unfolding leads keep rising
 leads-keep k test [] e f = refl
 leads-keep k test (r ∷ t) e f =
-    go (test (r .key)) refl (leads-keep k test t (and-right (leads (r .key) t) _ e) (leads-trans k (r .key) t f (and-left _ _ e)))
-  where
-    go : (x : Bool) → test (r .key) ≡ x → leads k (keep test t) ≡ true → leads k (keep test (r ∷ t)) ≡ true
-    go true a ih = rw a f
-    go false a ih = rw a ih
+    cases (test (r .key)) (λ a. rw a f)
+    (λ a. rw a (leads-keep k test t (and-right (leads (r .key) t) _ e) (leads-trans k (r .key) t f (and-left _ _ e))))
 
 pub keep-rises : (test : List ℕ → Bool) (t : List Row) → rising t ≡ true → rising (keep test t) ≡ true
 unfolding rising keep
 keep-rises test [] e = refl
-keep-rises test (r ∷ t) e = go (test (r .key)) refl (keep-rises test t (and-right (leads (r .key) t) _ e))
-  where
-    go : (x : Bool) → test (r .key) ≡ x → rising (keep test t) ≡ true → rising (keep test (r ∷ t)) ≡ true
-    go true a ih = rw a (both (leads-keep (r .key) test t (and-right (leads (r .key) t) _ e) (and-left _ _ e)) ih)
-    go false a ih = rw a ih
+keep-rises test (r ∷ t) e =
+    cases (test (r .key))
+    (λ a. rw a (both (leads-keep (r .key) test t (and-right (leads (r .key) t) _ e) (and-left _ _ e)) (keep-rises test t (and-right (leads (r .key) t) _ e))))
+    (λ a. rw a (keep-rises test t (and-right (leads (r .key) t) _ e)))
 
 -- the rows below a path, as a filter
 pub keep-below : (p : List ℕ) (t : List Row) → rowsBelow p t ≡ keep (begins p) t
@@ -115,12 +99,8 @@ leads-since : (k : List ℕ) (r : Row) (t : List Row) → before (r .key) k ≡ 
 unfolding rising leads everyKey
 leads-since k r [] b e = refl
 leads-since k r (q ∷ t) b e =
-    let f : before (q .key) k ≡ false = later (before (q .key) k) refl in
+    let f : before (q .key) k ≡ false = refuted (λ c. not-so (before-trans (r .key) (q .key) k (and-left _ _ e) c) b) in
     both (not-false (before (q .key) k) f) (leads-since k q t f (and-right (before (r .key) (q .key)) _ e))
-  where
-    later : (x : Bool) → before (q .key) k ≡ x → before (q .key) k ≡ false
-    later true c = not-so (before-trans (r .key) (q .key) k (and-left _ _ e) c) b
-    later false c = c
 
 pub not-not : (b : Bool) → b ≡ true → not (not b) ≡ true
 not-not true e = refl
@@ -129,12 +109,9 @@ not-not false e = e
 pub cut-whole : (k : List ℕ) (t : List Row) → rising t ≡ true → keep (upTo k) t ++ keep (since k) t ≡ t
 unfolding keep rising everyKey
 cut-whole k [] e = refl
-cut-whole k (r ∷ t) e = go (before (r .key) k) refl (cut-whole k t (and-right (leads (r .key) t) _ e))
-  where
-    go : (x : Bool) → before (r .key) k ≡ x → keep (upTo k) t ++ keep (since k) t ≡ t → keep (upTo k) (r ∷ t) ++ keep (since k) (r ∷ t) ≡ r ∷ t
-    go true b ih = rw b (ap (λ l. r ∷ l) ih)
-    go false b ih =
-        rw b (ap₂ (λ u v. u ++ (r ∷ v)) (keep-none (upTo k) t (leads-since k r t b e)) (keep-all (since k) t (leads-since k r t b e)))
+cut-whole k (r ∷ t) e =
+    cases (before (r .key) k) (λ b. rw b (ap (λ l. r ∷ l) (cut-whole k t (and-right (leads (r .key) t) _ e))))
+    (λ b. rw b (ap₂ (λ u v. u ++ (r ∷ v)) (keep-none (upTo k) t (leads-since k r t b e)) (keep-all (since k) t (leads-since k r t b e))))
 
 -- rows without what all their keys begin with
 unfoldable pub lowerRows : List ℕ → List Row → List Row

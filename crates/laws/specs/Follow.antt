@@ -1,14 +1,8 @@
 -- What follows a path in a rising table: once the first of the rows greater than a path is passed, the rows greater than it are the later
 -- ones. For the calls that walk a whole store by next.
-use borrow.Author.Tests.{leb-true}
-use Prim.Native.Nat.{ℕ, _≤_}
-use mathlib.Core.Path.{_≡_, refl, sym, ap, _∙_}
-use mathlib.Core.List.{List, [], _∷_}
-use mathlib.Core.Bool.{Bool, true, false, false≢true}
-use native.Mathlib.Omega.{arith}
-use lib.ListN.{length}
+use Rattle.image.specs.Prelude.{leb-true, ℕ, _≤_, _≡_, refl, sym, ap, _∙_, List, [], _∷_, Bool, true, false, false≢true, arith, length}
 use Rattle.image.specs.Bytes.{before}
-use Rattle.image.specs.Path.{wellFormed, readsOn, pathLimit}
+use Rattle.image.specs.Path.{wellFormed, readsOn}
 use Rattle.image.specs.Table.{Row, rowsAfter, leads, rising}
 use Rattle.image.specs.Image.{treeOf}
 use Rattle.image.specs.Sound.{sound, tableOf, lowest, highest}
@@ -18,7 +12,7 @@ use Rattle.laws.specs.ButLive.{sound-parts}
 
 -- no path is empty
 pub formed-some : (k : List ℕ) → wellFormed k ≡ true → before [] k ≡ true
-unfolding wellFormed readsOn before pathLimit
+unfolding wellFormed readsOn before
 formed-some [] h = absurd (false≢true h)
 formed-some (b ∷ k) h = refl
 
@@ -93,5 +87,5 @@ unfolding tableOf
 table-rises s e = rows-rise (treeOf s) lowest highest (sound-parts s e .tree)
 
 pub formed-length : (p : List ℕ) → wellFormed p ≡ true → length p ≤ 64
-unfolding wellFormed pathLimit
+unfolding wellFormed
 formed-length p h = leb-true (length p) 64 (and-left _ _ h)

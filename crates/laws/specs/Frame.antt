@@ -1,11 +1,5 @@
 -- A tree depends on the bytes of its own nodes alone: where those stay, it stays.
-use Prim.Native.Nat.{ℕ, zero, suc}
-use mathlib.Core.Path.{_≡_, refl, ap, ap₂, subst}
-use mathlib.Core.List.{List, [], _∷_, _++_}
-use mathlib.Core.Bool.{Bool, true, false, _||_, false≢true}
-use mathlib.Core.Option.{Option, none, some}
-use lib.Dec.{eqb}
-use borrow.Author.Tests.{eq-eqb}
+use Rattle.image.specs.Prelude.{ℕ, zero, suc, _≡_, refl, ap, ap₂, subst, List, [], _∷_, _++_, Bool, true, false, _||_, false≢true, Option, none, some, eqb, eq-eqb, cases}
 use Rattle.image.specs.Table.{Row}
 use Rattle.image.specs.Image.{Tree, interior, tree, Branch, Inside, nodeBytes, nodeEntries, pairsOf, insideOf, forestOf, leafOf, interiorOf, orNone, treeAt}
 use Rattle.image.specs.Sound.{numbers, numbersIn, isIn}
@@ -24,11 +18,7 @@ or-right false b e = e
 pub in-left : (j : ℕ) (is js : List ℕ) → isIn j is ≡ true → isIn j (is ++ js) ≡ true
 unfolding isIn
 in-left j [] js e = absurd (false≢true e)
-in-left j (i ∷ is) js e = go (eqb j i) refl (in-left j is js)
-  where
-    go : (x : Bool) → eqb j i ≡ x → (isIn j is ≡ true → isIn j (is ++ js) ≡ true) → eqb j i || isIn j (is ++ js) ≡ true
-    go true f ih = rw f
-    go false f ih = rw f (ih (subst (λ x. x || isIn j is ≡ true) f e))
+in-left j (i ∷ is) js e = cases (eqb j i) (λ f. rw f) (λ f. rw f (in-left j is js (subst (λ x. x || isIn j is ≡ true) f e)))
 
 pub in-right : (j : ℕ) (is js : List ℕ) → isIn j js ≡ true → isIn j (is ++ js) ≡ true
 unfolding isIn

@@ -16,5 +16,6 @@ pub mod LiveCount
 pub mod ValuesFit
 pub mod ButLive
 pub mod Page
+pub mod Refusals
 pub mod Reading
 pub mod Upkeep

@@ -1,12 +1,5 @@
 -- The pairs of a settled tree are its rows; and a tree with no message is settled.
-use Prim.Native.Nat.{ℕ, suc, _+_, _-_}
-use mathlib.Core.Path.{_≡_, refl, ap, ap₂, _∙_}
-use mathlib.Core.List.{List, [], _∷_, _++_}
-use mathlib.Core.Bool.{Bool, true, false≢true}
-use native.Mathlib.Omega.{arith}
-use lib.Dec.{eqb}
-use borrow.Author.Tests.{eqb-true}
-use lib.ListN.{length, length-append}
+use Rattle.image.specs.Prelude.{ℕ, suc, _+_, _-_, _≡_, refl, ap, ap₂, _∙_, List, [], _∷_, _++_, Bool, true, false≢true, arith, eqb, eqb-true, length, length-append}
 use Rattle.image.specs.Bytes.{shared}
 use Rattle.image.specs.Table.{Row, underPrefix}
 use Rattle.image.specs.Image.{Tree, unread, leaf, interior, Forest, end, tree}

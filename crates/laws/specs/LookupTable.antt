@@ -1,39 +1,28 @@
 -- The table of a sound tree holds just what lookup finds.
-use Prim.Native.Nat.{ℕ}
-use mathlib.Core.Path.{_≡_, refl, sym, ap, _∙_}
-use mathlib.Core.List.{List, [], _∷_, _++_}
-use mathlib.Core.Bool.{Bool, true, false, _&&_, not, false≢true}
-use mathlib.Core.Option.{Option, none}
-use lib.ListN.{length, drop}
+use Rattle.image.specs.Prelude.{ℕ, _≡_, refl, sym, ap, _∙_, List, [], _∷_, _++_, Bool, true, false, _&&_, not, false≢true, Option, none, length, drop, cases}
 use Rattle.image.specs.Bytes.{same, before, begins, shared}
 use Rattle.image.specs.Path.{wellFormed, owns}
 use Rattle.image.specs.Entry.{Message, puts, drops, clears}
-use Rattle.image.specs.Table.{Row, find, withRow, without, withoutBelow, underPrefix, everyKey}
+use Rattle.image.specs.Table.{Row, find, underPrefix, everyKey}
 use Rattle.image.specs.Image.{Tree, unread, leaf, interior, Forest, end, tree, treeOf}
 use Rattle.image.specs.Meaning.{Said, nothing, says, saysOf, newer, newest, decide, highOf, lookup, lookupIn, apply, applyAll, rows, rowsIn}
 use Rattle.image.specs.Sound.{soundMessage, soundMessages, soundTree, soundForest, firstPivot, highest, sound, valueIn, tableOf}
-use Rattle.octets.specs.Order.{and-left, and-right, not-so, not-true, same-eq, same-false, same-turn, before-le, before-trans, between-begins, begins-split, same-append, begins-append}
+use Rattle.octets.specs.Order.{and-left, and-right, not-so, not-true, same-eq, same-false, same-turn, before-le, before-trans, between-begins, begins-split, same-append, begins-append, refuted}
 use Rattle.laws.specs.Tables.{find-nil, find-with, find-with-other, find-without, find-without-other, find-cleared, find-spared, find-append-none, find-append-some, find-under, find-fails}
 use Rattle.laws.specs.ButLive.{sound-parts}
 
 -- one message: what is found in the table after it
 apply-find : (l q : List ℕ) (m : Message) (t : List Row) → find (l ++ q) (apply l m t) ≡ decide (saysOf m q) (find (l ++ q) t)
 unfolding apply decide saysOf
-apply-find l q (puts s v) t = go (same s q) refl
-  where
-    go : (x : Bool) → same s q ≡ x → find (l ++ q) (withRow (l ++ s) v t) ≡ decide (saysOf (puts s v) q) (find (l ++ q) t)
-    go true e = rw e (rw (same-eq s q e) (find-with (l ++ q) v t))
-    go false e = rw e (find-with-other (l ++ q) (l ++ s) v t (same-append l q s ∙ same-turn s q e))
-apply-find l q (drops s) t = go (same s q) refl
-  where
-    go : (x : Bool) → same s q ≡ x → find (l ++ q) (without (l ++ s) t) ≡ decide (saysOf (drops s) q) (find (l ++ q) t)
-    go true e = rw e (rw (same-eq s q e) (find-without (l ++ q) t))
-    go false e = rw e (find-without-other (l ++ q) (l ++ s) t (same-append l q s ∙ same-turn s q e))
-apply-find l q (clears s) t = go (begins s q) refl
-  where
-    go : (x : Bool) → begins s q ≡ x → find (l ++ q) (withoutBelow (l ++ s) t) ≡ decide (saysOf (clears s) q) (find (l ++ q) t)
-    go true e = rw e (find-cleared (l ++ q) (l ++ s) t (begins-append l s q ∙ e))
-    go false e = rw e (find-spared (l ++ q) (l ++ s) t (begins-append l s q ∙ e))
+apply-find l q (puts s v) t =
+    cases (same s q) (λ e. rw e (rw (same-eq s q e) (find-with (l ++ q) v t)))
+    (λ e. rw e (find-with-other (l ++ q) (l ++ s) v t (same-append l q s ∙ same-turn s q e)))
+apply-find l q (drops s) t =
+    cases (same s q) (λ e. rw e (rw (same-eq s q e) (find-without (l ++ q) t)))
+    (λ e. rw e (find-without-other (l ++ q) (l ++ s) t (same-append l q s ∙ same-turn s q e)))
+apply-find l q (clears s) t =
+    cases (begins s q) (λ e. rw e (find-cleared (l ++ q) (l ++ s) t (begins-append l s q ∙ e)))
+    (λ e. rw e (find-spared (l ++ q) (l ++ s) t (begins-append l s q ∙ e)))
 
 decide-newer : (old new : Said) (d : Option (List ℕ)) → decide new (decide old d) ≡ decide (newer old new) d
 unfolding decide newer
@@ -64,15 +53,7 @@ does-own lo hi q e f = rw (e, f)
 
 -- a path that the larger range does not own is not owned by a range inside it
 pub inside-not : (lo hi c e q : List ℕ) → before c lo ≡ false → (before q e ≡ true → before q hi ≡ true) → owns lo hi q ≡ false → owns c e q ≡ false
-inside-not lo hi c e q a b n = go (owns c e q) refl
-  where
-    go : (x : Bool) → owns c e q ≡ x → owns c e q ≡ false
-    go false f = f
-    go true f = not-so (does-own lo hi q (low (before q lo) refl) (b (under-high c e q f))) n
-      where
-        low : (y : Bool) → before q lo ≡ y → before q lo ≡ false
-        low false g = g
-        low true g = not-so (before-le q lo c g a) (not-low c e q f)
+inside-not lo hi c e q a b n = refuted (λ f. not-so (does-own lo hi q (refuted (λ g. not-so (before-le q lo c g a) (not-low c e q f))) (b (under-high c e q f))) n)
 
 -- a message of a sound node finds nothing new outside
 pub apply-none : (lo hi q : List ℕ) (m : Message) (t : List Row) → soundMessage lo hi m ≡ true → owns lo hi q ≡ false
@@ -86,11 +67,9 @@ apply-none lo hi q (drops s) t h n e =
     find-without-other q (shared lo hi ++ s) t
     (same-false q (shared lo hi ++ s) (λ z. not-so (rw z (and-right (wellFormed (shared lo hi ++ s)) _ h)) n))
     ∙ e
-apply-none lo hi q (clears s) t h n e = go (begins (shared lo hi ++ s) q) refl
-  where
-    go : (x : Bool) → begins (shared lo hi ++ s) q ≡ x → find q (withoutBelow (shared lo hi ++ s) t) ≡ none
-    go true f = find-cleared q (shared lo hi ++ s) t f
-    go false f = find-spared q (shared lo hi ++ s) t f ∙ e
+apply-none lo hi q (clears s) t h n e =
+    cases (begins (shared lo hi ++ s) q) (λ f. find-cleared q (shared lo hi ++ s) t f)
+    (λ f. find-spared q (shared lo hi ++ s) t f ∙ e)
 
 pub all-none : (lo hi q : List ℕ) (ms : List Message) (t : List Row) → soundMessages lo hi ms ≡ true → owns lo hi q ≡ false
     → find q t ≡ none → find q (applyAll (shared lo hi) ms t) ≡ none

@@ -1,12 +1,6 @@
 -- A store just made: one image of it, for every n that make takes, is sound and means the empty map.
 -- Relies on Page: node 0 and an empty leaf, and that they read back.
-use Prim.Native.Nat.{ℕ, _+_, _*_, _-_, _≤_}
-use mathlib.Core.Path.{_≡_, refl, ap, _∙_}
-use mathlib.Core.List.{List, [], _++_}
-use mathlib.Core.Bool.{true}
-use native.Mathlib.Omega.{arith}
-use lib.ListN.{length, replicate, length-append, length-replicate}
-use borrow.Author.Tests.{lt-ltb, le-leb, eq-eqb}
+use Rattle.image.specs.Prelude.{ℕ, _+_, _*_, _-_, _≤_, _≡_, refl, ap, _∙_, List, [], _++_, true, arith, length, replicate, length-append, length-replicate, lt-ltb, le-leb, eq-eqb}
 use Rattle.image.specs.Bytes.{shared}
 use Rattle.image.specs.Entry.{readAll, entriesOf}
 use Rattle.image.specs.Table.{everyKey, underPrefix, rising}

@@ -1,9 +1,5 @@
 -- Next, told by what is present: the least path below p and greater than q.
-use Prim.Native.Nat.{ℕ}
-use mathlib.Core.Path.{_≡_, refl, sym, ap, _∙_}
-use mathlib.Core.List.{List, [], _∷_}
-use mathlib.Core.Bool.{Bool, true, false, false≢true}
-use mathlib.Core.Option.{none, some}
+use Rattle.image.specs.Prelude.{ℕ, _≡_, refl, sym, ap, _∙_, List, [], _∷_, Bool, true, false, false≢true, none, some, cases}
 use Rattle.image.specs.Bytes.{same, before, begins}
 use Rattle.image.specs.Path.{below}
 use Rattle.image.specs.Table.{Row, find, isSome, rowsBelow, rowsAfter, firstKey, leastAfter, leads, rising}
@@ -27,11 +23,7 @@ least-far p q r t a = rw a
 
 pub least-early : (p q : List ℕ) (r : Row) (t : List Row) → before q (r .key) ≡ false → leastAfter p q (r ∷ t) ≡ leastAfter p q t
 unfolding leastAfter rowsBelow rowsAfter firstKey below
-least-early p q r t b = go (begins p (r .key)) refl
-  where
-    go : (x : Bool) → begins p (r .key) ≡ x → leastAfter p q (r ∷ t) ≡ leastAfter p q t
-    go true a = rw (a, b)
-    go false a = rw a
+least-early p q r t b = cases (begins p (r .key)) (λ a. rw (a, b)) (λ a. rw a)
 
 -- a later row's path, seen from the whole table
 pub later-fits : (p q : List ℕ) (r : Row) (t : List Row) (k : List ℕ) → rising (r ∷ t) ≡ true → Fits p q t k → Fits p q (r ∷ t) k
@@ -79,12 +71,10 @@ pub least-none : (p q : List ℕ) (t : List Row) → rising t ≡ true → ((k :
 unfolding rising
 least-none p q [] e h = nil-none p q
 least-none p q (r ∷ t) e h =
-    go (begins p (r .key)) refl (before q (r .key)) refl (least-none p q t (and-right (leads (r .key) t) _ e) (λ k f. h k (later-fits p q r t k e f)))
-  where
-    go : (x : Bool) → begins p (r .key) ≡ x → (y : Bool) → before q (r .key) ≡ y → leastAfter p q t ≡ none → leastAfter p q (r ∷ t) ≡ none
-    go true a true b ih = absurd (h (r .key) (record { present = first-present r t; under = a; after = b }))
-    go true a false b ih = least-early p q r t b ∙ ih
-    go false a y b ih = least-far p q r t a ∙ ih
+    cases (begins p (r .key))
+    (λ a. cases (before q (r .key)) (λ b. absurd (h (r .key) (record { present = first-present r t; under = a; after = b })))
+    (λ b. least-early p q r t b ∙ (least-none p q t (and-right (leads (r .key) t) _ e) (λ k f. h k (later-fits p q r t k e f)))))
+    (λ a. least-far p q r t a ∙ (least-none p q t (and-right (leads (r .key) t) _ e) (λ k f. h k (later-fits p q r t k e f))))
 
 pub least-is : (p q : List ℕ) (t : List Row) (k : List ℕ) → rising t ≡ true → Fits p q t k
     → ((m : List ℕ) → Fits p q t m → before m k ≡ false) → leastAfter p q t ≡ some k

@@ -1,14 +1,6 @@
 -- The 1,024 bytes of a node with given entries, and that they read back: what joins a written image to its tree, for the packed form, the
 -- slices and the upkeep alike. Relies on Encode (entries as bytes).
-use Prim.Native.Nat.{ℕ, zero, suc, _+_, _-_, _/_, _%_, _≤_, _*_}
-use mathlib.Core.Path.{_≡_, refl, ap, _∙_}
-use mathlib.Core.List.{List, [], _∷_, _++_}
-use mathlib.Core.Bool.{true}
-use mathlib.Core.Option.{some, Option, none}
-use native.Mathlib.Omega.{arith}
-use lib.ListN.{length, take, drop, replicate, length-append, length-replicate}
-use lib.Seq.{drop-append-add, take-append-seam, drop-append-seam}
-use borrow.Author.Tests.{le-leb, eq-eqb}
+use Rattle.image.specs.Prelude.{ℕ, zero, suc, _+_, _-_, _/_, _%_, _≤_, _*_, _≡_, refl, ap, _∙_, List, [], _∷_, _++_, true, some, Option, none, arith, length, take, drop, replicate, length-append, length-replicate, drop-append-add, take-append-seam, drop-append-seam, le-leb, eq-eqb}
 use Rattle.image.specs.Bytes.{u16, zeros, u16Bytes}
 use Rattle.image.specs.Entry.{Entry, pair, child, entriesOf}
 use Rattle.image.specs.Table.{Row}

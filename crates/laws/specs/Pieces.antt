@@ -1,15 +1,10 @@
 -- Trees side by side, with full pivots: the pieces of which a node is made, and that a cut leaves.
-use Prim.Native.Nat.{ℕ, zero, suc}
-use mathlib.Core.Path.{_≡_, refl, sym, ap, ap₂, _∙_}
-use mathlib.Core.List.{List, [], _∷_, _++_, append-nil, append-assoc}
-use mathlib.Core.Bool.{Bool, true, false, _&&_, false≢true}
-use lib.ListN.{length, drop}
-use lib.Dec.{eqb}
+use Rattle.image.specs.Prelude.{ℕ, zero, suc, _≡_, refl, sym, ap, ap₂, _∙_, List, [], _∷_, _++_, append-nil, append-assoc, Bool, true, false, _&&_, false≢true, length, drop, eqb}
 use Rattle.image.specs.Bytes.{before, shared}
 use Rattle.image.specs.Image.{Tree, unread, leaf, interior, Forest, end, tree}
 use Rattle.image.specs.Meaning.{highOf, applyAll, rows, rowsIn}
 use Rattle.image.specs.Sound.{soundTree, soundForest, soundMessages, firstPivot}
-use Rattle.octets.specs.Order.{and-left, and-right, not-so, before-irrefl, before-le, before-trans, before-asym, begins-split, same-eq, same-refl}
+use Rattle.octets.specs.Order.{and-left, and-right, not-so, before-irrefl, before-le, before-trans, before-asym, begins-split, same-eq, same-refl, refuted}
 use Rattle.laws.specs.Rising.{both}
 use Rattle.laws.specs.LookupTable.{parts, inner, does-own}
 use Rattle.laws.specs.Filter.{owned-begins}
@@ -146,11 +141,7 @@ branches-run (tree s t f) lifted lo hi k =
 
 -- pieces, as the children of a node over [a, b) or more
 later-low : (a m n : List ℕ) → before m a ≡ false → before m n ≡ true → before n a ≡ false
-later-low a m n e f = go (before n a) refl
-  where
-    go : (x : Bool) → before n a ≡ x → before n a ≡ false
-    go true g = not-so (before-trans m n a f g) e
-    go false g = g
+later-low a m n e f = refuted (λ g. not-so (before-trans m n a f g) e)
 
 pub run-branches : {h : ℕ} {f : Forest} {m b : List ℕ} (a : List ℕ) → before m a ≡ false → Run h f m b → Branches h f [] a b
 unfolding soundForest stillIn levelledIn

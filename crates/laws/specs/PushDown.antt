@@ -1,9 +1,5 @@
 -- Pushing a node's oldest message down to its children leaves the table of the node as it was.
-use Prim.Native.Nat.{ℕ}
-use mathlib.Core.Path.{_≡_, refl, sym, ap, ap₂, _∙_}
-use mathlib.Core.List.{List, [], _∷_, _++_, append-nil}
-use mathlib.Core.Bool.{Bool, true, false, _||_, not, cond, false≢true}
-use lib.ListN.{length, drop}
+use Rattle.image.specs.Prelude.{ℕ, _≡_, refl, sym, ap, ap₂, _∙_, List, [], _∷_, _++_, append-nil, Bool, true, false, _||_, not, cond, false≢true, length, drop, cases}
 use Rattle.image.specs.Bytes.{same, before, begins, shared}
 use Rattle.image.specs.Path.{below, owns, wellFormed}
 use Rattle.image.specs.Entry.{Message, puts, drops, clears}
@@ -11,13 +7,12 @@ use Rattle.image.specs.Table.{Row, withRow, without, withoutBelow, everyKey, un
 use Rattle.image.specs.Image.{Tree, unread, leaf, interior, Forest, end, tree}
 use Rattle.image.specs.Meaning.{highOf, apply, applyAll, rows, rowsIn}
 use Rattle.image.specs.Sound.{soundTree, soundForest, soundMessage, firstPivot}
-use Rattle.octets.specs.Order.{and-left, and-right, not-so, not-true, not-false, same-eq, same-false, same-turn, before-le, before-not-same, begins-split, before-asym, before-trans, begins-trans, begins-either, drop-beyond}
+use Rattle.octets.specs.Order.{and-left, and-right, not-so, not-true, not-false, same-eq, same-false, same-turn, before-le, before-not-same, begins-split, before-asym, before-trans, begins-trans, begins-either, drop-beyond, refuted}
 use Rattle.laws.specs.LookupTable.{parts, outside, later-none, not-low, under-high, does-own, too-low}
 use Rattle.laws.specs.RowsRising.{every-key, not-before}
 use Rattle.laws.specs.Rising.{one-key}
 use Rattle.laws.specs.Shift.{under-apply}
-use Rattle.laws.specs.Filter.{every-imp}
-use Rattle.laws.specs.Filter.{owned-begins}
+use Rattle.laws.specs.Filter.{every-imp, owned-begins}
 
 -- a message added as the newest
 pub all-append : (l : List ℕ) (ms : List Message) (m : Message) (t : List Row) → applyAll l (ms ++ m ∷ []) t ≡ apply l m (applyAll l ms t)
@@ -45,21 +40,12 @@ taken-rows m (interior i f ms) lo hi e = all-append (shared lo hi) ms m (rowsIn 
 pub without-append : (p : List ℕ) (t u : List Row) → without p (t ++ u) ≡ without p t ++ without p u
 unfolding without
 without-append p [] u = refl
-without-append p (r ∷ t) u = go (same p (r .key)) refl (without-append p t u)
-  where
-    go : (x : Bool) → same p (r .key) ≡ x → without p (t ++ u) ≡ without p t ++ without p u → without p (r ∷ (t ++ u)) ≡ without p (r ∷ t) ++ without p u
-    go true e ih = rw e ih
-    go false e ih = rw e (ap (λ l. r ∷ l) ih)
+without-append p (r ∷ t) u = cases (same p (r .key)) (λ e. rw e (without-append p t u)) (λ e. rw e (ap (λ l. r ∷ l) (without-append p t u)))
 
 pub cleared-append : (p : List ℕ) (t u : List Row) → withoutBelow p (t ++ u) ≡ withoutBelow p t ++ withoutBelow p u
 unfolding withoutBelow
 cleared-append p [] u = refl
-cleared-append p (r ∷ t) u = go (below (r .key) p) refl (cleared-append p t u)
-  where
-    go : (x : Bool) → below (r .key) p ≡ x → withoutBelow p (t ++ u) ≡ withoutBelow p t ++ withoutBelow p u
-        → withoutBelow p (r ∷ (t ++ u)) ≡ withoutBelow p (r ∷ t) ++ withoutBelow p u
-    go true e ih = rw e ih
-    go false e ih = rw e (ap (λ l. r ∷ l) ih)
+cleared-append p (r ∷ t) u = cases (below (r .key) p) (λ e. rw e (cleared-append p t u)) (λ e. rw e (ap (λ l. r ∷ l) (cleared-append p t u)))
 
 -- a put before all keys of the second table, or after all keys of the first
 pub with-first : (p v : List ℕ) (t u : List Row) → everyKey (λ k. before p k) u ≡ true → withRow p v (t ++ u) ≡ withRow p v t ++ u
@@ -170,11 +156,7 @@ sent-clear p t lo hi e = go (begins p (shared lo hi)) refl (begins (shared lo hi
         (every-imp (λ k. begins (shared lo hi) k) (λ k. not (begins p k)) (rows t lo hi) (λ k h. not-false (begins p k) (apart k h)) keys)))
       where
         apart : (k : List ℕ) → begins (shared lo hi) k ≡ true → begins p k ≡ false
-        apart k h = go2 (begins p k) refl
-          where
-            go2 : (x : Bool) → begins p k ≡ x → begins p k ≡ false
-            go2 true c = not-so (begins-either p (shared lo hi) k c h) (rw (a, b))
-            go2 false c = c
+        apart k h = refuted (λ c. not-so (begins-either p (shared lo hi) k c h) (rw (a, b)))
 
 -- pushing leaves the pivots
 pub high-pushed : (m : Message) (f : Forest) (lifted hi l h : List ℕ) → highOf l h (pushed m f lifted hi) ≡ highOf l h f
@@ -221,11 +203,7 @@ later-keys p f lifted lo hi e b =
   where
     -- not p < q, and p < high: q < high
     lower : (q : List ℕ) → before p q ≡ false → before q (highOf lifted hi f) ≡ true
-    lower q n = go (before q p) refl
-      where
-        go : (x : Bool) → before q p ≡ x → before q (highOf lifted hi f) ≡ true
-        go true c = before-trans q p (highOf lifted hi f) c b
-        go false c = rw (one-key q p c n) b
+    lower q n = cases (before q p) (λ c. before-trans q p (highOf lifted hi f) c b) (λ c. rw (one-key q p c n) b)
 
 -- put: the one child that owns the path takes it
 pushed-put : (p v : List ℕ) (f : Forest) (lifted lo hi : List ℕ) → soundForest f lifted lo hi ≡ true → before p hi ≡ true

@@ -1,9 +1,5 @@
 -- Tables whose keys strictly rise: every change keeps that, and two such tables that hold the same are equal.
-use Prim.Native.Nat.{ℕ}
-use mathlib.Core.Path.{_≡_, refl, sym, ap₂, _∙_}
-use mathlib.Core.List.{List, [], _∷_}
-use mathlib.Core.Bool.{Bool, true, false, _&&_}
-use mathlib.Core.Option.{none, Option·some-injective, Option·none-ne-some}
+use Rattle.image.specs.Prelude.{ℕ, _≡_, refl, sym, ap₂, _∙_, List, [], _∷_, Bool, true, false, _&&_, none, Option·some-injective, Option·none-ne-some, cases}
 use Rattle.image.specs.Bytes.{same, before}
 use Rattle.image.specs.Path.{below}
 use Rattle.image.specs.Table.{Row, find, withRow, without, withoutBelow, leads, rising}
@@ -48,39 +44,29 @@ leads-without : (k p : List ℕ) (t : List Row) → rising t ≡ true → leads 
 unfolding leads without rising
 leads-without k p [] e f = refl
 leads-without k p (r ∷ t) e f =
-    go (same p (r .key)) refl (leads-without k p t (and-right (leads (r .key) t) _ e) (leads-trans k (r .key) t f (and-left _ _ e)))
-  where
-    go : (x : Bool) → same p (r .key) ≡ x → leads k (without p t) ≡ true → leads k (without p (r ∷ t)) ≡ true
-    go true a ih = rw a ih
-    go false a ih = rw a f
+    cases (same p (r .key)) (λ a. rw a (leads-without k p t (and-right (leads (r .key) t) _ e) (leads-trans k (r .key) t f (and-left _ _ e))))
+    (λ a. rw a f)
 
 pub rising-without : (p : List ℕ) (t : List Row) → rising t ≡ true → rising (without p t) ≡ true
 unfolding rising without
 rising-without p [] e = refl
-rising-without p (r ∷ t) e = go (same p (r .key)) refl (rising-without p t (and-right (leads (r .key) t) _ e))
-  where
-    go : (x : Bool) → same p (r .key) ≡ x → rising (without p t) ≡ true → rising (without p (r ∷ t)) ≡ true
-    go true a ih = rw a ih
-    go false a ih = rw a (both (leads-without (r .key) p t (and-right (leads (r .key) t) _ e) (and-left _ _ e)) ih)
+rising-without p (r ∷ t) e =
+    cases (same p (r .key)) (λ a. rw a (rising-without p t (and-right (leads (r .key) t) _ e)))
+    (λ a. rw a (both (leads-without (r .key) p t (and-right (leads (r .key) t) _ e) (and-left _ _ e)) (rising-without p t (and-right (leads (r .key) t) _ e))))
 
 leads-cleared : (k p : List ℕ) (t : List Row) → rising t ≡ true → leads k t ≡ true → leads k (withoutBelow p t) ≡ true
 unfolding leads withoutBelow rising
 leads-cleared k p [] e f = refl
 leads-cleared k p (r ∷ t) e f =
-    go (below (r .key) p) refl (leads-cleared k p t (and-right (leads (r .key) t) _ e) (leads-trans k (r .key) t f (and-left _ _ e)))
-  where
-    go : (x : Bool) → below (r .key) p ≡ x → leads k (withoutBelow p t) ≡ true → leads k (withoutBelow p (r ∷ t)) ≡ true
-    go true a ih = rw a ih
-    go false a ih = rw a f
+    cases (below (r .key) p) (λ a. rw a (leads-cleared k p t (and-right (leads (r .key) t) _ e) (leads-trans k (r .key) t f (and-left _ _ e))))
+    (λ a. rw a f)
 
 pub rising-cleared : (p : List ℕ) (t : List Row) → rising t ≡ true → rising (withoutBelow p t) ≡ true
 unfolding rising withoutBelow
 rising-cleared p [] e = refl
-rising-cleared p (r ∷ t) e = go (below (r .key) p) refl (rising-cleared p t (and-right (leads (r .key) t) _ e))
-  where
-    go : (x : Bool) → below (r .key) p ≡ x → rising (withoutBelow p t) ≡ true → rising (withoutBelow p (r ∷ t)) ≡ true
-    go true a ih = rw a ih
-    go false a ih = rw a (both (leads-cleared (r .key) p t (and-right (leads (r .key) t) _ e) (and-left _ _ e)) ih)
+rising-cleared p (r ∷ t) e =
+    cases (below (r .key) p) (λ a. rw a (rising-cleared p t (and-right (leads (r .key) t) _ e)))
+    (λ a. rw a (both (leads-cleared (r .key) p t (and-right (leads (r .key) t) _ e) (and-left _ _ e)) (rising-cleared p t (and-right (leads (r .key) t) _ e))))
 
 -- a path before the first key is not found
 pub find-leads : (k : List ℕ) (t : List Row) → rising t ≡ true → leads k t ≡ true → find k t ≡ none
@@ -94,11 +80,7 @@ pub row-path : (r q : Row) → r .key ≡ q .key → r .value ≡ q .value → r
 row-path r q a b = λ i. record { key = a i; value = b i }
 
 pub one-key : (k m : List ℕ) → before k m ≡ false → before m k ≡ false → k ≡ m
-one-key k m a b = go (same k m) refl
-  where
-    go : (x : Bool) → same k m ≡ x → k ≡ m
-    go true e = same-eq k m e
-    go false e = not-so (before-total k m e b) a
+one-key k m a b = cases (same k m) (λ e. same-eq k m e) (λ e. not-so (before-total k m e b) a)
 
 tails-same : (r q : Row) (t u : List Row) → rising (r ∷ t) ≡ true → rising (q ∷ u) ≡ true → ((p : List ℕ) → find p (r ∷ t) ≡ find p (q ∷ u))
     → r .key ≡ q .key → (p : List ℕ) → find p t ≡ find p u

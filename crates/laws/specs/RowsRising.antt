@@ -1,9 +1,5 @@
 -- The table of a sound tree strictly rises: so it is one list for one map.
-use Prim.Native.Nat.{ℕ}
-use mathlib.Core.Path.{_≡_, refl, sym, _∙_}
-use mathlib.Core.List.{List, [], _∷_, _++_}
-use mathlib.Core.Bool.{Bool, true, false, _&&_, not}
-use mathlib.Core.Option.{none, Option·none-ne-some}
+use Rattle.image.specs.Prelude.{ℕ, _≡_, refl, sym, _∙_, List, [], _∷_, _++_, Bool, true, false, _&&_, not, none, Option·none-ne-some, cases}
 use Rattle.image.specs.Bytes.{same, before, shared}
 use Rattle.image.specs.Path.{owns, wellFormed}
 use Rattle.image.specs.Entry.{Message, puts, drops, clears}
@@ -11,7 +7,7 @@ use Rattle.image.specs.Table.{Row, find, everyKey, underPrefix, leads, rising}
 use Rattle.image.specs.Image.{Tree, unread, leaf, interior, Forest, end, tree}
 use Rattle.image.specs.Meaning.{highOf, apply, applyAll, rows, rowsIn}
 use Rattle.image.specs.Sound.{soundTree, soundForest}
-use Rattle.octets.specs.Order.{and-left, and-right, not-true, same-refl, before-append, before-le}
+use Rattle.octets.specs.Order.{and-left, and-right, not-true, same-refl, before-append, before-le, upheld}
 use Rattle.laws.specs.Tables.{find-yes, find-no}
 use Rattle.laws.specs.Rising.{both, rising-with, rising-without, rising-cleared}
 use Rattle.laws.specs.LookupTable.{parts, inner, outside, later-none}
@@ -20,18 +16,12 @@ use Rattle.laws.specs.LookupTable.{parts, inner, outside, later-none}
 pub every-key : (test : List ℕ → Bool) (t : List Row) → ((q : List ℕ) → test q ≡ false → find q t ≡ none) → everyKey test t ≡ true
 unfolding everyKey
 every-key test [] h = refl
-every-key test (r ∷ t) h = both (here (test (r .key)) refl) (every-key test t (λ q e. rest q e))
+every-key test (r ∷ t) h = both (upheld (λ e. Option·none-ne-some (r .value) (sym (h (r .key) e) ∙ find-yes (r .key) r t (same-refl (r .key))))) (every-key test t (λ q e. rest q e))
   where
-    here : (x : Bool) → test (r .key) ≡ x → test (r .key) ≡ true
-    here true e = e
-    here false e = absurd (Option·none-ne-some (r .value) (sym (h (r .key) e) ∙ find-yes (r .key) r t (same-refl (r .key))))
-
     rest : (q : List ℕ) → test q ≡ false → find q t ≡ none
-    rest q e = go (same q (r .key)) refl
-      where
-        go : (x : Bool) → same q (r .key) ≡ x → find q t ≡ none
-        go true a = absurd (Option·none-ne-some (r .value) (sym (h q e) ∙ find-yes q r t a))
-        go false a = sym (find-no q r t a) ∙ h q e
+    rest q e =
+        cases (same q (r .key)) (λ a. absurd (Option·none-ne-some (r .value) (sym (h q e) ∙ find-yes q r t a)))
+        (λ a. sym (find-no q r t a) ∙ h q e)
 
 -- keys before m, then keys from m on
 pub leads-append : (k m : List ℕ) (t u : List Row) → leads k t ≡ true → before k m ≡ true → everyKey (λ q. not (before q m)) u ≡ true → leads k (t ++ u) ≡ true

@@ -1,10 +1,5 @@
 -- A tree under other bytes: with `prefix` in front of both pivots, its table has `prefix` in front of each path. (A pointer swing from `prefix` to `another`.)
-use Prim.Native.Nat.{ℕ}
-use mathlib.Core.Path.{_≡_, refl, ap, ap₂, _∙_}
-use mathlib.Core.List.{List, [], _∷_, _++_, append-assoc}
-use mathlib.Core.Bool.{Bool, true, false, cond}
-use lib.ListN.{length, drop, length-append}
-use lib.Seq.{drop-append-add}
+use Rattle.image.specs.Prelude.{ℕ, _≡_, refl, ap, ap₂, _∙_, List, [], _∷_, _++_, append-assoc, Bool, true, false, cond, length, drop, length-append, drop-append-add, cases}
 use Rattle.image.specs.Bytes.{same, before, begins, shared}
 use Rattle.image.specs.Path.{below, owns}
 use Rattle.image.specs.Entry.{Message, puts, drops, clears}
@@ -31,22 +26,16 @@ module _ (prefix : List ℕ) where
   pub under-without : (p : List ℕ) (t : List Row) → without (prefix ++ p) (underPrefix prefix t) ≡ underPrefix prefix (without p t)
   unfolding without underPrefix
   under-without p [] = refl
-  under-without p (r ∷ t) = go (same p (r .key)) refl (under-without p t)
-    where
-      go : (x : Bool) → same p (r .key) ≡ x → without (prefix ++ p) (underPrefix prefix t) ≡ underPrefix prefix (without p t)
-          → without (prefix ++ p) (underPrefix prefix (r ∷ t)) ≡ underPrefix prefix (without p (r ∷ t))
-      go true e ih = rw (same-append prefix p (r .key), e) ih
-      go false e ih = rw (same-append prefix p (r .key), e) (ap (λ l. under-row r ∷ l) ih)
+  under-without p (r ∷ t) =
+      cases (same p (r .key)) (λ e. rw (same-append prefix p (r .key), e) (under-without p t))
+      (λ e. rw (same-append prefix p (r .key), e) (ap (λ l. under-row r ∷ l) (under-without p t)))
 
   pub under-cleared : (p : List ℕ) (t : List Row) → withoutBelow (prefix ++ p) (underPrefix prefix t) ≡ underPrefix prefix (withoutBelow p t)
   unfolding withoutBelow underPrefix below
   under-cleared p [] = refl
-  under-cleared p (r ∷ t) = go (begins p (r .key)) refl (under-cleared p t)
-    where
-      go : (x : Bool) → begins p (r .key) ≡ x → withoutBelow (prefix ++ p) (underPrefix prefix t) ≡ underPrefix prefix (withoutBelow p t)
-          → withoutBelow (prefix ++ p) (underPrefix prefix (r ∷ t)) ≡ underPrefix prefix (withoutBelow p (r ∷ t))
-      go true e ih = rw (begins-append prefix p (r .key), e) ih
-      go false e ih = rw (begins-append prefix p (r .key), e) (ap (λ l. under-row r ∷ l) ih)
+  under-cleared p (r ∷ t) =
+      cases (begins p (r .key)) (λ e. rw (begins-append prefix p (r .key), e) (under-cleared p t))
+      (λ e. rw (begins-append prefix p (r .key), e) (ap (λ l. under-row r ∷ l) (under-cleared p t)))
 
   pub under-append : (t u : List Row) → underPrefix prefix t ++ underPrefix prefix u ≡ underPrefix prefix (t ++ u)
   unfolding underPrefix

@@ -1,15 +1,9 @@
 -- Laws of a table: what is found after each change of it.
-use lib.ListN.{length}
-use Prim.Native.Nat.{ℕ, suc, _+_, _≤_}
-use mathlib.Core.Path.{_≡_, refl, sym, _∙_}
-use mathlib.Core.List.{List, [], _∷_, _++_}
-use mathlib.Core.Bool.{Bool, true, false, cond}
-use mathlib.Core.Option.{none, some, Option·none-ne-some}
+use Rattle.image.specs.Prelude.{length, ℕ, suc, _+_, _≤_, _≡_, refl, sym, _∙_, List, [], _∷_, _++_, Bool, true, false, cond, none, some, Option·none-ne-some, arith, cases}
 use Rattle.image.specs.Bytes.{same, before, begins}
 use Rattle.image.specs.Path.{below}
 use Rattle.image.specs.Table.{Row, find, withRow, without, withoutBelow, putAll, underPrefix, everyKey}
 use Rattle.octets.specs.Order.{same-refl, same-eq, before-not-same, same-append, not-so, same-false, and-left, and-right}
-use native.Mathlib.Omega.{arith}
 
 pub find-nil : (q : List ℕ) → find q [] ≡ none
 unfolding find
@@ -25,11 +19,7 @@ find-no p r t e = rw e
 
 -- both rows on the same rest
 find-cons : (p : List ℕ) (r : Row) (t u : List Row) → find p t ≡ find p u → find p (r ∷ t) ≡ find p (r ∷ u)
-find-cons p r t u h = go (same p (r .key)) refl
-  where
-    go : (x : Bool) → same p (r .key) ≡ x → find p (r ∷ t) ≡ find p (r ∷ u)
-    go true e = find-yes p r t e ∙ sym (find-yes p r u e)
-    go false e = find-no p r t e ∙ h ∙ sym (find-no p r u e)
+find-cons p r t u h = cases (same p (r .key)) (λ e. find-yes p r t e ∙ sym (find-yes p r u e)) (λ e. find-no p r t e ∙ h ∙ sym (find-no p r u e))
 
 pub find-with : (p v : List ℕ) (t : List Row) → find p (withRow p v t) ≡ some v
 unfolding withRow
@@ -55,20 +45,14 @@ find-with-other q p v (r ∷ t) n = go (before (r .key) p) refl (same p (r .key)
 pub find-without : (p : List ℕ) (t : List Row) → find p (without p t) ≡ none
 unfolding without find
 find-without p [] = refl
-find-without p (r ∷ t) = go (same p (r .key)) refl (find-without p t)
-  where
-    go : (x : Bool) → same p (r .key) ≡ x → find p (without p t) ≡ none → find p (without p (r ∷ t)) ≡ none
-    go true e ih = rw e ih
-    go false e ih = rw e (find-no p r (without p t) e ∙ ih)
+find-without p (r ∷ t) = cases (same p (r .key)) (λ e. rw e (find-without p t)) (λ e. rw e (find-no p r (without p t) e ∙ (find-without p t)))
 
 pub find-without-other : (q p : List ℕ) (t : List Row) → same q p ≡ false → find q (without p t) ≡ find q t
 unfolding without
 find-without-other q p [] n = refl
-find-without-other q p (r ∷ t) n = go (same p (r .key)) refl (find-without-other q p t n)
-  where
-    go : (x : Bool) → same p (r .key) ≡ x → find q (without p t) ≡ find q t → find q (without p (r ∷ t)) ≡ find q (r ∷ t)
-    go true e ih = rw e (ih ∙ sym (find-no q r t (rw (← same-eq p (r .key) e) n)))
-    go false e ih = rw e (find-cons q r (without p t) t ih)
+find-without-other q p (r ∷ t) n =
+    cases (same p (r .key)) (λ e. rw e ((find-without-other q p t n) ∙ sym (find-no q r t (rw (← same-eq p (r .key) e) n))))
+    (λ e. rw e (find-cons q r (without p t) t (find-without-other q p t n)))
 
 pub find-cleared : (q p : List ℕ) (t : List Row) → begins p q ≡ true → find q (withoutBelow p t) ≡ none
 unfolding withoutBelow below find
@@ -86,19 +70,15 @@ find-cleared q p (r ∷ t) h = go (begins p (r .key)) refl (find-cleared q p t h
 pub find-spared : (q p : List ℕ) (t : List Row) → begins p q ≡ false → find q (withoutBelow p t) ≡ find q t
 unfolding withoutBelow below
 find-spared q p [] h = refl
-find-spared q p (r ∷ t) h = go (begins p (r .key)) refl (find-spared q p t h)
-  where
-    go : (x : Bool) → begins p (r .key) ≡ x → find q (withoutBelow p t) ≡ find q t → find q (withoutBelow p (r ∷ t)) ≡ find q (r ∷ t)
-    go true e ih = rw e (ih ∙ sym (find-no q r t (same-false q (r .key) (λ z. not-so (rw z e) h))))
-    go false e ih = rw e (find-cons q r (withoutBelow p t) t ih)
+find-spared q p (r ∷ t) h =
+    cases (begins p (r .key)) (λ e. rw e ((find-spared q p t h) ∙ sym (find-no q r t (same-false q (r .key) (λ z. not-so (rw z e) h)))))
+    (λ e. rw e (find-cons q r (withoutBelow p t) t (find-spared q p t h)))
 
 pub find-append-none : (p : List ℕ) (t u : List Row) → find p t ≡ none → find p (t ++ u) ≡ find p u
 find-append-none p [] u h = refl
-find-append-none p (r ∷ t) u h = go (same p (r .key)) refl (find-append-none p t u)
-  where
-    go : (x : Bool) → same p (r .key) ≡ x → (find p t ≡ none → find p (t ++ u) ≡ find p u) → find p (r ∷ (t ++ u)) ≡ find p u
-    go true e ih = let z : _≡_ {A = ℕ} 0 1 = cc (find-yes p r t e) in absurd (omega arith)
-    go false e ih = find-no p r (t ++ u) e ∙ ih (sym (find-no p r t e) ∙ h)
+find-append-none p (r ∷ t) u h =
+    cases (same p (r .key)) (λ e. let z : _≡_ {A = ℕ} 0 1 = cc (find-yes p r t e) in absurd (omega arith))
+    (λ e. find-no p r (t ++ u) e ∙ (find-append-none p t u) (sym (find-no p r t e) ∙ h))
 
 pub find-append-some : (p : List ℕ) (t u : List Row) → find p u ≡ none → find p (t ++ u) ≡ find p t
 unfolding find
@@ -108,11 +88,9 @@ find-append-some p (r ∷ t) u h = find-cons p r (t ++ u) t (find-append-some p 
 pub find-under : (l q : List ℕ) (t : List Row) → find (l ++ q) (underPrefix l t) ≡ find q t
 unfolding underPrefix find
 find-under l q [] = refl
-find-under l q (r ∷ t) = go (same q (r .key)) refl (find-under l q t)
-  where
-    go : (x : Bool) → same q (r .key) ≡ x → find (l ++ q) (underPrefix l t) ≡ find q t → find (l ++ q) (underPrefix l (r ∷ t)) ≡ find q (r ∷ t)
-    go true e ih = find-yes (l ++ q) _ (underPrefix l t) (same-append l q (r .key) ∙ e) ∙ sym (find-yes q r t e)
-    go false e ih = find-no (l ++ q) _ (underPrefix l t) (same-append l q (r .key) ∙ e) ∙ ih ∙ sym (find-no q r t e)
+find-under l q (r ∷ t) =
+    cases (same q (r .key)) (λ e. find-yes (l ++ q) _ (underPrefix l t) (same-append l q (r .key) ∙ e) ∙ sym (find-yes q r t e))
+    (λ e. find-no (l ++ q) _ (underPrefix l t) (same-append l q (r .key) ∙ e) ∙ (find-under l q t) ∙ sym (find-no q r t e))
 
 -- a path that fails a test of every key is not found
 pub find-fails : (test : List ℕ → Bool) (q : List ℕ) (t : List Row) → everyKey test t ≡ true → test q ≡ false → find q t ≡ none

@@ -14,9 +14,9 @@ pub mod Flush
 pub mod Flushed
 pub mod Room
 pub mod Bridge
+pub mod Site
 pub mod HealImage
 pub mod HealWrite
-pub mod FlushImage
-pub mod FlushWrite
+pub mod Children
 pub mod Rules
 pub mod Examples

@@ -1,13 +1,5 @@
 -- Every value of a sound tree's table fits: so what a lookup finds fits a buffer of that size.
-use Prim.Native.Nat.{ℕ, _≤_}
-use mathlib.Core.Path.{_≡_, refl, sym, ap, _∙_}
-use mathlib.Core.List.{List, [], _∷_, _++_}
-use mathlib.Core.Bool.{Bool, true, false, _&&_}
-use mathlib.Core.Option.{some}
-use native.Mathlib.Omega.{arith}
-use lib.ListN.{length}
-use lib.Dec.{leb}
-use borrow.Author.Tests.{leb-true}
+use Rattle.image.specs.Prelude.{ℕ, _≤_, _≡_, refl, sym, ap, _∙_, List, [], _∷_, _++_, Bool, true, false, _&&_, some, arith, length, leb, leb-true, cases}
 use Rattle.image.specs.Bytes.{same, before, shared}
 use Rattle.image.specs.Path.{wellFormed, below, owns, valueLimit, valueFits}
 use Rattle.image.specs.Entry.{Message, puts, drops, clears}
@@ -39,20 +31,16 @@ with-fit p v (r ∷ t) g e = go (before (r .key) p) refl (same p (r .key)) refl 
 pub without-fit : (p : List ℕ) (t : List Row) → valuesFit t ≡ true → valuesFit (without p t) ≡ true
 unfolding valuesFit without
 without-fit p [] e = refl
-without-fit p (r ∷ t) e = go (same p (r .key)) refl (without-fit p t (and-right (valueFits (r .value)) _ e))
-  where
-    go : (y : Bool) → same p (r .key) ≡ y → valuesFit (without p t) ≡ true → valuesFit (without p (r ∷ t)) ≡ true
-    go true k ih = rw k ih
-    go false k ih = rw k (both (and-left (valueFits (r .value)) _ e) ih)
+without-fit p (r ∷ t) e =
+    cases (same p (r .key)) (λ k. rw k (without-fit p t (and-right (valueFits (r .value)) _ e)))
+    (λ k. rw k (both (and-left (valueFits (r .value)) _ e) (without-fit p t (and-right (valueFits (r .value)) _ e))))
 
 pub cleared-fit : (p : List ℕ) (t : List Row) → valuesFit t ≡ true → valuesFit (withoutBelow p t) ≡ true
 unfolding valuesFit withoutBelow
 cleared-fit p [] e = refl
-cleared-fit p (r ∷ t) e = go (below (r .key) p) refl (cleared-fit p t (and-right (valueFits (r .value)) _ e))
-  where
-    go : (y : Bool) → below (r .key) p ≡ y → valuesFit (withoutBelow p t) ≡ true → valuesFit (withoutBelow p (r ∷ t)) ≡ true
-    go true k ih = rw k ih
-    go false k ih = rw k (both (and-left (valueFits (r .value)) _ e) ih)
+cleared-fit p (r ∷ t) e =
+    cases (below (r .key) p) (λ k. rw k (cleared-fit p t (and-right (valueFits (r .value)) _ e)))
+    (λ k. rw k (both (and-left (valueFits (r .value)) _ e) (cleared-fit p t (and-right (valueFits (r .value)) _ e))))
 
 applied-fit : (lo hi : List ℕ) (ms : List Message) (t : List Row) → soundMessages lo hi ms ≡ true → valuesFit t ≡ true → valuesFit (applyAll (shared lo hi) ms t) ≡ true
 unfolding applyAll apply soundMessages soundMessage

@@ -1,15 +1,5 @@
 -- One node of an image written anew.
-use Prim.Native.Nat.{ℕ, _+_, _*_, _-_, _/_, _≤_, _<_}
-use mathlib.Core.Path.{_≡_, refl, sym, ap, _∙_}
-use mathlib.Core.List.{List, _++_, append-assoc}
-use mathlib.Core.Bool.{Bool, true, false}
-use native.Mathlib.Omega.{arith}
-use native.Mathlib.Nat.{mul-div-le}
-use native.Mathlib.Numerals.{lt-of-le-of-ne}
-use lib.Dec.{ltb}
-use borrow.Author.Tests.{ltb-true, ltb-false}
-use lib.ListN.{length, take, drop, length-append, length-drop, take-append-drop}
-use lib.Seq.{take-append-le, drop-append-le, take-at, drop-at, drop-append-add, length-take-le}
+use Rattle.image.specs.Prelude.{ℕ, _+_, _*_, _-_, _/_, _≤_, _<_, _≡_, sym, ap, _∙_, List, _++_, append-assoc, arith, ltb, ltb-true, ltb-false, length, take, drop, length-append, length-drop, take-append-drop, take-append-le, drop-append-le, take-at, drop-at, drop-append-add, length-take-le, mul-div-le, lt-of-le-of-ne, cases}
 use Rattle.image.specs.Image.{nodeBytes, nodesOf}
 
 unfoldable pub writeNode : List ℕ → ℕ → List ℕ → List ℕ
@@ -71,8 +61,6 @@ module _ (image : List ℕ) (i : ℕ) (bytes : List ℕ) (fits : 1024 * i + 1024
       ∙ ap (λ l. nodeBytes l j) (take-append-drop (1024 * i + 1024) image)
 
   pub write-other : (j : ℕ) → (j ≡ i → ⊥) → nodeBytes (writeNode image i bytes) j ≡ nodeBytes image j
-  write-other j n = go (ltb j i) refl
-    where
-      go : (x : Bool) → ltb j i ≡ x → nodeBytes (writeNode image i bytes) j ≡ nodeBytes image j
-      go true e = write-before j (ltb-true j i e)
-      go false e = let h : i ≤ j = ltb-false j i e in write-after j (lt-of-le-of-ne h (λ q. n (sym q)))
+  write-other j n =
+      cases (ltb j i) (λ e. write-before j (ltb-true j i e))
+      (λ e. let h : i ≤ j = ltb-false j i e in write-after j (lt-of-le-of-ne h (λ q. n (sym q))))

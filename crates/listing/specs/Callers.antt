@@ -1,15 +1,8 @@
 -- For a caller of a step: the questions that it asks, and what is known of the place after it.
 -- Relies on: the list of next's questions, successor's law of the path that next finds.
-use Prim.Native.Nat.{ℕ, _≤_, _<_}
-use mathlib.Core.Path.{_≡_, refl, sym, ap, ap₂, _∙_}
-use mathlib.Core.List.{List, [], _∷_}
-use mathlib.Core.Bool.{Bool, true, false, _&&_, _||_, false≢true}
-use native.Mathlib.Omega.{arith}
-use lib.ListN.{length, take}
-use lib.Dec.{leb}
-use borrow.Author.Tests.{leb-true, leb-false}
+use Rattle.image.specs.Prelude.{ℕ, _≤_, _<_, _≡_, refl, sym, ap, ap₂, _∙_, List, [], _∷_, Bool, true, false, _&&_, false≢true, arith, length, take, leb, leb-true, leb-false}
 use Rattle.image.specs.Bytes.{same}
-use Rattle.image.specs.Path.{wellFormed, readsOn, letter, pathLimit}
+use Rattle.image.specs.Path.{wellFormed, pathOrEmpty, readsOn, letter}
 use Rattle.image.specs.Table.{isSome, leastAfter}
 use Rattle.image.specs.Image.{wholeNodes}
 use Rattle.image.specs.Sound.{sound, tableOf}
@@ -30,15 +23,15 @@ leave-out false b c qs = refl
 
 -- A step asks 1, 2, 3 and 8, in this order. It is lent no buffer, so 5 is not among them.
 pub step-asks : (s below : List ℕ) (p : Listing) → stepNo s below p
-    ≡ firstNo (ask 1 (wholeNodes (length s)) ∷ ask 2 (sound s) ∷ ask 3 (wellFormed below && (same (lastPath p) [] || wellFormed (lastPath p)))
+    ≡ firstNo (ask 1 (wholeNodes (length s)) ∷ ask 2 (sound s) ∷ ask 3 (wellFormed below && pathOrEmpty (lastPath p))
     ∷ ask 8 (isSome (leastAfter below (lastPath p) (tableOf s))) ∷ [])
-unfolding stepNo pathsFit bufferLimit pathLimit foundBy blank
+unfolding stepNo pathsFit bufferLimit foundBy blank
 step-asks s below p =
     number-is s (next below (lastPath p)) blank
-    ∙ leave-out (wholeNodes (length s)) (sound s) (wellFormed below && (same (lastPath p) [] || wellFormed (lastPath p))) _
+    ∙ leave-out (wholeNodes (length s)) (sound s) (wellFormed below && pathOrEmpty (lastPath p)) _
 
 zero-malformed : wellFormed (0 ∷ []) ≡ false
-unfolding wellFormed readsOn letter pathLimit
+unfolding wellFormed readsOn letter
 zero-malformed = refl
 
 -- a place whose length is over 64 is refused by question 3, where the store passes 1 and 2
@@ -49,7 +42,7 @@ over-refused s below p h w e =
     ∙ third rest
   where
     fits : List ℕ → Bool
-    fits q = wellFormed below && (same q [] || wellFormed q)
+    fits q = wellFormed below && pathOrEmpty q
 
     rest : List Question
     rest = ask 8 (isSome (leastAfter below (lastPath p) (tableOf s))) ∷ []
@@ -58,7 +51,7 @@ over-refused s below p h w e =
     and-no true y f = f
     and-no false y f = refl
 
-    no-path : wellFormed below && (same (0 ∷ []) [] || wellFormed (0 ∷ [])) ≡ false
+    no-path : wellFormed below && pathOrEmpty (0 ∷ []) ≡ false
     no-path = and-no (wellFormed below) _ (unfold same in zero-malformed)
 
     third : (qs : List Question) → firstNo (ask 1 true ∷ ask 2 true ∷ ask 3 false ∷ qs) ≡ 3

@@ -1,6 +1,5 @@
 -- A whole listing: accepted steps one after the other on one store, with the paths that they give. Relies on: the contract of a step.
-use Prim.Native.Nat.{ℕ}
-use mathlib.Core.List.{List, [], _∷_}
+use Rattle.image.specs.Prelude.{ℕ, List, [], _∷_}
 use Rattle.image.specs.Table.{Row}
 use Rattle.image.specs.declared.Listing.{Listing}
 use Rattle.image.specs.Listing.{lastPath, Steps}

@@ -1,13 +1,8 @@
 -- A listing that steps until 8 has given every path below, each once, rising: the table's rows below the path, in the table's order.
 -- Relies on: the table of a sound image rises; the questions of a step.
-use Prim.Native.Nat.{ℕ}
-use mathlib.Core.Path.{_≡_, refl, sym, ap, ap₂, _∙_}
-use mathlib.Core.List.{List, [], _∷_, _++_, append-nil}
-use mathlib.Core.Bool.{Bool, true, false, false≢true}
-use mathlib.Core.Option.{Option, none, some}
-use native.Mathlib.Omega.{arith}
+use Rattle.image.specs.Prelude.{ℕ, _≡_, refl, sym, ap, ap₂, _∙_, List, [], _∷_, _++_, append-nil, Bool, true, false, false≢true, Option, none, some, arith}
 use Rattle.image.specs.Bytes.{before, begins}
-use Rattle.image.specs.Path.{wellFormed, readsOn, pathLimit, below as isBelow}
+use Rattle.image.specs.Path.{wellFormed, readsOn, below as isBelow}
 use Rattle.image.specs.Table.{Row, isSome, rowsBelow, rowsAfter, firstKey, leastAfter, leads, rising}
 use Rattle.image.specs.Sound.{sound, tableOf}
 use Rattle.image.specs.Calls.{ask, firstNo}
@@ -16,8 +11,7 @@ use Rattle.image.specs.declared.Listing.{Listing}
 use Rattle.image.specs.Listing.{lastPath, stepNo, pathAt, Steps}
 use Rattle.listing.specs.Callers.{step-asks}
 use Rattle.listing.specs.Listed.{Gives, stop, step, pathsOf}
-use Rattle.laws.specs.Follow.{leads-on}
-use Rattle.laws.specs.Follow.{table-rises}
+use Rattle.laws.specs.Follow.{leads-on, table-rises}
 
 first-is : (k : List ℕ) (r : Row) (t : List Row) → firstKey (r ∷ t) ≡ some k → r .key ≡ k
 unfolding firstKey
@@ -160,7 +154,7 @@ ended s below p h =
     record { is-sound = w .0; formed = and-left (wellFormed below) _ (w .1 .0); nothing = is-none _ (w .1 .1) }
 
 formed-some : {A : Type 0} → wellFormed [] ≡ true → A
-unfolding wellFormed readsOn pathLimit
+unfolding wellFormed readsOn
 formed-some h = absurd (false≢true h)
 
 no-paths : (t : List Row) → firstKey t ≡ none → pathsOf t ≡ []

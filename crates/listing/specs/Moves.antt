@@ -1,16 +1,7 @@
 -- What an answer of next says of a step: an accepted one moves the place on, a refused one leaves it. One law for each.
 -- Relies on: what a contract tells at once (demands), successor's law of the path that next finds.
-use Prim.Native.Nat.{ℕ, zero, suc, _-_, _≤_, _<_}
-use mathlib.Core.Path.{_≡_, refl, sym, ap, subst, _∙_}
-use mathlib.Core.List.{List, [], _∷_, _++_}
-use mathlib.Core.Bool.{true, false≢true}
-use mathlib.Core.Option.{Option, none, some}
-use native.Mathlib.Omega.{arith}
-use lib.ListN.{length, take, drop}
-use lib.Seq.{take-at}
-use borrow.Author.Tests.{le-leb, lt-leb}
+use Rattle.image.specs.Prelude.{ℕ, zero, suc, _-_, _≤_, _<_, _≡_, refl, sym, ap, subst, _∙_, List, [], _∷_, _++_, true, false≢true, Option, none, some, arith, length, take, drop, take-at, le-leb, lt-leb}
 use Rattle.image.specs.Bytes.{before}
-use Rattle.image.specs.Path.{pathLimit}
 use Rattle.image.specs.Table.{Row, isSome, leastAfter}
 use Rattle.image.specs.Sound.{tableOf}
 use Rattle.image.specs.Calls.{asks, next, Answer, filled, numberOf, foundBy, fill, accepted, answerAt}
@@ -23,14 +14,15 @@ use Rattle.demands.specs.Contracts.{number-is, was-found}
 use Rattle.successor.specs.Present.{Next, next-found}
 use Rattle.image.specs.declared.Listing.{Listing}
 use Rattle.image.specs.Listing.{lastPath, blank, stepNo, pathAt, Steps}
+use Rattle.laws.specs.Refusals.{refusal-some}
 
 -- the path at a place, by its length
 pub last-fits : (p : Listing) → p .len ≤ 64 → lastPath p ≡ take (p .len) (p .last)
-unfolding lastPath pathLimit
+unfolding lastPath
 last-fits p h = rw (le-leb (p .len) 64 h)
 
 pub last-over : (p : Listing) → 64 < p .len → lastPath p ≡ 0 ∷ []
-unfolding lastPath pathLimit
+unfolding lastPath
 last-over p h = rw (lt-leb (p .len) 64 h)
 
 -- what next answers to the bytes that the code hands it is what it answers to the place's path
@@ -43,20 +35,6 @@ module _ (s below : List ℕ) (p : Listing) (buffer : List ℕ) (a : Answer) whe
   after-fits h m =
       let z : p .len - 0 ≡ p .len = omega arith in
       subst (λ (q : List ℕ). Meets s (asks (next below q) buffer) a s []) (ap (λ (k : ℕ). take k (p .last)) z ∙ sym (last-fits p h)) m
-
--- the number of a refusal is not 0
-refusal-some : (r : Refusal) → refusalNumber r ≡ 0 → ⊥
-unfolding refusalNumber
-refusal-some Refusal.Length h = omega arith
-refusal-some Refusal.Unsound h = omega arith
-refusal-some Refusal.Malformed h = omega arith
-refusal-some Refusal.LongValue h = omega arith
-refusal-some Refusal.ShortBuffer h = omega arith
-refusal-some Refusal.NotInterior h = omega arith
-refusal-some Refusal.Nested h = omega arith
-refusal-some Refusal.Absent h = omega arith
-refusal-some Refusal.BecomesMalformed h = omega arith
-refusal-some Refusal.Full h = omega arith
 
 -- what stands at the front of a filled buffer is what was found
 front-is : (buffer : List ℕ) (o : Option (List ℕ)) (n : ℕ) (buffer′ : List ℕ) → isSome o ≡ true → filled 0 n buffer′ ≡ fill buffer o
@@ -125,7 +103,7 @@ module _ (s below : List ℕ) (p : Listing) (buffer : List ℕ) (clean : buffer 
   unfolding outcomeNumber
   stays-put why e =
       let number : refusalNumber why ≡ stepNo s below p = sym (refused-number why buffer′) ∙ ap (λ (x : Found). numberOf (foundAnswer x buffer′)) (sym e) ∙ number-told in
-      let some-no : stepNo s below p ≡ 0 → ⊥ = λ h. refusal-some why (number ∙ h) in
+      let some-no : stepNo s below p ≡ 0 → ⊥ = λ h. omega (arith, refusal-some why, number ∙ h) in
       record {
         answer = number;
         path = path-kept (stepNo s below p) below (lastPath p) (tableOf s) some-no;

@@ -3,8 +3,7 @@
 use image::Found;
 use image::Listing;
 use image::Outcome;
-ghost use mathlib.Core.Path.{_≡_};
-ghost use mathlib.Core.List.{[]};
+ghost use Rattle.image.specs.Prelude.{_≡_, []};
 ghost use Rattle.image.specs.Calls.{asks, next};
 ghost use Rattle.image.specs.Contract.{Meets};
 ghost use Rattle.image.specs.Answers.{foundAnswer, outcomeNumber};

@@ -1,11 +1,6 @@
 -- Past one entry that is not on a rest, to the entries behind it: what the readers of `none_covers` promise, and the laws of each way out.
 -- Relies on node's Next (an entry in front of the others) and on notes' noneCovers.
-use Prim.Native.Nat.{ℕ, _+_, _-_, _<_, _≤_}
-use mathlib.Core.Path.{_≡_, refl, sym, ap, _∙_}
-use mathlib.Core.List.{List, []}
-use mathlib.Core.Bool.{Bool, true, false}
-use native.Mathlib.Omega.{arith}
-use lib.ListN.{length}
+use Rattle.image.specs.Prelude.{ℕ, _+_, _-_, _<_, _≤_, _≡_, refl, sym, ap, _∙_, List, [], Bool, true, false, arith, length}
 use Rattle.image.specs.Bytes.{u16, same}
 use Rattle.image.specs.Entry as defined
 use Rattle.image.specs.Meaning.{saysOf}

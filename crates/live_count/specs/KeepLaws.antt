@@ -1,12 +1,6 @@
 -- The rows that pass a test, of a table that messages have changed: a put comes in if its path passes, and of the other rows those stay that
 -- no message says anything of. Relies on the laws of tables (laws: Tables, Rising, RowsRising, LookupTable, Filter).
-use Prim.Native.Nat.{ℕ, suc}
-use mathlib.Core.Path.{_≡_, refl, sym, ap, ap₂, _∙_}
-use mathlib.Core.List.{List, [], _∷_, _++_}
-use mathlib.Core.Bool.{Bool, true, false, _&&_, not, cond, true≢false, and-true}
-use mathlib.Core.Option.{none, some}
-use native.Mathlib.Omega.{arith}
-use lib.ListN.{length, drop}
+use Rattle.image.specs.Prelude.{ℕ, suc, _≡_, refl, sym, ap, ap₂, _∙_, List, [], _∷_, _++_, Bool, true, false, _&&_, not, cond, true≢false, and-true, Option, none, some, arith, length, drop}
 use Rattle.image.specs.Bytes.{same, before, begins, shared}
 use Rattle.image.specs.Path.{owns, below}
 use Rattle.image.specs.Entry.{Message, puts, drops, clears}
@@ -169,29 +163,22 @@ named prefix s q b = ap (λ z. same (prefix ++ s) z) (sym (begins-split prefix q
 cleared : (prefix s q : List ℕ) → begins prefix q ≡ true → begins (prefix ++ s) q ≡ begins s (drop (length prefix) q)
 cleared prefix s q b = ap (λ z. begins (prefix ++ s) z) (sym (begins-split prefix q b)) ∙ begins-append prefix s (drop (length prefix) q)
 
+quiet-says : (b : Bool) (v : Option (List ℕ)) → holdsNoMessage (cond b (says v) nothing) ≡ not b
+unfolding holdsNoMessage
+quiet-says true v = refl
+quiet-says false v = refl
+
 pub quiet-put : (s v r : List ℕ) → holdsNoMessage (saysOf (puts s v) r) ≡ not (same s r)
 unfolding saysOf
-quiet-put s v r = go (same s r)
-  where
-    go : (x : Bool) → holdsNoMessage (cond x (says (some v)) nothing) ≡ not x
-    go true = unfold holdsNoMessage in refl
-    go false = unfold holdsNoMessage in refl
+quiet-put s v r = quiet-says (same s r) (some v)
 
 quiet-drop : (s r : List ℕ) → holdsNoMessage (saysOf (drops s) r) ≡ not (same s r)
 unfolding saysOf
-quiet-drop s r = go (same s r)
-  where
-    go : (x : Bool) → holdsNoMessage (cond x (says none) nothing) ≡ not x
-    go true = unfold holdsNoMessage in refl
-    go false = unfold holdsNoMessage in refl
+quiet-drop s r = quiet-says (same s r) none
 
 quiet-clear : (s r : List ℕ) → holdsNoMessage (saysOf (clears s) r) ≡ not (begins s r)
 unfolding saysOf
-quiet-clear s r = go (begins s r)
-  where
-    go : (x : Bool) → holdsNoMessage (cond x (says none) nothing) ≡ not x
-    go true = unfold holdsNoMessage in refl
-    go false = unfold holdsNoMessage in refl
+quiet-clear s r = quiet-says (begins s r) none
 
 pub message-keep : (test : List ℕ → Bool) (prefix : List ℕ) (m : Message) (t : List Row) → rising t ≡ true → everyKey (λ q. begins prefix q) t ≡ true
     → keep test (apply prefix m t) ≡ added test prefix m (keep (λ q. test q && holdsNoMessage (saysOf m (drop (length prefix) q))) t)
@@ -228,22 +215,24 @@ owned-apply lo hi m t h e =
 pub all-begin : (lo hi : List ℕ) (t : List Row) → everyKey (owns lo hi) t ≡ true → everyKey (λ q. begins (shared lo hi) q) t ≡ true
 all-begin lo hi t e = every-imp (owns lo hi) (λ q. begins (shared lo hi) q) t (λ q o. owned-begins lo hi q o) e
 
+-- a test, and what no message says of a path: none at all, and one more
+pub newest-nil : (b : Bool) (q : List ℕ) → b ≡ b && holdsNoMessage (newest [] q)
+unfolding holdsNoMessage newest
+newest-nil b q = sym (and-true b)
+
+pub newest-cons : (b : Bool) (m : Message) (ms : List Message) (q : List ℕ) → b && holdsNoMessage (newest ms q) && holdsNoMessage (saysOf m q) ≡ b && holdsNoMessage (newest (m ∷ ms) q)
+unfolding newest
+newest-cons b m ms q = quiet-newer b (saysOf m q) (newest ms q)
+
 pub messages-keep : (ok : List ℕ → Bool) (lo hi : List ℕ) (ms : List Message) (t : List Row) → soundMessages lo hi ms ≡ true → rising t ≡ true
     → everyKey (owns lo hi) t ≡ true → keep ok (applyAll (shared lo hi) ms t)
     ≡ insertPuts ok (shared lo hi) ms (keep (λ q. ok q && holdsNoMessage (newest ms (drop (length (shared lo hi)) q))) t)
 unfolding applyAll soundMessages insertPuts
-messages-keep ok lo hi [] t h e o = keep-ext ok _ (owns lo hi) t o (λ q n. nil-quiet q)
-  where
-    nil-quiet : (q : List ℕ) → ok q ≡ ok q && holdsNoMessage (newest [] (drop (length (shared lo hi)) q))
-    nil-quiet q = unfold holdsNoMessage newest in sym (and-true (ok q))
+messages-keep ok lo hi [] t h e o = keep-ext ok _ (owns lo hi) t o (λ q n. newest-nil (ok q) (drop (length (shared lo hi)) q))
 messages-keep ok lo hi (m ∷ ms) t h e o =
     let prefix : List ℕ = shared lo hi in
     let first : soundMessage lo hi m ≡ true = and-left _ _ h in
     messages-keep ok lo hi ms (apply prefix m t) (and-right (soundMessage lo hi m) _ h) (rising-apply prefix m t e) (owned-apply lo hi m t first o)
     ∙ ap (λ l. insertPuts ok prefix ms l)
     (message-keep (λ q. ok q && holdsNoMessage (newest ms (drop (length prefix) q))) prefix m t e (all-begin lo hi t o)
-    ∙ ap (λ l. added (λ q. ok q && holdsNoMessage (newest ms (drop (length prefix) q))) prefix m l) (keep-ext _ _ (owns lo hi) t o (λ q n. newest-cons q)))
-  where
-    newest-cons : (q : List ℕ) → ok q && holdsNoMessage (newest ms (drop (length (shared lo hi)) q)) && holdsNoMessage (saysOf m (drop (length (shared lo hi)) q))
-        ≡ ok q && holdsNoMessage (newest (m ∷ ms) (drop (length (shared lo hi)) q))
-    newest-cons q = unfold newest in quiet-newer (ok q) (saysOf m (drop (length (shared lo hi)) q)) (newest ms (drop (length (shared lo hi)) q))
+    ∙ ap (λ l. added (λ q. ok q && holdsNoMessage (newest ms (drop (length prefix) q))) prefix m l) (keep-ext _ _ (owns lo hi) t o (λ q n. newest-cons (ok q) m ms (drop (length prefix) q))))

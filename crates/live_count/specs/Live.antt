@@ -1,11 +1,6 @@
 -- The number of paths present under a node, told entry by entry: an entry counts when it decides its path, that is when no newer message of
 -- its own node and no message of a node above says anything of that path. Definitions only; LiveLaws shows that this is the length of the table.
-use Prim.Native.Nat.{ℕ, _+_, _<_}
-use mathlib.Core.Path.{_≡_}
-use mathlib.Core.List.{List, [], _∷_, _++_}
-use mathlib.Core.Bool.{Bool, true, false, _&&_}
-use lib.ListN.{length, drop}
-use lib.Dec.{leb}
+use Rattle.image.specs.Prelude.{ℕ, _+_, _<_, _≡_, List, [], _∷_, _++_, Bool, true, false, _&&_, length, drop, leb}
 use Rattle.image.specs.Bytes.{shared}
 use Rattle.image.specs.Path.{pathLimit}
 use Rattle.image.specs.Entry.{Message, puts, drops, clears}

@@ -1,30 +1,23 @@
 -- The entries that decide a path are as many as the rows of a sound tree's table.
 -- Relies on the laws of tables and of sound trees (laws: RowsRising, LookupTable, Filter; reading: Seek, SeekHere) and on KeepLaws.
-use Prim.Native.Nat.{ℕ, _+_, _<_}
-use mathlib.Core.Path.{_≡_, refl, sym, ap, _∙_}
-use mathlib.Core.List.{List, [], _∷_, _++_}
-use mathlib.Core.Bool.{Bool, true, false, _&&_, cond, false≢true, and-true}
-use mathlib.Core.Option.{Option, none, some}
-use native.Mathlib.Omega.{arith}
-use lib.ListN.{length, drop, length-append}
-use lib.Seq.{drop-append-seam, drop-append-add}
-use Rattle.image.specs.Bytes.{same, begins, shared}
+use Rattle.image.specs.Prelude.{ℕ, _+_, _<_, _≡_, refl, sym, ap, _∙_, List, [], _∷_, _++_, Bool, true, false, _&&_, cond, Option, none, some, arith, length, drop, length-append, drop-append-seam, drop-append-add}
+use Rattle.image.specs.Bytes.{begins, shared}
 use Rattle.image.specs.Path.{wellFormed, owns}
 use Rattle.image.specs.Entry.{Message, puts, drops, clears}
 use Rattle.image.specs.Table.{Row, find, isSome, withRow, underPrefix, everyKey, rising}
 use Rattle.image.specs.Image.{Tree, unread, leaf, interior, Forest, end, tree}
 use Rattle.image.specs.Meaning.{saysOf, newest, highOf, apply, applyAll, rows, rowsIn}
 use Rattle.image.specs.Sound.{soundTree, soundForest, soundMessage, soundMessages}
-use Rattle.octets.specs.Order.{and-left, and-right, not-so, same-eq, same-refl, shared-append}
+use Rattle.octets.specs.Order.{and-left, and-right, not-so, same-refl, shared-append}
 use Rattle.laws.specs.Tables.{find-fails}
 use Rattle.laws.specs.RowsRising.{every-key, rising-apply, rows-rise-in}
 use Rattle.laws.specs.LookupTable.{parts, inner, outside-in}
 use Rattle.laws.specs.Filter.{keep, keep-append, keep-all, keep-passes}
 use Rattle.laws.specs.Reading.Relative.{lifts}
 use Rattle.laws.specs.Reading.SeekHere.{high-split, high-under}
-use Rattle.laws.specs.Reading.Seek.{every, holds, keys, keys-hold, isKey, present, stands}
+use Rattle.laws.specs.Reading.Seek.{holds, keys, keys-hold, present, stands, key-passes}
 use Rattle.live_count.specs.Live.{holdsNoMessage, one, short, Shortens, countRows, countPuts, liveHere, liveBranches}
-use Rattle.live_count.specs.KeepLaws.{keep-ext, with-length, added, quiet-put, quiet-newer, message-keep, owned-apply, all-begin}
+use Rattle.live_count.specs.KeepLaws.{keep-ext, with-length, added, quiet-put, message-keep, owned-apply, all-begin, newest-nil, newest-cons}
 
 keep-length : (test : List ℕ → Bool) (r : Row) (t : List Row) → length (keep test (r ∷ t)) ≡ one (test (r .key)) + length (keep test t)
 unfolding keep one
@@ -86,11 +79,8 @@ pub messages-count : (ok : List ℕ → Bool) (lo hi : List ℕ) (ms : List Mess
     ≡ countPuts ok (shared lo hi) ms + length (keep (λ q. ok q && holdsNoMessage (newest ms (drop (length (shared lo hi)) q))) t)
 unfolding applyAll soundMessages
 messages-count ok lo hi [] t h e o =
-    ap length (keep-ext ok _ (owns lo hi) t o (λ q n. nil-quiet q)) ∙ no-puts (length (keep (λ q. ok q && holdsNoMessage (newest [] (drop (length (shared lo hi)) q))) t))
+    ap length (keep-ext ok _ (owns lo hi) t o (λ q n. newest-nil (ok q) (drop (length (shared lo hi)) q))) ∙ no-puts (length (keep (λ q. ok q && holdsNoMessage (newest [] (drop (length (shared lo hi)) q))) t))
   where
-    nil-quiet : (q : List ℕ) → ok q ≡ ok q && holdsNoMessage (newest [] (drop (length (shared lo hi)) q))
-    nil-quiet q = unfold holdsNoMessage newest in sym (and-true (ok q))
-
     no-puts : (n : ℕ) → n ≡ countPuts ok (shared lo hi) [] + n
     no-puts n = unfold countPuts in omega arith
 messages-count ok lo hi (m ∷ ms) t h e o =
@@ -104,13 +94,9 @@ messages-count ok lo hi (m ∷ ms) t h e o =
     = message-count (λ q. ok q && holdsNoMessage (newest ms (drop (length prefix) q))) prefix m t e (all-begin lo hi t o) in
     let c : length (keep (λ q. ok q && holdsNoMessage (newest ms (drop (length prefix) q)) && holdsNoMessage (saysOf m (drop (length prefix) q))) t)
     ≡ length (keep (λ q. ok q && holdsNoMessage (newest (m ∷ ms) (drop (length prefix) q))) t)
-    = ap length (keep-ext _ _ (owns lo hi) t o (λ q n. newest-cons q)) in
+    = ap length (keep-ext _ _ (owns lo hi) t o (λ q n. newest-cons (ok q) m ms (drop (length prefix) q))) in
     let d = puts-cons ok prefix m ms in
     omega arith
-  where
-    newest-cons : (q : List ℕ) → ok q && holdsNoMessage (newest ms (drop (length (shared lo hi)) q)) && holdsNoMessage (saysOf m (drop (length (shared lo hi)) q))
-        ≡ ok q && holdsNoMessage (newest (m ∷ ms) (drop (length (shared lo hi)) q))
-    newest-cons q = unfold newest in quiet-newer (ok q) (saysOf m (drop (length (shared lo hi)) q)) (newest ms (drop (length (shared lo hi)) q))
 
 rows-count : (ok : List ℕ → Bool) (prefix : List ℕ) (rs : List Row) → countRows ok prefix rs ≡ length (keep ok (underPrefix prefix rs))
 unfolding countRows underPrefix
@@ -160,15 +146,6 @@ mutual
       rw (high-under prefix hi f) (omega arith)
 
 -- every key of a sound tree is short
-key-passes : (test : List ℕ → Bool) (k : List ℕ) (ks : List (List ℕ)) → every test ks ≡ true → isKey k ks ≡ true → test k ≡ true
-unfolding every isKey
-key-passes test k [] e f = absurd (false≢true f)
-key-passes test k (m ∷ ks) e f = go (same k m) refl (key-passes test k ks (and-right (test m) _ e))
-  where
-    go : (x : Bool) → same k m ≡ x → (isKey k ks ≡ true → test k ≡ true) → test k ≡ true
-    go true s ih = rw (same-eq k m s) (and-left _ _ e)
-    go false s ih = ih (rw s at f)
-
 short-formed : (lo hi q : List ℕ) → holds lo hi q ≡ true → short q ≡ true
 unfolding holds wellFormed short
 short-formed lo hi q h = and-left _ _ (and-left _ _ h)
@@ -182,7 +159,7 @@ all-short t lo hi e = every-key short (rows t lo hi) (λ q n. go q n (find q (ro
     go : (q : List ℕ) → short q ≡ false → (x : Option (List ℕ)) → find q (rows t lo hi) ≡ x → find q (rows t lo hi) ≡ none
     go q n none f = f
     go q n (some v) f =
-        not-so (short-formed lo hi q (key-passes (holds lo hi) q (keys t lo hi) (keys-hold t lo hi e) (stands t lo hi q (there q v f)))) n
+        not-so (short-formed lo hi q (key-passes (holds lo hi) q (keys t lo hi) (stands t lo hi q (there q v f)) (keys-hold t lo hi e))) n
 
 -- from the root, where nothing is lifted: the length of the table
 pub live-root : (t : Tree) (hi : List ℕ) → soundTree t [] hi ≡ true → liveHere t short [] hi ≡ length (rows t [] hi)

@@ -1,16 +1,11 @@
 -- Step lemmas of the walk's two functions that call each other: what each exit owes, and what each call asks.
 -- Relies on WalkLaws and on the definitions of Walk.
-use Prim.Native.Nat.{ℕ, _+_, _-_, _*_, _<_, _≤_}
-use mathlib.Core.Path.{_≡_, refl, sym, ap, ap₂, _∙_}
-use mathlib.Core.List.{List, [], _∷_, _++_}
-use mathlib.Core.Bool.{Bool, true, _&&_}
-use native.Mathlib.Omega.{arith}
-use lib.ListN.{length, take, drop}
-use Rattle.image.specs.Bytes.{u16, shared}
+use Rattle.image.specs.Prelude.{ℕ, _+_, _-_, _<_, _≤_, _≡_, refl, sym, ap, ap₂, _∙_, List, [], _∷_, _++_, Bool, true, _&&_, arith, length, take, drop}
+use Rattle.image.specs.Bytes.{shared}
 use Rattle.image.specs.Image.{Tree, Branch, nodesOf, forestOf, treeAt}
 use Rattle.octets.specs.Cap.{cap, cap-small, cap-add}
 use Rattle.laws.specs.Reading.Relative.{lifts, usable, usableIn, first-usable}
-use Rattle.node.specs.Places.{part}
+use Rattle.node.specs.Places.{part, cursorOf}
 use Rattle.node.specs.Entries.{listed}
 use Rattle.node.specs.declared.Place.{Place}
 use Rattle.node.specs.declared.Cursor.{Cursor}
@@ -50,17 +45,17 @@ module _ (s : List ℕ) (level num : ℕ) (p : PathBuffer) (t : Trail) (ready : 
     whole-is : liveHere (treeAt level s num) (passing s t) (pathIn here) (drop k hi) ≡ Whole
     whole-is = ap₂ (λ prefix h. liveHere (treeAt level s num) (passing s t) prefix h) eh rest-is
 
-    module _ (len own : ℕ) (el : len ≡ u16 s (num * 1024)) (eo : own ≡ countAmong (passing s t) (pathIn here) (listed s (num * 1024 + 8) (num * 1024 + 8 + len))) where
+    module _ (entries : Cursor) (own : ℕ) (ee : entries ≡ cursorOf s num) (eo : own ≡ countAmong (passing s t) (pathIn here) (listed s (entries .at) (entries .end))) where
       own-is : own ≡ countAmong (passing s t) (pathIn here) (listing s num)
-      own-is = eo ∙ ap (λ n. countAmong (passing s t) (pathIn here) (listed s (num * 1024 + 8) (num * 1024 + 8 + n))) el
+      own-is = eo ∙ ap (λ x. countAmong (passing s t) (pathIn here) (listed s (x .at) (x .end))) ee
 
       pub node-leaf : level ≤ 1 → own ≤ 65535 → own ≡ cap Whole
       node-leaf l h = sym (cap-small own h) ∙ ap cap (own-is ∙ leaf-counts s num level (ready .reads) l (passing s t) (pathIn here) (drop k hi) ∙ whole-is)
 
-      branches-are : (ks : List Branch) → branchesAmong (listed s (num * 1024 + 8) (num * 1024 + 8 + len)) ≡ ks → branchesAmong (listing s num) ≡ ks
-      branches-are ks e = ap (λ n. branchesAmong (listed s (num * 1024 + 8) (num * 1024 + 8 + n))) (sym el) ∙ e
+      branches-are : (ks : List Branch) → branchesAmong (listed s (entries .at) (entries .end)) ≡ ks → branchesAmong (listing s num) ≡ ks
+      branches-are ks e = ap (λ x. branchesAmong (listed s (x .at) (x .end))) (sym ee) ∙ e
 
-      pub node-bare : 2 ≤ level → own ≤ 65535 → branchesAmong (listed s (num * 1024 + 8) (num * 1024 + 8 + len)) ≡ [] → own ≡ cap Whole
+      pub node-bare : 2 ≤ level → own ≤ 65535 → branchesAmong (listed s (entries .at) (entries .end)) ≡ [] → own ≡ cap Whole
       node-bare l h e =
           let more : List ℕ → Bool = λ q. passing s t q && holdsNoMessage (newestAmong (listing s num) (drop (length (pathIn here)) q)) in
           let a : countAmong (passing s t) (pathIn here) (listing s num) + liveBranches (forestOf (λ j. treeAt (level - 1) s j) (branchesAmong (listing s num))) more (pathIn here) (drop k hi)
@@ -74,7 +69,7 @@ module _ (s : List ℕ) (level num : ℕ) (p : PathBuffer) (t : Trail) (ready : 
 
       -- the children, from the first on
       module _ (two : 2 ≤ level) (first : ℕ) (pivot : Place) (next : Cursor)
-          (nc : NextChild s (num * 1024 + 8) (num * 1024 + 8 + len) first pivot next) where
+          (nc : NextChild s (entries .at) (entries .end) first pivot next) where
         abbrev branches : List Branch
         branches = branch first (part s pivot) ∷ branchesAmong (listed s (next .at) (next .end))
 

@@ -1,10 +1,6 @@
 -- What the count relies on and counts with: the keys of a leaf are its own, and the messages above a node are handed down as notes.
 -- Definitions only.
-use Prim.Native.Nat.{ℕ, zero, suc, _<_, _≤_}
-use mathlib.Core.Path.{_≡_}
-use mathlib.Core.List.{List, [], _∷_, _++_}
-use mathlib.Core.Bool.{Bool, true, false, _&&_}
-use lib.ListN.{length, drop, getD}
+use Rattle.image.specs.Prelude.{ℕ, zero, suc, _<_, _≤_, _≡_, List, [], _∷_, _++_, Bool, true, false, _&&_, length, drop, getD}
 use Rattle.image.specs.Bytes.{shared}
 use Rattle.image.specs.Path.{owns}
 use Rattle.image.specs.Entry as defined

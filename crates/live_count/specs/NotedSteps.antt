@@ -1,14 +1,7 @@
 -- Step lemmas of the count by notes that are handed down, and that the tree stays sound on the way down.
 -- Relies on the definitions of Noted, on the contracts of notes, and on the laws of sound trees (laws: LookupTable; reading: SeekHere).
-use Prim.Native.Nat.{ℕ, zero, suc, _+_, _-_, _*_, _<_, _≤_}
-use mathlib.Core.Path.{_≡_, refl, sym, ap, ap₂, _∙_}
-use mathlib.Core.List.{List, [], _∷_, _++_, append-assoc}
-use mathlib.Core.Bool.{Bool, true, false, _&&_, not, true≢false, false≢true, and-true}
-use mathlib.Core.Option.{Option, none, some}
-use native.Mathlib.Omega.{arith}
-use lib.ListN.{length, take, drop, getD, length-append}
-use lib.Seq.{drop-append-le, drop-at}
-use Rattle.image.specs.Bytes.{u16, shared}
+use Rattle.image.specs.Prelude.{ℕ, zero, suc, _+_, _-_, _<_, _≤_, _≡_, refl, sym, ap, ap₂, _∙_, List, [], _∷_, _++_, append-assoc, Bool, true, false, _&&_, not, true≢false, false≢true, and-true, Option, none, some, arith, length, take, drop, getD, length-append, drop-append-le, drop-at}
+use Rattle.image.specs.Bytes.{shared}
 use Rattle.image.specs.Path.{wellFormed, owns}
 use Rattle.image.specs.Entry as defined
 use Rattle.image.specs.Table.{Row, everyKey, underPrefix}
@@ -22,7 +15,7 @@ use Rattle.laws.specs.LookupTable.{parts, inner, inside-not, not-low, high-unde
 use Rattle.laws.specs.Filter.{leaf-rowed}
 use Rattle.laws.specs.Reading.Relative.{lifts, usable}
 use Rattle.node.specs.Cut.{cut, cut-drop}
-use Rattle.node.specs.Places.{part}
+use Rattle.node.specs.Places.{part, cursorOf}
 use Rattle.node.specs.Entries.{listed}
 use Rattle.node.specs.declared.Place.{Place}
 use Rattle.node.specs.declared.Cursor.{Cursor}
@@ -119,10 +112,10 @@ module _ (s lo hi nodes ls prefix : List ℕ) (d₀ : ℕ) where
     moved true false false = refl
     moved false a b = refl
 
-    pub trailing-on : (len : ℕ) (w after : List ℕ) (r : ℕ) → 0 < d → len ≡ u16 s (getD nodes (d - 1) 0 * 1024) → w ≡ drop (getD ls (d - 1) 0) prefix
-        → notes.Gathered s lo hi (λ k. notes.noneCovers (listed s (getD nodes (d - 1) 0 * 1024 + 8) (getD nodes (d - 1) 0 * 1024 + 8 + len)) (w ++ k)) ns n after r
+    pub trailing-on : (entries : Cursor) (w after : List ℕ) (r : ℕ) → 0 < d → entries ≡ cursorOf s (getD nodes (d - 1) 0) → w ≡ drop (getD ls (d - 1) 0) prefix
+        → notes.Gathered s lo hi (λ k. notes.noneCovers (listed s (entries .at) (entries .end)) (w ++ k)) ns n after r
         → r ≤ 64 → Trailing s lo hi nodes ls prefix d₀ after r (d - 1)
-    trailing-on len w after r h el ew g l =
+    trailing-on entries w after r h ee ew g l =
         record {
           few = l;
           fits = g .fits l;
@@ -133,10 +126,10 @@ module _ (s lo hi nodes ls prefix : List ℕ) (d₀ : ℕ) where
               ∙ inv .tells k o;
         }
       where
-        here : (k : List ℕ) → notes.quiet s ns n k && notes.noneCovers (listed s (getD nodes (d - 1) 0 * 1024 + 8) (getD nodes (d - 1) 0 * 1024 + 8 + len)) (w ++ k)
+        here : (k : List ℕ) → notes.quiet s ns n k && notes.noneCovers (listed s (entries .at) (entries .end)) (w ++ k)
             ≡ notes.quiet s ns n k && notes.noneCovers (listing s (getD nodes (d - 1) 0)) (drop (getD ls (d - 1) 0) prefix ++ k)
         here k =
-            ap₂ (λ e v. notes.quiet s ns n k && notes.noneCovers (listed s (getD nodes (d - 1) 0 * 1024 + 8) (getD nodes (d - 1) 0 * 1024 + 8 + e)) (v ++ k)) el ew
+            ap₂ (λ x v. notes.quiet s ns n k && notes.noneCovers (listed s (x .at) (x .end)) (v ++ k)) ee ew
 
 -- the prefix without its first bytes, as a part is made
 pub prefix-rest : (p : PathBuffer) (k : ℕ) → k ≤ p .len → take (p .len - k) (drop k (p .bytes)) ≡ drop k (pathIn p)
@@ -194,13 +187,13 @@ module _ (s : List ℕ) (num : ℕ) (lo hi ns : List ℕ) (n : ℕ) where
   pub joined-full : 64 < n → (after : List ℕ) → Joined s num lo hi ns n after 65
   joined-full h after = record { fits = λ l. absurd (omega arith); few = λ l. absurd (omega arith); told = λ l. absurd (omega arith) }
 
-  pub joined-own : (len : ℕ) (w after : List ℕ) (m : ℕ) → n ≤ 64 → len ≡ u16 s (num * 1024) → w ≡ []
-      → notes.Gathered s lo hi (λ k. notes.noneCovers (listed s (num * 1024 + 8) (num * 1024 + 8 + len)) (w ++ k)) ns n after m → Joined s num lo hi ns n after m
-  joined-own len w after m h el ew g =
+  pub joined-own : (entries : Cursor) (w after : List ℕ) (m : ℕ) → n ≤ 64 → entries ≡ cursorOf s num → w ≡ []
+      → notes.Gathered s lo hi (λ k. notes.noneCovers (listed s (entries .at) (entries .end)) (w ++ k)) ns n after m → Joined s num lo hi ns n after m
+  joined-own entries w after m h ee ew g =
       record {
         fits = g .fits;
         few = λ l. h;
-        told = λ l k o. g .tells l k o ∙ ap₂ (λ e v. notes.quiet s ns n k && notes.noneCovers (listed s (num * 1024 + 8) (num * 1024 + 8 + e)) (v ++ k)) el ew;
+        told = λ l k o. g .tells l k o ∙ ap₂ (λ x v. notes.quiet s ns n k && notes.noneCovers (listed s (x .at) (x .end)) (v ++ k)) ee ew;
       }
 
   pub told-joined : (here : PathBuffer) (t r : Trail) (after : List ℕ) (m : ℕ) → here .len ≤ length (here .bytes) → Deeper s num (here .len) t r
@@ -340,9 +333,12 @@ module _ (p : PathBuffer) (lo hi : List ℕ) (k : ℕ) (ek : k ≡ length (share
       ap (λ l. pathIn p ++ l) (sym a) ∙ sym (append-assoc (pathIn p) (shared lo hi) (drop k hi)) ∙ ap (λ l. l ++ drop k hi) (sym eh)
 
   module _ (s : List ℕ) (level num : ℕ) (u : usable (nodesOf (length s)) (treeAt level s num) ≡ true) (e : SoundNode s level num p lo hi)
-      (len : ℕ) (el : len ≡ u16 s (num * 1024)) where
+      (entries : Cursor) (ee : entries ≡ cursorOf s num) where
+    own-is : listed s (entries .at) (entries .end) ≡ listing s num
+    own-is = ap (λ x. listed s (x .at) (x .end)) ee
+
     -- the keys of a leaf are its own
-    leaf-keyed : level ≤ 1 → keyed (pathIn here) (take (length lo - k) (drop k lo)) (take (length hi - k) (drop k hi)) (listed s (num * 1024 + 8) (num * 1024 + 8 + len)) ≡ true
+    leaf-keyed : level ≤ 1 → keyed (pathIn here) (take (length lo - k) (drop k lo)) (take (length hi - k) (drop k hi)) (listed s (entries .at) (entries .end)) ≡ true
     leaf-keyed l =
         let n = leaf-at s num level l u in
         let a : soundTree (leaf num (n .rs)) (pathIn p ++ lo) (pathIn p ++ hi) ≡ true = ap (λ t. soundTree t (pathIn p ++ lo) (pathIn p ++ hi)) (sym (n .tree)) ∙ e in
@@ -351,17 +347,17 @@ module _ (p : PathBuffer) (lo hi : List ℕ) (k : ℕ) (ek : k ≡ length (share
         = ap₂ (λ x y. everyKey (owns x y) (underPrefix (pathIn here) (n .rs))) (sym low-is) (sym high-is)
         ∙ ap (λ x. everyKey (owns (pathIn p ++ lo) (pathIn p ++ hi)) (underPrefix x (n .rs))) (sym lifted-is) ∙ r .owned in
         let f : everyKey wellFormed (underPrefix (pathIn here) (n .rs)) ≡ true = ap (λ x. everyKey wellFormed (underPrefix x (n .rs))) (sym lifted-is) ∙ r .formed in
-        let g : listed s (num * 1024 + 8) (num * 1024 + 8 + len) ≡ n .es = ap (λ m. listed s (num * 1024 + 8) (num * 1024 + 8 + m)) el ∙ n .node .lists in
+        let g : listed s (entries .at) (entries .end) ≡ n .es = own-is ∙ n .node .lists in
         ap (λ es. keyed (pathIn here) (take (length lo - k) (drop k lo)) (take (length hi - k) (drop k hi)) es) g
         ∙ ap₂ (λ x y. keyed (pathIn here) x y (n .es)) (part-rest k lo) (part-rest k hi)
         ∙ pairs-keyed (pathIn here) (drop k lo) (drop k hi) (n .es) (n .rs) (n .pairs) o f
 
     pub leaf-told : level ≤ 1 → (t : Trail) (ns : List ℕ) (n : ℕ) → Tells s t (pathIn here) (take (length lo - k) (drop k lo)) (take (length hi - k) (drop k hi)) ns n
-        → LeafTold s t (pathIn here) (listed s (num * 1024 + 8) (num * 1024 + 8 + len)) ns n
+        → LeafTold s t (pathIn here) (listed s (entries .at) (entries .end)) ns n
     leaf-told l t ns n h = record { lo = take (length lo - k) (drop k lo); hi = take (length hi - k) (drop k hi); keys = leaf-keyed l; tells = h }
 
     -- the children of an interior node
-    pub branches-sound : 2 ≤ level → (first : ℕ) (pivot : Place) (next : Cursor) → NextChild s (num * 1024 + 8) (num * 1024 + 8 + len) first pivot next
+    pub branches-sound : 2 ≤ level → (first : ℕ) (pivot : Place) (next : Cursor) → NextChild s (entries .at) (entries .end) first pivot next
         → (t : Trail) (ns : List ℕ) (m : ℕ) → Tells s t (pathIn here) (take (length lo - k) (drop k lo)) (take (length hi - k) (drop k hi)) ns m
         → SoundBranches s (level - 1) first pivot next here (take (length hi - k) (drop k hi)) t ns m
     branches-sound l first pivot next nc t ns m h =
@@ -370,7 +366,7 @@ module _ (p : PathBuffer) (lo hi : List ℕ) (k : ℕ) (ek : k ≡ length (share
         let a : soundTree (interior num (forestOf (λ j. treeAt (level - 1) s j) (n .x .branches)) (n .x .messages)) (pathIn p ++ lo) (pathIn p ++ hi) ≡ true
         = ap (λ t. soundTree t (pathIn p ++ lo) (pathIn p ++ hi)) (sym (n .tree)) ∙ e in
         let b = inner num (forestOf (λ j. treeAt (level - 1) s j) (n .x .branches)) (n .x .messages) (pathIn p ++ lo) (pathIn p ++ hi) a in
-        let g : listed s (num * 1024 + 8) (num * 1024 + 8 + len) ≡ n .es = ap (λ m. listed s (num * 1024 + 8) (num * 1024 + 8 + m)) el ∙ n .node .lists in
+        let g : listed s (entries .at) (entries .end) ≡ n .es = own-is ∙ n .node .lists in
         let c : branch first (part s pivot) ∷ branchesAmong (listed s (next .at) (next .end)) ≡ n .x .branches = sym (nc .lists) ∙ ap (λ es. branchesAmong es) g ∙ q .branches in
         record {
           low = take (length lo - k) (drop k lo);

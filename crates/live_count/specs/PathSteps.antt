@@ -1,11 +1,5 @@
 -- The steps of the copy into a path buffer.
-use Prim.Native.Nat.{ℕ, _+_, _<_, _≤_}
-use mathlib.Core.Path.{_≡_, sym, ap, _∙_}
-use mathlib.Core.List.{List, _++_}
-use native.Mathlib.Omega.{arith}
-use native.Mathlib.Numerals.{add-one}
-use lib.ListN.{length, take, set, getD}
-use lib.Seq.{paste, paste-suc, take-paste, take-length, length-take-le}
+use Rattle.image.specs.Prelude.{ℕ, _+_, _<_, _≤_, _≡_, sym, ap, _∙_, List, _++_, arith, length, take, set, getD, paste, paste-suc, take-paste, take-length, length-take-le, add-one}
 use Rattle.node.specs.declared.PathBuffer.{PathBuffer}
 use Rattle.live_count.specs.PathBuffers.{pathIn}
 

@@ -1,11 +1,6 @@
 -- Step lemmas of the count from the root: what the first call asks, and that its answer is the length of the table.
 -- Relies on `Countable` (Walk), on live-root (LiveLaws), and on the bytes of the header (lookup: Root).
-use Prim.Native.Nat.{ℕ, _≤_}
-use mathlib.Core.Path.{_≡_, refl, sym, ap, ap₂, _∙_}
-use mathlib.Core.List.{List, [], _++_}
-use mathlib.Core.Bool.{true}
-use native.Mathlib.Omega.{arith}
-use lib.ListN.{length, take, drop}
+use Rattle.image.specs.Prelude.{ℕ, _≤_, _≡_, refl, sym, ap, ap₂, _∙_, List, [], _++_, true, arith, length, take, drop}
 use Rattle.image.specs.Bytes.{u16, shared}
 use Rattle.image.specs.Image.{Tree, nodesOf, header, headerOf, treeAt, treeOf}
 use Rattle.image.specs.Sound.{lowest, highest, tableOf}

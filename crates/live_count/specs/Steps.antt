@@ -1,22 +1,12 @@
 -- Step lemmas of the functions that look at one entry: what each exit of the code owes, over plain lists and numbers.
 -- Relies on the definitions of Walk and on the contracts of node and search.
-use Prim.Native.Nat.{ℕ, zero, suc, _+_, _-_, _*_, _<_, _≤_}
-use mathlib.Core.Path.{_≡_, refl, sym, ap, _∙_}
-use mathlib.Core.List.{List, [], _∷_, _++_}
-use mathlib.Core.Bool.{Bool, true, false, _&&_, not, true≢false, and-true}
-use native.Mathlib.Omega.{arith}
-use native.Mathlib.Numerals.{add-one}
-use lib.ListN.{length, take, drop, getD, set, length-append}
-use lib.Seq.{getD-set-same, getD-set-other}
-use lib.Dec.{leb}
-use borrow.Author.Tests.{le-leb, lt-leb, leb-true, leb-false, not-true, not-false}
-use Rattle.image.specs.Bytes.{u16}
-use Rattle.image.specs.Path.{pathLimit}
+use Rattle.image.specs.Prelude.{ℕ, zero, suc, _+_, _-_, _<_, _≤_, _≡_, refl, sym, ap, _∙_, List, [], _∷_, _++_, Bool, true, false, _&&_, not, true≢false, and-true, arith, length, take, drop, getD, set, length-append, getD-set-same, getD-set-other, leb, le-leb, lt-leb, leb-true, leb-false, not-true, not-false, add-one}
 use Rattle.image.specs.Entry as defined
 use Rattle.octets.specs.Order.{and-false}
-use Rattle.node.specs.Places.{part, entryIn, messageIn}
+use Rattle.node.specs.Places.{part, entryIn, messageIn, cursorOf}
 use Rattle.node.specs.Entries.{listed}
 use Rattle.node.specs.declared.Place.{Place}
+use Rattle.node.specs.declared.Cursor.{Cursor}
 use Rattle.node.specs.declared.Message.{Message}
 use Rattle.node.specs.declared.Entry.{Entry}
 use Rattle.node.specs.Search.Latest.{entrySays, newestAmong, newer-nothing}
@@ -29,9 +19,9 @@ use Rattle.node.specs.declared.PathBuffer.{PathBuffer}
 use Rattle.live_count.specs.declared.visibility.Trail.{Trail}
 use Rattle.live_count.specs.Walk.{passes, passing, TrailIn, Above, Deeper, pushed, decides, countAmong}
 
-pub node-uncovered : (s : List ℕ) (num len : ℕ) (rest : List ℕ) (r : Bool) → len ≡ u16 s (num * 1024)
-    → r ≡ holdsNoMessage (newestAmong (listed s (num * 1024 + 8) (num * 1024 + 8 + len)) rest) → r ≡ holdsNoMessage (newestAmong (listing s num) rest)
-node-uncovered s num len rest r e h = h ∙ ap (λ n. holdsNoMessage (newestAmong (listed s (num * 1024 + 8) (num * 1024 + 8 + n)) rest)) e
+pub node-uncovered : (s : List ℕ) (num : ℕ) (entries : Cursor) (rest : List ℕ) (r : Bool) → entries ≡ cursorOf s num
+    → r ≡ holdsNoMessage (newestAmong (listed s (entries .at) (entries .end)) rest) → r ≡ holdsNoMessage (newestAmong (listing s num) rest)
+node-uncovered s num entries rest r e h = h ∙ ap (λ x. holdsNoMessage (newestAmong (listed s (x .at) (x .end)) rest)) e
 
 -- the trail, from its last node up
 module _ (s nodes lifts : List ℕ) (q : List ℕ) where
@@ -56,13 +46,13 @@ module _ (s nodes lifts : List ℕ) (q : List ℕ) where
   trail-quiet d r answer h inv e n = inv ∙ passes-step d h ∙ ap (λ x. passes s nodes lifts (d - 1) q && x) (latest-at d r e ∙ not-false r n) ∙ and-true (passes s nodes lifts (d - 1) q)
 
   pub trail-over : (d : ℕ) (answer : Bool) → d ≤ 0 → length q ≤ 64 → answer ≡ passes s nodes lifts d q → true ≡ answer
-  unfolding passes short pathLimit
+  unfolding passes short
   trail-over zero answer h l inv = sym (inv ∙ le-leb (length q) 64 l)
   trail-over (suc d) answer h l inv = absurd (omega arith)
 
 -- a path that is too long passes no trail
 long-fails : (s nodes lifts : List ℕ) (d : ℕ) (q : List ℕ) → 64 < length q → passes s nodes lifts d q ≡ false
-unfolding passes short pathLimit
+unfolding passes short
 long-fails s nodes lifts zero q h = lt-leb (length q) 64 h
 long-fails s nodes lifts (suc d) q h = rw (long-fails s nodes lifts d q h)
 
@@ -83,7 +73,7 @@ module _ (s : List ℕ) (p : PathBuffer) (t : Trail) (key : List ℕ) (h : p .le
   key-long l = sym (long-fails s (t .nodes) (t .lifts) (t .depth) (pathIn p ++ key) (let e = full-length in omega arith))
 
   pub key-free : p .len + length key ≤ 64 → t .depth ≡ 0 → true ≡ passing s t (pathIn p ++ key)
-  unfolding passes short pathLimit
+  unfolding passes short
   key-free l z =
       let e = full-length in
       sym (ap (λ d. passes s (t .nodes) (t .lifts) d (pathIn p ++ key)) z ∙ le-leb (length (pathIn p ++ key)) 64 (omega arith))
@@ -156,9 +146,9 @@ no-message (defined.message m ∷ es) r h = absurd (true≢false h)
 
 -- the trail for a node's children
 module _ (s : List ℕ) (num lift : ℕ) (t : Trail) (fit : TrailIn s lift t) (few : t .depth < 8) where
-  pub same-trail : (len : ℕ) (b : Bool) → len ≡ u16 s (num * 1024) → b ≡ hasMessage (listed s (num * 1024 + 8) (num * 1024 + 8 + len)) → not b ≡ true → Deeper s num lift t t
-  same-trail len b e h n =
-      let f : hasMessage (listing s num) ≡ false = ap (λ k. hasMessage (listed s (num * 1024 + 8) (num * 1024 + 8 + k))) (sym e) ∙ sym h ∙ not-true b n in
+  pub same-trail : (entries : Cursor) (b : Bool) → entries ≡ cursorOf s num → b ≡ hasMessage (listed s (entries .at) (entries .end)) → not b ≡ true → Deeper s num lift t t
+  same-trail entries b e h n =
+      let f : hasMessage (listing s num) ≡ false = ap (λ x. hasMessage (listed s (x .at) (x .end))) (sym e) ∙ sym h ∙ not-true b n in
       record { test = λ q. joined (passing s t q) (holdsNoMessage (newestAmong (listing s num) (drop lift q))) (no-message (listing s num) (drop lift q) f); fits = fit; depth = omega arith }
     where
       joined : (x y : Bool) → y ≡ true → x ≡ x && y

@@ -1,9 +1,5 @@
 -- What the code of the walk carries down, and the count of a node's own entries, as the readers list them. Definitions only.
-use Prim.Native.Nat.{ℕ, zero, suc, _+_, _*_, _<_, _≤_}
-use mathlib.Core.Path.{_≡_}
-use mathlib.Core.List.{List, [], _∷_, _++_}
-use mathlib.Core.Bool.{Bool, true, false, _&&_}
-use lib.ListN.{length, drop, getD, set}
+use Rattle.image.specs.Prelude.{ℕ, zero, suc, _+_, _*_, _<_, _≤_, _≡_, List, [], _∷_, _++_, Bool, true, false, _&&_, length, drop, getD, set}
 use Rattle.image.specs.Bytes.{u16}
 use Rattle.image.specs.Entry as defined
 use Rattle.image.specs.Image.{headerOf, treeOf, treeAt, nodesOf, forestOf}

@@ -7,16 +7,12 @@ pub mod visibility;
 
 use node::Cursor;
 use node::PathBuffer;
-use node::Place;
 use node::Step;
 use node::search::Pending;
 use node::search::Run;
 use visibility::Trail;
-ghost use mathlib.Core.Path.{_≡_};
-ghost use mathlib.Core.List.{_++_, _∷_};
-ghost use Prim.Native.Nat.{_+_, _*_, _<_, _≤_};
-ghost use lib.ListN.{length, drop};
-ghost use Rattle.image.specs.Bytes.{shared, u16};
+ghost use Rattle.image.specs.Prelude.{_≡_, _++_, _∷_, _+_, _<_, _≤_, length, drop};
+ghost use Rattle.image.specs.Bytes.{shared};
 ghost use Rattle.image.specs.Image.{treeAt, forestOf};
 ghost use Rattle.image.specs.Sound.{tableOf};
 ghost use Rattle.octets.specs.Cap.{cap};
@@ -24,7 +20,7 @@ ghost use Rattle.laws.specs.Reading.Relative.{lifts};
 ghost use Rattle.node.specs.Places.{part};
 ghost use Rattle.node.specs.Entries.{listed};
 ghost use Rattle.node.specs.Search.Own.{branch, branchesAmong};
-ghost use Rattle.node.specs.Whole.{HasNode};
+ghost use Rattle.node.specs.Whole.{HasEntries};
 ghost use Rattle.live_count.specs.Notes.Notes.{NotesFit, Gathered};
 ghost use Rattle.live_count.specs.Noted.{quietTrail, Tells, Handed, Arrived, Joined, LeafTold, SoundNode, SoundBranches};
 ghost use Rattle.live_count.specs.Live.{one, liveHere, liveBranches};
@@ -108,11 +104,7 @@ fn note_trail(
         d -= 1;
         let num = nodes[d];
         let k = lifts[d];
-        let at = num * image::NODE_SIZE;
-        let len = node::header::read_length(store, at);
-        let from = at + image::ENTRIES_AT;
-        let end = from + len;
-        let c = Cursor { at: from, end };
+        let c = node::entries_of(store, num);
         n = notes::note_entries(store, c, &bytes[k..stop], lo, hi, notes, n);
         if 64 < n {
             return 65;
@@ -188,17 +180,14 @@ pub fn arrive(
 
 // A node's own messages that can be on a key from lo up to hi, noted after the n notes that it was handed. Gives how many there are then.
 fn note_own(store: &[u8], num: usize, lo: &[u8], hi: &[u8], notes: &mut [usize], n: usize) -> usize
-    requires { ⌜ HasNode (now store) num × (u16 (now store) (num * 1024) ≤ 1016) × (n ≤ 64 → NotesFit (now store) (now notes) n) ⌝ }
+    requires { ⌜ HasEntries (now store) num × (n ≤ 64 → NotesFit (now store) (now notes) n) ⌝ }
     ensures { λ r. ⌜ Joined (now (store .entry)) num (now (lo .entry)) (now (hi .entry)) (now (notes .entry)) n (now (notes .exit)) r ⌝ }
 {
     if 64 < n {
         return 65;
     }
-    let at = num * image::NODE_SIZE;
-    let len = node::header::read_length(store, at);
-    let from = at + image::ENTRIES_AT;
-    let end = from + len;
-    notes::note_entries(store, Cursor { at: from, end }, &lo[0..0], lo, hi, notes, n)
+    let c = node::entries_of(store, num);
+    notes::note_entries(store, c, &lo[0..0], lo, hi, notes, n)
 }
 
 // How many pairs of a leaf no node of the trail has a message on: each pair is held against the notes alone, and where these had no room,
@@ -274,24 +263,20 @@ pub fn count_node(store: &[u8], node: Visit, lo: &[u8], hi: &[u8], above: &[usiz
     }
     let k = arrival.lifted;
     let here = arrival.position;
-    let at = num * image::NODE_SIZE;
-    let len = node::header::read_length(store, at);
-    let from = at + image::ENTRIES_AT;
-    let end = from + len;
+    let c = node::entries_of(store, num);
     if level <= 1 {
         return count_leaf(
             store,
-            from,
-            end,
+            c.at,
+            c.end,
             here.prefix,
             here.trail,
             &notes,
             here.noted,
         );
     }
-    let own = count_entries(store, from, end, here.prefix, here.trail);
-    let Pending::Child(first, low, rest) = node::search::read_child(store, Cursor { at: from, end })
-    else {
+    let own = count_entries(store, c.at, c.end, here.prefix, here.trail);
+    let Pending::Child(first, low, rest) = node::search::read_child(store, c) else {
         return own;
     };
     let position = enter(store, num, here, &lo[k..], &hi[k..], &mut notes);

@@ -1,10 +1,7 @@
 // The beginning of paths that a node lifts, in a buffer that is passed by value. A path is at most 64 bytes, and so is what the buffer holds: a
 // caller sees that there is room before it extends. Relies on node's PathBuffer.
 use node::PathBuffer;
-ghost use mathlib.Core.Path.{_≡_};
-ghost use mathlib.Core.List.{_++_};
-ghost use Prim.Native.Nat.{_+_, _≤_};
-ghost use lib.ListN.{length};
+ghost use Rattle.image.specs.Prelude.{_≡_, _++_, _+_, _≤_, length};
 ghost use Rattle.live_count.specs.PathBuffers.{pathIn};
 
 // The path followed by the bytes of s.

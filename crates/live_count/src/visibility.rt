@@ -7,10 +7,7 @@ use node::Message;
 use node::PathBuffer;
 use node::Split;
 use node::Step;
-ghost use mathlib.Core.Path.{_≡_};
-ghost use mathlib.Core.List.{_++_};
-ghost use Prim.Native.Nat.{_+_, _*_, _<_, _≤_};
-ghost use lib.ListN.{length};
+ghost use Rattle.image.specs.Prelude.{_≡_, _++_, _+_, _<_, _≤_, length};
 ghost use Rattle.image.specs.Entry.{message};
 ghost use Rattle.node.specs.Places.{EntryWithin, MessageWithin, entryIn, messageIn};
 ghost use Rattle.node.specs.Entries.{listed};
@@ -106,10 +103,8 @@ pub fn none_in_node_covers(store: &[u8], num: usize, rest: &[u8]) -> bool
     requires { ⌜ HasEntries (now store) num ⌝ }
     ensures { λ r. ⌜ r ≡ holdsNoMessage (newestAmong (listing (now (store .entry)) num) (now (rest .entry))) ⌝ }
 {
-    let at = num * image::NODE_SIZE;
-    let len = node::header::read_length(store, at);
-    let from = at + image::ENTRIES_AT;
-    none_covers(store, from, from + len, rest)
+    let c = node::entries_of(store, num);
+    none_covers(store, c.at, c.end, rest)
 }
 
 // Whether no node of the trail has a message on a path.
@@ -210,10 +205,8 @@ pub fn lengthen_trail(store: &[u8], trail: Trail, num: usize, lift: usize) -> Tr
     requires { ⌜ (trail .depth < 8) × TrailIn (now store) lift trail × Above (now store) lift num lift ⌝ }
     ensures { λ r. ⌜ Deeper (now (store .entry)) num lift trail r ⌝ }
 {
-    let at = num * image::NODE_SIZE;
-    let len = node::header::read_length(store, at);
-    let from = at + image::ENTRIES_AT;
-    if !node::search::has_messages(store, from, from + len) {
+    let c = node::entries_of(store, num);
+    if !node::search::has_messages(store, c.at, c.end) {
         return trail;
     }
     push(trail, num, lift)

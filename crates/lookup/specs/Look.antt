@@ -1,21 +1,11 @@
 -- What the readers of a node find there is what the tree under it answers.
-use Prim.Native.Nat.{ℕ, zero, suc, _+_, _-_, _*_, _/_, _<_, _≤_}
-use mathlib.Core.Path.{_≡_, refl, sym, ap, ap₂, subst, _∙_}
-use mathlib.Core.List.{List, [], _∷_, _++_}
-use mathlib.Core.Bool.{Bool, true, false, false≢true}
-use mathlib.Core.Option.{Option, none, some}
-use native.Mathlib.Omega.{arith}
-use native.Mathlib.Nat.{mul-div-le}
-use lib.ListN.{length, take, drop, length-append, length-drop}
-use lib.Seq.{take-all}
-use lib.Dec.{ltb}
-use borrow.Author.Tests.{ltb-true, leb-true}
+use Rattle.image.specs.Prelude.{ℕ, zero, suc, _+_, _-_, _*_, _/_, _<_, _≤_, _≡_, refl, sym, ap, ap₂, subst, _∙_, List, [], _∷_, _++_, Bool, true, false, false≢true, Option, none, some, arith, length, take, drop, length-append, length-drop, take-all, ltb, ltb-true, leb-true, mul-div-le}
 use Rattle.image.specs.Bytes.{u16, shared}
 use Rattle.image.specs.Path.{owns}
 use Rattle.image.specs.Entry as defined
 use Rattle.image.specs.Table.{Row, find}
 use Rattle.image.specs.Image.{Tree, unread, leaf, interior, Forest, tree, Branch, Inside, nodeBytes, nodesOf, laidOut, entryBytes, nodeEntries, pairThen, pairsOf, messageThen, messagesOf, noBranches, branchThen, insideOf, orNone, forestOf, leafOf, interiorOf, treeAt}
-use Rattle.image.specs.Meaning.{Said, nothing, says, newer, newest, decide}
+use Rattle.image.specs.Meaning.{Said, nothing, says, newest, decide}
 use Rattle.octets.specs.Order.{and-left, and-right}
 use Rattle.laws.specs.LookupTable.{split}
 use Rattle.laws.specs.Reading.Relative.{lifts, fromHere, fromBranches, branchHigh, high-at, usable, usableIn}
@@ -26,7 +16,7 @@ use Rattle.node.specs.declared.Place.{Place}
 use Rattle.node.specs.declared.search.Latest.{Latest}
 use Rattle.node.specs.declared.search.Found.{Found}
 use Rattle.node.specs.declared.search.Owner.{Owner}
-use Rattle.node.specs.Search.Latest.{latestIn, LatestFits, entrySays, newestAmong, LatestIs}
+use Rattle.node.specs.Search.Latest.{latestIn, LatestFits, entrySays, newestAmong, LatestIs, newer-nothing}
 use Rattle.node.specs.Search.Pairs.{foundIn, FoundFits, findAmong, Finds, nothing-is}
 use Rattle.node.specs.Search.Own.{branch, branchesAmong, Range, range, ownerOf, ownerIn, OwnerFits, Owned}
 
@@ -222,11 +212,6 @@ only-messages m es x h = go (messagesOf (defined.message m ∷ es)) refl
         let q : some (record { branches = []; messages = ms }) ≡ some x = unfold noBranches in rw e at h in
         let p : (record { branches = []; messages = ms }) ≡ x = cc in
         subst (Splits (defined.message m ∷ es)) p (record { branches = unfold branchesAmong in refl; newest = λ rest. messages-newest (defined.message m ∷ es) ms rest e })
-
-newer-nothing : (x : Said) → newer nothing x ≡ x
-unfolding newer
-newer-nothing nothing = refl
-newer-nothing (says v) = refl
 
 pub inside-splits : (es : List defined.Entry) (x : Inside) → insideOf es ≡ some x → Splits es x
 unfolding insideOf

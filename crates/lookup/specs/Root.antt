@@ -1,12 +1,5 @@
 -- The lookup from the root of a sound image.
-use borrow.Author.Tests.{lt-ltb}
-use Prim.Native.Nat.{ℕ, _+_, _*_, _<_, _≤_}
-use mathlib.Core.Path.{_≡_, refl, sym, ap, ap₂, _∙_}
-use mathlib.Core.List.{List, []}
-use mathlib.Core.Bool.{true}
-use native.Mathlib.Omega.{arith}
-use lib.ListN.{length}
-use lib.Dec.{ltb}
+use Rattle.image.specs.Prelude.{lt-ltb, ℕ, _+_, _*_, _<_, _≤_, _≡_, refl, sym, ap, ap₂, _∙_, List, [], true, arith, length, ltb}
 use Rattle.image.specs.Bytes.{u16, shared}
 use Rattle.image.specs.Image.{Tree, nodeBytes, nodesOf, header, headerOf, treeAt, treeOf}
 use Rattle.image.specs.Meaning.{lookup}

@@ -1,12 +1,9 @@
 // The value of a path, looked up one level at a time: a node's newest message on it decides, else the child that owns it answers for the rest.
 // Relies on node's search; the caller knows that the store is sound.
-use node::Place;
 use node::search::Found;
 use node::search::Latest;
 use node::search::Owner;
-ghost use mathlib.Core.Path.{_≡_};
-ghost use mathlib.Core.Bool.{true};
-ghost use lib.ListN.{length};
+ghost use Rattle.image.specs.Prelude.{_≡_, true, length};
 ghost use Rattle.image.specs.Image.{treeAt, nodesOf};
 ghost use Rattle.image.specs.Sound.{sound, valueIn};
 ghost use Rattle.laws.specs.Reading.Relative.{usable, fromHere};

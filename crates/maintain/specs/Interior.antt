@@ -1,23 +1,15 @@
 -- Question 6 by the bytes: a number is that of a reachable interior node exactly where it is marked and its node's kind is 2.
 -- Relies on laws/Upkeep's Bridge (a reachable node is found by its number) and on the layout that `treeAt` asks for.
-use Prim.Native.Nat.{ℕ, zero, suc, _+_, _*_, _-_, _/_, _<_, _≤_}
-use mathlib.Core.Path.{_≡_, refl, sym, ap, _∙_}
-use mathlib.Core.List.{List, [], _∷_, _++_}
-use mathlib.Core.Bool.{Bool, true, false, _&&_, not, cond, false≢true}
-use mathlib.Core.Option.{Option, none, some}
-use native.Mathlib.Omega.{arith}
-use lib.ListN.{length, getD}
-use lib.Dec.{leb, eqb}
-use borrow.Author.Tests.{eqb-true}
+use Rattle.image.specs.Prelude.{ℕ, zero, suc, _+_, _*_, _-_, _/_, _<_, _≤_, _≡_, refl, sym, ap, _∙_, List, [], _∷_, _++_, Bool, true, false, _&&_, not, cond, false≢true, Option, none, some, arith, length, getD, leb, eqb, eqb-true}
 use Rattle.image.specs.Bytes.{u16, shared}
 use Rattle.image.specs.Entry.{Entry}
 use Rattle.image.specs.Table.{Row}
-use Rattle.image.specs.Image.{Tree, end, tree, Branch, Inside, nodeBytes, nodesOf, wholeNodes, laidOut, nodeEntries, pairsOf, insideOf, forestOf, leafOf, interiorOf, orNone, treeAt, headerOf, treeOf}
+use Rattle.image.specs.Image.{Tree, end, Branch, Inside, nodeBytes, nodesOf, wholeNodes, laidOut, nodeEntries, pairsOf, insideOf, forestOf, leafOf, interiorOf, orNone, treeAt, headerOf, treeOf}
 use Rattle.image.specs.Meaning.{highOf}
 use Rattle.image.specs.Sound.{sound, soundTree, soundForest, firstPivot, numbers, isIn, lowest, highest}
 use Rattle.image.specs.Upkeep.{Reachable, reachable, reachableIn, reachableNodes, reachableAt, every}
 use Rattle.image.specs.Contract.{hasChildren, isInterior}
-use Rattle.octets.specs.Order.{and-left, and-right, not-true}
+use Rattle.octets.specs.Order.{and-left, and-right, not-true, refuted}
 use Rattle.laws.specs.Rising.{both}
 use Rattle.laws.specs.LookupTable.{parts, inner}
 use Rattle.node.specs.Cut.{cut-u16}
@@ -27,7 +19,7 @@ use Rattle.lookup.specs.Root.{starts}
 use Rattle.laws.specs.Upkeep.Kept.{numbersOf, numbers-places}
 use Rattle.laws.specs.Upkeep.Healed.{place-number, place-test}
 use Rattle.laws.specs.Upkeep.Bridge.{found-in, not-found}
-use Rattle.laws.specs.Upkeep.HealWrite.{range-of}
+use Rattle.laws.specs.Upkeep.Sublists.{range-of}
 use Rattle.laws.specs.LiveCount.{every-both}
 use Rattle.tree_check.specs.Whole.{Marks}
 
@@ -140,16 +132,9 @@ module _ (s seen : List ℕ) (i : ℕ) (whole : wholeNodes (length s) ≡ true) 
   unreached e = sym (interior-is s i ok ∙ rw e refl)
 
   pub past-end : length s / 1024 ≤ i → false ≡ isInterior (reachableAt i (reachableNodes s))
-  past-end h = go (isIn i (numbers (treeOf s))) refl
-    where
-      far : nodesOf (length s) ≤ i
-      far = unfold nodesOf in h
-
-      go : (b : Bool) → isIn i (numbers (treeOf s)) ≡ b → false ≡ isInterior (reachableAt i (reachableNodes s))
-      go true e =
-          let k = range-of (nodesOf (length s)) i (numbers (treeOf s)) (starts s ok .range) e in
-          absurd (omega (arith, far))
-      go false e = unreached e
+  past-end h =
+      let far : nodesOf (length s) ≤ i = unfold nodesOf in h in
+      unreached (refuted (λ e. omega (arith, far, range-of (nodesOf (length s)) i (numbers (treeOf s)) (starts s ok .range) e .1)))
 
   module _ (h : i < length s / 1024) where
     mark : getD seen i 0 ≡ cond (isIn i (numbers (treeOf s))) 1 0
@@ -157,11 +142,7 @@ module _ (s seen : List ℕ) (i : ℕ) (whole : wholeNodes (length s) ≡ true) 
     mark = r .marked i h
 
     pub unmarked : (getD seen i 0 ≡ 1 → ⊥) → false ≡ isInterior (reachableAt i (reachableNodes s))
-    unmarked d = go (isIn i (numbers (treeOf s))) refl
-      where
-        go : (b : Bool) → isIn i (numbers (treeOf s)) ≡ b → false ≡ isInterior (reachableAt i (reachableNodes s))
-        go true e = absurd (d (mark ∙ rw e refl))
-        go false e = unreached e
+    unmarked d = unreached (refuted (λ e. d (mark ∙ rw e refl)))
 
     pub inside : i * 1024 + 1024 ≤ length s
     unfolding nodesOf

@@ -1,14 +1,6 @@
 -- The steps of settle, tidy, flush and heal: one law for each way out of the code.
 -- Relies on questions (Passed), and on questions' Callers (the contract from what was done).
-use Prim.Native.Nat.{ℕ, suc, _*_, _/_, _≤_}
-use mathlib.Core.Path.{_≡_, refl, sym, ap, subst, _∙_}
-use mathlib.Core.List.{List, [], _∷_, _++_}
-use mathlib.Core.Bool.{Bool, true, false, _&&_, _||_, not, cond, false≢true, true≢false}
-use mathlib.Core.Option.{Option, none, some}
-use lib.ListN.{length, drop}
-use native.Mathlib.Omega.{arith}
-use lib.Dec.{leb, eqb}
-use borrow.Author.Tests.{eqb-true}
+use Rattle.image.specs.Prelude.{ℕ, suc, _*_, _/_, _≤_, _≡_, refl, sym, ap, subst, _∙_, List, [], _∷_, _++_, Bool, true, false, _&&_, _||_, not, cond, false≢true, true≢false, Option, none, some, length, drop, arith, leb, eqb, eqb-true}
 use Rattle.image.specs.Entry.{Message}
 use Rattle.image.specs.Image.{nodesOf, wholeNodes}
 use Rattle.image.specs.Sound.{sound, tableOf}

@@ -1,10 +1,6 @@
 -- What the parts of the upkeep calls leave of a store that passed questions 1 and 2.
 -- Relies on the paper's definitions and on what a rebuild promises. Definitions only.
-use Prim.Native.Nat.{ℕ}
-use mathlib.Core.Path.{_≡_}
-use mathlib.Core.List.{List}
-use mathlib.Core.Bool.{Bool, true, false}
-use lib.ListN.{length}
+use Rattle.image.specs.Prelude.{ℕ, _≡_, List, Bool, true, false, length}
 use Rattle.image.specs.Image.{nodesOf}
 use Rattle.image.specs.Sound.{sound, tableOf}
 use Rattle.image.specs.Upkeep.{reachableNodes, reachableAt}

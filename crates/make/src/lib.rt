@@ -2,9 +2,7 @@
 // the packed form of the empty map.
 use image::Outcome;
 use image::Refusal;
-ghost use mathlib.Core.Path.{_≡_};
-ghost use Prim.Native.Nat.{_*_, _≤_};
-ghost use lib.ListN.{length};
+ghost use Rattle.image.specs.Prelude.{_≡_, _*_, _≤_, length};
 ghost use Rattle.image.specs.Answers.{outcomeNumber};
 ghost use Rattle.image.specs.Contract.{MakeMeets};
 ghost use Rattle.laws.specs.Made.{made-image};

@@ -1,12 +1,5 @@
 -- Step lemmas of the writers: one entry, entries one after the other, a node with the entries of two, a node without one child.
-use Prim.Native.Nat.{ℕ, _+_, _-_, _*_, _<_, _≤_}
-use mathlib.Core.Path.{_≡_, refl, sym, ap, ap₂, _∙_}
-use mathlib.Core.List.{List, [], _∷_, _++_, append-nil}
-use mathlib.Core.Bool.{Bool, true, false, cond}
-use native.Mathlib.Omega.{arith}
-use lib.ListN.{length, take, drop, length-append, drop-of-length-le}
-use lib.Dec.{ltb, eqb}
-use borrow.Author.Tests.{ltb-true, ltb-false}
+use Rattle.image.specs.Prelude.{ℕ, _+_, _-_, _*_, _<_, _≤_, _≡_, refl, sym, ap, ap₂, _∙_, List, [], _∷_, _++_, append-nil, Bool, true, false, cond, arith, length, take, drop, length-append, drop-of-length-le, ltb, eqb, ltb-true, ltb-false}
 use Rattle.image.specs.Bytes.{u16, u16Bytes, shared}
 use Rattle.image.specs.Entry as defined
 use Rattle.octets.specs.Order.{and-left, and-right}

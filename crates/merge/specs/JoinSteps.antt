@@ -1,10 +1,5 @@
 -- Step lemmas of the joining: two neighbours, and the search for the first two that one node holds.
-use Prim.Native.Nat.{ℕ, _≤_, _-_}
-use mathlib.Core.Path.{_≡_, refl, sym, ap, _∙_}
-use mathlib.Core.List.{List, [], _∷_}
-use mathlib.Core.Bool.{Bool, true, false, not, cond}
-use native.Mathlib.Omega.{arith}
-use lib.ListN.{length, take, drop}
+use Rattle.image.specs.Prelude.{ℕ, _≤_, _-_, _≡_, refl, sym, ap, _∙_, List, [], _∷_, Bool, true, false, not, cond, arith, length, take, drop}
 use Rattle.image.specs.Entry as defined
 use Rattle.image.specs.Image.{Branch}
 use Rattle.octets.specs.Order.{not-true}

@@ -1,12 +1,6 @@
 -- Step lemmas of the heal of a node: the copy of its page lists its entries, and the node's high pivot as it was found.
 -- Relies on Laws/Mended.
-use Prim.Native.Nat.{ℕ, _+_, _*_, _-_, _≤_, _<_}
-use mathlib.Core.Path.{_≡_, refl, sym, ap, ap₂, subst, _∙_}
-use mathlib.Core.List.{List, []}
-use mathlib.Core.Bool.{Bool, true, false, not}
-use mathlib.Core.Option.{some}
-use native.Mathlib.Omega.{arith}
-use lib.ListN.{length, take, drop}
+use Rattle.image.specs.Prelude.{ℕ, _+_, _*_, _-_, _≤_, _<_, _≡_, refl, sym, ap, ap₂, subst, _∙_, List, [], Bool, true, false, not, some, arith, length, take, drop}
 use Rattle.image.specs.Bytes.{u16}
 use Rattle.image.specs.Image.{nodesOf, treeOf, wholeNodes}
 use Rattle.image.specs.Sound.{sound, highest}
@@ -17,8 +11,8 @@ use Rattle.octets.specs.Put.{put}
 use Rattle.laws.specs.RowsRising.{is-true}
 use Rattle.laws.specs.Encode.{bytesOfAll}
 use Rattle.laws.specs.Page.{zerosOf}
-use Rattle.node.specs.Cut.{cut, cut-drop, cut-take, cut-length}
-use Rattle.node.specs.Entries.{listed, listOf}
+use Rattle.node.specs.Cut.{cut}
+use Rattle.node.specs.Entries.{listed}
 use Rattle.node.specs.Search.Own.{branchesAmong}
 use Rattle.lookup.specs.Look.{listing}
 use Rattle.push.specs.Laws.High.{highHere}
@@ -29,49 +23,28 @@ use Rattle.push.specs.declared.high.Sought.{Sought}
 use Rattle.merge.specs.Laws.Joined.{smallEntries, firstJoined, anyFits}
 use Rattle.merge.specs.Laws.Mended.{Mendable, SoFar, HealedNode, Step, node-inside, node-short, node-small, node-fits, steps-on, ends, none-joined, high-there, high-fits}
 use Rattle.merge.specs.Room.{Room}
-use Rattle.push.specs.NodeSteps.{copied}
+use Rattle.push.specs.NodeSteps.{copy-size, copy-lists}
 
 -- THE COPY OF THE NODE
 module _ (s : List ℕ) (n : ℕ) (hi : List ℕ) (m : Mendable s n hi) where
-  pub node-in : n * 1024 + 1024 ≤ length s
-  node-in = node-inside s n hi m
-
-  pub node-len : u16 s (n * 1024) ≤ 1016
-  node-len = node-short s n hi m
-
   few-bytes : length s ≤ 2000000
   unfolding nodesOf
   few-bytes = let w = few-nodes (length s) (m .whole) in omega arith
 
   module _ (len level : ℕ) (el : len ≡ u16 s (n * 1024)) (low : level < 65536) (node : List ℕ) (en : node ≡ put (zerosOf 1024) 0 (cut s (n * 1024) (n * 1024 + 1024))) where
-    node-size : length (cut s (n * 1024) (n * 1024 + 1024)) ≡ 1024
-    node-size = cut-length s (n * 1024) (n * 1024 + 1024) (omega arith) node-in ∙ omega arith
-
-    copy-is : node ≡ cut s (n * 1024) (n * 1024 + 1024)
-    copy-is = en ∙ copied (cut s (n * 1024) (n * 1024 + 1024)) node-size
-
-    same-part : cut node 8 (8 + len) ≡ cut s (n * 1024 + 8) (n * 1024 + 8 + u16 s (n * 1024))
-    same-part =
-        let sh = node-len in
-        let z : 8 + len - 8 ≡ u16 s (n * 1024) = omega arith in
-        ap₂ (λ k l. take k (drop 8 l)) z copy-is
-        ∙ ap (take (u16 s (n * 1024))) (cut-drop s (n * 1024) (n * 1024 + 1024) 8 (omega arith))
-        ∙ cut-take s (n * 1024 + 8) (n * 1024 + 1024) (u16 s (n * 1024)) (omega arith)
-
     lists : listed node 8 (8 + len) ≡ listing s n
-    unfolding listed
-    lists = ap listOf same-part
+    lists = copy-lists s n (node-inside s n hi m) len el node en (node-short s n hi m)
 
     pub room : Room s n level node (8 + len)
     room =
-        let sh = node-len in
-        let z : length node ≡ 1024 = ap length copy-is ∙ node-size in
+        let sh = node-short s n hi m in
+        let z : length node ≡ 1024 = copy-size s n (node-inside s n hi m) len el node en in
         let f = node-fits s n hi m in
         let g = ap (λ es. length (bytesOfAll es)) lists in
         record {
           ends = omega arith;
           whole = omega arith;
-          inside = node-in;
+          inside = node-inside s n hi m;
           few = few-bytes;
           low = low;
           small = ap smallEntries lists ∙ node-small s n hi m;

@@ -1,9 +1,5 @@
 -- What the writers of a node rely on: the copy of its page, whose entries may be written again. Definitions only.
-use Prim.Native.Nat.{ℕ, _+_, _*_, _<_, _≤_}
-use mathlib.Core.Path.{_≡_}
-use mathlib.Core.List.{List}
-use mathlib.Core.Bool.{true}
-use lib.ListN.{length}
+use Rattle.image.specs.Prelude.{ℕ, _+_, _*_, _<_, _≤_, _≡_, List, true, length}
 use Rattle.laws.specs.Encode.{bytesOfAll}
 use Rattle.node.specs.Entries.{listed}
 use Rattle.merge.specs.Laws.Joined.{smallEntries}

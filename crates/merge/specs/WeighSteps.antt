@@ -1,12 +1,5 @@
 -- Step lemmas of the weighing: one entry, the entries of a node, two neighbours.
-use Prim.Native.Nat.{ℕ, _+_, _-_, _*_, _<_, _≤_}
-use mathlib.Core.Path.{_≡_, refl, sym, ap, ap₂, _∙_}
-use mathlib.Core.List.{List, [], _∷_}
-use mathlib.Core.Bool.{Bool, true, false, _&&_, cond}
-use native.Mathlib.Omega.{arith}
-use lib.ListN.{length, length-drop}
-use lib.Dec.{ltb, leb}
-use borrow.Author.Tests.{lt-ltb, le-ltb, le-leb, lt-leb, ltb-false}
+use Rattle.image.specs.Prelude.{ℕ, _+_, _-_, _*_, _<_, _≤_, _≡_, refl, sym, ap, ap₂, _∙_, List, [], _∷_, Bool, true, false, _&&_, cond, arith, length, length-drop, ltb, leb, lt-ltb, le-ltb, le-leb, lt-leb, ltb-false}
 use Rattle.image.specs.Bytes.{u16, shared}
 use Rattle.image.specs.Entry as defined
 use Rattle.image.specs.Image.{nodesOf}

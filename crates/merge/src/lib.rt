@@ -4,13 +4,9 @@
 pub mod emit;
 pub mod weigh;
 
-use node::Cursor;
 use node::search::Pending;
 use push::high::Sought;
-ghost use mathlib.Core.Path.{_≡_};
-ghost use mathlib.Core.Bool.{true};
-ghost use Prim.Native.Nat.{_+_, _≤_};
-ghost use lib.ListN.{length};
+ghost use Rattle.image.specs.Prelude.{_≡_, true, _+_, _≤_, length};
 ghost use Rattle.image.specs.Image.{wholeNodes};
 ghost use Rattle.image.specs.Sound.{sound};
 ghost use Rattle.image.specs.Upkeep.{reachableAt, reachableNodes};
@@ -125,13 +121,7 @@ fn join_first(store: &mut [u8], parent: Parent, node: &[u8], hi: &[u8]) -> bool
         (now (store .entry)))
         × (r ≡ anyFits (branchesAmong (listed (now (node .entry)) 8 (parent .stop))) (now (hi .entry)) (now (store .entry))) ⌝ }
 {
-    let Pending::Child(first, pivot, start) = node::search::read_child(
-        node,
-        Cursor {
-            at: image::ENTRIES_AT,
-            end: parent.stop,
-        },
-    ) else {
+    let Pending::Child(first, pivot, start) = node::search::first_child(node, parent.stop) else {
         return false;
     };
     let Pending::Child(second, middle, then) = node::search::read_child(node, start) else {

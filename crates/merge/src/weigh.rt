@@ -3,9 +3,7 @@
 use node::Cursor;
 use node::Entry;
 use node::Step;
-ghost use mathlib.Core.Path.{_≡_};
-ghost use Prim.Native.Nat.{_+_, _<_, _≤_};
-ghost use lib.ListN.{length};
+ghost use Rattle.image.specs.Prelude.{_≡_, _+_, _<_, _≤_, length};
 ghost use Rattle.node.specs.Places.{EntryWithin, entryIn};
 ghost use Rattle.node.specs.Entries.{listed};
 ghost use Rattle.merge.specs.Laws.Joined.{weight, weights, nodeWeight, pairFits};

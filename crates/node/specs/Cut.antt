@@ -1,10 +1,5 @@
 -- A part of a list, from a place up to another: as `&s[a..b]` is made.
-use Prim.Native.Nat.{ℕ, zero, suc, _+_, _-_, _<_, _≤_}
-use mathlib.Core.Path.{_≡_, sym, ap, _∙_}
-use mathlib.Core.List.{List, [], _∷_}
-use native.Mathlib.Omega.{arith}
-use lib.ListN.{length, take, drop, getD, length-drop}
-use lib.Seq.{take-take, drop-drop, drop-nil, take-nil, getD-take, getD-drop, length-take-le}
+use Rattle.image.specs.Prelude.{ℕ, zero, suc, _+_, _-_, _<_, _≤_, _≡_, sym, ap, _∙_, List, [], _∷_, arith, length, take, drop, getD, length-drop, take-take, drop-drop, drop-nil, take-nil, getD-take, getD-drop, length-take-le}
 use Rattle.image.specs.Bytes.{u16}
 
 abbrev pub cut : List ℕ → ℕ → ℕ → List ℕ

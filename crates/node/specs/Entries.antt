@@ -1,16 +1,8 @@
 -- The entries from a place up to another, one at a time.
-use Prim.Native.Nat.{ℕ, zero, suc, _+_, _-_, _<_, _≤_}
-use mathlib.Core.Path.{_≡_, refl, sym, ap, ap₂, _∙_}
-use mathlib.Core.List.{List, [], _∷_}
-use mathlib.Core.Bool.{Bool, true, false, _&&_, cond}
-use mathlib.Core.Option.{Option, none, some}
-use native.Mathlib.Omega.{arith}
-use lib.ListN.{length, take, drop, length-drop}
-use lib.Dec.{leb}
-use borrow.Author.Tests.{le-leb, lt-leb, ne-eqb}
+use Rattle.image.specs.Prelude.{ℕ, zero, suc, _+_, _-_, _<_, _≤_, _≡_, refl, sym, ap, ap₂, _∙_, List, [], _∷_, Bool, true, false, _&&_, cond, Option, none, some, arith, length, take, drop, length-drop, leb, le-leb, lt-leb, ne-eqb}
 use Rattle.image.specs.Bytes.{u16}
 use Rattle.image.specs.Entry.{puts, drops, clears, Entry, pair, child, message, keyed, pointer, entryOf, entryThen, readAll, entriesOf}
-use Rattle.laws.specs.Encode.{fuel}
+use Rattle.laws.specs.Encode.{fuel, shorter}
 use Rattle.node.specs.Cut.{cut, cut-drop, cut-take, cut-length, cut-u16, cut-nil}
 
 unfoldable pub entriesFrom : List ℕ → ℕ → ℕ → Option (List Entry)
@@ -101,10 +93,7 @@ fuel-some (suc k) (suc j) [] h g = refl
 fuel-some (suc k) (suc j) (b ∷ s) h g =
     ap (λ r. cond (leb 4 (length (b ∷ s)) && leb (u16 (b ∷ s) 0) (length (b ∷ s) - 4))
     (consThen (entryOf (u16 (b ∷ s) 2) (take (u16 (b ∷ s) 0) (drop 4 (b ∷ s)))) r) [])
-    (fuel-some k j (drop (u16 (b ∷ s) 0) (drop 4 (b ∷ s))) (shorter k h) (shorter j g))
-  where
-    shorter : (m : ℕ) → length (b ∷ s) ≤ suc m → length (drop (u16 (b ∷ s) 0) (drop 4 (b ∷ s))) ≤ m
-    shorter m l = rw (length-drop (u16 (b ∷ s) 0) (drop 4 (b ∷ s)), length-drop 4 (b ∷ s)) (omega arith)
+    (fuel-some k j (drop (u16 (b ∷ s) 0) (drop 4 (b ∷ s))) (shorter b s k h) (shorter b s j g))
 
 list-cons : (x : List ℕ) → 0 < length x → listOf x ≡
     cond (leb 4 (length x) && leb (u16 x 0) (length x - 4))

@@ -1,10 +1,6 @@
 -- A page as a node of a store: entries behind its first bytes, on zeros; a leaf without entries; and node 0. Each is the page of laws/Page.
 -- Relies on octets/specs/Put.
-use Prim.Native.Nat.{ℕ, _+_, _*_, _-_, _≤_}
-use mathlib.Core.Path.{_≡_, refl, sym, ap, ap₂, _∙_}
-use mathlib.Core.List.{List, [], _∷_, _++_}
-use native.Mathlib.Omega.{arith}
-use lib.ListN.{length, take, drop, replicate, take-append-drop}
+use Rattle.image.specs.Prelude.{ℕ, _+_, _*_, _-_, _≤_, _≡_, refl, sym, ap, ap₂, _∙_, List, [], _∷_, _++_, arith, length, take, drop, replicate, take-append-drop}
 use Rattle.image.specs.Bytes.{u16Bytes}
 use Rattle.laws.specs.Page.{page, page-length, headPage, head-length, zerosOf, drop-zeros, take-zeros}
 use Rattle.laws.specs.WriteNode.{writeNode}

@@ -1,11 +1,9 @@
 -- What the places that a reader answers hold, and what each reader promises.
-use Prim.Native.Nat.{ℕ, _+_, _<_, _≤_}
-use mathlib.Core.Path.{_≡_, sym, ap, subst, _∙_}
-use mathlib.Core.List.{List, [], _∷_}
-use mathlib.Core.Option.{Option, none, some}
-use native.Mathlib.Omega.{arith}
+use Rattle.image.specs.Prelude.{ℕ, _+_, _*_, _<_, _≤_, _≡_, sym, ap, subst, _∙_, List, [], _∷_, Option, none, some, arith, length}
+use Rattle.image.specs.Bytes.{u16}
 use Rattle.image.specs.Entry as defined
 use Rattle.node.specs.Cut.{cut}
+use Rattle.node.specs.Whole.{HasEntries}
 use Rattle.node.specs.Entries.{entriesFrom, listed, consThen}
 use Rattle.node.specs.declared.Place.{Place}
 use Rattle.node.specs.declared.Cursor.{Cursor}
@@ -53,6 +51,17 @@ SplitAs s start stop Split.Bad = (make : List ℕ → List ℕ → defined.Entry
 unfoldable pub GotAs : List ℕ → ℕ → ℕ → ℕ → Got → Type 0
 GotAs s kind start stop (Got.Good e) = (defined.entryOf kind (cut s start stop) ≡ some (entryIn s e)) × EntryWithin start stop e
 GotAs s kind start stop Got.Bad = defined.entryOf kind (cut s start stop) ≡ none
+
+-- the cursor over the entries of node i, before the first of them
+abbrev pub cursorOf : List ℕ → ℕ → Cursor
+cursorOf s i = record { at = i * 1024 + 8; end = i * 1024 + 8 + u16 s (i * 1024) }
+
+-- it does not leave the node, nor the store
+pub entries-inside : (s : List ℕ) (i : ℕ) (c : Cursor) → c ≡ cursorOf s i → HasEntries s i → (c .at ≤ c .end) × (c .end ≤ c .at + 1016) × (c .end ≤ length s)
+entries-inside s i c e h =
+    let a : c .at ≡ i * 1024 + 8 = ap (λ x. x .at) e in
+    let b : c .end ≡ i * 1024 + 8 + u16 s (i * 1024) = ap (λ x. x .end) e in
+    (omega arith, omega arith, omega arith)
 
 -- The cursor's answer, before the end: the entry that stands in front of the others, or that they do not read.
 pub record Next (s : List ℕ) (at end : ℕ) (e : Entry) (c : Cursor) : Type 0 where

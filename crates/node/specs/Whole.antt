@@ -1,11 +1,5 @@
 -- The steps of whole_nodes: each test that it makes, against the definition.
-use Prim.Native.Nat.{ℕ, _+_, _*_, _/_, _<_, _≤_}
-use mathlib.Core.Path.{_≡_}
-use mathlib.Core.List.{List}
-use mathlib.Core.Bool.{true, false, _&&_}
-use lib.ListN.{length}
-use lib.Dec.{leb, eqb}
-use borrow.Author.Tests.{eq-eqb, ne-eqb, lt-leb, le-leb, eqb-true, leb-true}
+use Rattle.image.specs.Prelude.{ℕ, _+_, _*_, _/_, _<_, _≤_, _≡_, List, true, false, _&&_, length, leb, eqb, eq-eqb, ne-eqb, lt-leb, le-leb, eqb-true, leb-true}
 use Rattle.octets.specs.Order.{and-left, and-right}
 use Rattle.image.specs.Bytes.{u16}
 use Rattle.image.specs.Image.{nodesOf, wholeNodes}

@@ -1,10 +1,6 @@
 -- Step lemmas of the writer: writes one after the other are one entry, and a page with its first bytes is one put into the store.
 -- Relies on octets' `put-put`; the bytes of an entry are laws' Encode.
-use Prim.Native.Nat.{ℕ, suc, _+_, _*_, _≤_}
-use mathlib.Core.Path.{_≡_, refl, ap, ap₂, _∙_}
-use mathlib.Core.List.{List, _++_, append-assoc}
-use native.Mathlib.Omega.{arith}
-use lib.ListN.{length, length-append}
+use Rattle.image.specs.Prelude.{ℕ, suc, _+_, _*_, _≤_, _≡_, refl, ap, ap₂, _∙_, List, _++_, append-assoc, arith, length, length-append}
 use Rattle.image.specs.Bytes.{u16Bytes}
 use Rattle.image.specs.Entry.{pair, child}
 use Rattle.octets.specs.Put.{put, put-put}

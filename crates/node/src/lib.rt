@@ -5,10 +5,9 @@ pub mod header;
 pub mod search;
 pub mod writer;
 
-ghost use mathlib.Core.Path.{_≡_};
-ghost use Prim.Native.Nat.{_≤_};
-ghost use lib.ListN.{length};
-ghost use Rattle.node.specs.Places.{SplitAs, GotAs, Stepped};
+ghost use Rattle.image.specs.Prelude.{_≡_, _≤_, length};
+ghost use Rattle.node.specs.Places.{SplitAs, GotAs, Stepped, cursorOf};
+ghost use Rattle.node.specs.Whole.{HasNode};
 ghost use Rattle.image.specs.Image.{wholeNodes};
 
 // Whether a store of this length is a whole number of nodes, 32 to 1,024: question 1.
@@ -16,13 +15,13 @@ pub fn whole_nodes(len: usize) -> bool
     ensures { λ r. ⌜ r ≡ wholeNodes len ⌝ }
 {
     let n = len / image::NODE_SIZE;
-    if 1024 * n != len {
+    if image::NODE_SIZE * n != len {
         return false;
     }
-    if n < 32 {
+    if n < image::FEWEST_NODES {
         return false;
     }
-    n <= 1024
+    n <= image::MOST_NODES
 }
 
 // The bytes of a path, or of the beginning of one, by value: the first len of them. A length over 64 says that there is none.
@@ -67,6 +66,17 @@ pub struct Cursor {
 pub enum Step {
     Read(Entry, Cursor),
     Bad,
+}
+
+// The cursor over the entries of a node, before the first of them.
+pub fn entries_of(store: &[u8], num: usize) -> Cursor
+    requires { ⌜ HasNode (now store) num ⌝ }
+    ensures { λ r. ⌜ r ≡ cursorOf (now (store .entry)) num ⌝ }
+{
+    let base = num * image::NODE_SIZE;
+    let at = base + image::ENTRIES_AT;
+    let end = at + header::read_length(store, base);
+    Cursor { at, end }
 }
 
 // Where the suffix ends and the value begins, in a rest that is u16 suffix length, suffix, value.

@@ -7,10 +7,7 @@ use crate::Message;
 use crate::Place;
 use crate::Split;
 use crate::Step;
-ghost use mathlib.Core.Path.{_≡_};
-ghost use Prim.Native.Nat.{ℕ, _≤_};
-ghost use lib.ListN.{length};
-ghost use mathlib.Core.List.{List, [], _∷_};
+ghost use Rattle.image.specs.Prelude.{_≡_, ℕ, _≤_, length, List, [], _∷_};
 ghost use Rattle.node.specs.Places.{EntryWithin, MessageWithin, Within, part, entryIn, messageIn};
 ghost use Rattle.image.specs.Meaning.{saysOf};
 ghost use Rattle.node.specs.Search.Child.{Pends};
@@ -399,4 +396,18 @@ pub fn read_child(store: &[u8], c: Cursor) -> Pending
         return Pending::End;
     };
     Pending::Child(k, p, next)
+}
+
+// The first child of a node that is held in a copy of its own, with its entries up to a place.
+pub fn first_child(node: &[u8], stop: usize) -> Pending
+    requires { ⌜ stop ≤ length (now node) ⌝ }
+    ensures { λ r. ⌜ Pends (now (node .entry)) 8 stop r ⌝ }
+{
+    read_child(
+        node,
+        Cursor {
+            at: image::ENTRIES_AT,
+            end: stop,
+        },
+    )
 }

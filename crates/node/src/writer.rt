@@ -1,10 +1,7 @@
 // The writer of the format: how an entry, the first bytes of a node's page and node 0 are laid out is said here, and nowhere else.
 // An entry goes into a page of 1,024 bytes or straight into a store. Relies on octets; laws' Encode and Page have the bytes, specs/Writer and
 // specs/Pages the steps.
-ghost use mathlib.Core.Path.{_≡_};
-ghost use mathlib.Core.List.{[], _++_};
-ghost use Prim.Native.Nat.{_+_, _*_, _/_, _<_, _≤_};
-ghost use lib.ListN.{length};
+ghost use Rattle.image.specs.Prelude.{_≡_, [], _++_, _+_, _*_, _/_, _<_, _≤_, length};
 ghost use Rattle.image.specs.Bytes.{u16Bytes};
 ghost use Rattle.image.specs.Entry.{pair, child};
 ghost use Rattle.laws.specs.Encode.{bytesOf, keyedEntry, shortEntry, headBytes};

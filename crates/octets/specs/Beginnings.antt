@@ -1,12 +1,5 @@
 -- Laws of beginnings, and of what two byte strings share at the front. Relies on Order.
-use Prim.Native.Nat.{ℕ, _≤_}
-use mathlib.Core.Path.{_≡_, refl, sym, _∙_, ap}
-use mathlib.Core.List.{List, [], _∷_, _++_}
-use mathlib.Core.Bool.{Bool, true, false, false≢true}
-use native.Mathlib.Omega.{arith}
-use lib.ListN.{length, drop, take}
-use lib.Dec.{eqb}
-use borrow.Author.Tests.{eqb-true, eq-eqb, le-ltb}
+use Rattle.image.specs.Prelude.{ℕ, _≤_, _≡_, refl, sym, _∙_, ap, List, [], _∷_, _++_, true, false, false≢true, arith, length, drop, take, eqb, eqb-true, eq-eqb, le-ltb, cases}
 use Rattle.image.specs.Bytes.{begins, shared, before}
 use Rattle.octets.specs.Order.{and-left, and-right}
 
@@ -30,21 +23,13 @@ pub shared-left : (a b : List ℕ) → begins (shared a b) a ≡ true
 unfolding begins shared
 shared-left [] b = refl
 shared-left (x ∷ a) [] = refl
-shared-left (x ∷ a) (y ∷ b) = go (eqb x y) refl (shared-left a b)
-  where
-    go : (z : Bool) → eqb x y ≡ z → begins (shared a b) a ≡ true → begins (shared (x ∷ a) (y ∷ b)) (x ∷ a) ≡ true
-    go true e ih = rw (e, eq-eqb x x refl) ih
-    go false e ih = rw e
+shared-left (x ∷ a) (y ∷ b) = cases (eqb x y) (λ e. rw (e, eq-eqb x x refl) (shared-left a b)) (λ e. rw e)
 
 pub shared-right : (a b : List ℕ) → begins (shared a b) b ≡ true
 unfolding begins shared
 shared-right [] b = refl
 shared-right (x ∷ a) [] = refl
-shared-right (x ∷ a) (y ∷ b) = go (eqb x y) refl (shared-right a b)
-  where
-    go : (z : Bool) → eqb x y ≡ z → begins (shared a b) b ≡ true → begins (shared (x ∷ a) (y ∷ b)) (y ∷ b) ≡ true
-    go true e ih = rw (e, e) ih
-    go false e ih = rw e
+shared-right (x ∷ a) (y ∷ b) = cases (eqb x y) (λ e. rw (e, e) (shared-right a b)) (λ e. rw e)
 
 pub shared-most : (p a b : List ℕ) → begins p a ≡ true → begins p b ≡ true → begins p (shared a b) ≡ true
 unfolding begins shared
@@ -70,23 +55,14 @@ pub strip-shared : (lo hi : List ℕ) → shared (drop (length (shared lo hi)) l
 unfolding shared
 strip-shared [] hi = refl
 strip-shared (a ∷ lo) [] = refl
-strip-shared (a ∷ lo) (b ∷ hi) = go (eqb a b) refl (strip-shared lo hi)
-  where
-    go : (x : Bool) → eqb a b ≡ x → shared (drop (length (shared lo hi)) lo) (drop (length (shared lo hi)) hi) ≡ []
-        → shared (drop (length (shared (a ∷ lo) (b ∷ hi))) (a ∷ lo)) (drop (length (shared (a ∷ lo) (b ∷ hi))) (b ∷ hi)) ≡ []
-    go true e ih = rw e ih
-    go false e ih = rw (e, e)
+strip-shared (a ∷ lo) (b ∷ hi) = cases (eqb a b) (λ e. rw e (strip-shared lo hi)) (λ e. rw (e, e))
 
 -- what a node lifts is a beginning of its low pivot
 pub shared-take : (lo hi : List ℕ) → take (length (shared lo hi)) lo ≡ shared lo hi
 unfolding shared
 shared-take [] hi = refl
 shared-take (a ∷ lo) [] = refl
-shared-take (a ∷ lo) (b ∷ hi) = go (eqb a b) refl (shared-take lo hi)
-  where
-    go : (x : Bool) → eqb a b ≡ x → take (length (shared lo hi)) lo ≡ shared lo hi → take (length (shared (a ∷ lo) (b ∷ hi))) (a ∷ lo) ≡ shared (a ∷ lo) (b ∷ hi)
-    go true e ih = rw e (ap (λ l. a ∷ l) ih)
-    go false e ih = rw e
+shared-take (a ∷ lo) (b ∷ hi) = cases (eqb a b) (λ e. rw e (ap (λ l. a ∷ l) (shared-take lo hi))) (λ e. rw e)
 
 pub take-part : (a b : List ℕ) (own : ℕ) → own ≡ length (shared a b) → take own a ≡ shared a b
 take-part a b own e = ap (λ n. take n a) e ∙ shared-take a b

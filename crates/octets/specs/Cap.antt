@@ -1,10 +1,5 @@
 -- Numbers told up to 65,535, the most that two bytes hold: a sum told so may be told so at every step. Relies on nothing.
-use Prim.Native.Nat.{ℕ, _+_, _<_, _≤_}
-use mathlib.Core.Path.{_≡_, refl, sym, ap, ap₂, _∙_}
-use mathlib.Core.Bool.{Bool, true, false, cond}
-use native.Mathlib.Omega.{arith}
-use lib.Dec.{leb, eqb}
-use borrow.Author.Tests.{le-leb, leb-true, leb-false, ne-eqb}
+use Rattle.image.specs.Prelude.{ℕ, _+_, _<_, _≤_, _≡_, sym, ap, ap₂, _∙_, cond, arith, leb, eqb, le-leb, leb-true, leb-false, ne-eqb, cases}
 
 -- the smaller of a number and 65,535
 unfoldable pub cap : ℕ → ℕ
@@ -16,22 +11,16 @@ cap-small n h = rw (le-leb n 65535 h)
 
 pub cap-large : (n : ℕ) → 65535 ≤ n → cap n ≡ 65535
 unfolding cap
-cap-large n h = go (leb n 65535) refl
-  where
-    go : (b : Bool) → leb n 65535 ≡ b → cond (leb n 65535) n 65535 ≡ 65535
-    go true e = let k : n ≤ 65535 = leb-true n 65535 e in rw e (omega arith)
-    go false e = rw e
+cap-large n h = cases (leb n 65535) (λ e. let k : n ≤ 65535 = leb-true n 65535 e in rw e (omega arith)) (λ e. rw e)
 
 data Sized (n : ℕ) : Type 0 where
   small : n ≤ 65535 → cap n ≡ n → Sized n
   large : 65535 < n → cap n ≡ 65535 → Sized n
 
 sized : (n : ℕ) → Sized n
-sized n = go (leb n 65535) refl
-  where
-    go : (b : Bool) → leb n 65535 ≡ b → Sized n
-    go true e = let k : n ≤ 65535 = leb-true n 65535 e in small k (cap-small n k)
-    go false e = let k : 65535 < n = leb-false n 65535 e in large k (cap-large n (omega arith))
+sized n =
+    cases (leb n 65535) (λ e. let k : n ≤ 65535 = leb-true n 65535 e in small k (cap-small n k))
+    (λ e. let k : 65535 < n = leb-false n 65535 e in large k (cap-large n (omega arith)))
 
 pub cap-sum : (a b : ℕ) → cap (cap a + cap b) ≡ cap (a + b)
 cap-sum a b = go (sized a) (sized b)

@@ -1,13 +1,5 @@
 -- What two lists share tells every test on them.
-use Prim.Native.Nat.{ℕ, zero, suc, _-_, _<_, _≤_}
-use mathlib.Core.Path.{_≡_, refl, sym, ap, _∙_}
-use mathlib.Core.List.{List, [], _∷_}
-use mathlib.Core.Bool.{Bool, true, false, _&&_}
-use native.Mathlib.Omega.{arith}
-use lib.ListN.{length, drop, getD, drop-of-length-le}
-use lib.Seq.{drop-cons}
-use lib.Dec.{ltb, eqb}
-use borrow.Author.Tests.{eqb-true, eqb-false, le-ltb, eq-eqb, ne-eqb}
+use Rattle.image.specs.Prelude.{ℕ, zero, suc, _-_, _<_, _≤_, _≡_, refl, sym, ap, _∙_, List, [], _∷_, Bool, true, false, _&&_, arith, length, drop, getD, drop-of-length-le, drop-cons, ltb, eqb, eqb-true, eqb-false, le-ltb, eq-eqb, ne-eqb, cases}
 use Rattle.image.specs.Bytes.{same, before, begins, shared}
 use Rattle.image.specs.Path.{owns}
 
@@ -35,11 +27,9 @@ shared-second a b i h = rw (drop-of-length-le b h, nil-right (drop i a))
 
 -- the tests by the length of what is shared
 suc-eqb : (a b : ℕ) → eqb (suc a) (suc b) ≡ eqb a b
-suc-eqb a b = go (eqb a b) refl
-  where
-    go : (x : Bool) → eqb a b ≡ x → eqb (suc a) (suc b) ≡ eqb a b
-    go true e = eq-eqb (suc a) (suc b) (ap suc (eqb-true a b e)) ∙ sym e
-    go false e = ne-eqb (suc a) (suc b) (λ h. eqb-false a b e (omega arith)) ∙ sym e
+suc-eqb a b =
+    cases (eqb a b) (λ e. eq-eqb (suc a) (suc b) (ap suc (eqb-true a b e)) ∙ sym e)
+    (λ e. ne-eqb (suc a) (suc b) (λ h. eqb-false a b e (omega arith)) ∙ sym e)
 
 pub starts-is : (a b : List ℕ) → eqb (length (shared a b)) (length a) ≡ begins a b
 unfolding begins shared
@@ -58,16 +48,16 @@ equal-is [] (y ∷ b) h = absurd (omega arith)
 equal-is (x ∷ a) [] h = refl
 equal-is (x ∷ a) (y ∷ b) h = ap (λ t. eqb x y && t) (equal-is a b (omega arith))
 
+and-fails : (a b : Bool) → false ≡ b → false ≡ a && b
+and-fails true b e = e
+and-fails false b e = refl
+
 pub not-equal : (a b : List ℕ) → (length a ≡ length b → ⊥) → false ≡ same a b
 unfolding same
 not-equal [] [] h = absurd (h refl)
 not-equal [] (y ∷ b) h = refl
 not-equal (x ∷ a) [] h = refl
-not-equal (x ∷ a) (y ∷ b) h = go (eqb x y) (not-equal a b (λ e. h (ap suc e)))
-  where
-    go : (t : Bool) → false ≡ same a b → false ≡ t && same a b
-    go true ih = ih
-    go false ih = refl
+not-equal (x ∷ a) (y ∷ b) h = and-fails (eqb x y) (same a b) (not-equal a b (λ e. h (ap suc e)))
 
 -- the loop of equal, from the end: what is past both ends is the same, one byte more in front of the same is the same, and a byte that
 -- differs decides
@@ -96,11 +86,7 @@ unfolding same
 same-differs [] b i h k e = absurd (omega arith)
 same-differs (x ∷ a) [] i h k e = refl
 same-differs (x ∷ a) (y ∷ b) zero h k e = rw (ne-eqb x y e)
-same-differs (x ∷ a) (y ∷ b) (suc i) h k e = go (eqb x y) (same-differs a b i (omega arith) (omega arith) e)
-  where
-    go : (t : Bool) → false ≡ same a b → false ≡ t && same a b
-    go true ih = ih
-    go false ih = refl
+same-differs (x ∷ a) (y ∷ b) (suc i) h k e = and-fails (eqb x y) (same a b) (same-differs a b i (omega arith) (omega arith) e)
 
 before-same : (x y : ℕ) (a b : List ℕ) → eqb x y ≡ true → before (x ∷ a) (y ∷ b) ≡ before a b
 unfolding before
@@ -108,11 +94,7 @@ before-same x y a b e = rw (e, le-ltb x y (let h : x ≡ y = eqb-true x y e in o
 
 before-other : (x y : ℕ) (a b : List ℕ) → eqb x y ≡ false → before (x ∷ a) (y ∷ b) ≡ ltb x y
 unfolding before
-before-other x y a b e = go (ltb x y) refl
-  where
-    go : (t : Bool) → ltb x y ≡ t → before (x ∷ a) (y ∷ b) ≡ ltb x y
-    go true f = rw f
-    go false f = rw (f, e)
+before-other x y a b e = cases (ltb x y) (λ f. rw f) (λ f. rw (f, e))
 
 -- b is a beginning of a, or a proper one of b; or they part at a byte
 pub precedes-no : (a b : List ℕ) → length b ≤ length (shared a b) → false ≡ before a b
@@ -120,11 +102,9 @@ unfolding before shared
 precedes-no [] [] h = refl
 precedes-no [] (y ∷ b) h = absurd (omega arith)
 precedes-no (x ∷ a) [] h = refl
-precedes-no (x ∷ a) (y ∷ b) h = go (eqb x y) refl (precedes-no a b)
-  where
-    go : (t : Bool) → eqb x y ≡ t → (length b ≤ length (shared a b) → false ≡ before a b) → false ≡ before (x ∷ a) (y ∷ b)
-    go true e ih = ih (let g : suc (length b) ≤ suc (length (shared a b)) = rw e at h in omega arith) ∙ sym (before-same x y a b e)
-    go false e ih = let g : suc (length b) ≤ 0 = rw e at h in absurd (omega arith)
+precedes-no (x ∷ a) (y ∷ b) h =
+    cases (eqb x y) (λ e. precedes-no a b (let g : suc (length b) ≤ suc (length (shared a b)) = rw e at h in omega arith) ∙ sym (before-same x y a b e))
+    (λ e. let g : suc (length b) ≤ 0 = rw e at h in absurd (omega (arith, precedes-no a b)))
 
 pub precedes-yes : (a b : List ℕ) → length (shared a b) < length b → length a ≤ length (shared a b) → true ≡ before a b
 unfolding before shared

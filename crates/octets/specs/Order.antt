@@ -1,13 +1,5 @@
 -- Laws of the byte order, of beginnings and of the common beginning.
-use Prim.Native.Nat.{ℕ, _<_, _≤_}
-use mathlib.Core.Path.{_≡_, refl, sym, ap, subst, _∙_}
-use mathlib.Core.Logic.{_⊎_, inl, inr}
-use mathlib.Core.List.{List, [], _∷_, _++_}
-use mathlib.Core.Bool.{Bool, true, false, _&&_, _||_, not, true≢false, false≢true}
-use native.Mathlib.Omega.{arith}
-use lib.ListN.{length, drop}
-use lib.Dec.{ltb, eqb}
-use borrow.Author.Tests.{ltb-true, ltb-false, eqb-true, lt-ltb, le-ltb, eq-eqb, ne-eqb}
+use Rattle.image.specs.Prelude.{ℕ, _<_, _≤_, _≡_, refl, sym, ap, subst, _∙_, _⊎_, inl, inr, List, [], _∷_, _++_, Bool, true, false, _&&_, _||_, not, true≢false, false≢true, arith, length, drop, ltb, eqb, ltb-true, ltb-false, eqb-true, lt-ltb, le-ltb, eq-eqb, ne-eqb}
 use Rattle.image.specs.Bytes.{same, before, begins, shared}
 
 -- a conjunction's parts, and the ways out of a wrong test
@@ -25,6 +17,14 @@ and-false false = refl
 
 pub not-so : {A : Type 0} {b : Bool} → b ≡ true → b ≡ false → A
 not-so p q = absurd (true≢false (sym p ∙ q))
+
+pub refuted : {b : Bool} → (b ≡ true → ⊥) → b ≡ false
+refuted {b = true} f = absurd (f refl)
+refuted {b = false} f = refl
+
+pub upheld : {b : Bool} → (b ≡ false → ⊥) → b ≡ true
+upheld {b = true} f = refl
+upheld {b = false} f = absurd (f refl)
 
 pub or-none-left : (a b : Bool) → a || b ≡ false → a ≡ false
 or-none-left true b e = e
@@ -59,11 +59,7 @@ same-eq (a ∷ s) (b ∷ t) e =
     cc
 
 pub same-false : (s t : List ℕ) → (s ≡ t → ⊥) → same s t ≡ false
-same-false s t h = go (same s t) refl
-  where
-    go : (x : Bool) → same s t ≡ x → same s t ≡ false
-    go true e = absurd (h (same-eq s t e))
-    go false e = e
+same-false s t h = refuted (λ e. absurd (h (same-eq s t e)))
 
 pub same-turn : (s t : List ℕ) → same s t ≡ false → same t s ≡ false
 same-turn s t e = same-false t s (λ z. not-so (rw z (same-refl s)) e)
@@ -138,6 +134,9 @@ before-le (a ∷ s) (b ∷ t) (x ∷ u) e f = go (head-yes a b s t e) (head-no x
     go (inl h) (inr k) ih = let k0 : x ≡ b = k .0 in before-lt a x s u (omega arith)
     go (inr h) (inl k) ih = let h0 : a ≡ b = h .0 in before-lt a x s u (omega arith)
     go (inr h) (inr k) ih = before-eq a x s u (h .0 ∙ sym (k .0)) ∙ ih (h .1) (k .1)
+
+pub le-before : (q m c : List ℕ) → before m q ≡ false → before m c ≡ true → before q c ≡ true
+le-before q m c e f = upheld (λ g. not-so (before-le m c q f g) e)
 
 pub before-trans : (q m c : List ℕ) → before q m ≡ true → before m c ≡ true → before q c ≡ true
 unfolding before
@@ -214,11 +213,7 @@ before-total (a ∷ s) (b ∷ t) e f = go (head-no b a t s f) (λ x y. before-to
     go (inr h) ih = before-eq a b s t (sym (h .0)) ∙ ih (subst (λ x. x && same s t ≡ false) (eq-eqb a b (sym (h .0))) e) (h .1)
 
 pub before-asym : (s t : List ℕ) → before s t ≡ true → before t s ≡ false
-before-asym s t e = go (before t s) refl
-  where
-    go : (x : Bool) → before t s ≡ x → before t s ≡ false
-    go true f = not-so (before-trans s t s e f) (before-irrefl s)
-    go false f = f
+before-asym s t e = refuted (λ f. not-so (before-trans s t s e f) (before-irrefl s))
 
 -- a beginning of a beginning
 pub begins-trans : (s t u : List ℕ) → begins s t ≡ true → begins t u ≡ true → begins s u ≡ true

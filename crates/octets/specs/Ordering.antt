@@ -1,12 +1,5 @@
 -- How two strings stand to each other, as one answer, and the laws by which the code finds it.
-use Prim.Native.Nat.{ℕ, _<_, _≤_}
-use mathlib.Core.Path.{_≡_, refl, sym, _∙_}
-use mathlib.Core.List.{List}
-use mathlib.Core.Bool.{Bool, true, false, cond}
-use native.Mathlib.Omega.{arith}
-use lib.ListN.{length, getD}
-use lib.Dec.{eqb}
-use borrow.Author.Tests.{lt-ltb, le-ltb, eq-eqb, ne-eqb, eqb-true, eqb-false}
+use Rattle.image.specs.Prelude.{ℕ, _<_, _≤_, _≡_, sym, _∙_, List, true, false, cond, arith, length, getD, eqb, lt-ltb, le-ltb, eq-eqb, ne-eqb, eqb-true, eqb-false, cases}
 use Rattle.image.specs.Bytes.{same, before, shared}
 use Rattle.octets.specs.Compare.{equal-by, not-equal, no-by, yes-by, at-by}
 use Rattle.octets.specs.declared.Ordering.{Ordering}
@@ -43,11 +36,9 @@ module _ (a b : List ℕ) (k : ℕ) (e : k ≡ length (shared a b)) where
 
   -- strings that part at a byte are not the same
   parted : k < length a → false ≡ same a b
-  parted g = go (eqb (length a) (length b)) refl
-    where
-      go : (x : Bool) → eqb (length a) (length b) ≡ x → false ≡ same a b
-      go true q = sym (ne-eqb k (length a) (λ h. omega arith)) ∙ equal-by a b k e (eqb-true (length a) (length b) q)
-      go false q = not-equal a b (eqb-false (length a) (length b) q)
+  parted g =
+      cases (eqb (length a) (length b)) (λ q. sym (ne-eqb k (length a) (λ h. omega arith)) ∙ equal-by a b k e (eqb-true (length a) (length b) q))
+      (λ q. not-equal a b (eqb-false (length a) (length b) q))
 
   pub ordering-greater-at : k < length b → k < length a → getD b k 0 ≤ getD a k 0 → Greater ≡ ordering a b
   ordering-greater-at h g l = greater-is a b (sym (le-ltb (getD a k 0) (getD b k 0) l) ∙ at-by a b k e h g) (parted g)

@@ -1,10 +1,5 @@
 -- Bytes put into a page at a place: what every writer of bytes leaves, and its laws (one put after another is one put).
-use Prim.Native.Nat.{ℕ, zero, suc, _+_, _/_, _%_, _≤_, _<_, _-_}
-use mathlib.Core.Path.{_≡_, refl, sym, ap, ap₂, _∙_}
-use mathlib.Core.List.{List, [], _∷_, _++_, append-assoc}
-use native.Mathlib.Omega.{arith}
-use lib.ListN.{length, take, drop, getD, set, length-append, length-drop, take-append-drop, replicate, length-replicate, List·getD-append}
-use lib.Seq.{set-split, take-suc, length-take-le, drop-drop, drop-append-add, take-at, getD-append-add}
+use Rattle.image.specs.Prelude.{ℕ, zero, suc, _+_, _/_, _%_, _≤_, _<_, _-_, _≡_, refl, sym, ap, ap₂, _∙_, List, [], _∷_, _++_, append-assoc, arith, length, take, drop, getD, set, length-append, length-drop, take-append-drop, replicate, length-replicate, List·getD-append, set-split, take-suc, length-take-le, drop-drop, drop-append-add, take-at, getD-append-add}
 use Rattle.image.specs.Bytes.{u16Bytes, u16}
 
 -- the bytes bs in place of as many bytes of the page, from `at` on

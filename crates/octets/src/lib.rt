@@ -1,9 +1,6 @@
 // Strings of bytes and the numbers in them: what every other crate reads, compares and writes bytes with.
 // One loop compares from the front, `common_length`, and the orders follow from it by laws; `equal` compares from the end.
-ghost use mathlib.Core.Path.{_≡_};
-ghost use Prim.Native.Nat.{_+_, _<_, _≤_};
-ghost use lib.ListN.{length};
-ghost use lib.ListN.{replicate};
+ghost use Rattle.image.specs.Prelude.{_≡_, _+_, _<_, _≤_, length, replicate};
 ghost use Rattle.image.specs.Bytes.{same, before, begins, shared, u16, u16Bytes};
 ghost use Rattle.image.specs.Path.{owns};
 ghost use Rattle.octets.specs.Cap.{cap};

@@ -1,8 +1,6 @@
 // The rows of the work area, 128 bytes each: where the next leaf or the next interior node of the packed form ends, and the marks, which say at
 // which row a node of the level below starts. Relies on octets; specs/Rows/Area has the layout of a row.
-ghost use mathlib.Core.Path.{_≡_};
-ghost use Prim.Native.Nat.{_+_, _*_, _-_, _<_, _≤_};
-ghost use lib.ListN.{length};
+ghost use Rattle.image.specs.Prelude.{_≡_, _+_, _*_, _-_, _<_, _≤_, length};
 ghost use Rattle.packed.specs.Rows.Area.{RowsFit, leafEnd};
 ghost use Rattle.packed.specs.Rows.Branches.{markAt, nodeEnd, weightAt};
 ghost use Rattle.packed.specs.Rows.Puts.{putMark};

@@ -1,17 +1,7 @@
 -- The rest of a path within its length: the paper's `readsOn`, byte by byte, for the loop that asks it, and `goesOn` from it.
 -- Relies on Shape, which has `goesOn` as a length and `readsOn`.
-use Prim.Native.Nat.{ℕ, _+_, _-_, _<_, _≤_}
-use mathlib.Core.Path.{_≡_, refl, sym, ap, _∙_}
-use mathlib.Core.List.{List, _∷_}
-use mathlib.Core.Bool.{Bool, true, false, _&&_}
-use mathlib.Core.Logic.{_⊎_, inl, inr}
-use native.Mathlib.Omega.{arith}
-use native.Mathlib.Numerals.{add-one}
-use lib.ListN.{length, drop, getD, drop-of-length-le}
-use lib.Seq.{drop-cons}
-use lib.Dec.{ltb, leb, eqb}
-use borrow.Author.Tests.{le-leb, lt-leb, eq-eqb, ne-eqb, ltb-true, ltb-false}
-use Rattle.image.specs.Path.{letter, readsOn, pathLimit}
+use Rattle.image.specs.Prelude.{ℕ, _+_, _-_, _<_, _≤_, _≡_, refl, sym, ap, _∙_, List, _∷_, Bool, true, false, _&&_, _⊎_, inl, inr, arith, length, drop, getD, drop-of-length-le, drop-cons, ltb, leb, eqb, le-leb, lt-leb, eq-eqb, ne-eqb, ltb-true, ltb-false, add-one}
+use Rattle.image.specs.Path.{letter, readsOn}
 use Rattle.path.specs.Shape as defined
 use Rattle.path.specs.Fed.{shapeIs}
 use Rattle.path.specs.declared.Shape.{Shape}
@@ -130,7 +120,7 @@ module _ (sh : Shape) (s : List ℕ) where
 
   module _ (done here len : ℕ) (e : sh ≡ Shape.Partway done here len) where
     says : defined.goesOn (shapeIs sh) s ≡ leb (len + length s) 64 && readsOn done here s
-    unfolding shapeIs defined.goesOn pathLimit
+    unfolding shapeIs defined.goesOn
     says = rw e (defined.open-reads done here len s)
 
     pub goes-past : 64 < len → false ≡ defined.goesOn (shapeIs sh) s

@@ -1,13 +1,6 @@
 -- The shape of a path as a small state machine that is fed bytes, slice by slice: so a suffix is judged after its prefix without joining
 -- them. Each counter stays within the limit that a path has for it, so that code cannot overflow. `shape-is`: it is the definition.
-use Prim.Native.Nat.{ℕ, suc, _+_, _<_, _≤_}
-use mathlib.Core.Path.{_≡_, refl, sym, ap, _∙_}
-use mathlib.Core.List.{List, [], _∷_, _++_}
-use mathlib.Core.Bool.{Bool, true, false, _&&_, cond}
-use native.Mathlib.Omega.{arith}
-use lib.ListN.{length}
-use lib.Dec.{ltb, leb, eqb}
-use borrow.Author.Tests.{ne-eqb, lt-leb, le-leb, ltb-false}
+use Rattle.image.specs.Prelude.{ℕ, suc, _+_, _<_, _≤_, _≡_, refl, sym, ap, _∙_, List, [], _∷_, _++_, Bool, true, false, _&&_, cond, and-false, arith, length, ltb, leb, eqb, ne-eqb, lt-leb, le-leb, ltb-false}
 use Rattle.image.specs.Path.{letter, readsOn, pathLimit, wellFormed}
 
 -- after some bytes: no path begins so, or it has whole components, bytes of the next, and bytes in all
@@ -46,10 +39,6 @@ unfolding feed fed closed
 feed-dead [] = refl
 feed-dead (b ∷ p) = feed-dead p
 
-and-no : (a : Bool) → false ≡ a && false
-and-no true = refl
-and-no false = refl
-
 -- too many components, or too long a one, is never mended
 pub many : (done here : ℕ) (p : List ℕ) → 8 < done → readsOn done here p ≡ false
 unfolding readsOn
@@ -64,7 +53,7 @@ many done here (b ∷ p) h = go (eqb b 0) (leb 1 here && leb here 16) (letter b)
 
 pub wide : (done here : ℕ) (p : List ℕ) → 16 < here → readsOn done here p ≡ false
 unfolding readsOn
-wide done here [] h = rw (ne-eqb here 0 (λ e. omega arith)) (sym (and-no (leb 1 done && leb done 8)))
+wide done here [] h = rw (ne-eqb here 0 (λ e. omega arith)) (and-false (leb 1 done && leb done 8))
 wide done here (b ∷ p) h = rw (lt-leb here 16 h, le-leb 1 here (omega arith)) (go (eqb b 0) (letter b) (wide done (suc here) p (omega arith)))
   where
     go : (x z : Bool) → readsOn done (suc here) p ≡ false → cond x false (z && readsOn done (suc here) p) ≡ false
@@ -91,7 +80,7 @@ reads-cons done here len b p u v = go (ltb len pathLimit) refl (eqb b 0) refl (l
     short h x = rw (lt-leb (len + suc (length p)) pathLimit (let k : pathLimit ≤ len = ltb-false len pathLimit h in omega arith))
 
     no : (x : Bool) → x ≡ false → false ≡ leb (len + suc (length p)) pathLimit && x
-    no x h = rw h (and-no (leb (len + suc (length p)) pathLimit))
+    no x h = rw h (sym (and-false (leb (len + suc (length p)) pathLimit)))
 
     go : (a : Bool) → ltb len pathLimit ≡ a → (x : Bool) → eqb b 0 ≡ x → (y : Bool) → leb 1 here && leb here 16 ≡ y → (d : Bool) → ltb done 8 ≡ d → (z : Bool) → letter b ≡ z → (w : Bool) → ltb here 16 ≡ w
         → Says done here len (b ∷ p)

@@ -1,7 +1,5 @@
 -- What a caller of `push_down` cites, by its answer.
-use Prim.Native.Nat.{ℕ}
-use mathlib.Core.Path.{_≡_, subst}
-use mathlib.Core.List.{List}
+use Rattle.image.specs.Prelude.{ℕ, _≡_, subst, List}
 use Rattle.push.specs.Laws.PushedDown.{PushedDown}
 use Rattle.push.specs.declared.Pushed.{Pushed}
 use Rattle.push.specs.Outcome.{Outcome}

@@ -1,9 +1,6 @@
 -- Step lemmas of the loop over the children: the child in hand takes its messages, and those that follow have room still.
 -- Relies on Laws/Only.
-use Prim.Native.Nat.{ℕ}
-use mathlib.Core.Path.{_≡_, sym, ap, _∙_}
-use mathlib.Core.List.{List, [], _∷_}
-use mathlib.Core.Bool.{true}
+use Rattle.image.specs.Prelude.{ℕ, _≡_, sym, ap, _∙_, List, [], _∷_, true}
 use Rattle.image.specs.Entry.{Entry}
 use Rattle.image.specs.Image.{Branch}
 use Rattle.image.specs.Sound.{once}

@@ -1,12 +1,6 @@
 -- Step lemmas of a leaf that takes messages: the pairs that stay, put into a page, and the page written.
 -- Relies on Laws/Leaves and LeafRoom.
-use Prim.Native.Nat.{ℕ, _+_, _-_, _*_, _≤_}
-use mathlib.Core.Path.{_≡_, refl, sym, ap, ap₂, _∙_}
-use mathlib.Core.List.{List, [], _∷_, _++_, append-assoc, append-nil}
-use mathlib.Core.Bool.{Bool, true, false, not, cond}
-use native.Mathlib.Omega.{arith}
-use lib.ListN.{length, drop, length-append}
-use borrow.Author.Tests.{eq-eqb, ne-eqb}
+use Rattle.image.specs.Prelude.{ℕ, _+_, _-_, _*_, _≤_, _≡_, refl, sym, ap, ap₂, _∙_, List, [], _∷_, _++_, append-assoc, append-nil, Bool, true, false, not, cond, arith, length, drop, length-append, eq-eqb, ne-eqb}
 use Rattle.image.specs.Bytes.{u16, u16Bytes, same, before, begins, shared}
 use Rattle.image.specs.Entry as defined
 use Rattle.octets.specs.Order.{not-true}

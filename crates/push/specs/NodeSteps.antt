@@ -1,12 +1,6 @@
 -- Step lemmas of the flush of a node: the copy of its page lists its entries, and each exit keeps the promise.
 -- Relies on Laws/PushedDown.
-use Prim.Native.Nat.{ℕ, suc, _+_, _*_, _-_, _≤_}
-use mathlib.Core.Path.{_≡_, refl, sym, ap, ap₂, subst, _∙_}
-use mathlib.Core.List.{List, [], _∷_, _++_, append-nil}
-use mathlib.Core.Bool.{Bool, true, false, not, true≢false}
-use mathlib.Core.Option.{some}
-use native.Mathlib.Omega.{arith}
-use lib.ListN.{length, take, drop}
+use Rattle.image.specs.Prelude.{ℕ, suc, _+_, _*_, _-_, _≤_, _≡_, refl, sym, ap, ap₂, subst, _∙_, List, [], _∷_, _++_, append-nil, Bool, true, false, not, true≢false, some, arith, length, take, drop}
 use Rattle.image.specs.Bytes.{u16, u16Bytes}
 use Rattle.image.specs.Entry as defined
 use Rattle.image.specs.Image.{Branch, treeOf, wholeNodes}
@@ -57,12 +51,34 @@ none-waits (defined.child i k ∷ es) e = none-waits es e
 none-waits (defined.message m ∷ es) e = absurd (true≢false e)
 
 -- THE COPY OF THE NODE
-pub copied : (b : List ℕ) → length b ≡ 1024 → put (zerosOf 1024) 0 b ≡ b
+copied : (b : List ℕ) → length b ≡ 1024 → put (zerosOf 1024) 0 b ≡ b
 unfolding put
 copied b h =
     let z : 0 + length b ≡ 1024 = omega arith in
     let none-left : drop (0 + length b) (zerosOf 1024) ≡ [] = ap (λ m. drop m (zerosOf 1024)) z ∙ drop-zeros 1024 1024 ∙ (unfold zerosOf in refl) in
     ap (λ l. b ++ l) none-left ∙ append-nil b
+
+module _ (s : List ℕ) (n : ℕ) (inside : n * 1024 + 1024 ≤ length s) (len : ℕ) (el : len ≡ u16 s (n * 1024))
+    (node : List ℕ) (en : node ≡ put (zerosOf 1024) 0 (cut s (n * 1024) (n * 1024 + 1024))) where
+  node-size : length (cut s (n * 1024) (n * 1024 + 1024)) ≡ 1024
+  node-size = cut-length s (n * 1024) (n * 1024 + 1024) (omega arith) inside ∙ omega arith
+
+  copy-is : node ≡ cut s (n * 1024) (n * 1024 + 1024)
+  copy-is = en ∙ copied (cut s (n * 1024) (n * 1024 + 1024)) node-size
+
+  pub copy-size : length node ≡ 1024
+  copy-size = ap length copy-is ∙ node-size
+
+  same-part : u16 s (n * 1024) ≤ 1016 → cut node 8 (8 + len) ≡ cut s (n * 1024 + 8) (n * 1024 + 8 + u16 s (n * 1024))
+  same-part h =
+      let z : 8 + len - 8 ≡ u16 s (n * 1024) = omega arith in
+      ap₂ (λ k l. take k (drop 8 l)) z copy-is
+      ∙ ap (take (u16 s (n * 1024))) (cut-drop s (n * 1024) (n * 1024 + 1024) 8 (omega arith))
+      ∙ cut-take s (n * 1024 + 8) (n * 1024 + 1024) (u16 s (n * 1024)) (omega arith)
+
+  pub copy-lists : u16 s (n * 1024) ≤ 1016 → listed node 8 (8 + len) ≡ listing s n
+  unfolding listed
+  copy-lists h = ap listOf (same-part h)
 
 module _ (s : List ℕ) (n : ℕ) (hi : List ℕ) (pre : Pushable s n hi) where
   abbrev found : (x : Reachable) × ((reachableAt n (reachableNodes s) ≡ some x) × (hasChildren (x .children) ≡ true))
@@ -78,20 +94,8 @@ module _ (s : List ℕ) (n : ℕ) (hi : List ℕ) (pre : Pushable s n hi) where
   node-short = short s n x (pre .is-sound) (found .1 .0) (found .1 .1)
 
   module _ (len : ℕ) (el : len ≡ u16 s (n * 1024)) (node : List ℕ) (en : node ≡ put (zerosOf 1024) 0 (cut s (n * 1024) (n * 1024 + 1024))) where
-    copy-is : node ≡ cut s (n * 1024) (n * 1024 + 1024)
-    copy-is = en ∙ copied (cut s (n * 1024) (n * 1024 + 1024)) (cut-length s (n * 1024) (n * 1024 + 1024) (omega arith) node-in ∙ omega arith)
-
-    same-part : cut node 8 (8 + len) ≡ cut s (n * 1024 + 8) (n * 1024 + 8 + u16 s (n * 1024))
-    same-part =
-        let sh = node-short in
-        let z : 8 + len - 8 ≡ u16 s (n * 1024) = omega arith in
-        ap₂ (λ k l. take k (drop 8 l)) z copy-is
-        ∙ ap (take (u16 s (n * 1024))) (cut-drop s (n * 1024) (n * 1024 + 1024) 8 (omega arith))
-        ∙ cut-take s (n * 1024 + 8) (n * 1024 + 1024) (u16 s (n * 1024)) (omega arith)
-
-    pub lists : listed node 8 (8 + len) ≡ listing s n
-    unfolding listed
-    lists = ap listOf same-part
+    lists : listed node 8 (8 + len) ≡ listing s n
+    lists = copy-lists s n node-in len el node en node-short
 
     pub apart : once (branchNumbers (branchesAmong (listed node 8 (8 + len)))) ≡ true
     apart = ap (λ es. once (branchNumbers (branchesAmong es))) lists ∙ branches-once s n x (pre .is-sound) (found .1 .0) (found .1 .1)

@@ -1,10 +1,5 @@
 -- What a flush by one level promises, by its answer, and what the flush of a node relies on. Definitions only.
-use Prim.Native.Nat.{ℕ}
-use mathlib.Core.Path.{_≡_}
-use mathlib.Core.List.{List, []}
-use mathlib.Core.Bool.{true}
-use mathlib.Core.Option.{some}
-use lib.ListN.{length}
+use Rattle.image.specs.Prelude.{ℕ, _≡_, List, [], true, some, length}
 use Rattle.image.specs.Image.{wholeNodes, treeOf}
 use Rattle.image.specs.Sound.{sound, highest}
 use Rattle.image.specs.Upkeep.{reachableAt, reachableNodes}

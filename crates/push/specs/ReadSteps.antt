@@ -1,13 +1,6 @@
 -- Step lemmas of the tests and sizes: which messages touch a child, and how many bytes they bring.
 -- Relies on Laws/Arriving and on the places that node's readers promise.
-use Prim.Native.Nat.{ℕ, _+_, _-_, _*_, _<_, _≤_}
-use mathlib.Core.Path.{_≡_, refl, sym, ap, _∙_}
-use mathlib.Core.List.{List, [], _∷_}
-use mathlib.Core.Bool.{Bool, true, false, _||_, _&&_, not, cond}
-use native.Mathlib.Omega.{arith}
-use lib.ListN.{length, take, drop, length-append, length-take, drop-of-length-le}
-use lib.Dec.{leb}
-use borrow.Author.Tests.{lt-leb, le-ltb, lt-ltb}
+use Rattle.image.specs.Prelude.{ℕ, _+_, _-_, _*_, _<_, _≤_, _≡_, sym, ap, _∙_, List, [], _∷_, Bool, true, false, _||_, _&&_, not, cond, and-true, arith, length, take, drop, length-append, length-take, drop-of-length-le, leb, lt-leb, le-ltb, lt-ltb}
 use Rattle.image.specs.Bytes.{u16, begins, shared}
 use Rattle.image.specs.Path.{owns}
 use Rattle.image.specs.Entry as defined
@@ -162,11 +155,7 @@ module _ (es : List defined.Entry) (hi s : List ℕ) (answer : Bool) where
   module _ (i : ℕ) (lo : List ℕ) (ks : List Branch) (inv : allHaveRoom es (branch i lo ∷ ks) hi s ≡ answer) (b : Bool) where
     pub rooms-last : ks ≡ [] → b ≡ hasRoom es i lo hi s → b ≡ answer
     unfolding allHaveRoom branchHigh
-    rooms-last e h = h ∙ and-nil (hasRoom es i lo hi s) ∙ ap (λ l. allHaveRoom es (branch i lo ∷ l) hi s) (sym e) ∙ inv
-      where
-        and-nil : (x : Bool) → x ≡ x && true
-        and-nil true = refl
-        and-nil false = refl
+    rooms-last e h = h ∙ sym (and-true (hasRoom es i lo hi s)) ∙ ap (λ l. allHaveRoom es (branch i lo ∷ l) hi s) (sym e) ∙ inv
 
     pub rooms-no : (k : ℕ) (p : List ℕ) (us : List Branch) → ks ≡ branch k p ∷ us → b ≡ hasRoom es i lo p s → not b ≡ true → false ≡ answer
     unfolding allHaveRoom branchHigh

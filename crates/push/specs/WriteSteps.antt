@@ -1,13 +1,6 @@
 -- Step lemmas of the writers: entries put into a page one after the other, and a page written as a node.
 -- Relies on octets' `put` and its laws, and on Laws/Written.
-use Prim.Native.Nat.{ℕ, _+_, _-_, _*_, _<_, _≤_}
-use mathlib.Core.Path.{_≡_, refl, sym, ap, ap₂, _∙_}
-use mathlib.Core.List.{List, [], _∷_, _++_}
-use mathlib.Core.Bool.{true}
-use native.Mathlib.Omega.{arith}
-use lib.ListN.{length, drop, length-append}
-use lib.Dec.{ltb}
-use borrow.Author.Tests.{ltb-true}
+use Rattle.image.specs.Prelude.{ℕ, _+_, _-_, _*_, _<_, _≤_, _≡_, refl, sym, ap, ap₂, _∙_, List, [], _∷_, _++_, true, arith, length, drop, length-append, ltb, ltb-true}
 use Rattle.image.specs.Bytes.{u16, u16Bytes}
 use Rattle.image.specs.Entry as defined
 use Rattle.octets.specs.Put.{put, put-put, put-nil}

@@ -3,10 +3,7 @@
 use node::Cursor;
 use node::Place;
 use node::search::Pending;
-ghost use mathlib.Core.Path.{_≡_};
-ghost use mathlib.Core.List.{_∷_, []};
-ghost use mathlib.Core.Bool.{true};
-ghost use lib.ListN.{length};
+ghost use Rattle.image.specs.Prelude.{_≡_, _∷_, [], true, length};
 ghost use Rattle.image.specs.Image.{treeAt, treeOf, nodesOf, forestOf};
 ghost use Rattle.image.specs.Sound.{sound, highest};
 ghost use Rattle.laws.specs.Reading.Relative.{usable};
@@ -61,14 +58,8 @@ pub fn search_node(
     if cur == num {
         return Sought::Found(keep_high(out, &hi[k..]));
     }
-    let at = cur * image::NODE_SIZE;
-    let len = node::header::read_length(store, at);
-    let from = at + image::ENTRIES_AT;
-    let end = from + len;
-    let Pending::Child(first, pivot, next) = node::search::read_child(
-        store,
-        Cursor { at: from, end },
-    ) else {
+    let c = node::entries_of(store, cur);
+    let Pending::Child(first, pivot, next) = node::search::read_child(store, c) else {
         return Sought::Missing;
     };
     let down = level - 1;

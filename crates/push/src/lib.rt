@@ -10,10 +10,7 @@ use high::Sought;
 use node::Cursor;
 use node::search::Pending;
 use node::writer;
-ghost use mathlib.Core.Path.{_≡_};
-ghost use mathlib.Core.Bool.{true};
-ghost use Prim.Native.Nat.{_+_, _*_, _<_, _≤_};
-ghost use lib.ListN.{length};
+ghost use Rattle.image.specs.Prelude.{_≡_, true, _+_, _*_, _<_, _≤_, length};
 ghost use Rattle.image.specs.Sound.{once, sound};
 ghost use Rattle.octets.specs.Put.{put};
 ghost use Rattle.node.specs.Entries.{listed};
@@ -52,13 +49,7 @@ fn push_children(store: &mut [u8], node: &[u8], stop: usize, hi: &[u8])
         × (once (branchNumbers (branchesAmong (listed (now node) 8 stop))) ≡ true) ⌝ }
     ensures { λ _. ⌜ now (store .exit) ≡ eachTakes (childTakes (listed (now (node .entry)) 8 stop)) (branchesAmong (listed (now (node .entry)) 8 stop)) (now (hi .entry)) (now (store .entry)) ⌝ }
 {
-    let Pending::Child(first, pivot, start) = node::search::read_child(
-        node,
-        Cursor {
-            at: image::ENTRIES_AT,
-            end: stop,
-        },
-    ) else {
+    let Pending::Child(first, pivot, start) = node::search::first_child(node, stop) else {
         return;
     };
     let mut c = start;

@@ -6,11 +6,7 @@ use node::Message;
 use node::Place;
 use node::Step;
 use node::search::Pending;
-ghost use mathlib.Core.Path.{_≡_};
-ghost use mathlib.Core.List.{List};
-ghost use Prim.Native.Nat.{ℕ, _+_, _<_, _≤_};
-ghost use lib.ListN.{length, drop};
-ghost use lib.Dec.{leb};
+ghost use Rattle.image.specs.Prelude.{_≡_, List, ℕ, _+_, _<_, _≤_, length, drop, leb};
 ghost use Rattle.image.specs.Entry.{message};
 ghost use Rattle.laws.specs.Encode.{bytesOf};
 ghost use Rattle.laws.specs.PushDown.{touches};
@@ -141,13 +137,7 @@ pub fn all_fit(store: &[u8], node: &[u8], stop: usize, hi: &[u8]) -> bool
     requires { ⌜ (stop ≤ length (now node)) × (length (now node) ≤ 1024) ⌝ }
     ensures { λ r. ⌜ r ≡ allHaveRoom (listed (now (node .entry)) 8 stop) (branchesAmong (listed (now (node .entry)) 8 stop)) (now (hi .entry)) (now (store .entry)) ⌝ }
 {
-    let Pending::Child(first, pivot, start) = node::search::read_child(
-        node,
-        Cursor {
-            at: image::ENTRIES_AT,
-            end: stop,
-        },
-    ) else {
+    let Pending::Child(first, pivot, start) = node::search::first_child(node, stop) else {
         return true;
     };
     let mut c = start;

@@ -1,15 +1,6 @@
 -- get and next, question by question: what each way out of the code answers is what the contract says. One law for both, over the query.
-use Prim.Native.Nat.{ℕ, zero, suc, _+_, _<_, _≤_}
-use mathlib.Core.Path.{_≡_, refl, sym, ap₂, _∙_}
-use mathlib.Core.List.{List, [], _∷_}
-use mathlib.Core.Bool.{Bool, true, false, _&&_, _||_}
-use mathlib.Core.Option.{none, some}
-use native.Mathlib.Omega.{arith}
-use lib.ListN.{length}
-use lib.Dec.{leb}
-use borrow.Author.Tests.{le-leb, lt-leb}
-use Rattle.image.specs.Bytes.{same}
-use Rattle.image.specs.Path.{wellFormed, valueLimit, pathLimit}
+use Rattle.image.specs.Prelude.{ℕ, zero, suc, _+_, _<_, _≤_, _≡_, refl, sym, ap₂, _∙_, List, [], _∷_, Bool, true, false, _&&_, and-true, none, some, arith, length, leb, le-leb, lt-leb}
+use Rattle.image.specs.Path.{wellFormed, pathOrEmpty, valueLimit, pathLimit}
 use Rattle.image.specs.Table.{Row, isSome}
 use Rattle.image.specs.Image.{nodesOf, wholeNodes}
 use Rattle.image.specs.Sound.{sound, tableOf}
@@ -23,7 +14,7 @@ use Rattle.octets.specs.Put.{put}
 -- question 3 of a query: its paths are well formed
 unfoldable pub pathsFit : Query → Bool
 pathsFit (get p) = wellFormed p
-pathsFit (next p q) = wellFormed p && (same q [] || wellFormed q)
+pathsFit (next p q) = wellFormed p && pathOrEmpty q
 
 -- question 5: how long its buffer must be
 unfoldable pub bufferLimit : Query → ℕ
@@ -42,10 +33,6 @@ pub number-is : (s : List ℕ) (q : Query) (buffer : List ℕ)
 unfolding firstNoOn workLong nodeQuestions questions
 number-is s q buffer =
     ap₂ (λ x qs. firstNo (ask 1 x ∷ ask 2 (sound s) ∷ qs)) (and-true (wholeNodes (length s))) (questions-are q buffer (tableOf s))
-  where
-    and-true : (b : Bool) → b && true ≡ b
-    and-true true = refl
-    and-true false = refl
 
 -- a query leaves the store, and is lent no work area: its answer is all that there is to show
 pub answer-meets : (s : List ℕ) (q : Query) (buffer : List ℕ) (a : Answer) → a ≡ answerAt (firstNoOn s (asks q buffer)) (asks q buffer) (tableOf s)

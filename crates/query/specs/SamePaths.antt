@@ -1,12 +1,6 @@
 -- Two rising tables have the same keys exactly if they are equally long and every key of the one is in the other.
 -- Relies on: rising tables (laws/specs/Rising), and inclusion by what is present (inclusion/specs/Root).
-use Prim.Native.Nat.{ℕ, _≤_}
-use mathlib.Core.Path.{_≡_, refl, sym, _∙_}
-use mathlib.Core.List.{List, [], _∷_}
-use mathlib.Core.Bool.{Bool, true, false, false≢true}
-use mathlib.Core.Option.{none}
-use native.Mathlib.Omega.{arith}
-use lib.ListN.{length}
+use Rattle.image.specs.Prelude.{ℕ, _≤_, _≡_, refl, sym, _∙_, List, [], _∷_, Bool, true, false, false≢true, none, arith, length}
 use Rattle.image.specs.Bytes.{same, before}
 use Rattle.image.specs.Table.{Row, find, isSome, everyKey, leads, rising}
 use Rattle.image.specs.Contract.{sameKeys}

@@ -1,10 +1,6 @@
 -- The steps of same: the counts, the walk, and the questions in order.
 -- Relies on: SamePaths (when two tables have the same keys), and on what inclusion and the check of soundness promise.
-use Prim.Native.Nat.{ℕ, suc}
-use mathlib.Core.Path.{_≡_, refl, sym, _∙_}
-use mathlib.Core.List.{List}
-use mathlib.Core.Bool.{Bool, true, false}
-use lib.ListN.{length}
+use Rattle.image.specs.Prelude.{ℕ, suc, _≡_, refl, sym, _∙_, List, Bool, true, false, length}
 use Rattle.image.specs.Bytes.{u16}
 use Rattle.image.specs.Image.{wholeNodes}
 use Rattle.image.specs.Sound.{sound, tableOf}

@@ -1,14 +1,7 @@
 -- What the readers hand to get and next, in the words of the questions.
-use Prim.Native.Nat.{ℕ, _-_, _<_, _≤_}
-use mathlib.Core.Path.{_≡_, refl, sym, ap, subst, _∙_}
-use mathlib.Core.List.{List, [], _∷_}
-use mathlib.Core.Bool.{Bool, true, false}
-use mathlib.Core.Option.{none, some}
-use native.Mathlib.Omega.{arith}
-use lib.ListN.{length, take, drop, length-drop}
-use lib.Seq.{length-take-le}
+use Rattle.image.specs.Prelude.{ℕ, _-_, _<_, _≤_, _≡_, refl, sym, ap, subst, _∙_, List, [], _∷_, Bool, true, false, none, some, arith, length, take, drop, length-drop, length-take-le}
 use Rattle.image.specs.Bytes.{same}
-use Rattle.image.specs.Path.{wellFormed, valueLimit, pathLimit}
+use Rattle.image.specs.Path.{wellFormed, valueLimit}
 use Rattle.image.specs.Table.{find, leastAfter}
 use Rattle.image.specs.Sound.{sound, valueIn, tableOf}
 use Rattle.image.specs.Calls.{get, next, foundBy}
@@ -28,12 +21,12 @@ pub get-path : (p : List ℕ) (z : Bool) → z ≡ wellFormed p → z ≡ pathsF
 unfolding pathsFit
 get-path p z e = e
 
-pub get-short : (p buffer : List ℕ) → length buffer < 32 → length buffer < bufferLimit (get p)
-unfolding bufferLimit valueLimit
+pub get-short : (p buffer : List ℕ) → length buffer < valueLimit → length buffer < bufferLimit (get p)
+unfolding bufferLimit
 get-short p buffer h = h
 
-pub get-room : (p buffer : List ℕ) → 32 ≤ length buffer → bufferLimit (get p) ≤ length buffer
-unfolding bufferLimit valueLimit
+pub get-room : (p buffer : List ℕ) → valueLimit ≤ length buffer → bufferLimit (get p) ≤ length buffer
+unfolding bufferLimit
 get-room p buffer h = h
 
 -- the value of a path that is present: its place lies in the store, and it fits the buffer
@@ -42,20 +35,20 @@ pub record Value (s p : List ℕ) (v : Place) : Type 0 where
   pub rising : v .start ≤ v .stop
   pub inside : v .stop ≤ length s
   pub size : length (part s v) ≡ v .stop - v .start
-  pub short : v .stop - v .start ≤ 32
+  pub short : v .stop - v .start ≤ valueLimit
 
 within-value : (n : ℕ) (v : Place) → FoundFits n (Found.Value v) → Within 0 n v
 unfolding FoundFits
 within-value n v w = w
 
 pub value-there : (s p : List ℕ) (r : Found) (v : Place) → sound s ≡ true → Finds s (valueIn s p) r → r ≡ Found.Value v → Value s p v
-unfolding foundBy valueLimit
+unfolding foundBy
 value-there s p r v ok f e =
     let found : find p (tableOf s) ≡ some (part s v) = sym (means-table s ok p) ∙ sym (f .meant) ∙ ap (foundIn s) e ∙ unfold foundIn in refl in
     let within : FoundFits (length s) (Found.Value v) = subst (FoundFits (length s)) e (f .fits) in
     let w : Within 0 (length s) v = within-value (length s) v within in
     let n : length (part s v) ≡ v .stop - v .start = length-take-le (v .stop - v .start) (drop (v .start) s) (let d = length-drop (v .start) s in omega (arith, w .rises, w .high)) in
-    let m : length (part s v) ≤ 32 = found-fits p (part s v) (tableOf s) (table-fits s ok) found in
+    let m : length (part s v) ≤ valueLimit = found-fits p (part s v) (tableOf s) (table-fits s ok) found in
     record { there = found; rising = w .rises; inside = w .high; size = n; short = omega arith }
 
 pub value-absent : (s p : List ℕ) (r : Found) → sound s ≡ true → Finds s (valueIn s p) r → r ≡ Found.Nothing → foundBy (get p) (tableOf s) ≡ none
@@ -78,11 +71,11 @@ next-second p [] x y e f h g = absurd (h refl)
 next-second p (b ∷ q) x y e f h g = rw (sym e ∙ f) g
 
 pub next-short : (p q buffer : List ℕ) → length buffer < 64 → length buffer < bufferLimit (next p q)
-unfolding bufferLimit pathLimit
+unfolding bufferLimit
 next-short p q buffer h = h
 
 pub next-room : (p q buffer : List ℕ) → 64 ≤ length buffer → bufferLimit (next p q) ≤ length buffer
-unfolding bufferLimit pathLimit
+unfolding bufferLimit
 next-room p q buffer h = h
 
 pub path-absent : (s p q : List ℕ) (r : PathBuffer) → bufferIs r ≡ leastAfter p q (tableOf s) → 64 < r .len → foundBy (next p q) (tableOf s) ≡ none

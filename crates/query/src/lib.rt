@@ -4,11 +4,8 @@
 use image::Found;
 use image::Refusal;
 use image::Sameness;
-ghost use mathlib.Core.Path.{_≡_};
-ghost use mathlib.Core.Bool.{true};
-ghost use mathlib.Core.List.{[]};
-ghost use Prim.Native.Nat.{_≤_};
-ghost use lib.ListN.{length};
+ghost use Rattle.image.specs.Prelude.{_≡_, true, [], _≤_, length};
+ghost use Rattle.image.specs.Path.{valueLimit};
 ghost use Rattle.image.specs.Image.{wholeNodes};
 ghost use Rattle.image.specs.Calls.{asks, get, next};
 ghost use Rattle.image.specs.Sound.{sound, tableOf};
@@ -20,7 +17,7 @@ ghost use Rattle.query.specs.Asked.{pathsFit, foundLength};
 pub fn get_fit(store: &[u8], path: &[u8], buffer: &mut [u8]) -> Found
     requires { ⌜ (wholeNodes (length (now store)) ≡ true) × (sound (now store) ≡ true) ⌝ }
     ensures { λ r. ⌜ Meets (now (store .entry)) (asks (get (now (path .entry))) (now (buffer .entry))) (foundAnswer r (now (buffer .exit))) (now (store .entry)) [] ⌝ }
-    ensures short { λ r. ⌜ foundLength r ≤ 32 ⌝ }
+    ensures short { λ r. ⌜ foundLength r ≤ valueLimit ⌝ }
 {
     if !path::is_path(path) {
         return Found::Refused(Refusal::Malformed);

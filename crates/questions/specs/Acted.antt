@@ -1,12 +1,6 @@
 -- A call after questions 1 and 2: what it is handed, and what its part from question 3 on leaves of the store and of the work area.
 -- Relies on rebuild (an area cleared) and on finish (a cleared area, cleared again).
-use Prim.Native.Nat.{ℕ, _*_, _/_, _≤_}
-use mathlib.Core.Path.{_≡_, refl, sym, ap, subst, _∙_}
-use mathlib.Core.List.{List, _++_}
-use mathlib.Core.Bool.{true}
-use mathlib.Core.Logic.{_⊎_, inl, ⊎-elim}
-use native.Mathlib.Omega.{arith}
-use lib.ListN.{length, drop}
+use Rattle.image.specs.Prelude.{ℕ, _*_, _/_, _≤_, _≡_, refl, sym, ap, subst, _∙_, List, _++_, true, _⊎_, inl, ⊎-elim, arith, length, drop}
 use Rattle.image.specs.Image.{nodesOf, wholeNodes}
 use Rattle.image.specs.Sound.{sound, tableOf}
 use Rattle.image.specs.Calls.{Call, workPerNode, tableAfter}

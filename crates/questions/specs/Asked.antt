@@ -1,10 +1,6 @@
 -- What questions 1 and 2 leave, by the answer, and what a caller reads off it.
 -- Relies on soundness (Holds) and on questions' Callers (Lent: the call is lent the work area).
-use Prim.Native.Nat.{ℕ, _*_, _≤_}
-use mathlib.Core.Path.{_≡_, subst}
-use mathlib.Core.List.{List}
-use mathlib.Core.Bool.{true}
-use lib.ListN.{length}
+use Rattle.image.specs.Prelude.{ℕ, _*_, _≤_, _≡_, subst, List, true, length}
 use Rattle.image.specs.Image.{nodesOf, wholeNodes}
 use Rattle.image.specs.Sound.{sound}
 use Rattle.image.specs.Calls.{Call, workPerNode}

@@ -1,14 +1,7 @@
 -- For the calls that are lent a work area (acts and upkeep): the contract Meets from what the code does. One law for an accepted call, one
 -- for a refused one, one for each answer of questions 1 and 2; then settle and tidy, which are a rebuild.
 -- Relies on the paper's definitions and on what a rebuild promises.
-use Prim.Native.Nat.{ℕ, zero, suc, _*_, _<_, _≤_}
-use mathlib.Core.Path.{_≡_, refl, sym, ap, _∙_}
-use mathlib.Core.List.{List, [], _++_}
-use mathlib.Core.Bool.{true, false, _&&_}
-use native.Mathlib.Omega.{arith}
-use lib.ListN.{length}
-use lib.Dec.{leb}
-use borrow.Author.Tests.{le-leb, lt-leb}
+use Rattle.image.specs.Prelude.{ℕ, zero, suc, _*_, _<_, _≤_, _≡_, refl, sym, ap, _∙_, List, [], _++_, true, false, _&&_, arith, length, leb, le-leb, lt-leb}
 use Rattle.image.specs.Table.{Row}
 use Rattle.image.specs.Image.{nodesOf, wholeNodes}
 use Rattle.image.specs.Sound.{sound, tableOf}
@@ -19,6 +12,7 @@ use Rattle.image.specs.declared.Refusal.{Refusal}
 use Rattle.image.specs.declared.Outcome.{Outcome}
 use Rattle.octets.specs.Order.{and-false}
 use Rattle.rebuild.specs.Rebuild.{Rebuilt, cleared}
+use Rattle.laws.specs.Refusals.{refusal-some}
 
 -- the call is lent the work area w
 pub data Lent : Call → List ℕ → Type 0 where
@@ -26,19 +20,6 @@ pub data Lent : Call → List ℕ → Type 0 where
   to-keep : {u : Upkeep} {i : ℕ} {w : List ℕ} → Lent (keeps u i w) w
 
 -- A CALL OF WHICH THE FIRST NO IS KNOWN
-refusal-some : (r : Refusal) → 1 ≤ refusalNumber r
-unfolding refusalNumber
-refusal-some Refusal.Length = omega arith
-refusal-some Refusal.Unsound = omega arith
-refusal-some Refusal.Malformed = omega arith
-refusal-some Refusal.LongValue = omega arith
-refusal-some Refusal.ShortBuffer = omega arith
-refusal-some Refusal.NotInterior = omega arith
-refusal-some Refusal.Nested = omega arith
-refusal-some Refusal.Absent = omega arith
-refusal-some Refusal.BecomesMalformed = omega arith
-refusal-some Refusal.Full = omega arith
-
 done-answer : {c : Call} {w : List ℕ} (t : List Row) → Lent c w → outcomeAnswer Outcome.Done ≡ answerAt 0 c t
 unfolding outcomeAnswer outcomeNumber answerAt accepted
 done-answer t to-act = refl

@@ -1,10 +1,6 @@
 -- The steps of ask: one law for each way out of the code.
 -- Relies on questions' Callers for the number of each refusal, and on what soundness promises.
-use Prim.Native.Nat.{ℕ, _*_, _/_, _<_, _≤_}
-use mathlib.Core.Path.{_≡_, sym, _∙_}
-use mathlib.Core.List.{List}
-use mathlib.Core.Bool.{Bool, true, false}
-use lib.ListN.{length}
+use Rattle.image.specs.Prelude.{ℕ, _*_, _/_, _<_, _≤_, _≡_, sym, _∙_, List, Bool, true, false, length}
 use Rattle.image.specs.Image.{nodesOf, wholeNodes}
 use Rattle.image.specs.declared.Refusal.{Refusal}
 use Rattle.tree_check.specs.declared.Checked.{Checked}

@@ -5,9 +5,7 @@ use image::Outcome;
 use image::Refusal;
 use tree_check::Checked;
 use tree_check::Tally;
-ghost use mathlib.Core.Path.{_≡_};
-ghost use Prim.Native.Nat.{_*_, _≤_};
-ghost use lib.ListN.{length};
+ghost use Rattle.image.specs.Prelude.{_≡_, _*_, _≤_, length};
 ghost use Rattle.questions.specs.Asked.{Asked};
 ghost use Rattle.questions.specs.Acted.{areaAfter};
 

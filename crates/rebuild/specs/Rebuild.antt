@@ -1,10 +1,6 @@
 -- What a rebuild promises: the same map in packed form, and the work area as an accepted call must leave it.
 -- Relies on the paper's definitions only.
-use Prim.Native.Nat.{ℕ, _+_, _*_, _-_, _/_, _≤_}
-use mathlib.Core.Path.{_≡_}
-use mathlib.Core.List.{List, _++_}
-use mathlib.Core.Bool.{true, false}
-use lib.ListN.{length, drop, replicate}
+use Rattle.image.specs.Prelude.{ℕ, _+_, _*_, _-_, _/_, _≤_, _≡_, List, _++_, true, false, length, drop, replicate}
 use Rattle.image.specs.Table.{Row}
 use Rattle.image.specs.Image.{nodesOf, wholeNodes, headerOf, treeOf}
 use Rattle.image.specs.Sound.{sound, tableOf, isIn, numbers}

@@ -1,13 +1,6 @@
 -- The steps of the rebuild: what build asks and gives, and how the parts of the work area come back.
 -- Relies on packed/specs/Build/BuiltLaws and on packed/specs (the packed image has at most three levels).
-use Prim.Native.Nat.{ℕ, zero, suc, _+_, _*_, _-_, _/_, _≤_}
-use mathlib.Core.Path.{_≡_, refl, sym, ap, ap₂, subst, _∙_}
-use mathlib.Core.List.{List, _++_, append-nil}
-use mathlib.Core.Bool.{true, false}
-use native.Mathlib.Omega.{arith}
-use lib.ListN.{length, take, drop, replicate, length-replicate, drop-of-length-le}
-use lib.Dec.{leb}
-use borrow.Author.Tests.{ne-eqb}
+use Rattle.image.specs.Prelude.{ℕ, zero, suc, _+_, _*_, _-_, _/_, _≤_, _≡_, refl, sym, ap, ap₂, subst, _∙_, List, _++_, append-nil, true, false, arith, length, take, drop, replicate, length-replicate, drop-of-length-le, leb, ne-eqb}
 use Rattle.image.specs.Image.{nodesOf, wholeNodes, headerOf}
 use Rattle.image.specs.Sound.{sound, tableOf, isIn}
 use Rattle.image.specs.Upkeep.{settled, tidied, used}

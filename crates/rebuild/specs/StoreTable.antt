@@ -1,11 +1,6 @@
 -- The table of a sound store is one that the packed form can hold: few rows, rising, paths well formed, values short.
 -- Relies on successor/specs/Present (present paths are well formed), laws/specs/ValuesFit and dump/specs/RootSteps (how many rows).
-use Prim.Native.Nat.{ℕ}
-use mathlib.Core.Path.{_≡_, refl, sym, ap, _∙_}
-use mathlib.Core.List.{List}
-use mathlib.Core.Bool.{true, false}
-use mathlib.Core.Option.{Option, none, some}
-use lib.ListN.{length}
+use Rattle.image.specs.Prelude.{ℕ, _≡_, refl, sym, ap, _∙_, List, true, false, Option, none, some, length}
 use Rattle.image.specs.Path.{wellFormed}
 use Rattle.image.specs.Table.{find, isSome, everyKey}
 use Rattle.image.specs.Image.{nodesOf}
@@ -24,11 +19,8 @@ module _ (s : List ℕ) (whole : sound s ≡ true) where
   pub table-formed : everyKey wellFormed (tableOf s) ≡ true
   table-formed = every-key wellFormed (tableOf s) (λ q e. absent q e (valueIn s q) refl)
     where
-      is-some : (v : List ℕ) → isSome (some v) ≡ true
-      is-some v = unfold isSome in refl
-
       present : (q v : List ℕ) → valueIn s q ≡ some v → isPresent s q ≡ true
-      present q v f = unfold isPresent in (ap (λ o. isSome o) f ∙ is-some v)
+      present q v f = unfold isPresent isSome in ap isSome f
 
       absent : (q : List ℕ) → wellFormed q ≡ false → (x : Option (List ℕ)) → valueIn s q ≡ x → find q (tableOf s) ≡ none
       absent q e none f = sym (means-table s whole q) ∙ f

@@ -1,9 +1,6 @@
 // The rebuild of a store in packed form: every row of the map is dumped, rising, into the work area, and the packed tree is built from
 // the rows over the same store. Relies on `dump` and `packed`; the caller has checked that the store is sound.
-ghost use mathlib.Core.Path.{_≡_};
-ghost use mathlib.Core.Bool.{true};
-ghost use Prim.Native.Nat.{_*_, _≤_};
-ghost use lib.ListN.{length, replicate};
+ghost use Rattle.image.specs.Prelude.{_≡_, true, _*_, _≤_, length, replicate};
 ghost use Rattle.image.specs.Image.{nodesOf, wholeNodes};
 ghost use Rattle.image.specs.Sound.{sound, tableOf};
 ghost use Rattle.image.specs.Calls.{workPerNode};

@@ -1,9 +1,5 @@
 -- What the act of a move asks, and one law for each way out of the call. Relies on prepare's Moved (the contract from the steps).
-use Prim.Native.Nat.{ℕ, _*_, _-_, _/_, _≤_}
-use mathlib.Core.Path.{_≡_, refl, sym, ap, subst, _∙_}
-use mathlib.Core.List.{List, _++_}
-use mathlib.Core.Bool.{Bool, true, false}
-use lib.ListN.{length, take, drop}
+use Rattle.image.specs.Prelude.{ℕ, _*_, _-_, _/_, _≤_, _≡_, refl, sym, ap, subst, _∙_, List, _++_, Bool, true, false, length, take, drop}
 use Rattle.image.specs.Bytes.{same}
 use Rattle.image.specs.Image.{nodesOf, wholeNodes, headerOf}
 use Rattle.image.specs.Sound.{tableOf}

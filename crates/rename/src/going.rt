@@ -1,8 +1,7 @@
 // The questions of move from 3 on, in order, and what is to be done when all are a yes. Nothing is written here.
 // Relies on path (3) and asks (7, 8 and 9).
 use image::Refusal;
-ghost use mathlib.Core.Path.{_≡_};
-ghost use mathlib.Core.Bool.{true};
+ghost use Rattle.image.specs.Prelude.{_≡_, true};
 ghost use Rattle.image.specs.Sound.{sound, tableOf};
 ghost use Rattle.rename.specs.Going.Going.{goingOf};
 

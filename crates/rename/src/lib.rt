@@ -8,7 +8,7 @@ pub mod prepare;
 use going::Going;
 use image::Outcome;
 use questions::Admission;
-ghost use mathlib.Core.Path.{_≡_};
+ghost use Rattle.image.specs.Prelude.{_≡_};
 ghost use Rattle.image.specs.Upkeep.{settled};
 ghost use Rattle.image.specs.Calls.{acts, move};
 ghost use Rattle.image.specs.Contract.{Meets};

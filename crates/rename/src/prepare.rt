@@ -2,9 +2,7 @@
 // rebuilt first, and then it always is.
 // Relies on questions (what questions 1 and 2 leave), spare (the free nodes from the marks of those in use) and rebuild (which leaves the
 // upper nodes free).
-ghost use mathlib.Core.Path.{_≡_};
-ghost use Prim.Native.Nat.{_-_, _/_, _≤_};
-ghost use lib.ListN.{length};
+ghost use Rattle.image.specs.Prelude.{_≡_, _-_, _/_, _≤_, length};
 ghost use Rattle.image.specs.Upkeep.{settled};
 ghost use Rattle.packed.specs.Form.Packed.{numbersFrom};
 ghost use Rattle.packed.specs.Build.Handed.{listed};

@@ -1,11 +1,6 @@
 -- What the places of a piece hold, and what its reader promises.
-use Prim.Native.Nat.{ℕ, _<_, _≤_}
-use mathlib.Core.Path.{_≡_}
-use mathlib.Core.List.{List, _++_}
-use mathlib.Core.Bool.{cond}
-use mathlib.Core.Option.{Option, none, some}
-use lib.ListN.{length, drop}
-use lib.Dec.{eqb}
+use Rattle.image.specs.Prelude.{ℕ, _+_, _<_, _≤_, _≡_, List, _++_, cond, Option, none, some, length, drop, eqb}
+use Rattle.image.specs.Path.{pathLimit, valueLimit}
 use Rattle.image.specs.Bytes.{u16Bytes}
 use Rattle.image.specs.Calls as calls
 use Rattle.image.specs.Batch.{Request, acting, keeping, asking, plainOf, nodeOf, firstRequest, behind}
@@ -75,8 +70,8 @@ pub record Reads (s : List ℕ) (at : ℕ) (r : Reading) : Type 0 where
   pub high : r .end ≤ length s
 
 unfoldable pub queryMost : Query → ℕ
-queryMost (Query.Get p) = 36
-queryMost (Query.Next p q) = 68
+queryMost (Query.Get p) = 4 + valueLimit
+queryMost (Query.Next p q) = 4 + pathLimit
 
 -- the first four bytes of an answer
 abbrev pub headBytes : ℕ → ℕ → List ℕ

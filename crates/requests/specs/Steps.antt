@@ -1,14 +1,6 @@
 -- The reader of a piece and the writer of an answer: one law for each way out of the code.
-use Prim.Native.Nat.{ℕ, _+_, _-_, _<_, _≤_}
-use mathlib.Core.Path.{_≡_, refl, sym, ap, ap₂, subst, _∙_}
-use mathlib.Core.List.{List, _++_}
-use mathlib.Core.Bool.{Bool, true, false, _&&_, cond}
-use mathlib.Core.Option.{Option, none, some}
-use native.Mathlib.Omega.{arith}
-use lib.ListN.{length, take, drop, getD, length-drop, length-append}
-use lib.Seq.{drop-drop, getD-drop, length-take-le}
-use lib.Dec.{leb, eqb}
-use borrow.Author.Tests.{le-leb, lt-leb, eq-eqb, ne-eqb}
+use Rattle.image.specs.Prelude.{ℕ, _+_, _-_, _<_, _≤_, _≡_, refl, sym, ap, ap₂, subst, _∙_, List, _++_, Bool, true, false, _&&_, cond, Option, none, some, arith, length, take, drop, getD, length-drop, length-append, drop-drop, getD-drop, length-take-le, leb, eqb, le-leb, lt-leb, eq-eqb, ne-eqb}
+use Rattle.image.specs.Path.{valueLimit}
 use Rattle.image.specs.Bytes.{u16, u16Bytes}
 use Rattle.image.specs.Entry.{pair, keyed}
 use Rattle.image.specs.Calls as calls
@@ -294,7 +286,7 @@ pub size-found : (found : Found) (n : ℕ) → found ≡ Found.Length n → foun
 unfolding foundLength
 size-found found n e = rw e refl
 
-pub most-get : (q : Query) (p : Place) → q ≡ Query.Get p → 36 ≡ queryMost q
+pub most-get : (q : Query) (p : Place) → q ≡ Query.Get p → 4 + valueLimit ≡ queryMost q
 unfolding queryMost
 most-get q p e = rw e refl
 

@@ -1,10 +1,6 @@
 -- When two neighbours would fit in one node, on small trees at the limits: 1,016 bytes, a pivot suffix of 65, and no message. The second
 -- program tests its own rule at the same limits (tests/second/tests/upkeep.rs).
-use Prim.Native.Nat.{ℕ}
-use mathlib.Core.Path.{_≡_, refl}
-use mathlib.Core.List.{List, [], _∷_, _++_}
-use mathlib.Core.Bool.{true, false}
-use lib.ListN.{replicate}
+use Rattle.image.specs.Prelude.{ℕ, _≡_, refl, List, [], _∷_, _++_, true, false, replicate}
 use Rattle.image.specs.Bytes.{shared}
 use Rattle.image.specs.Entry.{drops}
 use Rattle.image.specs.Table.{Row}

@@ -1,7 +1,7 @@
 -- The definitions, computed on each image of Data, say what the second program says of it.
-use mathlib.Core.Path.{_≡_, refl}
+use Rattle.image.specs.Prelude.{_≡_, refl}
 use Rattle.image.specs.Bytes.{same, before, begins, shared, zeros, u16}
-use Rattle.image.specs.Path.{letter, readsOn, wellFormed, below, owns, valueLimit, valueFits, pathLimit}
+use Rattle.image.specs.Path.{letter, readsOn, wellFormed, below, owns, valueFits}
 use Rattle.image.specs.Entry.{keyed, pointer, entryOf, entryThen, readAll, entriesOf}
 use Rattle.image.specs.Table.{withRow, without, withoutBelow, everyKey, leads, rising, underPrefix}
 use Rattle.image.specs.Image.{nodesOf, nodeBytes, header, headerOf, headerLaidOut, laidOut, entryBytes, nodeEntries, pairThen, pairsOf, messageThen, messagesOf, noBranches, branchThen, insideOf, forestOf, leafOf, interiorOf, orNone, treeAt, treeOf}
@@ -33,7 +33,7 @@ pub record Judged : Type 0 where
   bad-node-zeros : verdictOf outside.bad-node-zeros ≡ outside.bad-node-zeros-says
 
 pub judged : Judged
-unfolding same before begins shared zeros u16 letter readsOn wellFormed below owns valueLimit valueFits pathLimit keyed pointer entryOf entryThen readAll entriesOf withRow without withoutBelow everyKey leads rising underPrefix nodesOf nodeBytes header headerOf headerLaidOut laidOut entryBytes nodeEntries pairThen pairsOf messageThen messagesOf noBranches branchThen insideOf forestOf leafOf interiorOf orNone treeAt treeOf highOf apply applyAll rows valuesFit soundMessage soundMessages firstPivot soundTree numbers isIn once inRange soundHeader soundRoot sound tableOf reachable reachableNodes holdsNoMessage every settled used freeNodes verdictOf
+unfolding same before begins shared zeros u16 letter readsOn wellFormed below owns valueFits keyed pointer entryOf entryThen readAll entriesOf withRow without withoutBelow everyKey leads rising underPrefix nodesOf nodeBytes header headerOf headerLaidOut laidOut entryBytes nodeEntries pairThen pairsOf messageThen messagesOf noBranches branchThen insideOf forestOf leafOf interiorOf orNone treeAt treeOf highOf apply applyAll rows valuesFit soundMessage soundMessages firstPivot soundTree numbers isIn once inRange soundHeader soundRoot sound tableOf reachable reachableNodes holdsNoMessage every settled used freeNodes verdictOf
 judged =
     record {
       made = refl;

@@ -1,9 +1,8 @@
 -- The definitions, computed on each change of Data, say what the second program says of it: its own flushes and heals keep the rules of
 -- upkeep, and those that only seem to be done do not.
-use mathlib.Core.Path.{_≡_, refl}
-use mathlib.Core.Bool.{true, false}
+use Rattle.image.specs.Prelude.{_≡_, refl, true, false}
 use Rattle.image.specs.Bytes.{same, before, begins, shared, zeros, u16}
-use Rattle.image.specs.Path.{letter, readsOn, wellFormed, below, owns, valueLimit, valueFits, pathLimit}
+use Rattle.image.specs.Path.{letter, readsOn, wellFormed, below, owns, valueFits}
 use Rattle.image.specs.Entry.{keyed, pointer, entryOf, entryThen, readAll, entriesOf}
 use Rattle.image.specs.Image.{nodesOf, nodeBytes, header, headerOf, headerLaidOut, laidOut, entryBytes, nodeEntries, pairThen, pairsOf, messageThen, messagesOf, noBranches, branchThen, insideOf, forestOf, leafOf, interiorOf, orNone, treeAt, treeOf}
 use Rattle.image.specs.Meaning.{highOf}
@@ -32,7 +31,7 @@ pub record AsTold : Type 0 where
   between-is-wrong : keptOf outside.heal-level-between .healed ≡ false
 
 pub as-told : AsTold
-unfolding same before begins shared zeros u16 letter readsOn wellFormed below owns valueLimit valueFits pathLimit keyed pointer entryOf entryThen readAll entriesOf nodesOf nodeBytes header headerOf headerLaidOut laidOut entryBytes nodeEntries pairThen pairsOf messageThen messagesOf noBranches branchThen insideOf forestOf leafOf interiorOf orNone treeAt treeOf highOf reachable reachableIn reachableNodes reachableAt holdsNoMessage every overlap sameMessage isSublist gainsNoMessage noneGains fromLevel emptied noneWaits flushed pairBytes childBytes shortPivots treeBytes treeShort noMessage wouldFit unmergeable unmergeableAt keepsRange healed keptAt keptOf
+unfolding same before begins shared zeros u16 letter readsOn wellFormed below owns valueFits keyed pointer entryOf entryThen readAll entriesOf nodesOf nodeBytes header headerOf headerLaidOut laidOut entryBytes nodeEntries pairThen pairsOf messageThen messagesOf noBranches branchThen insideOf forestOf leafOf interiorOf orNone treeAt treeOf highOf reachable reachableIn reachableNodes reachableAt holdsNoMessage every overlap sameMessage isSublist gainsNoMessage noneGains fromLevel emptied noneWaits flushed pairBytes childBytes shortPivots treeBytes treeShort noMessage wouldFit unmergeable unmergeableAt keepsRange healed keptAt keptOf
 as-told =
     record {
       flush-two-levels = refl;

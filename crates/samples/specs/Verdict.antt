@@ -1,10 +1,6 @@
 -- What an image is, and what upkeep of a node made of one, each as one record: by the definitions (`verdictOf`, `keptOf`), and as the
 -- second program prints it in Data.
-use Prim.Native.Nat.{ℕ, _-_}
-use mathlib.Core.List.{List, [], _++_}
-use mathlib.Core.Bool.{Bool, true, false, cond}
-use mathlib.Core.Option.{Option, none, some}
-use lib.ListN.{length, replicate}
+use Rattle.image.specs.Prelude.{ℕ, _-_, List, [], _++_, Bool, true, false, cond, Option, none, some, length, replicate}
 use Rattle.image.specs.Table.{Row}
 use Rattle.image.specs.Image.{nodesOf}
 use Rattle.image.specs.Sound as defined

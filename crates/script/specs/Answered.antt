@@ -1,16 +1,7 @@
 -- What a call's contract says of the text of a line: the store's answers are the plain map's, where the store is sound and of 64 nodes.
 -- Relies on: the contract Meets, and the list of a query's questions (query).
-use Prim.Native.Nat.{ℕ, zero, suc, _*_, _≤_}
-use mathlib.Core.Path.{_≡_, refl, sym, ap, subst, _∙_}
-use mathlib.Core.List.{List, [], _∷_, _++_}
-use mathlib.Core.Bool.{true, _&&_}
-use mathlib.Core.Option.{Option, none, some}
-use native.Mathlib.Omega.{arith}
-use lib.ListN.{length, take, drop, length-replicate}
-use lib.Seq.{take-at}
-use lib.Dec.{leb}
-use borrow.Author.Tests.{le-leb}
-use Rattle.image.specs.Path.{valueLimit}
+use Rattle.image.specs.Prelude.{ℕ, zero, suc, _+_, _*_, _≤_, _≡_, refl, sym, ap, subst, _∙_, List, [], _∷_, _++_, true, _&&_, Option, none, some, arith, length, take, drop, length-replicate, take-at, leb, le-leb}
+use Rattle.image.specs.Path.{valueLimit, pathLimit}
 use Rattle.image.specs.Table.{Row, find, isSome}
 use Rattle.image.specs.Image.{nodesOf, wholeNodes}
 use Rattle.image.specs.Sound.{sound, tableOf}
@@ -22,15 +13,24 @@ use Rattle.image.specs.declared.Refusal.{Refusal}
 use Rattle.image.specs.declared.Outcome.{Outcome}
 use Rattle.image.specs.declared.Found.{Found}
 use Rattle.laws.specs.ValuesFit.{table-fits, found-fits}
+use Rattle.laws.specs.Refusals.{refusal-some}
 use Rattle.query.specs.Asked.{pathsFit, bufferLimit, number-is, foundLength}
 use Rattle.image.specs.Program.{Command, acting, getting, bad, area, valueBuffer, badText, okText, refusedText, textAt, answerText, valueText, callText, commandText, commandTable, commandOf, said, afterLine, lineFeed, programNodes}
 use Rattle.script.specs.Writing.{Wrote, wrote-within}
 
--- the store of the program, and a page for the longest text: 64 lines of at most 130 bytes, and the end
+-- how long the line of a row is at most: its path, a space, its value in hexadecimal, a line feed
+abbrev pub rowLimit : ℕ
+rowLimit = pathLimit + 2 * valueLimit + 2
+
+-- how long a list is at most but for its end: a line for each of 64 paths
+abbrev pub listLimit : ℕ
+listLimit = 64 * rowLimit
+
+-- the store of the program, and a page for the longest text
 pub record Held (store out : List ℕ) : Type 0 where
   pub nodes : length store ≡ 65536
   pub is-sound : sound store ≡ true
-  pub page : 8324 ≤ length out
+  pub page : listLimit + 4 ≤ length out
 
 pub held-on : (store out out′ : List ℕ) → Held store out → length out′ ≡ length out → Held store out′
 held-on store out out′ h e = record { nodes = h .nodes; is-sound = h .is-sound; page = omega (arith, h .page) }
@@ -220,38 +220,26 @@ module _ (s out : List ℕ) (h : Held s out) where
     unfolding foundAnswer
     left r e = go (foundBy q (tableOf s)) refl
       where
-        some-number : (x : Refusal) → refusalNumber x ≡ 0 → ⊥
-        some-number Refusal.Length z = unfold refusalNumber in omega arith
-        some-number Refusal.Unsound z = unfold refusalNumber in omega arith
-        some-number Refusal.Malformed z = unfold refusalNumber in omega arith
-        some-number Refusal.LongValue z = unfold refusalNumber in omega arith
-        some-number Refusal.ShortBuffer z = unfold refusalNumber in omega arith
-        some-number Refusal.NotInterior z = unfold refusalNumber in omega arith
-        some-number Refusal.Nested z = unfold refusalNumber in omega arith
-        some-number Refusal.Absent z = unfold refusalNumber in omega arith
-        some-number Refusal.BecomesMalformed z = unfold refusalNumber in omega arith
-        some-number Refusal.Full z = unfold refusalNumber in omega arith
-
         go : (o : Option (List ℕ)) → foundBy q (tableOf s) ≡ o → foundBy q (tableOf s) ≡ none
         go none g = g
         go (some v) g =
             let z : filled (refusalNumber r) 0 buffer′ ≡ filled 0 (length v) (v ++ drop (length v) buffer) = ap (λ x. foundAnswer x buffer′) (sym e) ∙ answer-some v g in
-            let o : refusalNumber r ≡ 0 = cc in absurd (some-number r o)
+            let o : refusalNumber r ≡ 0 = cc in absurd (omega (arith, refusal-some r))
 
-  -- a value that get gives is at most 32 bytes
-  pub get-short : (p buffer : List ℕ) (f : Found) (buffer′ : List ℕ) → Meets s (asks (get p) buffer) (foundAnswer f buffer′) s [] → foundLength f ≤ 32
+  -- a value that get gives fits
+  pub get-short : (p buffer : List ℕ) (f : Found) (buffer′ : List ℕ) → Meets s (asks (get p) buffer) (foundAnswer f buffer′) s [] → foundLength f ≤ valueLimit
   unfolding foundLength
   get-short p buffer (Found.Refused r) buffer′ m = omega arith
   get-short p buffer (Found.Length n) buffer′ m = by-number (firstNoOn s (asks (get p) buffer)) (m .answer)
     where
-      by-found : (o : Option (List ℕ)) → find p (tableOf s) ≡ o → filled 0 n buffer′ ≡ fill buffer o → n ≤ 32
+      by-found : (o : Option (List ℕ)) → find p (tableOf s) ≡ o → filled 0 n buffer′ ≡ fill buffer o → n ≤ valueLimit
       by-found none g z = let e : n ≡ 0 = unfold fill in cc in omega arith
       by-found (some v) g z =
           let e : n ≡ length v = unfold fill in cc in
-          let l : length v ≤ 32 = unfold valueLimit in found-fits p v (tableOf s) (table-fits s (h .is-sound)) g in
+          let l : length v ≤ valueLimit = found-fits p v (tableOf s) (table-fits s (h .is-sound)) g in
           omega arith
 
-      by-number : (k : ℕ) → foundAnswer (Found.Length n) buffer′ ≡ answerAt k (asks (get p) buffer) (tableOf s) → n ≤ 32
+      by-number : (k : ℕ) → foundAnswer (Found.Length n) buffer′ ≡ answerAt k (asks (get p) buffer) (tableOf s) → n ≤ valueLimit
       by-number zero z = by-found (find p (tableOf s)) refl (unfold foundAnswer answerAt accepted foundBy in z)
       by-number (suc k) z =
           let y : filled 0 n buffer′ ≡ filled (suc k) 0 buffer = unfold foundAnswer answerAt refused in z in

@@ -1,14 +1,5 @@
 -- Where a byte first stands, and the fields of a line by the places of its spaces.
-use Prim.Native.Nat.{ℕ, suc, _+_, _<_, _≤_}
-use mathlib.Core.Path.{_≡_, refl, sym, ap, _∙_}
-use mathlib.Core.List.{List, [], _∷_}
-use mathlib.Core.Bool.{Bool, true, false, cond}
-use native.Mathlib.Omega.{arith}
-use native.Mathlib.Numerals.{add-one}
-use lib.ListN.{length, take, drop, getD, drop-of-length-le}
-use lib.Seq.{drop-cons}
-use lib.Dec.{eqb}
-use borrow.Author.Tests.{eq-eqb, ne-eqb, eqb-true, eqb-false}
+use Rattle.image.specs.Prelude.{ℕ, suc, _+_, _<_, _≤_, _≡_, refl, sym, ap, _∙_, List, [], _∷_, Bool, true, false, cond, arith, length, take, drop, getD, drop-of-length-le, drop-cons, eqb, eq-eqb, ne-eqb, eqb-true, eqb-false, add-one}
 use Rattle.image.specs.Sound.{isIn}
 use Rattle.image.specs.Program.{space, withByte, fieldsOf}
 

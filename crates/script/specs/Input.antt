@@ -1,15 +1,6 @@
 -- The input byte by byte: what each byte prints, and the theorem that all bytes print what the definition of the program says; the same for
 -- a list of lines. Relies on: Answered (what a line says).
-use Prim.Native.Nat.{ℕ, zero, suc, _+_, _-_, _<_, _≤_}
-use mathlib.Core.Path.{_≡_, refl, sym, ap, ap₂, _∙_}
-use mathlib.Core.List.{List, [], _∷_, _++_, append-nil}
-use mathlib.Core.Bool.{Bool, true, false, cond}
-use mathlib.Core.Logic.{_⊎_, inl, inr}
-use native.Mathlib.Omega.{arith}
-use lib.ListN.{length, take, drop, set, length-append}
-use lib.Seq.{take-all, take-append-le, take-at, length-take-le}
-use lib.Dec.{ltb, eqb}
-use borrow.Author.Tests.{eq-eqb, ne-eqb, ltb-true, ltb-false}
+use Rattle.image.specs.Prelude.{ℕ, zero, suc, _+_, _-_, _<_, _≤_, _≡_, refl, sym, ap, ap₂, _∙_, List, [], _∷_, _++_, append-nil, Bool, true, false, cond, _⊎_, inl, inr, arith, length, take, drop, set, length-append, take-all, take-append-le, take-at, length-take-le, ltb, eqb, eq-eqb, ne-eqb, ltb-true, ltb-false}
 use Rattle.image.specs.Table.{Row}
 use Rattle.image.specs.Image.{wholeNodes, nodesOf}
 use Rattle.image.specs.Sound.{sound, tableOf}
@@ -17,7 +8,7 @@ use Rattle.image.specs.Calls.{firstNo}
 use Rattle.image.specs.Contract.{Made, MakeMeets, makeNo}
 use Rattle.image.specs.Program.{lineFeed, lastLine, linesFrom, linesOf, commandOf, commandText, commandTable, said, afterLine, saidOn, programNodes, printedFor}
 use Rattle.script.specs.Writing.{set-next}
-use Rattle.script.specs.Answered.{Held, Says}
+use Rattle.script.specs.Answered.{Held, Says, listLimit}
 use Rattle.script.specs.Line.{line-long}
 use Rattle.octets.specs.Put.{front-is}
 
@@ -206,7 +197,7 @@ pub lines-print : {s printed : List ℕ} {ls : List (List ℕ)} → Made s → A
 lines-print {ls = ls} m r = lines-say r ∙ ap (saidOn programNodes ls) (m .empty)
 
 -- what make leaves of the program's store
-pub made-held : (s : List ℕ) (k : ℕ) (s′ out : List ℕ) → MakeMeets s k s′ → length s ≡ 65536 → 8324 ≤ length out → Held s′ out
+pub made-held : (s : List ℕ) (k : ℕ) (s′ out : List ℕ) → MakeMeets s k s′ → length s ≡ 65536 → listLimit + 4 ≤ length out → Held s′ out
 made-held s k s′ out m n l =
     record { nodes = m .size ∙ n; is-sound = m .leaves (ap makeNo n ∙ accepted) .is-sound; page = l }
   where

@@ -1,13 +1,5 @@
 -- A line by its fields, as the code takes it apart: the word, then the rest.
-use Prim.Native.Nat.{ℕ, _+_, _-_, _<_, _≤_}
-use mathlib.Core.Path.{_≡_, refl, sym, ap, ap₂, _∙_}
-use mathlib.Core.List.{List, [], _∷_}
-use mathlib.Core.Bool.{Bool, true, false, _||_, cond}
-use native.Mathlib.Omega.{arith}
-use lib.ListN.{length, take, drop, length-drop}
-use lib.Seq.{take-all}
-use lib.Dec.{eqb}
-use borrow.Author.Tests.{lt-ltb, le-ltb, ne-eqb}
+use Rattle.image.specs.Prelude.{ℕ, _+_, _-_, _<_, _≤_, _≡_, refl, sym, ap, ap₂, _∙_, List, [], _∷_, Bool, true, false, _||_, cond, arith, length, take, drop, length-drop, take-all, eqb, lt-ltb, le-ltb, ne-eqb}
 use Rattle.image.specs.Bytes.{same}
 use Rattle.image.specs.Program.{space, fieldsOf, withByte, someEmpty, Command, bad, wordAlone, wordAndPath, wordAndTwo, readFields, commandOf}
 use Rattle.script.specs.Find.{upTo, one-field, more-fields}
@@ -48,14 +40,14 @@ part-end s b = take-all (length s - b) (drop b s) (let n = length-drop b s in om
 part-front : (s : List ℕ) (n : ℕ) → take (n - 0) (drop 0 s) ≡ take n s
 part-front s n = let z : n - 0 ≡ n = omega arith in ap (λ k. take k s) z
 
+either-bad : (b : Bool) → bad ≡ cond b bad bad
+either-bad true = refl
+either-bad false = refl
+
 -- a word with three fields or more behind it
 many-bad : (w : List ℕ) (fs : List (List ℕ)) (f g k : List ℕ) (l : List (List ℕ)) → fs ≡ f ∷ g ∷ k ∷ l → bad ≡ cond (someEmpty fs) bad (readFields (w ∷ fs))
 unfolding readFields
-many-bad w fs f g k l e = rw e (either (someEmpty (f ∷ g ∷ k ∷ l)))
-  where
-    either : (x : Bool) → bad ≡ cond x bad bad
-    either true = refl
-    either false = refl
+many-bad w fs f g k l e = rw e (either-bad (someEmpty (f ∷ g ∷ k ∷ l)))
 
 module _ (w rest : List ℕ) (a : ℕ) (a-is : a ≡ upTo space rest) where
   pub rest-path : a ≡ length rest → pathCommand w rest ≡ restCommand w rest
@@ -130,10 +122,6 @@ module _ (line : List ℕ) (short : length line ≤ 255) (a : ℕ) (a-is : a ≡
       empty-word (p ∷ q ∷ []) = unfold readFields wordAndTwo same in refl
       empty-word (p ∷ q ∷ r ∷ fs) = unfold readFields in refl
 
-      either : (x : Bool) → bad ≡ cond x bad bad
-      either true = refl
-      either false = refl
-
       by-word : (w : List ℕ) (fs : List (List ℕ)) → cond (eqb (length w) 0 || someEmpty fs) bad (readFields (w ∷ fs)) ≡ cond (someEmpty fs) bad (readFields (w ∷ fs))
-      by-word [] fs = rw (empty-word fs) (either (someEmpty fs))
+      by-word [] fs = rw (empty-word fs) (either-bad (someEmpty fs))
       by-word (b ∷ w) fs = rw (ne-eqb (length (b ∷ w)) 0 (λ h. omega arith)) refl

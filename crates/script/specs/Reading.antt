@@ -1,13 +1,6 @@
 -- Paths and values read from text: what each way out of the code leaves at the front of its buffer.
-use Prim.Native.Nat.{ℕ, suc, _+_, _*_, _-_, _<_, _≤_}
-use mathlib.Core.Path.{_≡_, refl, sym, ap, _∙_}
-use mathlib.Core.List.{List, [], _∷_, _++_, append-assoc, append-nil}
-use mathlib.Core.Bool.{Bool, true, false}
-use mathlib.Core.Option.{Option, none, some}
-use native.Mathlib.Omega.{arith}
-use lib.ListN.{length, take, drop, getD, set, drop-of-length-le, length-set}
-use lib.Seq.{drop-cons}
-use borrow.Author.Tests.{lt-ltb, le-ltb}
+use Rattle.image.specs.Prelude.{ℕ, suc, _+_, _*_, _-_, _<_, _≤_, _≡_, refl, sym, ap, _∙_, List, [], _∷_, _++_, append-assoc, append-nil, Bool, true, false, Option, none, some, arith, length, take, drop, getD, set, drop-of-length-le, length-set, drop-cons, lt-ltb, le-ltb}
+use Rattle.image.specs.Path.{valueLimit}
 use Rattle.image.specs.Bytes.{same}
 use Rattle.image.specs.Sound.{isIn}
 use Rattle.image.specs.Program.{slash, exchanged, pathOf, digitOf, behind, bytesOf, valueOf, hyphen, hexText, valueText}
@@ -143,7 +136,7 @@ unfolding valueText
 some-text [] h = absurd (h refl)
 some-text (b ∷ v) h = refl
 
-pub text-short : (v : List ℕ) → length v ≤ 32 → length (valueText v) ≤ 64
+pub text-short : (v : List ℕ) → length v ≤ valueLimit → length (valueText v) ≤ 2 * valueLimit
 unfolding valueText
 text-short [] h = omega arith
 text-short (b ∷ v) h = let n = hex-length (b ∷ v) in omega arith

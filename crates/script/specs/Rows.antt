@@ -1,15 +1,8 @@
 -- The rows below a path, one by one: next gives each path in turn, get its value, and the text of the rows follows.
 -- Relies on: Answered (what a query finds), laws/Follow (what follows a path in a rising table).
-use Prim.Native.Nat.{ℕ, _+_, _*_, _-_, _<_, _≤_}
-use mathlib.Core.Path.{_≡_, refl, sym, ap, ap₂, subst, _∙_}
-use mathlib.Core.List.{List, [], _∷_, _++_, append-assoc}
-use mathlib.Core.Bool.{Bool, true, false, _||_, cond, false≢true}
-use mathlib.Core.Option.{none, some}
-use native.Mathlib.Omega.{arith}
-use lib.ListN.{length, take, drop, length-append}
-use lib.Seq.{length-take-le}
+use Rattle.image.specs.Prelude.{ℕ, _+_, _*_, _-_, _<_, _≤_, _≡_, refl, sym, ap, ap₂, subst, _∙_, List, [], _∷_, _++_, append-assoc, Bool, true, false, cond, false≢true, none, some, arith, length, take, drop, length-append, length-take-le}
 use Rattle.image.specs.Bytes.{same, before, begins}
-use Rattle.image.specs.Path.{wellFormed, readsOn, pathLimit, valueLimit}
+use Rattle.image.specs.Path.{wellFormed, pathOrEmpty, readsOn, valueLimit}
 use Rattle.image.specs.Table.{Row, find, isSome, rowsBelow, rowsAfter, firstKey, leastAfter, leads, rising}
 use Rattle.image.specs.Image.{nodesOf}
 use Rattle.image.specs.Sound.{sound, tableOf}
@@ -30,7 +23,7 @@ use Rattle.query.specs.Asked.{pathsFit}
 use Rattle.image.specs.Program.{space, slash, lineFeed, exchanged, pathText, valueText, endText, refusedText, rowText, rowsText, listText, listing, commandText, commandTable}
 use Rattle.script.specs.Writing.{Wrote, wrote-within, exchanged-length}
 use Rattle.script.specs.Reading.{text-short}
-use Rattle.script.specs.Answered.{Held, Answered, took, left}
+use Rattle.script.specs.Answered.{Held, Answered, took, left, rowLimit, listLimit}
 use Rattle.query.specs.Steps.{get-room, next-room}
 use Rattle.laws.specs.ButLive.{sound-parts, live-is}
 
@@ -75,7 +68,7 @@ row-found p q t r u e f =
 
 -- below a path every row is greater than the empty one
 formed-begins : (p k : List ℕ) → wellFormed p ≡ true → begins p k ≡ true → before [] k ≡ true
-formed-begins [] k f h = absurd (false≢true (unfold wellFormed readsOn pathLimit in f))
+formed-begins [] k f h = absurd (false≢true (unfold wellFormed readsOn in f))
 formed-begins (b ∷ p) [] f h = absurd (false≢true (unfold begins in h))
 formed-begins (b ∷ p) (c ∷ k) f h = unfold before in refl
 
@@ -117,7 +110,7 @@ below-few s p n e =
 
 -- ONE ROW
 formed-long : (k : List ℕ) → wellFormed k ≡ true → 1 ≤ length k
-formed-long [] f = absurd (false≢true (unfold wellFormed readsOn pathLimit in f))
+formed-long [] f = absurd (false≢true (unfold wellFormed readsOn in f))
 formed-long (b ∷ k) f = omega arith
 
 -- a path that the store holds
@@ -142,7 +135,7 @@ path-short path h k =
     let b = length-take-le (length path - 1) path (omega arith) in
     omega arith
 
-pub row-short : (path v : List ℕ) → length path ≤ 64 → 1 ≤ length path → length v ≤ 32 → length (rowText (record { key = path; value = v })) ≤ 130
+pub row-short : (path v : List ℕ) → length path ≤ 64 → 1 ≤ length path → length v ≤ valueLimit → length (rowText (record { key = path; value = v })) ≤ rowLimit
 unfolding rowText
 row-short path v h k l =
     let a = length-append (pathText path) (space ∷ (valueText v ++ (lineFeed ∷ []))) in
@@ -160,8 +153,8 @@ get-asked path f = f
 -- before each turn: the text so far and the text of the rows ahead are the whole text, for which there is room
 pub record Walk (s p q : List ℕ) (at : ℕ) (out : List ℕ) : Type 0 where
   pub text : take at out ++ rowsText (ahead p q (tableOf s)) ≡ rowsText (rowsBelow p (tableOf s))
-  pub room : at + 130 * length (ahead p q (tableOf s)) ≤ 8320
-  pub place : same q [] || wellFormed q ≡ true
+  pub room : at + rowLimit * length (ahead p q (tableOf s)) ≤ listLimit
+  pub place : pathOrEmpty q ≡ true
 
 pub walk-starts : (s p out last : List ℕ) → Held s out → wellFormed p ≡ true → Walk s p (take 0 last) 0 out
 unfolding same
@@ -172,7 +165,7 @@ walk-starts s p out last h f =
     record { text = ap rowsText a; room = omega arith; place = refl }
 
 -- next's questions 3 and 5
-next-asked : (p q : List ℕ) → wellFormed p ≡ true → same q [] || wellFormed q ≡ true → pathsFit (next p q) ≡ true
+next-asked : (p q : List ℕ) → wellFormed p ≡ true → pathOrEmpty q ≡ true → pathsFit (next p q) ≡ true
 unfolding pathsFit
 next-asked p q f e = rw (f, e) refl
 
@@ -231,7 +224,7 @@ module _ (s p q : List ℕ) (at : ℕ) (out buffer : List ℕ) (h : Held s out) 
     row-present =
         record { there = rw here refl; formed = found .formed; some-bytes = formed-long _ (found .formed); short = found .short }
 
-    pub row-room : at + 130 ≤ 8320
+    pub row-room : at + rowLimit ≤ listLimit
     row-room = let a = ap length (turn .is) in omega (arith, w .room)
 
     rest-ahead : ahead p (take n buffer′) (tableOf s) ≡ turn .later
@@ -243,12 +236,12 @@ module _ (s p q : List ℕ) (at : ℕ) (out buffer : List ℕ) (h : Held s out) 
     walk-shortens = let a = ap length rest-ahead in let b = ap length (turn .is) in omega arith
 
     pub walk-goes-on : (at′ : ℕ) (out′ : List ℕ) → RowWrote s (take n buffer′) out at at′ out′ → Walk s p (take n buffer′) at′ out′
-    unfolding rowsText valueLimit
+    unfolding rowsText
     walk-goes-on at′ out′ x =
         let wrote : Wrote out at (rowText (record { key = take n buffer′; value = turn .row .value })) at′ out′ = x .row (turn .row .value) here in
         let same-row : rowText (record { key = take n buffer′; value = turn .row .value }) ≡ rowText (turn .row)
         = ap (λ k. rowText (record { key = k; value = turn .row .value })) (sym (turn .key)) in
-        let value-short : length (turn .row .value) ≤ 32 = found-fits (take n buffer′) (turn .row .value) (tableOf s) (table-fits s (h .is-sound)) here in
+        let value-short : length (turn .row .value) ≤ valueLimit = found-fits (take n buffer′) (turn .row .value) (tableOf s) (table-fits s (h .is-sound)) here in
         let short = row-short (take n buffer′) (turn .row .value) (found .short) (formed-long _ (found .formed)) value-short in
         let a = ap length rest-ahead in
         let b = ap length (turn .is) in
@@ -277,12 +270,12 @@ module _ (s p q : List ℕ) (at : ℕ) (out buffer : List ℕ) (h : Held s out) 
     part-goes-on at′ out′ x = subst (λ k. Walk s p k at′ out′) part (walk-goes-on at′ out′ (subst (λ k. RowWrote s k out at at′ out′) (sym part) x))
 
 -- the value of a row that is present
-pub row-value : (s path out buffer : List ℕ) (f : Found) (buffer′ : List ℕ) (n : ℕ) → Held s out → Present s path → 32 ≤ length buffer
+pub row-value : (s path out buffer : List ℕ) (f : Found) (buffer′ : List ℕ) (n : ℕ) → Held s out → Present s path → valueLimit ≤ length buffer
     → Meets s (asks (get path) buffer) (foundAnswer f buffer′) s [] → f ≡ Found.Length n → find path (tableOf s) ≡ some (take n buffer′)
 unfolding foundBy
 row-value s path out buffer f buffer′ n h x l m e = took s out h (get path) buffer (get-asked path (x .formed)) (get-room path buffer l) f buffer′ m n e .0
 
-pub row-refused : (s path out buffer : List ℕ) (f : Found) (buffer′ : List ℕ) (r : Refusal) → Held s out → Present s path → 32 ≤ length buffer
+pub row-refused : (s path out buffer : List ℕ) (f : Found) (buffer′ : List ℕ) (r : Refusal) → Held s out → Present s path → valueLimit ≤ length buffer
     → Meets s (asks (get path) buffer) (foundAnswer f buffer′) s [] → f ≡ Found.Refused r → ⊥
 unfolding foundBy isSome
 row-refused s path out buffer f buffer′ r h x l m e =

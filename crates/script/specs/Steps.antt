@@ -1,14 +1,7 @@
 -- The steps of the writers and of the answers: one law for each way out of the code.
-use Prim.Native.Nat.{ℕ, _+_, _-_, _/_, _%_, _<_, _≤_}
-use mathlib.Core.Path.{_≡_, sym, ap, ap₂, _∙_}
-use mathlib.Core.List.{List, [], _∷_, _++_}
-use mathlib.Core.Bool.{Bool, true, false, not}
-use mathlib.Core.Option.{Option, none, some}
-use native.Mathlib.Omega.{arith}
-use lib.ListN.{length, take, drop, length-take}
-use borrow.Author.Tests.{lt-ltb, le-ltb, eq-eqb, ne-eqb, not-true, not-false}
+use Rattle.image.specs.Prelude.{ℕ, _+_, _*_, _-_, _/_, _%_, _<_, _≤_, _≡_, sym, ap, ap₂, _∙_, List, [], _∷_, _++_, Bool, true, false, not, Option, none, some, arith, length, take, drop, length-take, lt-ltb, le-ltb, eq-eqb, ne-eqb, not-true, not-false}
 use Rattle.image.specs.Bytes.{same}
-use Rattle.image.specs.Path.{wellFormed}
+use Rattle.image.specs.Path.{wellFormed, valueLimit}
 use Rattle.image.specs.Table.{rowsBelow}
 use Rattle.image.specs.Sound.{tableOf}
 use Rattle.image.specs.Calls.{put, drops, clear, move, settle, tidy, acts, asks, get}
@@ -77,7 +70,7 @@ found-length f n m e h = rw e at h
 pub part-short : (v : List ℕ) (n m : ℕ) → n ≤ m → length (take (n - 0) (drop 0 v)) ≤ m
 part-short v n m h = let a = length-take (n - 0) v in omega arith
 
-pub value-ends : (out : List ℕ) (at : ℕ) (v : List ℕ) (r : ℕ) (out′ : List ℕ) → Wrote out at (valueText v) r out′ → length v ≤ 32 → r ≤ at + 64
+pub value-ends : (out : List ℕ) (at : ℕ) (v : List ℕ) (r : ℕ) (out′ : List ℕ) → Wrote out at (valueText v) r out′ → length v ≤ valueLimit → r ≤ at + 2 * valueLimit
 value-ends out at v r out′ w h = let a = text-short v h in omega (arith, w .ends)
 
 -- A ROW
@@ -93,12 +86,12 @@ module _ (s path out : List ℕ) (at : ℕ) (h : Held s out) (x : Present s path
     pub start-ends : start ≤ at + 64
     start-ends = omega (arith, v .ends, gap-ends)
 
-    module _ (f : Found) (buffer buffer′ : List ℕ) (m : Meets s (asks (get path) buffer) (foundAnswer f buffer′) s []) (long : length buffer ≡ 32) where
+    module _ (f : Found) (buffer buffer′ : List ℕ) (m : Meets s (asks (get path) buffer) (foundAnswer f buffer′) s []) (long : length buffer ≡ valueLimit) where
       pub row-absent : (k : Refusal) → f ≡ Found.Refused k → (r : ℕ) (out′ : List ℕ) → RowWrote s path out at r out′
       row-absent k e r out′ = record { row = λ y z. absurd (row-refused s path out buffer f buffer′ k h x (omega arith) m e) }
 
-      pub row-fits : (n : ℕ) → f ≡ Found.Length n → n ≤ 32
-      row-fits n e = found-length f n 32 e (get-short s out h path buffer f buffer′ m)
+      pub row-fits : (n : ℕ) → f ≡ Found.Length n → n ≤ valueLimit
+      row-fits n e = found-length f n valueLimit e (get-short s out h path buffer f buffer′ m)
 
       pub row-wrote : (n : ℕ) → f ≡ Found.Length n → (stop : ℕ) (out₃ : List ℕ) → Wrote out₂ start (valueText (take (n - 0) (drop 0 buffer′))) stop out₃
           → (r : ℕ) (out′ : List ℕ) → Wrote out₃ stop (10 ∷ []) r out′ → RowWrote s path out at r out′

@@ -1,12 +1,5 @@
 -- Text put into a buffer from a place on, and its laws: one text after another is one text. Relies on: octets' put.
-use Prim.Native.Nat.{ℕ, suc, _+_, _*_, _/_, _%_, _<_, _≤_}
-use mathlib.Core.Path.{_≡_, refl, sym, ap, ap₂, _∙_}
-use mathlib.Core.List.{List, [], _∷_, _++_, append-assoc, append-nil}
-use mathlib.Core.Bool.{cond}
-use native.Mathlib.Omega.{arith}
-use lib.ListN.{length, take, drop, getD, set, length-append, length-set, length-take}
-use lib.Seq.{take-suc, take-suc-set, take-at, length-take-le, take-all}
-use lib.Dec.{eqb}
+use Rattle.image.specs.Prelude.{ℕ, suc, _+_, _*_, _/_, _%_, _<_, _≤_, _≡_, refl, sym, ap, ap₂, _∙_, List, [], _∷_, _++_, append-assoc, append-nil, cond, arith, length, take, drop, getD, set, length-append, length-set, length-take, take-suc, take-suc-set, take-at, length-take-le, take-all, eqb}
 use Rattle.octets.specs.Put.{put}
 use Rattle.image.specs.Program.{exchanged, hexText, digitText}
 

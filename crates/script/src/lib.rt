@@ -5,30 +5,27 @@ pub mod writing;
 
 use image::Found;
 use reading::Value;
-ghost use Prim.Native.Nat.{_+_, _<_, _≤_};
-ghost use mathlib.Core.Path.{_≡_};
-ghost use mathlib.Core.Bool.{true};
-ghost use lib.ListN.{length};
+ghost use Rattle.image.specs.Prelude.{_+_, _<_, _≤_, _≡_, true, length};
 ghost use Rattle.image.specs.Path.{wellFormed};
 ghost use Rattle.image.specs.Table.{rowsBelow};
 ghost use Rattle.image.specs.Sound.{tableOf};
 ghost use Rattle.image.specs.Calls.{drops, clear, move};
 ghost use Rattle.image.specs.Program.{acting, getting, listing, pathOf, valueOf, rowsText, wordAlone, putting};
 ghost use Rattle.script.specs.Writing.{Wrote};
-ghost use Rattle.script.specs.Answered.{Held, Answered, Says};
+ghost use Rattle.script.specs.Answered.{Held, Answered, Says, rowLimit};
 ghost use Rattle.script.specs.Rows.{Present, RowWrote};
 ghost use Rattle.script.specs.Input.{Feeds, Finishes};
 ghost use Rattle.script.specs.Line.{pathCommand, twoCommand, restCommand};
 
 // A path that the store holds, a space, its value and a line feed: where the line ends.
 fn put_row(store: &[u8], path: &[u8], out: &mut [u8], at: usize) -> usize
-    requires { ⌜ Held (now store) (now out) × Present (now store) (now path) × (at + 130 ≤ length (now out)) ⌝ }
+    requires { ⌜ Held (now store) (now out) × Present (now store) (now path) × (at + rowLimit ≤ length (now out)) ⌝ }
     ensures { λ r. ⌜ RowWrote (now (store .entry)) (now (path .entry)) (now (out .entry)) at r (now (out .exit)) ⌝ }
 {
     let last = path.len() - 1;
     let gap = writing::put_exchanged(&path[0..last], 0, 47, out, at);
     let start = writing::put_byte(32, out, gap);
-    let mut value = [0u8; 32];
+    let mut value = [0u8; image::VALUE_LIMIT];
     let found = query::get(store, path, &mut value);
     let Found::Length(n) = found else {
         return start; // the path is there, so get finds it
@@ -102,7 +99,7 @@ fn answer_get(store: &[u8], text: &[u8], out: &mut [u8]) -> usize
 {
     let mut path = [0u8; 256];
     let n = reading::read_path(text, &mut path);
-    let mut value = [0u8; 32];
+    let mut value = [0u8; image::VALUE_LIMIT];
     let found = query::get(store, &path[0..n], &mut value);
     writing::put_found(found, &value, out)
 }

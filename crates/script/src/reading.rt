@@ -1,8 +1,6 @@
 // The fields of a line, read: where one ends, the path that a text stands for, the value that hexadecimal text stands for.
 // Relies on octets for bytes and on writing for the exchange of bytes; image, Program defines what a field stands for.
-ghost use Prim.Native.Nat.{_+_, _*_, _<_, _≤_};
-ghost use mathlib.Core.Path.{_≡_};
-ghost use lib.ListN.{length};
+ghost use Rattle.image.specs.Prelude.{_+_, _*_, _<_, _≤_, _≡_, length};
 ghost use Rattle.image.specs.Program.{pathOf, digitOf, bytesOf, valueOf};
 ghost use Rattle.script.specs.Find.{upTo};
 ghost use Rattle.script.specs.Reading.{Front, Parsed};

@@ -2,12 +2,8 @@
 // Relies on octets for bytes, and on requests for the numbers of refusals; image, Program defines each text.
 use image::Found;
 use image::Outcome;
-ghost use Prim.Native.Nat.{_+_, _*_, _<_, _≤_};
-ghost use mathlib.Core.Path.{_≡_};
-ghost use mathlib.Core.Bool.{cond};
-ghost use mathlib.Core.List.{[], _∷_};
-ghost use lib.ListN.{length};
-ghost use lib.Dec.{eqb};
+ghost use Rattle.image.specs.Prelude.{_+_, _*_, _<_, _≤_, _≡_, cond, [], _∷_, length, eqb};
+ghost use Rattle.image.specs.Path.{valueLimit};
 ghost use Rattle.image.specs.Answers.{outcomeAnswer, foundAnswer};
 ghost use Rattle.query.specs.Asked.{foundLength};
 ghost use Rattle.image.specs.Program.{exchanged, digitText, hexText, valueText, badText, endText, decimal, refusedText, answerText};
@@ -72,7 +68,7 @@ fn put_text(text: &[u8], out: &mut [u8], at: usize) -> usize
 
 // A value in hexadecimal, or a hyphen: where it ends.
 pub fn put_value(value: &[u8], out: &mut [u8], at: usize) -> usize
-    requires { ⌜ (length (now value) ≤ 32) × (at + 64 ≤ length (now out)) ⌝ }
+    requires { ⌜ (length (now value) ≤ valueLimit) × (at + 2 * valueLimit ≤ length (now out)) ⌝ }
     ensures { λ r. ⌜ Wrote (now (out .entry)) at (valueText (now (value .entry))) r (now (out .exit)) ⌝ }
 {
     if value.len() == 0 {
@@ -125,7 +121,7 @@ pub fn put_outcome(outcome: Outcome, out: &mut [u8]) -> usize
 
 // The value that get found, or the refusal.
 pub fn put_found(found: Found, value: &[u8], out: &mut [u8]) -> usize
-    requires { ⌜ (foundLength found ≤ 32) × (32 ≤ length (now value)) × (65 ≤ length (now out)) ⌝ }
+    requires { ⌜ (foundLength found ≤ valueLimit) × (valueLimit ≤ length (now value)) × (2 * valueLimit + 1 ≤ length (now out)) ⌝ }
     ensures { λ r. ⌜ Wrote (now (out .entry)) 0 (answerText (foundAnswer found (now (value .entry)))) r (now (out .exit)) ⌝ }
 {
     match found {

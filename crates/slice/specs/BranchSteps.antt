@@ -1,9 +1,5 @@
 -- Step lemmas of an interior node's part: the entries of children put into a page one after the other. Relies on push's WriteSteps.
-use Prim.Native.Nat.{ℕ, zero, suc, _+_, _-_, _<_, _≤_}
-use mathlib.Core.Path.{_≡_, refl, sym, ap, ap₂, _∙_}
-use mathlib.Core.List.{List, [], _∷_, _++_, append-nil}
-use native.Mathlib.Omega.{arith}
-use lib.ListN.{length, drop, length-append}
+use Rattle.image.specs.Prelude.{ℕ, zero, suc, _+_, _-_, _<_, _≤_, _≡_, refl, sym, ap, ap₂, _∙_, List, [], _∷_, _++_, append-nil, arith, length, drop, length-append}
 use Rattle.image.specs.Entry as defined
 use Rattle.image.specs.Image.{Branch}
 use Rattle.octets.specs.Put.{put, put-put}

@@ -1,9 +1,5 @@
 -- What the chain of empty nodes asks, and its step lemmas. Relies on specs/Moving's `gapWrite`.
-use Prim.Native.Nat.{ℕ, suc, _+_, _*_, _-_, _<_, _≤_}
-use mathlib.Core.Path.{_≡_, refl, sym, ap, ap₂, _∙_}
-use mathlib.Core.List.{List, [], _++_, append-nil}
-use native.Mathlib.Omega.{arith}
-use lib.ListN.{length, drop, length-drop}
+use Rattle.image.specs.Prelude.{ℕ, suc, _+_, _*_, _-_, _<_, _≤_, _≡_, refl, sym, ap, ap₂, _∙_, List, [], _++_, append-nil, arith, length, drop, length-drop}
 use Rattle.image.specs.Bytes.{u16, u16Bytes, shared}
 use Rattle.image.specs.Entry as defined
 use Rattle.image.specs.Image.{end, tree}

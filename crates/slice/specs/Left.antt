@@ -1,9 +1,5 @@
 -- What a left part asks of the store, its pivots, the cut and the free nodes; and the same of the child that holds a cut. Definitions only.
-use Prim.Native.Nat.{ℕ, _+_, _*_, _<_, _≤_}
-use mathlib.Core.Path.{_≡_}
-use mathlib.Core.List.{List}
-use mathlib.Core.Bool.{true}
-use lib.ListN.{length}
+use Rattle.image.specs.Prelude.{ℕ, _+_, _*_, _<_, _≤_, _≡_, List, true, length}
 use Rattle.image.specs.Bytes.{before}
 use Rattle.image.specs.Image.{nodesOf, treeAt}
 use Rattle.laws.specs.Reading.Relative.{usable}

@@ -1,15 +1,7 @@
 -- Step lemmas of the left part: what is composed of a leaf and of an interior node, what the child that holds the cut is asked, and that
 -- the pages written are those of `leftWrite`. Relies on PointLaws and on specs/Slicing's laws of stripped pivots.
-use Prim.Native.Nat.{ℕ, zero, suc, _+_, _*_, _-_, _≤_}
-use mathlib.Core.Path.{_≡_, refl, sym, ap, ap₂, subst, _∙_}
-use mathlib.Core.List.{List, [], _∷_, _++_, append-nil}
-use mathlib.Core.Bool.{Bool, true, false, _&&_, false≢true}
-use native.Mathlib.Omega.{arith}
-use lib.ListN.{length, take, drop, length-append, drop-of-length-le}
-use lib.Dec.{leb}
-use borrow.Author.Tests.{leb-true, lt-ltb}
+use Rattle.image.specs.Prelude.{ℕ, zero, suc, _+_, _*_, _-_, _≤_, _≡_, refl, sym, ap, ap₂, subst, _∙_, List, [], _∷_, _++_, append-nil, Bool, true, false, _&&_, false≢true, arith, length, take, drop, length-append, drop-of-length-le, leb, leb-true, lt-ltb}
 use Rattle.image.specs.Bytes.{u16, before, shared}
-use Rattle.image.specs.Entry as defined
 use Rattle.image.specs.Table.{Row}
 use Rattle.image.specs.Image.{Tree, leaf, interior, Forest, tree, Branch, nodesOf, nodeBytes, entryBytes, treeAt, forestOf}
 use Rattle.octets.specs.Order.{and-left, and-right, before-append}
@@ -81,14 +73,13 @@ line-high s hi d m ks (Cut.Last n i p) = refl
 line-high s hi d m ks (Cut.Between n p) = refl
 line-high s hi d m ks (Cut.Nowhere n) = refl
 
-pub no-level : (n : ℕ) (s : List ℕ) (i : ℕ) → usable n (treeAt 0 s i) ≡ true → ⊥
+pub some-level : (n level : ℕ) (s : List ℕ) (i : ℕ) → usable n (treeAt level s i) ≡ true → 1 ≤ level
 unfolding treeAt usable
-no-level n s i e = false≢true e
+some-level n zero s i e = absurd (false≢true e)
+some-level n (suc l) s i e = omega arith
 
 pub one-level : (n level : ℕ) (s : List ℕ) (i : ℕ) → level ≤ 1 → usable n (treeAt level s i) ≡ true → level ≡ 1
-one-level n zero s i h e = absurd (no-level n s i e)
-one-level n (suc zero) s i h e = refl
-one-level n (suc (suc l)) s i h e = absurd (omega arith)
+one-level n level s i h e = omega (arith, some-level n level s i e)
 
 -- A NODE'S COPY
 module _ (s : List ℕ) (num level : ℕ) (reads : usable (nodesOf (length s)) (treeAt level s num) ≡ true) (node′ : List ℕ) (en : node′ ≡ nodeBytes s num) (len : ℕ) (el : len ≡ u16 node′ 0) where
@@ -110,11 +101,7 @@ module _ (s : List ℕ) (num level : ℕ) (lo hi k : List ℕ) (at : ℕ) (free 
   left-inside = node-inside s num level (pre .reads) .0
 
   pub left-level : 1 ≤ level
-  left-level = go level (pre .reads)
-    where
-      go : (l : ℕ) → usable (nodesOf (length s)) (treeAt l s num) ≡ true → 1 ≤ l
-      go zero e = absurd (no-level (nodesOf (length s)) s num e)
-      go (suc l) e = omega arith
+  left-level = some-level (nodesOf (length s)) level s num (pre .reads)
 
   pub left-new : (new : ℕ) → new ≡ u16 free (at * 2) → new * 1024 + 1024 ≤ length s
   unfolding freshIn
@@ -166,25 +153,31 @@ module _ (s : List ℕ) (num level : ℕ) (lo hi k : List ℕ) (at : ℕ) (free 
       inner′ : InteriorAt s num level (level - 1)
       inner′ = interior-at s num level inner (pre .reads)
 
-      branches-are : inner′ .x .branches ≡ branchesAmong (listed node′ 8 (8 + len))
+      abbrev ks : List Branch
+      ks = branchesAmong (listed node′ 8 (8 + len))
+
+      abbrev under : ℕ → Tree
+      under = λ j. treeAt (level - 1) s j
+
+      branches-are : inner′ .x .branches ≡ ks
       branches-are = sym (ap branchesAmong (lists ∙ inner′ .node .lists) ∙ inside-splits (inner′ .es) (inner′ .x) (inner′ .splits) .branches)
 
-      usables : usableIn (nodesOf (length s)) (forestOf (λ j. treeAt (level - 1) s j) (branchesAmong (listed node′ 8 (8 + len)))) ≡ true
-      usables = ap (λ l. usableIn (nodesOf (length s)) (forestOf (λ j. treeAt (level - 1) s j) l)) (sym branches-are) ∙ inner′ .branches
+      usables : usableIn (nodesOf (length s)) (forestOf under ks) ≡ true
+      usables = ap (λ l. usableIn (nodesOf (length s)) (forestOf under l)) (sym branches-are) ∙ inner′ .branches
 
-      tree-is : treeAt level s num ≡ interior num (forestOf (λ j. treeAt (level - 1) s j) (branchesAmong (listed node′ 8 (8 + len)))) (inner′ .x .messages)
-      tree-is = inner′ .tree ∙ ap (λ l. interior num (forestOf (λ j. treeAt (level - 1) s j) l) (inner′ .x .messages)) branches-are
+      tree-is : treeAt level s num ≡ interior num (forestOf under ks) (inner′ .x .messages)
+      tree-is = inner′ .tree ∙ ap (λ l. interior num (forestOf under l) (inner′ .x .messages)) branches-are
 
-      pub branches-small : smallNumbers (branchesAmong (listed node′ 8 (8 + len))) ≡ true
-      branches-small = small-branches (nodesOf (length s)) (λ j. treeAt (level - 1) s j) (branchesAmong (listed node′ 8 (8 + len))) (pre .few) (λ j. number-read (level - 1) s j) usables
+      pub branches-small : smallNumbers ks ≡ true
+      branches-small = small-branches (nodesOf (length s)) under ks (pre .few) (λ j. number-read (level - 1) s j) usables
 
       abbrev pieces : Forest
-      pieces = leftIn (freshIn free) (forestOf (λ j. treeAt (level - 1) s j) (branchesAmong (listed node′ 8 (8 + len)))) [] hi k (suc at)
+      pieces = leftIn (freshIn free) (forestOf under ks) [] hi k (suc at)
 
       part-is′ : leftOf (freshIn free) (treeAt level s num) lo hi k at ≡ node (freshIn free at) lo k pieces
       part-is′ =
           ap (λ t. leftOf (freshIn free) t lo hi k at) tree-is
-          ∙ left-node-bare (freshIn free) num (forestOf (λ j. treeAt (level - 1) s j) (branchesAmong (listed node′ 8 (8 + len)))) (inner′ .x .messages) lo hi k at bare
+          ∙ left-node-bare (freshIn free) num (forestOf under ks) (inner′ .x .messages) lo hi k at bare
 
       fit : fits (node (freshIn free at) lo k pieces) ≡ true
       fit = ap fits (sym part-is′) ∙ pre .small
@@ -197,7 +190,7 @@ module _ (s : List ℕ) (num level : ℕ) (lo hi k : List ℕ) (at : ℕ) (free 
       unfolding fits node
       pieces-fit = and-right (leb (branchesSize (lower (shared lo k) pieces)) 1016 && shortIn (lower (shared lo k) pieces)) _ fit
 
-      asks-of : (x : Point) → PointIs (freshIn free) (λ j. treeAt (level - 1) s j) (nodesOf (length s)) k (suc at) x → PointAsks s (level - 1) k (at + 1) free x
+      asks-of : (x : Point) → PointIs (freshIn free) under (nodesOf (length s)) k (suc at) x → PointAsks s (level - 1) k (at + 1) free x
       unfolding PointIs PointAsks
       asks-of (within n i low high) h =
           let z : suc at ≡ at + 1 = omega arith in
@@ -214,44 +207,44 @@ module _ (s : List ℕ) (num level : ℕ) (lo hi k : List ℕ) (at : ℕ) (free 
       asks-of (between n low) h = tt
       asks-of (nowhere n) h = tt
 
-      module _ (c : Cut) (as-cut : CutAs node′ hi (pointOf 0 (branchesAmong (listed node′ 8 (8 + len))) hi k) c) (m : ℕ) (em : m ≡ u16 free ((at + 1) * 2)) where
+      module _ (c : Cut) (as-cut : CutAs node′ hi (pointOf 0 ks hi k) c) (m : ℕ) (em : m ≡ u16 free ((at + 1) * 2)) where
         number-is : m ≡ freshIn free (suc at)
         unfolding freshIn
         number-is = let z : at + 1 ≡ suc at = omega arith in em ∙ ap (λ n. u16 free (n * 2)) z
 
-        line-is′ : bytesOfAll (childEntries (lower (shared lo k) pieces)) ≡ leftLine d m (branchesAmong (listed node′ 8 (8 + len))) (pointIn node′ [] c)
+        line-is′ : bytesOfAll (childEntries (lower (shared lo k) pieces)) ≡ leftLine d m ks (pointIn node′ [] c)
         unfolding leftLine
         line-is′ =
-            let x : Point = pointOf 0 (branchesAmong (listed node′ 8 (8 + len))) hi k in
-            let z : wholes (branchesAmong (listed node′ 8 (8 + len))) hi k ≡ countOf x = sym (point-count 0 (branchesAmong (listed node′ 8 (8 + len))) hi k ∙ omega arith) in
-            left-line (freshIn free) (λ j. treeAt (level - 1) s j) hi k (shared lo k) (branchesAmong (listed node′ 8 (8 + len))) 0 (suc at) (nodesOf (length s)) (λ j. number-read (level - 1) s j) usables
-            ∙ ap (λ n. branchLine (length (shared lo k)) n (branchesAmong (listed node′ 8 (8 + len))) ++ cutLine (length (shared lo k)) (freshIn free (suc at)) x) z
-            ∙ ap₂ (λ a b. leftLine a b (branchesAmong (listed node′ 8 (8 + len))) x) (sym ed) (sym number-is)
-            ∙ ap (leftLine d m (branchesAmong (listed node′ 8 (8 + len)))) (sym (as-cut .meant))
-            ∙ sym (line-high node′ hi d m (branchesAmong (listed node′ 8 (8 + len))) c)
+            let x : Point = pointOf 0 ks hi k in
+            let z : wholes ks hi k ≡ countOf x = sym (point-count 0 ks hi k ∙ omega arith) in
+            left-line (freshIn free) under hi k (shared lo k) ks 0 (suc at) (nodesOf (length s)) (λ j. number-read (level - 1) s j) usables
+            ∙ ap (λ n. branchLine (length (shared lo k)) n ks ++ cutLine (length (shared lo k)) (freshIn free (suc at)) x) z
+            ∙ ap₂ (λ a b. leftLine a b ks x) (sym ed) (sym number-is)
+            ∙ ap (leftLine d m ks) (sym (as-cut .meant))
+            ∙ sym (line-high node′ hi d m ks c)
 
-        pub inner-fits : length (leftLine d m (branchesAmong (listed node′ 8 (8 + len))) (pointIn node′ [] c)) ≤ 1016
+        pub inner-fits : length (leftLine d m ks (pointIn node′ [] c)) ≤ 1016
         inner-fits = let a = size-fits in let b = branches-size (lower (shared lo k) pieces) in let e = ap length line-is′ in omega arith
 
         pub child-asks : PointAsks s (level - 1) k (at + 1) free (pointIn node′ hi c)
         child-asks =
             subst (PointAsks s (level - 1) k (at + 1) free) (sym (as-cut .meant))
-            (asks-of (pointOf 0 (branchesAmong (listed node′ 8 (8 + len))) hi k)
-            (point-is (freshIn free) (λ j. treeAt (level - 1) s j) hi k (shared lo k) (nodesOf (length s)) (suc at) (branchesAmong (listed node′ 8 (8 + len))) 0 usables pieces-fit))
+            (asks-of (pointOf 0 ks hi k)
+            (point-is (freshIn free) under hi k (shared lo k) (nodesOf (length s)) (suc at) ks 0 usables pieces-fit))
 
         pub inner-written : (new : ℕ) (s₁ s₂ : List ℕ) → new ≡ u16 free (at * 2)
-            → s₁ ≡ leftAt (freshIn free) (λ j. treeAt (level - 1) s j) (level - 1) k (at + 1) s (pointIn node′ hi c)
-            → s₂ ≡ writeNode s₁ new (page 2 level (leftLine d m (branchesAmong (listed node′ 8 (8 + len))) (pointIn node′ [] c)))
+            → s₁ ≡ leftAt (freshIn free) under (level - 1) k (at + 1) s (pointIn node′ hi c)
+            → s₂ ≡ writeNode s₁ new (page 2 level (leftLine d m ks (pointIn node′ [] c)))
             → s₂ ≡ leftWrite (freshIn free) (treeAt level s num) level lo hi k at s
         inner-written new s₁ s₂ e a b =
-            let f : Forest = forestOf (λ j. treeAt (level - 1) s j) (branchesAmong (listed node′ 8 (8 + len))) in
+            let f : Forest = forestOf under ks in
             let z : at + 1 ≡ suc at = omega arith in
             let w : level ≡ suc (level - 1) = omega arith in
             let number : new ≡ freshIn free at = e ∙ own in
             let first : s₁ ≡ leftWriteIn (freshIn free) f (level - 1) [] hi k (suc at) s =
-            a ∙ ap (leftAt (freshIn free) (λ j. treeAt (level - 1) s j) (level - 1) k (at + 1) s) (as-cut .meant)
-            ∙ ap (λ n. leftAt (freshIn free) (λ j. treeAt (level - 1) s j) (level - 1) k n s (pointOf 0 (branchesAmong (listed node′ 8 (8 + len))) hi k)) z
-            ∙ sym (left-write (freshIn free) (λ j. treeAt (level - 1) s j) hi k (branchesAmong (listed node′ 8 (8 + len))) 0 (level - 1) (suc at) s) in
+            a ∙ ap (leftAt (freshIn free) under (level - 1) k (at + 1) s) (as-cut .meant)
+            ∙ ap (λ n. leftAt (freshIn free) under (level - 1) k n s (pointOf 0 ks hi k)) z
+            ∙ sym (left-write (freshIn free) under hi k ks 0 (level - 1) (suc at) s) in
             b
             ∙ ap₂ (λ x y. writeNode x new (page 2 level y)) first (sym line-is′)
             ∙ ap₂ (λ n h. writeNode (leftWriteIn (freshIn free) f (level - 1) [] hi k (suc at) s) n (page 2 h (bytesOfAll (childEntries (lower (shared lo k) pieces))))) number w
@@ -261,9 +254,9 @@ module _ (s : List ℕ) (num level : ℕ) (lo hi k : List ℕ) (at : ℕ) (free 
             own : u16 free (at * 2) ≡ freshIn free at
             own = unfold freshIn in refl
 
-            shown : (f : Forest) → writeNode (leftWriteIn (freshIn free) (forestOf (λ j. treeAt (level - 1) s j) (branchesAmong (listed node′ 8 (8 + len)))) (level - 1) [] hi k (suc at) s) (freshIn free at)
+            shown : (f : Forest) → writeNode (leftWriteIn (freshIn free) (forestOf under ks) (level - 1) [] hi k (suc at) s) (freshIn free at)
                 (page 2 (suc (level - 1)) (bytesOfAll (childEntries (lower (shared lo k) pieces))))
-                ≡ leftWrite (freshIn free) (interior num (forestOf (λ j. treeAt (level - 1) s j) (branchesAmong (listed node′ 8 (8 + len)))) (inner′ .x .messages)) (suc (level - 1)) lo hi k at s
+                ≡ leftWrite (freshIn free) (interior num (forestOf under ks) (inner′ .x .messages)) (suc (level - 1)) lo hi k at s
             shown f = unfold leftWrite pageOf leftOf node in rw bare
 
 -- THE CHILD WITHOUT WHAT IT LIFTS
@@ -314,6 +307,23 @@ module _ (s : List ℕ) (i level : ℕ) (low high k : List ℕ) (at : ℕ) (free
         q ∙ (λ z. leftWrite (freshIn free) (treeAt level s i) level (el z) (eh z) (ek z) at s)
         ∙ sym (left-write-strip (freshIn free) low high k (pre .above) (pre .below) (treeAt level s i) level at s)
 
+-- THE PLACES OF A CUT, in its node
+pub record Placed (node : List ℕ) (p : Place) : Type 0 where
+  pub inside : Within 0 (length node) p
+  pub size : length (part node p) ≡ p .stop - p .start
+
+module _ (node′ : List ℕ) (c : Cut) where
+  placed : (p : Place) → Within 0 (length node′) p → Placed node′ p
+  placed p w = record { inside = w; size = cut-length node′ (p .start) (p .stop) (w .rises) (w .high) }
+
+  pub inner-places : (n i : ℕ) (p q : Place) → c ≡ Cut.Inner n i p q → CutFits (length node′) c → Placed node′ p × Placed node′ q
+  unfolding CutFits
+  inner-places n i p q e h = let w : CutFits (length node′) (Cut.Inner n i p q) = subst (CutFits (length node′)) e h in (placed p (w .0), placed q (w .1))
+
+  pub last-places : (n i : ℕ) (p : Place) → c ≡ Cut.Last n i p → CutFits (length node′) c → Placed node′ p
+  unfolding CutFits
+  last-places n i p e h = placed p (subst (CutFits (length node′)) e h)
+
 -- BY THE ANSWER
 module _ (s node′ hi k : List ℕ) (level at : ℕ) (free : List ℕ) (c : Cut) where
   pub inner-asks : (n i : ℕ) (p q : Place) → c ≡ Cut.Inner n i p q → PointAsks s level k at free (pointIn node′ hi c) → LeftAsks s i level (part node′ p) (part node′ q) k at free
@@ -323,14 +333,6 @@ module _ (s node′ hi k : List ℕ) (level at : ℕ) (free : List ℕ) (c : Cut
   pub last-asks : (n i : ℕ) (p : Place) → c ≡ Cut.Last n i p → PointAsks s level k at free (pointIn node′ hi c) → LeftAsks s i level (part node′ p) hi k at free
   unfolding PointAsks pointIn
   last-asks n i p e h = subst (λ z. PointAsks s level k at free (pointIn node′ hi z)) e h
-
-  pub inner-places : (n i : ℕ) (p q : Place) → c ≡ Cut.Inner n i p q → CutFits (length node′) c → Within 0 (length node′) p × Within 0 (length node′) q
-  unfolding CutFits
-  inner-places n i p q e h = subst (CutFits (length node′)) e h
-
-  pub last-places : (n i : ℕ) (p : Place) → c ≡ Cut.Last n i p → CutFits (length node′) c → Within 0 (length node′) p
-  unfolding CutFits
-  last-places n i p e h = subst (CutFits (length node′)) e h
 
   module _ (s′ : List ℕ) where
     pub inner-at : (n i : ℕ) (p q : Place) → c ≡ Cut.Inner n i p q → s′ ≡ leftWrite (freshIn free) (treeAt level s i) level (part node′ p) (part node′ q) k at s

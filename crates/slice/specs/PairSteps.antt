@@ -1,9 +1,5 @@
 -- Step lemmas of a leaf's part: which entries are written, one after the other, and the page. Relies on push's step lemmas of writers.
-use Prim.Native.Nat.{ℕ}
-use mathlib.Core.Path.{_≡_, refl, sym, ap, _∙_}
-use mathlib.Core.List.{List, [], _∷_, _++_, append-nil}
-use mathlib.Core.Bool.{Bool, true, false, not, cond}
-use lib.ListN.{drop}
+use Rattle.image.specs.Prelude.{ℕ, _≡_, refl, sym, ap, _∙_, List, [], _∷_, _++_, append-nil, Bool, true, false, not, cond, drop}
 use Rattle.image.specs.Bytes.{before}
 use Rattle.image.specs.Entry as defined
 use Rattle.octets.specs.Order.{not-true}

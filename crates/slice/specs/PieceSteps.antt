@@ -1,13 +1,5 @@
 -- Step lemmas of the pages of a right part. Relies on RightLaws and on octets' `put`.
-use Prim.Native.Nat.{ℕ, zero, suc, _+_, _-_, _*_, _<_, _≤_}
-use mathlib.Core.Path.{_≡_, refl, sym, ap, ap₂, subst, _∙_}
-use mathlib.Core.List.{List, [], _∷_, _++_, append-nil}
-use mathlib.Core.Bool.{Bool, true, false, not, cond, false≢true, true≢false}
-use native.Mathlib.Omega.{arith}
-use lib.ListN.{length, take, drop, length-append, drop-of-length-le}
-use lib.Seq.{take-at, drop-drop, drop-nil}
-use lib.Dec.{eqb}
-use borrow.Author.Tests.{eq-eqb, ne-eqb}
+use Rattle.image.specs.Prelude.{ℕ, zero, suc, _+_, _-_, _*_, _<_, _≤_, _≡_, refl, sym, ap, ap₂, subst, _∙_, List, [], _∷_, _++_, append-nil, Bool, true, false, not, cond, false≢true, true≢false, arith, length, take, drop, length-append, drop-of-length-le, take-at, drop-drop, drop-nil, eqb, eq-eqb, ne-eqb}
 use Rattle.image.specs.Bytes.{u16, shared}
 use Rattle.image.specs.Entry as defined
 use Rattle.image.specs.Image.{Branch}

@@ -1,11 +1,5 @@
 -- The parts of a node over its children as they are read, by the point where the cut falls. Relies on slicing (leftIn, leftWriteIn).
-use Prim.Native.Nat.{ℕ, suc, _+_}
-use mathlib.Core.Path.{_≡_, refl, sym, ap, ap₂, _∙_}
-use mathlib.Core.List.{List, [], _∷_, _++_, append-assoc, append-nil}
-use mathlib.Core.Bool.{Bool, true, false, cond, false≢true}
-use mathlib.Core.Option.{Option, none, some}
-use native.Mathlib.Omega.{arith}
-use lib.ListN.{length, drop}
+use Rattle.image.specs.Prelude.{ℕ, suc, _+_, _≡_, refl, sym, ap, ap₂, _∙_, List, [], _∷_, _++_, append-assoc, append-nil, Bool, true, false, cond, false≢true, Option, none, some, arith, length, drop, cases}
 use Rattle.image.specs.Bytes.{before}
 use Rattle.image.specs.Entry as defined
 use Rattle.image.specs.Table.{Row}
@@ -66,14 +60,10 @@ module _ (fresh : ℕ → ℕ) (under : ℕ → Tree) (hi k : List ℕ) where
   pub left-write : (ks : List Branch) (n h at : ℕ) (s : List ℕ) → leftWriteIn fresh (forestOf under ks) h [] hi k at s ≡ leftAt fresh under h k at s (pointOf n ks hi k)
   unfolding leftWriteIn forestOf pointOf leftAt
   left-write [] n h at s = refl
-  left-write (c ∷ cs) n h at s = go (before k (branchHigh hi cs)) refl (before (c .pivot) k) refl (left-write cs (n + 1) h at s)
-    where
-      go : (x : Bool) → before k (branchHigh hi cs) ≡ x → (y : Bool) → before (c .pivot) k ≡ y
-          → leftWriteIn fresh (forestOf under cs) h [] hi k at s ≡ leftAt fresh under h k at s (pointOf (n + 1) cs hi k)
-          → leftWriteIn fresh (tree (c .pivot) (under (c .number)) (forestOf under cs)) h [] hi k at s ≡ leftAt fresh under h k at s (pointOf n (c ∷ cs) hi k)
-      go true a true b ih = rw (high-at under hi cs, a, b)
-      go true a false b ih = rw (high-at under hi cs, a, b)
-      go false a y b ih = rw (high-at under hi cs, a) ih
+  left-write (c ∷ cs) n h at s =
+      cases (before k (branchHigh hi cs))
+      (λ a. cases (before (c .pivot) k) (λ b. rw (high-at under hi cs, a, b)) (λ b. rw (high-at under hi cs, a, b)))
+      (λ a. rw (high-at under hi cs, a) (left-write cs (n + 1) h at s))
 
 -- a leaf's pairs on a side of the cut
 

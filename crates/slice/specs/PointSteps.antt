@@ -1,9 +1,5 @@
 -- Step lemmas of the search for the point where a cut falls: each child ends the search, or leaves it to those after it.
-use Prim.Native.Nat.{ℕ, _+_}
-use mathlib.Core.Path.{_≡_, sym, ap, subst, _∙_}
-use mathlib.Core.List.{List, [], _∷_}
-use mathlib.Core.Bool.{Bool, true, false, not, cond}
-use lib.ListN.{length}
+use Rattle.image.specs.Prelude.{ℕ, _+_, _≡_, sym, ap, subst, _∙_, List, [], _∷_, Bool, true, false, not, cond, length}
 use Rattle.image.specs.Bytes.{before}
 use Rattle.image.specs.Image.{Branch}
 use Rattle.octets.specs.Order.{not-true}

@@ -1,11 +1,6 @@
 -- The part of a node from a cut on, by the point where the cut falls: its pieces, which are at most two, and the entries of their pages.
 -- Definitions only.
-use Prim.Native.Nat.{ℕ, _+_, _*_, _<_, _≤_}
-use mathlib.Core.Path.{_≡_}
-use mathlib.Core.List.{List, [], _∷_, _++_}
-use mathlib.Core.Bool.{Bool, true, cond}
-use lib.ListN.{length, take, drop}
-use lib.Dec.{eqb}
+use Rattle.image.specs.Prelude.{ℕ, _+_, _*_, _<_, _≤_, _≡_, List, [], _∷_, _++_, Bool, true, cond, length, take, drop, eqb}
 use Rattle.image.specs.Bytes.{before, shared}
 use Rattle.image.specs.Entry as defined
 use Rattle.image.specs.Image.{Tree, Forest, end, Branch, nodesOf, treeAt}

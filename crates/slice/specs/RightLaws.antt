@@ -1,12 +1,5 @@
 -- The right parts of a node over its children as they are read. Relies on slicing (edgeIn, restIn, packed, rightWrite).
-use Prim.Native.Nat.{ℕ, zero, suc, _+_, _*_, _≤_}
-use mathlib.Core.Path.{_≡_, refl, sym, ap, ap₂, _∙_}
-use mathlib.Core.List.{List, [], _∷_, _++_, append-assoc}
-use mathlib.Core.Bool.{Bool, true, false, _&&_, cond}
-use native.Mathlib.Omega.{arith}
-use lib.ListN.{length, drop, length-append}
-use lib.Dec.{leb}
-use borrow.Author.Tests.{leb-true, ne-eqb}
+use Rattle.image.specs.Prelude.{ℕ, zero, suc, _+_, _*_, _≤_, _≡_, refl, sym, ap, ap₂, _∙_, List, [], _∷_, _++_, append-assoc, Bool, true, false, _&&_, cond, arith, length, drop, length-append, leb, leb-true, ne-eqb, cases}
 use Rattle.image.specs.Bytes.{before, shared}
 use Rattle.image.specs.Entry as defined
 use Rattle.image.specs.Image.{Tree, Forest, end, tree, Branch, forestOf}
@@ -17,14 +10,13 @@ use Rattle.laws.specs.Page.{page, numberOf, childEntries, branchesOf}
 use Rattle.laws.specs.WriteNode.{writeNode}
 use Rattle.laws.specs.Reading.Relative.{branchHigh, high-at}
 use Rattle.slice.specs.Slicing.Slice.{restIn, edgeIn}
-use Rattle.slice.specs.Slicing.SliceFits.{branchesSize, shortIn, fits, fitsIn}
+use Rattle.slice.specs.Slicing.SliceFits.{branchesSize, shortIn, fits, fitsIn, fits-lower}
 use Rattle.slice.specs.Slicing.ReadBack.{branches-size}
 use Rattle.slice.specs.Slicing.SliceWrite.{pageOf}
 use Rattle.slice.specs.Slicing.RightWrite.{overWrite, edgeWrite}
 use Rattle.node.specs.Search.Own.{branch}
 use Rattle.slice.specs.Point.{within, between, pointOf, branchLine}
 use Rattle.slice.specs.Right.{skipOf, restOf, edgeAt, rightAt, raiseBranches, allLine, overBody}
-use Rattle.slice.specs.Slicing.SliceFits.{fits-lower}
 
 -- THE REST
 module _ (hi k : List ℕ) where
@@ -61,40 +53,30 @@ module _ (hi k : List ℕ) where
   pub rest-is : (under : ℕ → Tree) (ks : List Branch) → restIn (forestOf under ks) [] hi k ≡ forestOf under (restOf ks hi k)
   unfolding restIn forestOf restOf
   rest-is under [] = refl
-  rest-is under (c ∷ cs) = go (before k (branchHigh hi cs)) refl (before (c .pivot) k) refl (rest-is under cs)
-    where
-      go : (x : Bool) → before k (branchHigh hi cs) ≡ x → (y : Bool) → before (c .pivot) k ≡ y → restIn (forestOf under cs) [] hi k ≡ forestOf under (restOf cs hi k)
-          → restIn (tree (c .pivot) (under (c .number)) (forestOf under cs)) [] hi k ≡ forestOf under (restOf (c ∷ cs) hi k)
-      go true a true b ih = rw (high-at under hi cs, a, b) (raise-none (forestOf under cs))
-      go true a false b ih = rw (high-at under hi cs, a, b) (ap (λ g. tree (c .pivot) (under (c .number)) g) (raise-none (forestOf under cs)))
-      go false a y b ih = rw (high-at under hi cs, a) ih
+  rest-is under (c ∷ cs) =
+      cases (before k (branchHigh hi cs))
+      (λ a. cases (before (c .pivot) k) (λ b. rw (high-at under hi cs, a, b) (raise-none (forestOf under cs)))
+      (λ b. rw (high-at under hi cs, a, b) (ap (λ g. tree (c .pivot) (under (c .number)) g) (raise-none (forestOf under cs)))))
+      (λ a. rw (high-at under hi cs, a) (rest-is under cs))
 
   -- THE EDGE
   pub edge-is : (fresh : ℕ → ℕ) (w : Bool) (under : ℕ → Tree) (n at : ℕ) (ks : List Branch)
       → edgeIn fresh w (forestOf under ks) [] hi k at ≡ edgeAt fresh w under k at (pointOf n ks hi k)
   unfolding edgeIn forestOf pointOf edgeAt
   edge-is fresh w under n at [] = refl
-  edge-is fresh w under n at (c ∷ cs) = go (before k (branchHigh hi cs)) refl (before (c .pivot) k) refl (edge-is fresh w under (n + 1) at cs)
-    where
-      go : (x : Bool) → before k (branchHigh hi cs) ≡ x → (y : Bool) → before (c .pivot) k ≡ y
-          → edgeIn fresh w (forestOf under cs) [] hi k at ≡ edgeAt fresh w under k at (pointOf (n + 1) cs hi k)
-          → edgeIn fresh w (tree (c .pivot) (under (c .number)) (forestOf under cs)) [] hi k at ≡ edgeAt fresh w under k at (pointOf n (c ∷ cs) hi k)
-      go true a true b ih = rw (high-at under hi cs, a, b)
-      go true a false b ih = rw (high-at under hi cs, a, b)
-      go false a y b ih = rw (high-at under hi cs, a) ih
+  edge-is fresh w under n at (c ∷ cs) =
+      cases (before k (branchHigh hi cs))
+      (λ a. cases (before (c .pivot) k) (λ b. rw (high-at under hi cs, a, b)) (λ b. rw (high-at under hi cs, a, b)))
+      (λ a. rw (high-at under hi cs, a) (edge-is fresh w under (n + 1) at cs))
 
   pub edge-write : (fresh : ℕ → ℕ) (w : Bool) (under : ℕ → Tree) (n h at : ℕ) (s : List ℕ) (ks : List Branch)
       → edgeWrite fresh w (forestOf under ks) h [] hi k at s ≡ rightAt fresh w under h k at s (pointOf n ks hi k)
   unfolding edgeWrite forestOf pointOf rightAt
   edge-write fresh w under n h at s [] = refl
-  edge-write fresh w under n h at s (c ∷ cs) = go (before k (branchHigh hi cs)) refl (before (c .pivot) k) refl (edge-write fresh w under (n + 1) h at s cs)
-    where
-      go : (x : Bool) → before k (branchHigh hi cs) ≡ x → (y : Bool) → before (c .pivot) k ≡ y
-          → edgeWrite fresh w (forestOf under cs) h [] hi k at s ≡ rightAt fresh w under h k at s (pointOf (n + 1) cs hi k)
-          → edgeWrite fresh w (tree (c .pivot) (under (c .number)) (forestOf under cs)) h [] hi k at s ≡ rightAt fresh w under h k at s (pointOf n (c ∷ cs) hi k)
-      go true a true b ih = rw (high-at under hi cs, a, b)
-      go true a false b ih = rw (high-at under hi cs, a, b)
-      go false a y b ih = rw (high-at under hi cs, a) ih
+  edge-write fresh w under n h at s (c ∷ cs) =
+      cases (before k (branchHigh hi cs))
+      (λ a. cases (before (c .pivot) k) (λ b. rw (high-at under hi cs, a, b)) (λ b. rw (high-at under hi cs, a, b)))
+      (λ a. rw (high-at under hi cs, a) (edge-write fresh w under (n + 1) h at s cs))
 
 -- KIDS OF PIECES
 pub branches-raise : (l : List ℕ) (f : Forest) → branchesOf (raise l f) ≡ raiseBranches l (branchesOf f)

@@ -1,12 +1,6 @@
 -- The pieces of the right part as children of a node: over one node or two, which fit where the whole fits, and what is known of the child
 -- that holds the cut. Relies on RightLaws.
-use Prim.Native.Nat.{ℕ, zero, suc, _+_, _≤_}
-use mathlib.Core.Path.{_≡_, refl, ap, ap₂, _∙_}
-use mathlib.Core.List.{List, [], _∷_, _++_}
-use mathlib.Core.Bool.{Bool, true, false}
-use native.Mathlib.Omega.{arith}
-use lib.ListN.{length, drop}
-use lib.Dec.{ltb}
+use Rattle.image.specs.Prelude.{ℕ, zero, suc, _+_, _≤_, _≡_, refl, ap, ap₂, _∙_, List, [], _∷_, _++_, true, false, arith, length, drop, ltb, cases}
 use Rattle.image.specs.Bytes.{before, shared}
 use Rattle.image.specs.Image.{Tree, Forest, end, tree, Branch, forestOf}
 use Rattle.image.specs.Meaning.{highOf}
@@ -16,13 +10,12 @@ use Rattle.laws.specs.Page.{numberOf, branchesOf}
 use Rattle.laws.specs.Reading.Relative.{branchHigh, usable, usableIn}
 use Rattle.slice.specs.Slicing.Slice.{packed}
 use Rattle.slice.specs.Slicing.SliceFits.{fitsIn}
-use Rattle.slice.specs.Slicing.RightWrite.{overWrite, packedWrite}
+use Rattle.slice.specs.Slicing.RightWrite.{overWrite, packedWrite, fits-parts}
 use Rattle.push.specs.Laws.Written.{smallNumbers}
 use Rattle.slice.specs.declared.Cut.{Cut}
 use Rattle.slice.specs.Point.{Point, within, between, nowhere, pointOf, pointIn}
 use Rattle.slice.specs.Right.{skipOf, piecesIn, PartsFit, raiseBranches, allLine, overBody, twoBody, wideBody, oneNode, headBranch}
 use Rattle.slice.specs.RightLaws.{branches-joined, over-body, over-fits}
-use Rattle.slice.specs.Slicing.RightWrite.{fits-parts}
 
 -- CHILDREN OF A PIECE
 over-branches : (n : ℕ) (lo hi : List ℕ) (g : Forest) → branchesOf (over n lo hi g) ≡ headBranch n lo (branchesOf g)
@@ -103,9 +96,6 @@ pub point-is : (under : ℕ → Tree) (hi k : List ℕ) (m : ℕ) (ks : List Bra
 unfolding forestOf pointOf PointIs usableIn
 point-is under hi k m [] n u = tt
 point-is under hi k m (c ∷ cs) n u =
-    go (before k (branchHigh hi cs)) refl (before (c .pivot) k) refl (point-is under hi k m cs (n + 1) (and-right (usable m (under (c .number))) _ u))
-  where
-    go : (x : Bool) → before k (branchHigh hi cs) ≡ x → (y : Bool) → before (c .pivot) k ≡ y → PointIs under m k (pointOf (n + 1) cs hi k) → PointIs under m k (pointOf n (c ∷ cs) hi k)
-    go true a true b ih = rw (a, b) (and-left _ _ u, b, a)
-    go true a false b ih = rw (a, b) tt
-    go false a y b ih = rw a ih
+    cases (before k (branchHigh hi cs))
+    (λ a. cases (before (c .pivot) k) (λ b. rw (a, b) (and-left _ _ u, b, a)) (λ b. rw (a, b) tt))
+    (λ a. rw a (point-is under hi k m cs (n + 1) (and-right (usable m (under (c .number))) _ u)))

@@ -1,14 +1,6 @@
 -- Step lemmas of the right part: what is composed of a leaf and of an interior node, what the child that holds the cut is asked, and that
 -- the pages written are those of `rightWrite`. Relies on RightPieces, RightLaws and on specs/Slicing's laws of stripped pivots.
-use Prim.Native.Nat.{ℕ, zero, suc, _+_, _*_, _-_, _≤_}
-use mathlib.Core.Path.{_≡_, refl, sym, ap, ap₂, subst, _∙_}
-use mathlib.Core.List.{List, [], _∷_, _++_}
-use mathlib.Core.Bool.{Bool, true, false, _&&_, false≢true}
-use native.Mathlib.Omega.{arith}
-use lib.ListN.{length, take, drop, length-append}
-use lib.Seq.{take-append-seam}
-use lib.Dec.{leb}
-use borrow.Author.Tests.{leb-true}
+use Rattle.image.specs.Prelude.{ℕ, zero, suc, _+_, _*_, _-_, _≤_, _≡_, refl, sym, ap, ap₂, subst, _∙_, List, [], _∷_, _++_, Bool, true, false, _&&_, false≢true, arith, length, take, drop, length-append, take-append-seam, leb, leb-true}
 use Rattle.image.specs.Bytes.{u16, before, shared}
 use Rattle.image.specs.Table.{Row, underPrefix}
 use Rattle.image.specs.Image.{Tree, unread, leaf, interior, Forest, end, tree, Branch, nodesOf, nodeBytes, treeAt, forestOf}
@@ -19,11 +11,11 @@ use Rattle.laws.specs.Filter.{keep, since, lowerRows}
 use Rattle.laws.specs.Pieces.{raise, node}
 use Rattle.laws.specs.Page.{page, numberOf, pairEntries, branchesOf, number-read}
 use Rattle.laws.specs.WriteNode.{writeNode}
-use Rattle.laws.specs.Reading.Relative.{branchHigh, high-at, usable, usableIn}
+use Rattle.laws.specs.Reading.Relative.{branchHigh, high-at, usableIn}
 use Rattle.slice.specs.Slicing.Slice.{restIn, packed, after, rightOf, edgeIn}
-use Rattle.slice.specs.Slicing.SliceFits.{pairsSize, fits, fitsIn}
+use Rattle.slice.specs.Slicing.SliceFits.{pairsSize, fits, fitsIn, fits-raise}
 use Rattle.slice.specs.Slicing.ReadBack.{pairs-size}
-use Rattle.slice.specs.Slicing.SliceStrip.{split-low, split-high, split-cut, right-strip, right-leaf-bare, right-node-bare}
+use Rattle.slice.specs.Slicing.SliceStrip.{under-none, split-low, split-high, split-cut, right-strip, right-leaf-bare, right-node-bare}
 use Rattle.slice.specs.Slicing.SliceWrite.{pageOf}
 use Rattle.slice.specs.Slicing.RightWrite.{packedWrite, rightWrite, edgeWrite}
 use Rattle.slice.specs.Slicing.WriteStrip.{right-write-strip}
@@ -41,14 +33,8 @@ use Rattle.slice.specs.PointLaws.{side-line}
 use Rattle.slice.specs.Right.{skipOf, restOf, edgeAt, rightAt, piecesIn, PartsFit, raiseBranches, allLine, overBody, wideBody, oneNode, headBranch, RightAsks, PointAsksRight, RightAs, EdgeAs, NarrowAsks, WideReady, WideAs}
 use Rattle.slice.specs.RightLaws.{rest-skip, rest-is, edge-is, edge-write, branches-raise, branches-forest}
 use Rattle.slice.specs.RightPieces.{packed-wide, packed-narrow, wide-fits, narrow-fits, write-wide-is, write-narrow-is, one-told, one-fit, small-drop, skip-high, PointIs, point-is}
-use Rattle.slice.specs.Slicing.SliceFits.{fits-raise}
-use Rattle.slice.specs.LeftSteps.{small-branches, no-level, one-level, node-lists, node-short}
+use Rattle.slice.specs.LeftSteps.{small-branches, some-level, one-level, node-lists, node-short}
 use Rattle.octets.specs.Beginnings.{strip-shared}
-
-under-none : (t : List Row) → underPrefix [] t ≡ t
-unfolding underPrefix
-under-none [] = refl
-under-none (r ∷ t) = ap (λ u. r ∷ u) (under-none t)
 
 pub after-wide : (w : Bool) (at : ℕ) → w ≡ true → after w at ≡ at + 2
 unfolding after
@@ -64,11 +50,7 @@ module _ (w : Bool) (s : List ℕ) (num level : ℕ) (lo hi k : List ℕ) (at : 
   right-inside = node-inside s num level (pre .reads) .0
 
   pub right-level : 1 ≤ level
-  right-level = go level (pre .reads)
-    where
-      go : (l : ℕ) → usable (nodesOf (length s)) (treeAt l s num) ≡ true → 1 ≤ l
-      go zero e = absurd (no-level (nodesOf (length s)) s num e)
-      go (suc l) e = omega arith
+  right-level = some-level (nodesOf (length s)) level s num (pre .reads)
 
   pub right-new : (new : ℕ) → new ≡ u16 free (at * 2) → new * 1024 + 1024 ≤ length s
   unfolding freshIn
@@ -148,18 +130,18 @@ module _ (w : Bool) (s : List ℕ) (num level : ℕ) (lo hi k : List ℕ) (at : 
       branches-are : inner′ .x .branches ≡ ks
       branches-are = sym (ap branchesAmong (lists ∙ inner′ .node .lists) ∙ inside-splits (inner′ .es) (inner′ .x) (inner′ .splits) .branches)
 
-      usables : usableIn (nodesOf (length s)) (forestOf (λ j. treeAt (level - 1) s j) (branchesAmong (listed node′ 8 (8 + len)))) ≡ true
-      usables = ap (λ l. usableIn (nodesOf (length s)) (forestOf (λ j. treeAt (level - 1) s j) l)) (sym branches-are) ∙ inner′ .branches
+      usables : usableIn (nodesOf (length s)) (forestOf under ks) ≡ true
+      usables = ap (λ l. usableIn (nodesOf (length s)) (forestOf under l)) (sym branches-are) ∙ inner′ .branches
 
-      tree-is : treeAt level s num ≡ interior num (forestOf (λ j. treeAt (level - 1) s j) (branchesAmong (listed node′ 8 (8 + len)))) (inner′ .x .messages)
-      tree-is = inner′ .tree ∙ ap (λ l. interior num (forestOf (λ j. treeAt (level - 1) s j) l) (inner′ .x .messages)) branches-are
+      tree-is : treeAt level s num ≡ interior num (forestOf under ks) (inner′ .x .messages)
+      tree-is = inner′ .tree ∙ ap (λ l. interior num (forestOf under l) (inner′ .x .messages)) branches-are
 
-      pub branches-small : smallNumbers (branchesAmong (listed node′ (start .at) (start .end))) ≡ true
+      pub branches-small : smallNumbers rks ≡ true
       branches-small =
           ap smallNumbers at-rest
-          ∙ small-drop (skipOf (pointIn node′ [] c)) ks (small-branches (nodesOf (length s)) (λ j. treeAt (level - 1) s j) ks (pre .few) (λ j. number-read (level - 1) s j) usables)
+          ∙ small-drop (skipOf (pointIn node′ [] c)) ks (small-branches (nodesOf (length s)) under ks (pre .few) (λ j. number-read (level - 1) s j) usables)
 
-      rest-branches : restOf (branchesAmong (listed node′ 8 (8 + len))) hi k ≡ branchesAmong (listed node′ (start .at) (start .end))
+      rest-branches : restOf ks hi k ≡ rks
       rest-branches =
           let z : skipOf (pointOf 0 ks hi k) ≡ 0 + skipOf (pointIn node′ [] c) = ap skipOf (sym (as-cut .meant)) ∙ sym (skip-high node′ hi c) ∙ omega arith in
           rest-skip hi k 0 ks (skipOf (pointIn node′ [] c)) z ∙ sym at-rest
@@ -170,10 +152,10 @@ module _ (w : Bool) (s : List ℕ) (num level : ℕ) (lo hi k : List ℕ) (at : 
       abbrev rest : Forest
       rest = forestOf under rks
 
-      edge-same : edgeIn (freshIn free) w (forestOf (λ j. treeAt (level - 1) s j) (branchesAmong (listed node′ 8 (8 + len)))) [] hi k (after w at) ≡ edge
+      edge-same : edgeIn (freshIn free) w (forestOf under ks) [] hi k (after w at) ≡ edge
       edge-same = edge-is hi k (freshIn free) w under 0 (after w at) ks
 
-      rest-same : restIn (forestOf (λ j. treeAt (level - 1) s j) (branchesAmong (listed node′ 8 (8 + len)))) [] hi k ≡ rest
+      rest-same : restIn (forestOf under ks) [] hi k ≡ rest
       rest-same = rest-is hi k under ks ∙ ap (forestOf under) rest-branches
 
       branches-rest : branchesOf rest ≡ rks
@@ -196,11 +178,9 @@ module _ (w : Bool) (s : List ℕ) (num level : ℕ) (lo hi k : List ℕ) (at : 
           ∙ ap₂ (λ e r. packedWrite w (suc (level - 1)) (freshIn free at) (freshIn free (suc at)) k hi e r (edgeWrite (freshIn free) w (forestOf under ks) (level - 1) [] hi k (after w at) s)) edge-same rest-same
           ∙ ap₂ (λ h x. packedWrite w h (freshIn free at) (freshIn free (suc at)) k hi edge rest x) (sym v) (edge-write hi k (freshIn free) w under 0 (level - 1) (after w at) s ks)
         where
-          shown : rightWrite (freshIn free) w (interior num (forestOf (λ j. treeAt (level - 1) s j) (branchesAmong (listed node′ 8 (8 + len)))) (inner′ .x .messages)) (suc (level - 1)) lo hi k at s
-              ≡ packedWrite w (suc (level - 1)) (freshIn free at) (freshIn free (suc at)) k hi
-              (edgeIn (freshIn free) w (forestOf (λ j. treeAt (level - 1) s j) (branchesAmong (listed node′ 8 (8 + len)))) [] hi k (after w at))
-              (restIn (forestOf (λ j. treeAt (level - 1) s j) (branchesAmong (listed node′ 8 (8 + len)))) [] hi k)
-              (edgeWrite (freshIn free) w (forestOf (λ j. treeAt (level - 1) s j) (branchesAmong (listed node′ 8 (8 + len)))) (level - 1) [] hi k (after w at) s)
+          shown : rightWrite (freshIn free) w (interior num (forestOf under ks) (inner′ .x .messages)) (suc (level - 1)) lo hi k at s
+              ≡ packedWrite w (suc (level - 1)) (freshIn free at) (freshIn free (suc at)) k hi (edgeIn (freshIn free) w (forestOf under ks) [] hi k (after w at))
+              (restIn (forestOf under ks) [] hi k) (edgeWrite (freshIn free) w (forestOf under ks) (level - 1) [] hi k (after w at) s)
           shown = unfold rightWrite in rw bare
 
       -- what the child is asked
@@ -321,8 +301,8 @@ module _ (w : Bool) (s : List ℕ) (num level : ℕ) (lo hi k : List ℕ) (at : 
               }
 
           pub narrow-done : (lift s₂ : List ℕ) (r : Parts)
-              → s₂ ≡ overBody (freshIn free at) level (allLine (length (shared k hi)) (piecesIn (freshIn free (at + 1)) (freshIn free (at + 2)) k out below ++ branchesAmong (listed node′ (start .at) (start .end)))) s₁
-              → r ≡ oneNode (piecesIn (freshIn free (at + 1)) (freshIn free (at + 2)) k out below ++ branchesAmong (listed node′ (start .at) (start .end)))
+              → s₂ ≡ overBody (freshIn free at) level (allLine (length (shared k hi)) (piecesIn (freshIn free (at + 1)) (freshIn free (at + 2)) k out below ++ rks)) s₁
+              → r ≡ oneNode (piecesIn (freshIn free (at + 1)) (freshIn free (at + 2)) k out below ++ rks)
               → RightAs w (treeAt level s num) level lo hi k at free lift s s₂ out r
           narrow-done lift s₂ r q er =
               record {
@@ -430,18 +410,21 @@ module _ (w : Bool) (s : List ℕ) (i level : ℕ) (low high k : List ℕ) (at :
           room = pre .room;
         }
 
-    pub strip-done : (s′ out : List ℕ) (r : Parts) → RightAs w (treeAt level s i) level [] high′ k′ at free lift s s′ out r
-        → (s′ ≡ rightWrite (freshIn free) w (treeAt level s i) level low high k at s)
-        × (branchesOf (rightOf (freshIn free) w (treeAt level s i) low high k at) ≡ piecesIn (freshIn free at) (freshIn free (at + 1)) k out r) × PartsFit (length out) r
-    strip-done s′ out r ans = (
-      ans .written ∙ sym (right-write-bare (freshIn free) w (treeAt level s i) level low′ high′ k′ at s bare)
-          ∙ (λ z. rightWrite (freshIn free) w (treeAt level s i) level low′ (eh z) (ek z) at s)
-          ∙ sym (right-write-strip (freshIn free) low high k (pre .above) (pre .below) w (treeAt level s i) level at s),
-      ap branchesOf stripped ∙ branches-raise (shared low high) (rightOf (freshIn free) w (treeAt level s i) [] high′ k′ at)
-          ∙ ap (λ l. raiseBranches l (branchesOf (rightOf (freshIn free) w (treeAt level s i) [] high′ k′ at))) (sym (h ∙ lift-is)) ∙ ans .pieces
-          ∙ ap (λ l. piecesIn (freshIn free at) (freshIn free (at + 1)) l out r) (ap₂ (λ x y. x ++ y) (h ∙ lift-is) ek ∙ within-k),
-      ans .fit,
-    )
+    pub strip-done : {n : ℕ} (s′ out : List ℕ) (r : Parts) → RightAs w (treeAt level s i) level [] high′ k′ at free lift s s′ out r
+        → EdgeAs w level k at free s s′ out (within n i low high) r
+    unfolding rightAt edgeAt
+    strip-done s′ out r ans =
+        record {
+          written =
+              ans .written ∙ sym (right-write-bare (freshIn free) w (treeAt level s i) level low′ high′ k′ at s bare)
+              ∙ (λ z. rightWrite (freshIn free) w (treeAt level s i) level low′ (eh z) (ek z) at s)
+              ∙ sym (right-write-strip (freshIn free) low high k (pre .above) (pre .below) w (treeAt level s i) level at s);
+          pieces =
+              ap branchesOf stripped ∙ branches-raise (shared low high) (rightOf (freshIn free) w (treeAt level s i) [] high′ k′ at)
+              ∙ ap (λ l. raiseBranches l (branchesOf (rightOf (freshIn free) w (treeAt level s i) [] high′ k′ at))) (sym (h ∙ lift-is)) ∙ ans .pieces
+              ∙ ap (λ l. piecesIn (freshIn free at) (freshIn free (at + 1)) l out r) (ap₂ (λ x y. x ++ y) (h ∙ lift-is) ek ∙ within-k);
+          fit = ans .fit;
+        }
 
 -- BY THE ANSWER
 module _ (w : Bool) (s node′ hi k : List ℕ) (level at : ℕ) (free : List ℕ) (c : Cut) where
@@ -454,36 +437,22 @@ module _ (w : Bool) (s node′ hi k : List ℕ) (level at : ℕ) (free : List �
   last-asks n i p e h = subst (λ z. PointAsksRight w s level k at free (pointIn node′ hi z)) e h
 
   module _ (s′ out : List ℕ) (r : Parts) where
-    pub inner-at : (n i : ℕ) (p q : Place) → c ≡ Cut.Inner n i p q
-        → (s′ ≡ rightWrite (freshIn free) w (treeAt level s i) level (part node′ p) (part node′ q) k at s)
-        × (branchesOf (rightOf (freshIn free) w (treeAt level s i) (part node′ p) (part node′ q) k at) ≡ piecesIn (freshIn free at) (freshIn free (at + 1)) k out r) × PartsFit (length out) r
+    pub inner-at : (n i : ℕ) (p q : Place) → c ≡ Cut.Inner n i p q → EdgeAs w level k at free s s′ out (within n i (part node′ p) (part node′ q)) r
         → EdgeAs w level k at free s s′ out (pointIn node′ hi c) r
-    inner-at n i p q e h = subst (λ z. EdgeAs w level k at free s s′ out (pointIn node′ hi z) r) (sym e) (shown h)
-      where
-        shown : (s′ ≡ rightWrite (freshIn free) w (treeAt level s i) level (part node′ p) (part node′ q) k at s)
-            × (branchesOf (rightOf (freshIn free) w (treeAt level s i) (part node′ p) (part node′ q) k at) ≡ piecesIn (freshIn free at) (freshIn free (at + 1)) k out r) × PartsFit (length out) r
-            → EdgeAs w level k at free s s′ out (pointIn node′ hi (Cut.Inner n i p q)) r
-        shown g = record { written = unfold rightAt pointIn in g .0; pieces = unfold edgeAt pointIn in g .1; fit = g .2 }
+    unfolding pointIn
+    inner-at n i p q e h = subst (λ z. EdgeAs w level k at free s s′ out (pointIn node′ hi z) r) (sym e) h
 
-    pub last-at : (n i : ℕ) (p : Place) → c ≡ Cut.Last n i p
-        → (s′ ≡ rightWrite (freshIn free) w (treeAt level s i) level (part node′ p) hi k at s)
-        × (branchesOf (rightOf (freshIn free) w (treeAt level s i) (part node′ p) hi k at) ≡ piecesIn (freshIn free at) (freshIn free (at + 1)) k out r) × PartsFit (length out) r
+    pub last-at : (n i : ℕ) (p : Place) → c ≡ Cut.Last n i p → EdgeAs w level k at free s s′ out (within n i (part node′ p) hi) r
         → EdgeAs w level k at free s s′ out (pointIn node′ hi c) r
-    last-at n i p e h = subst (λ z. EdgeAs w level k at free s s′ out (pointIn node′ hi z) r) (sym e) (shown h)
-      where
-        shown : (s′ ≡ rightWrite (freshIn free) w (treeAt level s i) level (part node′ p) hi k at s)
-            × (branchesOf (rightOf (freshIn free) w (treeAt level s i) (part node′ p) hi k at) ≡ piecesIn (freshIn free at) (freshIn free (at + 1)) k out r) × PartsFit (length out) r
-            → EdgeAs w level k at free s s′ out (pointIn node′ hi (Cut.Last n i p)) r
-        shown g = record { written = unfold rightAt pointIn in g .0; pieces = unfold edgeAt pointIn in g .1; fit = g .2 }
+    unfolding pointIn
+    last-at n i p e h = subst (λ z. EdgeAs w level k at free s s′ out (pointIn node′ hi z) r) (sym e) h
 
   pub between-at : (out : List ℕ) (n : ℕ) (p : Place) → c ≡ Cut.Between n p → EdgeAs w level k at free s s out (pointIn node′ hi c) Parts.Nothing
-  between-at out n p e = subst (λ z. EdgeAs w level k at free s s out (pointIn node′ hi z) Parts.Nothing) (sym e) shown
-    where
-      shown : EdgeAs w level k at free s s out (pointIn node′ hi (Cut.Between n p)) Parts.Nothing
-      shown = record { written = unfold rightAt pointIn in refl; pieces = unfold edgeAt pointIn branchesOf piecesIn in refl; fit = unfold PartsFit in tt }
+  unfolding pointIn rightAt edgeAt branchesOf piecesIn PartsFit
+  between-at out n p e =
+      subst (λ z. EdgeAs w level k at free s s out (pointIn node′ hi z) Parts.Nothing) (sym e) (record { written = refl; pieces = refl; fit = tt })
 
   pub nowhere-at : (out : List ℕ) (n : ℕ) → c ≡ Cut.Nowhere n → EdgeAs w level k at free s s out (pointIn node′ hi c) Parts.Nothing
-  nowhere-at out n e = subst (λ z. EdgeAs w level k at free s s out (pointIn node′ hi z) Parts.Nothing) (sym e) shown
-    where
-      shown : EdgeAs w level k at free s s out (pointIn node′ hi (Cut.Nowhere n)) Parts.Nothing
-      shown = record { written = unfold rightAt pointIn in refl; pieces = unfold edgeAt pointIn branchesOf piecesIn in refl; fit = unfold PartsFit in tt }
+  unfolding pointIn rightAt edgeAt branchesOf piecesIn PartsFit
+  nowhere-at out n e =
+      subst (λ z. EdgeAs w level k at free s s out (pointIn node′ hi z) Parts.Nothing) (sym e) (record { written = refl; pieces = refl; fit = tt })

@@ -1,7 +1,7 @@
 // The chain of empty nodes that stands where a range was cut out: one node a level, the deepest written first. The pivots are whole here:
 // each node of the chain has the same. Relies on specs/Moving's `gapWrite` and on node's writer.
 use node::writer;
-ghost use mathlib.Core.Path.{_≡_};
+ghost use Rattle.image.specs.Prelude.{_≡_};
 ghost use Rattle.slice.specs.Moving.GapWrite.{gapWrite};
 ghost use Rattle.slice.specs.Point.{freshIn};
 ghost use Rattle.slice.specs.GapSteps.{GapAsks};

@@ -10,10 +10,7 @@ pub mod right;
 
 use node::Place;
 use node::writer;
-ghost use mathlib.Core.Path.{_≡_};
-ghost use mathlib.Core.List.{[]};
-ghost use Prim.Native.Nat.{_+_, _*_, _≤_};
-ghost use lib.ListN.{length};
+ghost use Rattle.image.specs.Prelude.{_≡_, [], _+_, _*_, length};
 ghost use Rattle.image.specs.Bytes.{shared};
 ghost use Rattle.image.specs.Image.{treeAt, nodeBytes};
 ghost use Rattle.node.specs.Whole.{HasNode};

@@ -1,11 +1,8 @@
 // Where a cut falls among the children of a node. Relies on node's reader of children; specs/Point says what is sought.
 use crate::Cut;
-use node::Cursor;
 use node::Place;
 use node::search::Pending;
-ghost use mathlib.Core.List.{_∷_, []};
-ghost use Prim.Native.Nat.{_≤_, _<_};
-ghost use lib.ListN.{length};
+ghost use Rattle.image.specs.Prelude.{_∷_, [], _≤_, _<_, length};
 ghost use Rattle.node.specs.Places.{Within, part};
 ghost use Rattle.node.specs.Entries.{listed};
 ghost use Rattle.node.specs.Search.Own.{branch, branchesAmong};
@@ -32,13 +29,7 @@ pub fn find_point(node: &[u8], stop: usize, hi: &[u8], k: &[u8]) -> Cut
     requires { ⌜ (stop ≤ length (now node)) × (length (now node) ≤ 1024) ⌝ }
     ensures { λ r. ⌜ CutAs (now (node .entry)) (now (hi .entry)) (pointOf 0 (branchesAmong (listed (now (node .entry)) 8 stop)) (now (hi .entry)) (now (k .entry))) r ⌝ }
 {
-    let Pending::Child(first, pivot, start) = node::search::read_child(
-        node,
-        Cursor {
-            at: image::ENTRIES_AT,
-            end: stop,
-        },
-    ) else {
+    let Pending::Child(first, pivot, start) = node::search::first_child(node, stop) else {
         return Cut::Nowhere(0);
     };
     let mut c = start;

@@ -1,13 +1,6 @@
 -- What the verdict on an image promises, and the law of each way out of the code.
 -- Relies on: tree_check's Callers (all but the live count) and live_count's count of the table.
-use Prim.Native.Nat.{ℕ, _<_, _≤_}
-use mathlib.Core.Path.{_≡_, refl, sym, ap, _∙_}
-use mathlib.Core.List.{List}
-use mathlib.Core.Bool.{Bool, true, false, _&&_, false≢true}
-use native.Mathlib.Omega.{arith}
-use lib.ListN.{length}
-use lib.Dec.{eqb}
-use borrow.Author.Tests.{eq-eqb, ne-eqb, eqb-true, eqb-false}
+use Rattle.image.specs.Prelude.{ℕ, _<_, _≤_, _≡_, refl, sym, ap, _∙_, List, Bool, true, false, _&&_, false≢true, arith, length, eqb, eq-eqb, ne-eqb, eqb-true, eqb-false}
 use Rattle.image.specs.Bytes.{u16}
 use Rattle.image.specs.Image.{nodesOf, wholeNodes, headerOf, header}
 use Rattle.image.specs.Sound.{sound, tableOf}
@@ -15,10 +8,9 @@ use Rattle.node.specs.Whole.{Whole, whole-parts}
 use Rattle.lookup.specs.Root.{first-u16}
 use Rattle.tree_check.specs.declared.Checked.{Checked}
 use Rattle.tree_check.specs.declared.Tally.{Tally}
-use Rattle.laws.specs.ButLive.{parts-of}
+use Rattle.laws.specs.ButLive.{parts-of, sound-live}
 use Rattle.live_count.specs.RootSteps.{countable}
 use Rattle.tree_check.specs.Whole.{isSound, Verified}
-use Rattle.laws.specs.ButLive.{sound-live}
 use Rattle.tree_check.specs.Callers.{Established, verified-yes, verified-no, sound-settled}
 use Rattle.live_count.specs.Walk.{Countable}
 use Rattle.octets.specs.Cap.{cap, cap-equal}

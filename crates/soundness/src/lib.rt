@@ -1,9 +1,7 @@
 // Question 2 whole: is the image sound? The tree by one marking walk (tree_check), then the live count: with no message anywhere it is the
 // number of pairs, which the walk has counted; else one more walk counts the entries that decide (live_count).
 use tree_check::Checked;
-ghost use mathlib.Core.Path.{_≡_};
-ghost use mathlib.Core.Bool.{true};
-ghost use lib.ListN.{length};
+ghost use Rattle.image.specs.Prelude.{_≡_, true, length};
 ghost use Rattle.image.specs.Image.{wholeNodes};
 ghost use Rattle.image.specs.Sound.{sound};
 ghost use Rattle.soundness.specs.Judged.{Judged};

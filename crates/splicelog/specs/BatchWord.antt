@@ -1,14 +1,6 @@
 -- What batch answers as one word of 64 bits: the number in the low 8, the calls done in the next 28, the bytes written in the high 28; and
 -- that they fit there, since an answer is at least 4 bytes. Relies on the contract of a batch (image) alone.
-use Prim.Native.Nat.{ℕ, zero, suc, _/_, _%_, _-_, _≤_, _<_}
-use mathlib.Core.Path.{_≡_, refl, sym, ap, _∙_}
-use mathlib.Core.List.{List, [], _∷_, _++_}
-use mathlib.Core.Bool.{Bool, true, false, cond}
-use native.Mathlib.Omega.{arith}
-use lib.ListN.{length, take, drop, length-append, length-drop}
-use lib.Seq.{length-take-le, take-at, drop-at}
-use lib.Dec.{leb}
-use borrow.Author.Tests.{le-leb, lt-leb, leb-true, leb-false}
+use Rattle.image.specs.Prelude.{ℕ, zero, suc, _/_, _%_, _-_, _≤_, _<_, _≡_, refl, sym, ap, _∙_, List, [], _∷_, _++_, Bool, true, false, cond, arith, length, take, drop, length-append, length-drop, length-take-le, take-at, drop-at, leb, le-leb, lt-leb, leb-true, leb-false}
 use Rattle.image.specs.Calls.{Call, Answer, number, filled, ask, firstNo}
 use Rattle.image.specs.Contract.{Run, stop, call}
 use Rattle.image.specs.Batch.{Request, callsOf, answerBytes, answersBytes, requestsOf, batchNo, zeroed, BatchRuns, BatchMeets}

@@ -1,9 +1,6 @@
 -- An answer as one word of 64 bits: the number in the low 32 bits and what stands beside it in the high 32. One law for each arm of the
 -- code, and one that carries a contract from the enum to the word.
-use Prim.Native.Nat.{ℕ, _≤_, _*_, _/_, _%_}
-use mathlib.Core.Path.{_≡_, refl, sym, ap₂, subst, _∙_}
-use mathlib.Core.List.{List, []}
-use native.Mathlib.Omega.{arith}
+use Rattle.image.specs.Prelude.{ℕ, _≤_, _*_, _/_, _%_, _≡_, refl, sym, ap₂, subst, _∙_, List, [], arith}
 use Rattle.image.specs.Calls.{Call, filled, number}
 use Rattle.image.specs.Contract.{Meets}
 use Rattle.image.specs.Answers.{refusalNumber, outcomeNumber, outcomeAnswer, foundAnswer, samenessNumber, samenessVerdict}

@@ -3,9 +3,7 @@
 use batch::Batched;
 use image::Found;
 use image::Sameness;
-ghost use Prim.Native.Nat.{_≤_, _/_, _%_};
-ghost use mathlib.Core.Path.{_≡_};
-ghost use mathlib.Core.List.{[]};
+ghost use Rattle.image.specs.Prelude.{_≤_, _/_, _%_, _≡_, []};
 ghost use Rattle.image.specs.Answers.{samenessNumber, samenessVerdict};
 ghost use Rattle.image.specs.Calls.{asks, get, next, filled, acts, keeps, put, drops, clear, move, settle, tidy, flush, heal, number};
 ghost use Rattle.image.specs.Contract.{Meets, MakeMeets, SameMeets};

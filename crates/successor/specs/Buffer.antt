@@ -1,11 +1,6 @@
 -- A path in a buffer of fixed room: what the buffer holds, and what it holds after bytes are appended.
 -- Relies on: the declared struct PathBuffer.
-use Prim.Native.Nat.{ℕ}
-use mathlib.Core.List.{List, _++_}
-use mathlib.Core.Bool.{cond}
-use mathlib.Core.Option.{Option, none, some}
-use lib.ListN.{length, take}
-use lib.Dec.{leb}
+use Rattle.image.specs.Prelude.{ℕ, List, _++_, cond, Option, none, some, length, take, leb}
 use Rattle.node.specs.declared.PathBuffer.{PathBuffer}
 
 -- the longest path that a buffer holds: as long as the longest well-formed path

@@ -1,16 +1,6 @@
 -- What a buffer holds, by its length, and the steps of extend's loop.
 -- Relies on: Buffer; a buffer's array has 64 bytes.
-use Prim.Native.Nat.{ℕ, _+_, _<_, _≤_}
-use mathlib.Core.Path.{_≡_, refl, sym, ap, _∙_}
-use mathlib.Core.List.{List, [], _∷_, _++_, append-nil, append-assoc}
-use mathlib.Core.Bool.{Bool, true, false}
-use mathlib.Core.Option.{Option, none, some}
-use native.Mathlib.Omega.{arith}
-use native.Mathlib.Numerals.{add-one}
-use lib.ListN.{length, take, drop, getD, set, length-append, length-drop, drop-of-length-le}
-use lib.Seq.{length-take-le, drop-cons, take-suc-set}
-use lib.Dec.{leb}
-use borrow.Author.Tests.{leb-true, leb-false, le-leb, lt-leb}
+use Rattle.image.specs.Prelude.{ℕ, _+_, _<_, _≤_, _≡_, refl, sym, ap, _∙_, List, [], _∷_, _++_, append-nil, append-assoc, Bool, true, false, Option, none, some, arith, length, take, drop, getD, set, length-append, length-drop, drop-of-length-le, length-take-le, drop-cons, take-suc-set, leb, leb-true, leb-false, le-leb, lt-leb, add-one}
 use Rattle.node.specs.declared.PathBuffer.{PathBuffer}
 use Rattle.successor.specs.Buffer.{room, fitted, bufferIs, appended}
 

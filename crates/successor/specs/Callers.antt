@@ -1,10 +1,6 @@
 -- For a caller of next: what the buffer that is handed back says, by its length alone.
 -- Relies on: Buffer.
-use Prim.Native.Nat.{ℕ, _<_, _≤_}
-use mathlib.Core.Path.{_≡_, sym, _∙_}
-use mathlib.Core.List.{List}
-use mathlib.Core.Option.{none, some}
-use lib.ListN.{take}
+use Rattle.image.specs.Prelude.{ℕ, _<_, _≤_, _≡_, sym, _∙_, List, none, some, take}
 use Rattle.image.specs.Table.{leastAfter}
 use Rattle.image.specs.Sound.{tableOf}
 use Rattle.node.specs.declared.PathBuffer.{PathBuffer}

@@ -1,14 +1,7 @@
 -- The paths that a walk comes to, whatever it asks of them: those of a child, of a run of children and of a node, in pieces; and what is ready
 -- of a node is ready of its children. Relies on: the keys of a tree (Seek, SeekHere), the nodes of lookup (leaf-at, interior-at), tree's branches.
-use Prim.Native.Nat.{ℕ, _+_, _-_, _*_, _<_, _≤_}
-use mathlib.Core.Path.{_≡_, refl, sym, ap, ap₂, subst, _∙_}
-use mathlib.Core.List.{List, [], _∷_, _++_, append-nil, append-assoc}
-use mathlib.Core.Bool.{true}
-use mathlib.Core.Option.{Option, none, some}
-use native.Mathlib.Omega.{arith}
-use lib.ListN.{length, take, drop, length-append}
-use lib.Seq.{take-at}
-use Rattle.image.specs.Bytes.{shared, u16}
+use Rattle.image.specs.Prelude.{ℕ, _-_, _<_, _≤_, _≡_, refl, sym, ap, ap₂, subst, _∙_, List, [], _∷_, _++_, append-nil, append-assoc, true, Option, none, some, arith, length, take, drop, length-append, take-at}
+use Rattle.image.specs.Bytes.{shared}
 use Rattle.image.specs.Entry as defined
 use Rattle.image.specs.Table.{Row}
 use Rattle.image.specs.Image as image
@@ -23,9 +16,10 @@ use Rattle.laws.specs.Follow.{formed-length}
 use Rattle.laws.specs.Reading.Relative.{lifts, branchHigh, high-joined, usable, usableIn}
 use Rattle.laws.specs.Reading.Seek.{every, holds, keys-hold, keysOf, putsOf}
 use Rattle.laws.specs.Reading.SeekHere.{under, keysHere, keysBranches, under-under, child-under, keys-here}
-use Rattle.node.specs.Places.{part, entryIn}
+use Rattle.node.specs.Places.{part, entryIn, cursorOf}
 use Rattle.node.specs.Entries.{listed}
 use Rattle.node.specs.declared.Place.{Place}
+use Rattle.node.specs.declared.Cursor.{Cursor}
 use Rattle.node.specs.declared.Entry.{Entry}
 use Rattle.node.specs.declared.search.Branch as found
 use Rattle.node.specs.Search.Own.{branch, branchIs, branchesAmong, branches-more}
@@ -284,17 +278,17 @@ module _ (s prefix hi : List ℕ) (level num : ℕ) (low : Place) (es : List def
         ∙ run-same level s hi (branch num (part s low) ∷ branch i (part s p) ∷ branchesAmong ts) es ts (child-paths e i p s es ts q h)
         ∙ run-more level s hi (branch num (part s low)) (branch i (part s p)) (branchesAmong ts) ts
 
--- 5. A node, by what the readers list: L is the entries up to the number of bytes that was read.
+-- 5. A node, by what the readers list: L is the entries from its cursor on.
 no-branches : (level : ℕ) (s hi : List ℕ) (es : List defined.Entry) → runPaths level s hi [] es ≡ pathsOf es
 unfolding runPaths image.forestOf keysBranches
 no-branches level s hi es = refl
 
-module _ (s prefix hi : List ℕ) (level num : ℕ) (n : NodeReady s prefix hi level num) (len : ℕ) (el : len ≡ u16 s (num * 1024)) where
+module _ (s prefix hi : List ℕ) (level num : ℕ) (n : NodeReady s prefix hi level num) (c : Cursor) (ec : c ≡ cursorOf s num) where
   abbrev L : List defined.Entry
-  L = listed s (num * 1024 + 8) (num * 1024 + 8 + len)
+  L = listed s (c .at) (c .end)
 
   same-list : L ≡ listing s num
-  same-list = ap (λ k. listed s (num * 1024 + 8) (num * 1024 + 8 + k)) el
+  same-list = ap (λ x. listed s (x .at) (x .end)) ec
 
   pub leaf-is : level ≤ 1 → pathsOf L ≡ keysHere (treeAt level s num) hi
   leaf-is l = ap (λ es. pathsOf es) same-list ∙ sym (leaf-paths s prefix hi level num n l)

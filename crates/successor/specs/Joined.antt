@@ -1,12 +1,6 @@
 -- The order and the beginnings of a path that is given in two parts, a and b, told without joining them.
 -- Relies on: the order's laws (octets/specs/Order).
-use Prim.Native.Nat.{ℕ, _-_, _≤_}
-use mathlib.Core.Path.{_≡_, refl, sym, ap, _∙_}
-use mathlib.Core.List.{List, [], _∷_, _++_}
-use mathlib.Core.Bool.{Bool, true, false, _&&_, _||_, true≢false}
-use lib.ListN.{length, take, drop}
-use lib.Dec.{ltb, eqb}
-use borrow.Author.Tests.{eqb-true, eq-eqb}
+use Rattle.image.specs.Prelude.{ℕ, _-_, _≤_, _≡_, refl, sym, ap, _∙_, List, [], _∷_, _++_, Bool, true, false, _&&_, _||_, true≢false, length, take, drop, ltb, eqb, eqb-true, eq-eqb}
 use Rattle.image.specs.Bytes.{before, begins}
 use Rattle.octets.specs.Beginnings.{begins-length}
 use Rattle.octets.specs.Order.{not-so, begins-split, begins-append, before-append}

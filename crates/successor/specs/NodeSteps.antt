@@ -1,11 +1,6 @@
 -- The steps of the functions that walk a child, a run of children, and a node: one law for each return.
 -- Relies on: WalkLaws, and on which paths those are (Candidates).
-use Prim.Native.Nat.{ℕ, _+_, _-_, _*_, _<_, _≤_}
-use mathlib.Core.Path.{_≡_, sym, ap, _∙_}
-use mathlib.Core.List.{List, [], _∷_, _++_}
-use mathlib.Core.Bool.{Bool, true}
-use mathlib.Core.Option.{Option}
-use lib.ListN.{length, take, drop}
+use Rattle.image.specs.Prelude.{ℕ, _-_, _<_, _≤_, _≡_, sym, ap, _∙_, List, [], _∷_, _++_, Bool, true, Option, length, take, drop}
 use Rattle.image.specs.Bytes.{shared, u16}
 use Rattle.image.specs.Entry as defined
 use Rattle.image.specs.Image.{treeAt}
@@ -17,9 +12,10 @@ use Rattle.path.specs.Fed.{shapeIs}
 use Rattle.path.specs.declared.Shape as path
 use Rattle.laws.specs.Reading.Far.{farFrom}
 use Rattle.laws.specs.Reading.SeekHere.{under, keysHere}
-use Rattle.node.specs.Places.{part, entryIn}
+use Rattle.node.specs.Places.{part, entryIn, cursorOf}
 use Rattle.node.specs.Entries.{listed}
 use Rattle.node.specs.declared.Place.{Place}
+use Rattle.node.specs.declared.Cursor.{Cursor}
 use Rattle.node.specs.declared.Entry.{Entry}
 use Rattle.node.specs.declared.search.Branch.{Branch}
 use Rattle.node.specs.Search.Own.{branch, branchIs, branchesAmong}
@@ -69,22 +65,22 @@ module _ (s : List ℕ) (sh : Shape) (below after prefix hi : List ℕ) (level n
         ∙ ap (λ ks. walkIn s sh below after best (under prefix ks)) (sym (run-splits s prefix hi level num low es ready e i p ts q h))
         ∙ inv
 
--- 4. A node, by what the readers list: L is the entries up to the number of bytes that was read.
-module _ (s prefix hi : List ℕ) (level num : ℕ) (n : NodeReady s prefix hi level num) (sh : Shape) (below after : List ℕ) (best : Option (List ℕ)) (len : ℕ) (el : len ≡ u16 s (num * 1024)) where
+-- 4. A node, by what the readers list: L is the entries from its cursor on.
+module _ (s prefix hi : List ℕ) (level num : ℕ) (n : NodeReady s prefix hi level num) (sh : Shape) (below after : List ℕ) (best : Option (List ℕ)) (c : Cursor) (ec : c ≡ cursorOf s num) where
   abbrev L : List defined.Entry
-  L = listed s (num * 1024 + 8) (num * 1024 + 8 + len)
+  L = listed s (c .at) (c .end)
 
   pub node-leaf : level ≤ 1 → (r : Option (List ℕ)) → r ≡ walkIn s sh below after best (under prefix (pathsOf L)) → r ≡ walkIn s sh below after best (under prefix (keysHere (treeAt level s num) hi))
-  node-leaf l r e = e ∙ ap (λ ks. walkIn s sh below after best (under prefix ks)) (leaf-is s prefix hi level num n len el l)
+  node-leaf l r e = e ∙ ap (λ ks. walkIn s sh below after best (under prefix ks)) (leaf-is s prefix hi level num n c ec l)
 
   module _ (two : 2 ≤ level) where
     pub node-childless : branchesAmong L ≡ [] → (r : Option (List ℕ)) → r ≡ walkIn s sh below after best (under prefix (pathsOf L)) → r ≡ walkIn s sh below after best (under prefix (keysHere (treeAt level s num) hi))
-    node-childless q r e = e ∙ ap (λ ks. walkIn s sh below after best (under prefix ks)) (childless-is s prefix hi level num n len el two q)
+    node-childless q r e = e ∙ ap (λ ks. walkIn s sh below after best (under prefix ks)) (childless-is s prefix hi level num n c ec two q)
 
     module _ (e : Entry) (i : ℕ) (p : Place) (ts : List defined.Entry) (q : L ≡ entryIn s e ∷ ts) (h : branchIs e ≡ Branch.Of i p) where
       pub node-children : (r : Option (List ℕ)) → r ≡ walkIn s sh below after best (under prefix (runPaths (level - 1) s hi (branch i (part s p) ∷ branchesAmong ts) ts))
           → r ≡ walkIn s sh below after best (under prefix (keysHere (treeAt level s num) hi))
-      node-children r f = f ∙ ap (λ ks. walkIn s sh below after best (under prefix ks)) (children-are s prefix hi level num n len el two e i p ts q h)
+      node-children r f = f ∙ ap (λ ks. walkIn s sh below after best (under prefix ks)) (children-are s prefix hi level num n c ec two e i p ts q h)
 
 -- 5. The root, from a buffer that holds no path.
 pub root-next : (s : List ℕ) (root levels : ℕ) → sound s ≡ true → root ≡ u16 s 6 → levels ≡ u16 s 8 → (sh : Shape) (below after : List ℕ) (best : PathBuffer) → 64 < best .len → (r : Option (List ℕ))

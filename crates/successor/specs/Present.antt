@@ -1,40 +1,23 @@
 -- Present paths of a sound image are well formed, and so at most 64 bytes; the walk from the root over all paths is next, of those that are
 -- unfit for a shape; all are for the dead one.
 -- Relies on: the walk of reading (Seek, SeekHere), the root of lookup.
-use Prim.Native.Nat.{ℕ, _<_, _≤_}
-use mathlib.Core.Path.{_≡_, refl, sym, ap, subst, _∙_}
-use mathlib.Core.List.{List, [], _∷_}
-use mathlib.Core.Bool.{Bool, true, false, _&&_, false≢true}
-use mathlib.Core.Option.{none, some}
-use native.Mathlib.Omega.{arith}
-use lib.ListN.{length, drop}
-use Rattle.image.specs.Bytes.{same, before, begins, shared, u16}
+use Rattle.image.specs.Prelude.{ℕ, _<_, _≤_, _≡_, refl, sym, ap, subst, _∙_, List, [], _∷_, Bool, true, false, _&&_, none, some, arith, length, drop}
+use Rattle.image.specs.Bytes.{before, begins, shared, u16}
 use Rattle.image.specs.Path.{wellFormed, owns}
 use Rattle.image.specs.Table.{Row, isSome, leastAfter, leads, rising}
 use Rattle.image.specs.Image.{treeAt, treeOf}
 use Rattle.image.specs.Meaning.{rows}
 use Rattle.image.specs.Sound.{sound, soundTree, tableOf, lowest, highest}
-use Rattle.octets.specs.Order.{and-left, and-right, same-eq}
+use Rattle.octets.specs.Order.{and-left, and-right}
 use Rattle.laws.specs.LookupTable.{means-table}
-use Rattle.laws.specs.RowsRising.{rows-rise}
 use Rattle.laws.specs.Next.{Fits, least-yes, least-far, least-early, later-fits, nil-none, first-present}
 use Rattle.laws.specs.Filter.{keep}
 use Rattle.path.specs.Shape.{Shape, dead, goesOn, feed-dead}
-use Rattle.laws.specs.Reading.Seek.{every, holds, isKey, present, keys, keys-hold, stands, walk, walk-same}
+use Rattle.laws.specs.Reading.Seek.{holds, present, keys, keys-hold, stands, walk, walk-same, key-passes}
 use Rattle.laws.specs.Reading.SeekHere.{under, keysHere, next-here}
 use Rattle.lookup.specs.Root.{starts, root-is, root-usable}
 use Rattle.successor.specs.Walk.{isPresent, walkIn, NodeReady, unfit, isSought}
-use Rattle.laws.specs.Follow.{formed-length}
-
--- a path that stands among paths that all pass a test passes it
-pub key-passes : (test : List ℕ → Bool) (k : List ℕ) (ks : List (List ℕ)) → isKey k ks ≡ true → every test ks ≡ true → test k ≡ true
-unfolding isKey every
-key-passes test k [] h e = absurd (false≢true h)
-key-passes test k (m ∷ ks) h e = go (same k m) refl (λ g. key-passes test k ks g (and-right (test m) _ e))
-  where
-    go : (x : Bool) → same k m ≡ x → (isKey k ks ≡ true → test k ≡ true) → test k ≡ true
-    go true a ih = rw (same-eq k m a) (and-left (test m) (every test ks) e)
-    go false a ih = ih (rw a at h)
+use Rattle.laws.specs.Follow.{formed-length, table-rises}
 
 -- what is present by lookup is in the table
 pub present-is : (s : List ℕ) → sound s ≡ true → (k : List ℕ) → isPresent s k ≡ present k (tableOf s)
@@ -123,8 +106,5 @@ next-found s p q k e h =
     let z : isPresent s k ≡ true = present-is s e k ∙ found f in
     record { present = z; under = f .under; after = f .after; formed = present-formed s k e z; short = present-short s k e z }
   where
-    table-rises : (s : List ℕ) → sound s ≡ true → rising (tableOf s) ≡ true
-    table-rises s e = unfold tableOf in rows-rise (treeOf s) lowest highest (starts s e .tree)
-
     found : Fits p q (tableOf s) k → present k (tableOf s) ≡ true
     found f = unfold present in f .present

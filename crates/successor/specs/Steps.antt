@@ -1,13 +1,6 @@
 -- The steps of the functions that try a path, an entry, and a list of entries: one law for each return.
 -- Relies on: Walk, WalkLaws, BufferSteps, and that present paths are short (Present).
-use Prim.Native.Nat.{ℕ, _+_, _-_, _<_, _≤_}
-use mathlib.Core.Path.{_≡_, refl, sym, ap, subst, _∙_}
-use mathlib.Core.List.{List, [], _∷_, _++_}
-use mathlib.Core.Bool.{Bool, true, false, _&&_, not}
-use mathlib.Core.Option.{Option, some}
-use native.Mathlib.Omega.{arith}
-use lib.ListN.{length, take, drop, length-append}
-use borrow.Author.Tests.{not-true, not-false}
+use Rattle.image.specs.Prelude.{ℕ, _+_, _-_, _<_, _≤_, _≡_, refl, sym, ap, subst, _∙_, List, [], _∷_, _++_, Bool, true, false, _&&_, not, Option, some, arith, length, take, drop, length-append, not-true, not-false}
 use Rattle.image.specs.Bytes.{before, begins}
 use Rattle.image.specs.Entry as defined
 use Rattle.image.specs.Table.{isSome}

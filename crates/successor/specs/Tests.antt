@@ -1,14 +1,6 @@
 -- The tests on a path or a range, one law for each return.
 -- Relies on: better and wanted of laws/specs/Reading/Seek, farFrom of laws/specs/Reading/Far, the shape of a path fed in parts (path/specs/Shape).
-use Prim.Native.Nat.{ℕ, _-_, _<_, _≤_, _+_}
-use mathlib.Core.Path.{_≡_, refl, sym, ap, _∙_}
-use mathlib.Core.List.{List, _++_}
-use mathlib.Core.Bool.{Bool, true, false, _&&_, _||_, not}
-use mathlib.Core.Option.{Option}
-use native.Mathlib.Omega.{arith}
-use lib.ListN.{length, take, drop}
-use lib.Seq.{drop-append-le, drop-append-add}
-use borrow.Author.Tests.{not-true, not-false}
+use Rattle.image.specs.Prelude.{ℕ, _-_, _<_, _≤_, _+_, _≡_, refl, sym, ap, _∙_, List, _++_, Bool, true, false, _&&_, _||_, not, Option, arith, length, take, drop, drop-append-le, drop-append-add, not-true, not-false}
 use Rattle.image.specs.Bytes.{before, begins}
 use Rattle.path.specs.Shape.{feed, closed, goesOn, feed-append}
 use Rattle.path.specs.Fed.{shapeIs}

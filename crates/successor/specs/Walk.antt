@@ -1,11 +1,6 @@
 -- The walk of next as its functions see it: the paths that entries name, the paths under a child and under a run of children, and what
 -- each function may rely on. Relies on: the walk over keys of reading (Seek, SeekHere), the shape of a path (path/specs/Shape).
-use Prim.Native.Nat.{ℕ}
-use mathlib.Core.Path.{_≡_}
-use mathlib.Core.List.{List, [], _∷_, _++_}
-use mathlib.Core.Bool.{Bool, true, _&&_, not}
-use mathlib.Core.Option.{Option}
-use lib.ListN.{length, drop}
+use Rattle.image.specs.Prelude.{ℕ, _≡_, List, [], _∷_, _++_, Bool, true, _&&_, not, Option, length, drop}
 use Rattle.image.specs.Bytes.{shared}
 use Rattle.image.specs.Entry.{puts, drops, clears, Entry, pair, child, message}
 use Rattle.image.specs.Table.{isSome}

@@ -1,10 +1,6 @@
 -- The walk in pieces: no path, one path, two lists of paths; a child that is skipped.
 -- Relies on: the walk of reading (Seek, SeekHere).
-use Prim.Native.Nat.{ℕ}
-use mathlib.Core.Path.{_≡_, refl, sym, ap, _∙_}
-use mathlib.Core.List.{List, [], _∷_, _++_}
-use mathlib.Core.Bool.{true}
-use mathlib.Core.Option.{Option}
+use Rattle.image.specs.Prelude.{ℕ, _≡_, refl, sym, ap, _∙_, List, [], _∷_, _++_, true, Option}
 use Rattle.image.specs.Image.{treeAt}
 use Rattle.path.specs.Shape.{Shape}
 use Rattle.laws.specs.Reading.Far.{farFrom}

@@ -7,15 +7,11 @@ use node::Message;
 use node::PathBuffer;
 use node::Place;
 use node::Step;
-use node::search::Branch;
 use node::search::Found;
+use node::search::Pending;
 use node::search::Run;
 use path::Shape;
-ghost use mathlib.Core.Path.{_≡_};
-ghost use mathlib.Core.Bool.{true};
-ghost use mathlib.Core.List.{[], _∷_, _++_};
-ghost use Prim.Native.Nat.{_+_, _≤_};
-ghost use lib.ListN.{length};
+ghost use Rattle.image.specs.Prelude.{_≡_, true, [], _∷_, _++_, _+_, _≤_, length};
 ghost use Rattle.image.specs.Bytes.{before, begins};
 ghost use Rattle.image.specs.Table.{leastAfter};
 ghost use Rattle.image.specs.Sound.{sound, tableOf};
@@ -362,12 +358,8 @@ pub fn seek_children(
     let mut c = run.rest;
     let mut low = run.low;
     let mut v = first;
-    let end = c.end;
-    while c.at < end {
-        let Step::Read(e, next) = c.step(store) else {
-            return seek_last(store, v, Run { low, rest: c }, hi, pre, below, after);
-        };
-        let Branch::Of(k, p) = node::search::branch_of(e) else {
+    loop {
+        let Pending::Child(k, p, next) = node::search::read_child(store, c) else {
             return seek_last(store, v, Run { low, rest: c }, hi, pre, below, after);
         };
         let a = low.start;
@@ -380,7 +372,6 @@ pub fn seek_children(
         low = p;
         c = next;
     }
-    seek_last(store, v, Run { low, rest: c }, hi, pre, below, after)
 }
 
 // The node that is visited, which lifts pre; hi is its high pivot without pre.
@@ -400,18 +391,11 @@ pub fn seek_node(
     let level = node.level;
     let shape = node.shape;
     let best = node.best;
-    let at = node.num * image::NODE_SIZE;
-    let len = node::header::read_length(store, at);
-    let from = at + image::ENTRIES_AT;
-    let end = from + len;
-    let c = Cursor { at: from, end };
+    let c = node::entries_of(store, node.num);
     if level <= 1 {
         return seek_entries(store, c, pre, below, after, shape, best);
     }
-    let Step::Read(e, next) = c.step(store) else {
-        return seek_entries(store, c, pre, below, after, shape, best);
-    };
-    let Branch::Of(k, p) = node::search::branch_of(e) else {
+    let Pending::Child(k, p, next) = node::search::read_child(store, c) else {
         return seek_entries(store, c, pre, below, after, shape, best);
     };
     let down = level - 1;

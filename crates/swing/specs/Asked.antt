@@ -1,33 +1,25 @@
 -- The plan of a swing from what it asks: the laws of moving, with the list of free nodes as the code reads it; and its image as `swungWith`.
 -- Relies on slice/Moving's laws of the supply of free nodes.
-use Prim.Native.Nat.{ℕ, zero, suc, _+_, _*_, _-_, _/_, _≤_, _<_}
-use mathlib.Core.Path.{_≡_, refl, sym, ap, ap₂, subst, _∙_}
-use mathlib.Core.List.{List, []}
-use mathlib.Core.Bool.{Bool, true, false, false≢true}
-use native.Mathlib.Omega.{arith}
-use lib.ListN.{length, getD, take, drop}
-use lib.Seq.{take-at}
-use lib.Dec.{leb, eqb}
-use borrow.Author.Tests.{leb-true, leb-false, eqb-true}
+use Rattle.image.specs.Prelude.{ℕ, zero, suc, _+_, _*_, _-_, _/_, _≤_, _<_, _≡_, refl, sym, ap, ap₂, subst, _∙_, List, [], Bool, true, false, arith, length, getD, take, drop, take-at, leb, leb-true, leb-false}
 use Rattle.image.specs.Bytes.{u16, before}
 use Rattle.image.specs.Path.{wellFormed}
-use Rattle.image.specs.Image.{nodeBytes, Tree, unread, leaf, interior, nodesOf, wholeNodes, headerOf, treeOf}
+use Rattle.image.specs.Image.{nodeBytes, nodesOf, headerOf, treeOf}
 use Rattle.image.specs.Sound.{tableOf, highest, numbers, isIn}
 use Rattle.octets.specs.Beginnings.{begins-refl}
-use Rattle.octets.specs.Order.{and-left, and-right, not-so, same-false, before-total}
+use Rattle.octets.specs.Order.{not-so, same-false, before-total}
 use Rattle.octets.specs.Put.{put}
-use Rattle.laws.specs.Pieces.{levelled}
+use Rattle.node.specs.Whole.{whole-parts}
 use Rattle.packed.specs.Build.Handed.{listed, handedFrom, handed}
 use Rattle.packed.specs.Build.HandedLaws.{listed-length}
 use Rattle.slice.specs.Slicing.FromImage.{image-good, image-fits}
-use Rattle.slice.specs.Slicing.SliceNumbers.{hits, hits-met, met, spent}
+use Rattle.slice.specs.Slicing.SliceNumbers.{met, spent}
 use Rattle.slice.specs.Slicing.SliceFits.{fits}
 use Rattle.slice.specs.Slicing.Range.{past, before-aside, formed-inside}
 use Rattle.laws.specs.WriteNode.{writeNode}
 use Rattle.slice.specs.Moving.Move.{rootOver, movedTree}
 use Rattle.slice.specs.Moving.MoveDone.{movedStore, get-past, get-range}
-use Rattle.slice.specs.Moving.MoveLaws.{Well, move-well, short-past}
-use Rattle.slice.specs.Moving.MoveImage.{from-list, roots, range-hit, hits-once, hit-in, spent-list}
+use Rattle.slice.specs.Moving.MoveLaws.{Well, some-level, move-well, short-past}
+use Rattle.slice.specs.Moving.MoveImage.{from-list, roots, range-hit, supply, supply-range, supply-spent}
 use Rattle.slice.specs.Moving.MoveWrite.{movedImage}
 use Rattle.slice.specs.Point.{freshIn}
 use Rattle.swing.specs.Cuts.{front}
@@ -77,45 +69,18 @@ pub handed-many : (free : List ℕ) → length (handed free) ≡ length free / 2
 unfolding handed handedFrom
 handed-many free = let e : length free / 2 - 0 ≡ length free / 2 = omega arith in listed-length (length free / 2 - 0) free 0 ∙ e
 
-some-level : (t : Tree) (h : ℕ) → levelled t h ≡ true → 1 ≤ h
-unfolding levelled
-some-level t (suc k) e = omega arith
-some-level (unread i) zero e = absurd (false≢true e)
-some-level (leaf i rs) zero e = absurd (false≢true e)
-some-level (interior i f ms) zero e = absurd (false≢true e)
-
 module _ (s free from to : List ℕ) (k : SwingAsks s free from to) where
   fresh-eq : _≡_ {A = ℕ → ℕ} (from-list (handed free)) (freshIn free)
   fresh-eq = fresh-is free (k .even)
 
-  supply : (j : ℕ) → hits j (numbers (treeOf s)) + hits j (handed free) ≤ 1
-  supply j = go (isIn j (handed free)) refl
-    where
-      go : (x : Bool) → isIn j (handed free) ≡ x → hits j (numbers (treeOf s)) + hits j (handed free) ≤ 1
-      go true q = omega (arith, hits-once j (handed free) (k .supply .distinct), hit-in j (numbers (treeOf s)) (k .supply .unused j q))
-      go false q = omega (arith, hits-once j (numbers (treeOf s)) (roots s (k .is-sound) .alone), hit-in j (handed free) q)
-
   once-x : (j : ℕ) → met j (treeOf s) + spent (from-list (handed free)) j (suc (10 * headerOf s .levels)) 0 ≤ 1
-  once-x j = omega (arith, supply j, hits-met j (treeOf s), spent-list j (handed free) (suc (10 * headerOf s .levels)) 0 (omega (arith, k .supply .enough)))
+  once-x j = omega (arith, supply s (handed free) (k .is-sound) (k .supply) j, supply-spent s (handed free) (k .is-sound) (k .supply) j (suc (10 * headerOf s .levels)) (omega arith))
 
   range-x : (j c : ℕ) → c ≤ suc (10 * headerOf s .levels) → 1 ≤ met j (treeOf s) + spent (from-list (handed free)) j c 0 → (1 ≤ j) × (j < nodesOf (length s))
-  range-x j c l q = go (met j (treeOf s)) refl
-    where
-      go : (m : ℕ) → met j (treeOf s) ≡ m → (1 ≤ j) × (j < nodesOf (length s))
-      go zero e =
-          range-hit (nodesOf (length s)) j (handed free) (k .supply .within)
-          (omega (arith, spent-list j (handed free) c 0 (omega (arith, k .supply .enough))))
-      go (suc m) e = range-hit (nodesOf (length s)) j (numbers (treeOf s)) (roots s (k .is-sound) .within) (omega (arith, hits-met j (treeOf s)))
-
-  bytes : (1024 * nodesOf (length s) ≡ length s) × (32 ≤ nodesOf (length s))
-  unfolding wholeNodes
-  bytes = (
-    eqb-true (1024 * nodesOf (length s)) (length s) (and-left _ _ (and-left _ _ (k .whole))),
-    leb-true 32 (nodesOf (length s)) (and-right (eqb (1024 * nodesOf (length s)) (length s)) _ (and-left _ _ (k .whole))),
-  )
+  range-x j c l q = supply-range s (handed free) (k .is-sound) (k .supply) j (omega (arith, supply-spent s (handed free) (k .is-sound) (k .supply) j c l))
 
   small-x : (x : ℕ) → from-list (handed free) x < nodesOf (length s)
-  small-x x = get-range (nodesOf (length s)) (handed free) x (omega (arith, bytes .1)) (k .supply .within)
+  small-x x = get-range (nodesOf (length s)) (handed free) x (omega (arith, whole-parts (length s) (k .whole) .enough)) (k .supply .within)
 
   -- the plan of a direction
   module _ (p r : List ℕ) (up : Bool) (above : before [] p ≡ true) (between : before (past p) r ≡ true) (below : before (past r) highest ≡ true)
@@ -132,13 +97,13 @@ module _ (s free from to : List ℕ) (k : SwingAsks s free from to) where
           below = below;
           short-p = short-past p formed-p;
           short-r = short-past r formed-r;
-          room = λ x. omega (arith, small-f x, bytes .0);
+          room = λ x. omega (arith, small-f x, whole-parts (length s) (k .whole) .filled);
           once = subst (λ f. (j : ℕ) → met j (treeOf s) + spent f j (suc (10 * headerOf s .levels)) 0 ≤ 1) fresh-eq once-x;
           range =
               subst (λ f. (j c : ℕ) → c ≤ suc (10 * headerOf s .levels) → 1 ≤ met j (treeOf s) + spent f j c 0 → (1 ≤ j) × (j < nodesOf (length s))) fresh-eq range-x;
           small = small-f;
           low = k .low;
-          some = some-level (treeOf s) (headerOf s .levels) (image-good s (k .is-sound) (k .is-settled) .level);
+          some = omega (arith, some-level (treeOf s) (headerOf s .levels) (image-good s (k .is-sound) (k .is-settled) .level) .1);
           whole = k .whole;
           enough = omega (arith, k .supply .enough, handed-many free, k .even);
           root-fits = fit;
@@ -167,7 +132,7 @@ module _ (s free from to : List ℕ) (k : SwingAsks s free from to) where
       ∙ ap (λ (f : ℕ → ℕ). writeNode (movedImage f (headerOf s .levels) (treeOf s) from to s) 0 (headPage (nodesOf (length s)) (f (10 * headerOf s .levels)) (suc (headerOf s .levels)) (headerOf s .live))) (sym fresh-eq)
 
   -- the nodes that were reachable
-  whole-swing : Swung s (movedStore s (handed free) from to) from to
+  pub whole-swing : Swung s (movedStore s (handed free) from to) from to
   whole-swing =
       moved-swung s from to (k .whole) (k .is-sound) (k .is-settled) (k .low) (k .formed-from) (k .formed-to) (k .apart-from) (k .apart-to) (k .nine) (handed free) (k .supply)
 

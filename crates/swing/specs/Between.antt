@@ -1,18 +1,11 @@
 -- The swing from its steps: what each call in it asks, and that the image at its end is slice/Moving's.
 -- Relies on Steps (what the plan gives), RootLaws (the new root's page) and Head (node 0).
-use Prim.Native.Nat.{ℕ, suc, _+_, _*_, _-_, _/_, _≤_, _<_}
-use mathlib.Core.Path.{_≡_, refl, sym, ap, ap₂, subst, _∙_}
-use mathlib.Core.List.{List, []}
-use mathlib.Core.Bool.{Bool, true, _&&_}
-use native.Mathlib.Omega.{arith}
-use lib.ListN.{length}
-use lib.Dec.{leb, eqb}
-use borrow.Author.Tests.{leb-true, eqb-true}
+use Rattle.image.specs.Prelude.{ℕ, suc, _+_, _*_, _-_, _/_, _≤_, _<_, _≡_, refl, sym, ap, ap₂, subst, _∙_, List, [], Bool, arith, length}
 use Rattle.image.specs.Bytes.{u16}
-use Rattle.image.specs.Image.{nodesOf, wholeNodes, headerOf, treeOf}
-use Rattle.octets.specs.Order.{and-left, and-right}
+use Rattle.image.specs.Image.{nodesOf, headerOf, treeOf}
 use Rattle.laws.specs.Page.{page, page-length, numberOf, branchesOf, headPage}
 use Rattle.laws.specs.WriteNode.{writeNode, write-length}
+use Rattle.node.specs.Whole.{whole-parts}
 use Rattle.append.specs.Laws.Append.{header-levels, header-live}
 use Rattle.slice.specs.Slicing.Range.{past}
 use Rattle.slice.specs.Slicing.SliceWrite.{pageOf}
@@ -28,14 +21,6 @@ use Rattle.swing.specs.RootLaws.{root-page, root-size}
 use Rattle.swing.specs.Plan.{underLow, underHigh, taken, takenPath, imageOver, swungOver, Plan, PastPlan}
 use Rattle.swing.specs.Steps.{past-length, front-past, both-asks, both-written, low-pieces, high-pieces, take-asks, taken-is, size-8, number-first, number-under-low, number-under-high}
 
-whole-bytes : (n : ℕ) → wholeNodes n ≡ true → (1024 * nodesOf n ≡ n) × (32 ≤ nodesOf n) × (nodesOf n ≤ 1024)
-unfolding wholeNodes
-whole-bytes n e = (
-  eqb-true (1024 * nodesOf n) n (and-left _ _ (and-left _ _ e)),
-  leb-true 32 (nodesOf n) (and-right (eqb (1024 * nodesOf n) n) _ (and-left _ _ e)),
-  leb-true (nodesOf n) 1024 (and-right (eqb (1024 * nodesOf n) n && leb 32 (nodesOf n)) _ e),
-)
-
 module _ (s free p r : List ℕ) (up : Bool) (planned : Plan s free p r up) where
   abbrev F : ℕ → ℕ
   F = freshIn free
@@ -44,10 +29,10 @@ module _ (s free p r : List ℕ) (up : Bool) (planned : Plan s free p r up) wher
   H = headerOf s .levels
 
   big : 12 ≤ length s
-  big = let w = whole-bytes (length s) (planned .whole) in omega (arith, w .0, w .1)
+  big = let w = whole-parts (length s) (planned .whole) in omega (arith, w .filled, w .enough)
 
   small : (x : ℕ) → F x < 65536
-  small x = let w = whole-bytes (length s) (planned .whole) in omega (arith, planned .small x, w .2)
+  small x = omega (arith, planned .small x, whole-parts (length s) (planned .whole) .few)
 
   module _ (s₆ low high : List ℕ) (c : Cuts) (a : BothAs s H (past p) (past r) free s₆ low high c) where
     take-0 : TakeAsks s₆ H (past p) (past r) free up
@@ -149,7 +134,7 @@ module _ (s free p r : List ℕ) (up : Bool) (planned : Plan s free p r up) wher
 
 -- THE STORE'S SIZE
 pub store-size : (s free bound limit : List ℕ) (up : Bool) → PastPlan s free bound limit up → (32768 ≤ length s) × (length s ≤ 1048576)
-store-size s free bound limit up B = let w = whole-bytes (length s) (B .plan .whole) in (omega (arith, w .0, w .1), omega (arith, w .0, w .2))
+store-size s free bound limit up B = let w = whole-parts (length s) (B .plan .whole) in (omega (arith, w .filled, w .enough), omega (arith, w .filled, w .few))
 
 -- AS THE CODE MEETS THEM, with its own number of levels and its own ends
 module _ (s free bound limit : List ℕ) (up : Bool) (B : PastPlan s free bound limit up) (h : ℕ) (eh : h ≡ u16 s 8) where

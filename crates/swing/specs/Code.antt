@@ -1,10 +1,5 @@
 -- The steps of the code of a swing, one law for each call and each way out. Relies on Steps (what the plan gives) and on RootLaws.
-use Prim.Native.Nat.{ℕ, _+_, _*_, _-_, _≤_, _<_}
-use mathlib.Core.Path.{_≡_, refl, sym, ap, ap₂, subst, _∙_}
-use mathlib.Core.List.{List, [], _∷_, _++_}
-use mathlib.Core.Bool.{Bool, true, false}
-use native.Mathlib.Omega.{arith}
-use lib.ListN.{length, take, drop, set, length-append}
+use Rattle.image.specs.Prelude.{ℕ, _+_, _*_, _-_, _≤_, _<_, _≡_, refl, sym, ap, ap₂, subst, _∙_, List, [], _∷_, _++_, Bool, true, false, arith, length, take, drop, set, length-append}
 use Rattle.image.specs.Bytes.{u16, u16Bytes}
 use Rattle.image.specs.Entry.{child}
 use Rattle.image.specs.Image.{headerOf, treeAt}
@@ -147,34 +142,20 @@ module _ (s : List ℕ) (num h : ℕ) (bound free : List ℕ) (pre : OutAsks s n
 
 module _ (s : List ℕ) (h : ℕ) (bound limit free : List ℕ) (up : Bool) (pre : TakeAsks s h bound limit free up) (num : ℕ) where
   pub up-asked : up ≡ true → num ≡ u16 free (4 * h * 2) → OutAsks s num h bound free
-  up-asked e n = subst (λ i. OutAsks s i h bound free) (number-is e n) (subst (λ b. OutAsks s (takenNumber free h up) h b free) (bound-is e) (pre .out))
-    where
-      number-is : up ≡ true → num ≡ u16 free (4 * h * 2) → takenNumber free h up ≡ num
-      number-is f m = ap (takenNumber free h) f ∙ (unfold takenNumber freshIn in sym m)
-
-      bound-is : up ≡ true → takenBound bound limit up ≡ bound
-      bound-is f = ap (takenBound bound limit) f ∙ (unfold takenBound in refl)
+  unfolding takenNumber takenBound freshIn
+  up-asked e n = subst (λ i. OutAsks s i h bound free) (sym n) (rw e at (pre .out))
 
   pub up-done : (s′ : List ℕ) → up ≡ true → num ≡ u16 free (4 * h * 2) → s′ ≡ outIn s num h bound free → s′ ≡ takenOut s h bound limit free up
-  up-done s′ e n w = w ∙ shown n ∙ ap (takenOut s h bound limit free) (sym e)
-    where
-      shown : num ≡ u16 free (4 * h * 2) → outIn s num h bound free ≡ takenOut s h bound limit free true
-      shown m = ap (λ i. outIn s i h bound free) m ∙ (unfold takenOut takenNumber takenBound freshIn in refl)
+  unfolding takenOut takenNumber takenBound freshIn
+  up-done s′ e n w = rw e (w ∙ ap (λ i. outIn s i h bound free) n)
 
   pub down-asked : up ≡ false → num ≡ u16 free 0 → OutAsks s num h limit free
-  down-asked e n = subst (λ i. OutAsks s i h limit free) (number-is e n) (subst (λ b. OutAsks s (takenNumber free h up) h b free) (bound-is e) (pre .out))
-    where
-      number-is : up ≡ false → num ≡ u16 free 0 → takenNumber free h up ≡ num
-      number-is f m = ap (takenNumber free h) f ∙ (unfold takenNumber freshIn in sym m)
-
-      bound-is : up ≡ false → takenBound bound limit up ≡ limit
-      bound-is f = ap (takenBound bound limit) f ∙ (unfold takenBound in refl)
+  unfolding takenNumber takenBound freshIn
+  down-asked e n = subst (λ i. OutAsks s i h limit free) (sym n) (rw e at (pre .out))
 
   pub down-done : (s′ : List ℕ) → up ≡ false → num ≡ u16 free 0 → s′ ≡ outIn s num h limit free → s′ ≡ takenOut s h bound limit free up
-  down-done s′ e n w = w ∙ shown n ∙ ap (takenOut s h bound limit free) (sym e)
-    where
-      shown : num ≡ u16 free 0 → outIn s num h limit free ≡ takenOut s h bound limit free false
-      shown m = ap (λ i. outIn s i h limit free) m ∙ (unfold takenOut takenNumber takenBound freshIn in refl)
+  unfolding takenOut takenNumber takenBound freshIn
+  down-done s′ e n w = rw e (w ∙ ap (λ i. outIn s i h limit free) n)
 
 pub place-up : (h : ℕ) (up : Bool) → up ≡ true → (9 * h ≡ lowPlace h up) × (8 * h ≤ 9 * h) × (9 * h ≤ 9 * h)
 unfolding lowPlace

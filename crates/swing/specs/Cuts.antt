@@ -1,10 +1,6 @@
 -- The images between the cuts of a swing, each computed from the store that a step is handed; what each step asks, and what it tells.
 -- Definitions only, over slice/Slicing's functions on images.
-use Prim.Native.Nat.{ℕ, _+_, _*_, _-_, _≤_}
-use mathlib.Core.Path.{_≡_}
-use mathlib.Core.List.{List, []}
-use mathlib.Core.Bool.{Bool, true, false, cond}
-use lib.ListN.{length, take}
+use Rattle.image.specs.Prelude.{ℕ, _+_, _*_, _-_, _≤_, _≡_, List, [], Bool, true, false, cond, length, take}
 use Rattle.image.specs.Image.{headerOf, treeAt}
 use Rattle.image.specs.Sound.{highest}
 use Rattle.laws.specs.Page.{branchesOf}

@@ -1,9 +1,6 @@
 -- Node 0 after a move: written with the old live count, and then the count made right.
 -- Relies on laws' page of node 0 and on append's Laws (the live count written).
-use Prim.Native.Nat.{ℕ, suc, _*_}
-use mathlib.Core.Path.{_≡_, refl, sym}
-use mathlib.Core.List.{List}
-use lib.ListN.{length}
+use Rattle.image.specs.Prelude.{ℕ, suc, _*_, _≡_, refl, sym, List, length}
 use Rattle.image.specs.Table.{moved}
 use Rattle.image.specs.Image.{nodesOf, headerOf, treeOf}
 use Rattle.image.specs.Sound.{tableOf}

@@ -1,9 +1,5 @@
 -- The swing as a function on images, for both directions at once; what it asks of a store; and what its steps rely on. Definitions only.
-use Prim.Native.Nat.{ℕ, suc, _+_, _*_, _/_, _≤_, _<_}
-use mathlib.Core.Path.{_≡_}
-use mathlib.Core.List.{List, []}
-use mathlib.Core.Bool.{Bool, true, false, cond}
-use lib.ListN.{length}
+use Rattle.image.specs.Prelude.{ℕ, suc, _+_, _*_, _/_, _≤_, _<_, _≡_, List, [], Bool, true, false, cond, length}
 use Rattle.image.specs.Bytes.{before, begins}
 use Rattle.image.specs.Entry.{pivotLimit}
 use Rattle.image.specs.Path.{wellFormed}

@@ -1,7 +1,5 @@
 -- The bytes of the new root's entries, and what its writer asks. Definitions only.
-use Prim.Native.Nat.{ℕ, _+_, _*_, _≤_, _<_}
-use mathlib.Core.List.{List, [], _++_}
-use lib.ListN.{length}
+use Rattle.image.specs.Prelude.{ℕ, _+_, _*_, _≤_, _<_, List, [], _++_, length}
 use Rattle.image.specs.Entry.{child}
 use Rattle.laws.specs.Encode.{bytesOf}
 use Rattle.slice.specs.declared.Parts.{Parts}

@@ -1,12 +1,6 @@
 -- What the root's writer writes is the page of the move's root: slice/Moving's pieces, as the bytes of Root.
 -- Relies on slice/Moving's definitions of the pieces, and on slice/Slicing's of a right part.
-use Prim.Native.Nat.{ℕ, suc, _≤_}
-use mathlib.Core.Path.{_≡_, refl, sym, ap, ap₂, _∙_}
-use mathlib.Core.List.{List, [], _∷_, _++_, append-assoc}
-use mathlib.Core.Bool.{true, false, false≢true}
-use native.Mathlib.Omega.{arith}
-use lib.ListN.{length}
-use borrow.Author.Tests.{leb-true}
+use Rattle.image.specs.Prelude.{ℕ, suc, _≤_, _≡_, refl, sym, ap, ap₂, _∙_, List, [], _∷_, _++_, append-assoc, true, false, false≢true, arith, length, leb-true}
 use Rattle.image.specs.Bytes.{shared}
 use Rattle.image.specs.Entry.{child}
 use Rattle.image.specs.Image.{Tree, unread, leaf, interior, Forest, end, tree, Branch}

@@ -1,20 +1,12 @@
 -- What each step of a swing asks, from the plan; and the image that it leaves, as slice/Moving's laws have it.
 -- Relies on slice/Moving's MoveWrite (what is read between the cuts) and on slice's Callers.
-use Prim.Native.Nat.{ℕ, zero, suc, _+_, _*_, _-_, _≤_}
-use mathlib.Core.Path.{_≡_, refl, sym, ap, ap₂, subst, _∙_}
-use mathlib.Core.List.{List, []}
-use mathlib.Core.Bool.{Bool, true, false, _&&_, _||_}
-use native.Mathlib.Omega.{arith}
-use lib.ListN.{length, take, length-append}
-use lib.Seq.{take-at}
-use lib.Dec.{leb, eqb}
-use borrow.Author.Tests.{leb-true}
+use Rattle.image.specs.Prelude.{ℕ, suc, _+_, _*_, _-_, _≤_, _≡_, refl, sym, ap, ap₂, subst, _∙_, List, [], Bool, true, false, _||_, arith, length, take, length-append, take-at}
 use Rattle.image.specs.Bytes.{before, begins}
 use Rattle.image.specs.Entry.{pivotLimit}
-use Rattle.image.specs.Image.{Tree, nodesOf, wholeNodes, headerOf, treeAt, treeOf}
+use Rattle.image.specs.Image.{Tree, nodesOf, headerOf, treeAt, treeOf}
 use Rattle.image.specs.Sound.{highest, numbers}
-use Rattle.octets.specs.Order.{and-right}
 use Rattle.laws.specs.Pieces.{Good}
+use Rattle.node.specs.Whole.{whole-parts}
 use Rattle.laws.specs.Page.{numberOf, branchesOf, number-read}
 use Rattle.laws.specs.Reading.Relative.{usable, sound-usable}
 use Rattle.slice.specs.Slicing.Slice.{rightOf}
@@ -26,10 +18,10 @@ use Rattle.slice.specs.Moving.GapWrite.{gapWrite, Within, within-self, within-l
 use Rattle.slice.specs.Slicing.SliceFits.{fits}
 use Rattle.slice.specs.Slicing.Tail.{tail-good}
 use Rattle.slice.specs.Moving.Move.{leftPastR, rightPastR, leftR, midR, leftPastP, rightPastP, leftP, midP}
-use Rattle.slice.specs.Moving.MoveLaws.{short-of, b-past-p, b-r, b-past-r}
+use Rattle.slice.specs.Moving.MoveLaws.{short-of, b-past-p, b-r, b-past-r, some-level}
 use Rattle.octets.specs.Beginnings.{begins-append as begins-past}
 use Rattle.slice.specs.Moving.MoveImage.{range-of}
-use Rattle.slice.specs.Moving.MoveWrite.{im1, im2, im3, im4, im5, im6, im7, im8, g1, g3, g4, f1, f4, w1, w3, w4, d1, t1, n1, l1-2, size2, d3, n3, l3-3, d4, l3-4, n4, l4-5, size5, size6, l1-6, l4-6, n6, o7, o08}
+use Rattle.slice.specs.Moving.MoveWrite.{MoveAsks, im1, im2, im3, im4, im5, im6, im7, im8, g1, g3, g4, f1, f4, w1, w3, w4, d1, t1, n1, l1-2, size2, d3, n3, l3-3, d4, l3-4, n4, l4-5, size5, size6, l1-6, l4-6, n6, o7, o08}
 use Rattle.slice.specs.declared.Parts.{Parts}
 use Rattle.slice.specs.Point.{freshIn}
 use Rattle.slice.specs.Left.{LeftAsks}
@@ -104,16 +96,8 @@ module _ (s free p r : List ℕ) (up : Bool) (plan : Plan s free p r up) where
   abbrev t : Tree
   t = treeOf s
 
-  some-level : (k : ℕ) × (h ≡ suc k)
-  some-level = go (headerOf s .levels) refl
-    where
-      go : (m : ℕ) → headerOf s .levels ≡ m → (k : ℕ) × (headerOf s .levels ≡ suc k)
-      go zero e = absurd (omega (arith, plan .some))
-      go (suc k) e = (k, e)
-
-  few-nodes : nodesOf (length s) ≤ 1024
-  unfolding wholeNodes
-  few-nodes = leb-true (nodesOf (length s)) 1024 (and-right (eqb (1024 * nodesOf (length s)) (length s) && leb 32 (nodesOf (length s))) _ (plan .whole))
+  levels : (k : ℕ) × (h ≡ suc k)
+  levels = some-level t h (plan .good .level)
 
   root-reads : treeAt h s (headerOf s .root) ≡ t
   unfolding treeOf
@@ -123,8 +107,20 @@ module _ (s free p r : List ℕ) (up : Bool) (plan : Plan s free p r up) where
   unfolding treeOf
   root-number = number-read (headerOf s .levels) s (headerOf s .root)
 
-  reads-old : treeAt h s (numberOf t) ≡ t
-  reads-old = ap (treeAt h s) root-number ∙ root-reads
+  abbrev asks : MoveAsks F h t p r s
+  asks =
+      record {
+        good = plan .good;
+        above = plan .above;
+        between = plan .between;
+        below = plan .below;
+        short-p = plan .short-p;
+        short-r = plan .short-r;
+        fit = plan .fit;
+        room = plan .room;
+        reads = ap (treeAt h s) root-number ∙ root-reads;
+        once = plan .once;
+      }
 
   -- WHAT A CUT ASKS
   usable-of : (u : Tree) (c : ℕ) (lo hi : List ℕ) → Good h u lo hi → Within F t (suc (10 * h)) (plan .once) c u → c ≤ suc (10 * h) → usable (nodesOf (length s)) u ≡ true
@@ -138,7 +134,7 @@ module _ (s free p r : List ℕ) (up : Bool) (plan : Plan s free p r up) where
     reads-in = ap₂ (λ m x. usable (nodesOf m) x) size reads ∙ usable-of u c lo hi g w l
 
     few-in : nodesOf (length im) ≤ 1024
-    few-in = subst (λ m. nodesOf m ≤ 1024) (sym size) few-nodes
+    few-in = subst (λ m. nodesOf m ≤ 1024) (sym size) (whole-parts (length s) (plan .whole) .few)
 
     good-in : Good h (treeAt h im num) lo hi
     good-in = subst (λ x. Good h x lo hi) (sym reads) g
@@ -182,122 +178,70 @@ module _ (s free p r : List ℕ) (up : Bool) (plan : Plan s free p r up) where
   b-end-r : before [] (past r) ≡ true
   b-end-r = b-past-r F h t p r (plan .good) (plan .above) (plan .between) (plan .below)
 
-  cut-left : Good h (leftPastR F h t p r) [] (past r)
-  cut-left = g1 F h t p r (plan .good) (plan .above) (plan .between) (plan .below) (plan .short-p) (plan .short-r) (plan .fit) s (plan .room) reads-old (plan .once)
-
-  cut-mid : Good h (leftR F h t p r) [] r
-  cut-mid = g3 F h t p r (plan .good) (plan .above) (plan .between) (plan .below) (plan .short-p) (plan .short-r) (plan .fit) s (plan .room) reads-old (plan .once)
-
-  cut-low : Good h (leftPastP F h t p r) [] (past p)
-  cut-low = g4 F h t p r (plan .good) (plan .above) (plan .between) (plan .below) (plan .short-p) (plan .short-r) (plan .fit) s (plan .room) reads-old (plan .once)
-
-  in-left : Within F t (suc (10 * h)) (plan .once) h (leftPastR F h t p r)
-  in-left = w1 F h t p r (plan .good) (plan .above) (plan .between) (plan .below) (plan .short-p) (plan .short-r) (plan .fit) s (plan .room) reads-old (plan .once)
-
-  in-mid : Within F t (suc (10 * h)) (plan .once) (4 * h) (leftR F h t p r)
-  in-mid = w3 F h t p r (plan .good) (plan .above) (plan .between) (plan .below) (plan .short-p) (plan .short-r) (plan .fit) s (plan .room) reads-old (plan .once)
-
-  in-low : Within F t (suc (10 * h)) (plan .once) (5 * h) (leftPastP F h t p r)
-  in-low = w4 F h t p r (plan .good) (plan .above) (plan .between) (plan .below) (plan .short-p) (plan .short-r) (plan .fit) s (plan .room) reads-old (plan .once)
-
   size-1 : length A1 ≡ length s
-  size-1 = d1 F h t p r (plan .good) (plan .above) (plan .between) (plan .below) (plan .short-p) (plan .short-r) (plan .fit) s (plan .room) reads-old (plan .once) .only .size
-
-  size-2 : length A2 ≡ length s
-  size-2 = size2 F h t p r (plan .good) (plan .above) (plan .between) (plan .below) (plan .short-p) (plan .short-r) (plan .fit) s (plan .room) reads-old (plan .once)
+  size-1 = d1 F h t p r s asks .only .size
 
   size-3 : length A3 ≡ length s
-  size-3 = d3 F h t p r (plan .good) (plan .above) (plan .between) (plan .below) (plan .short-p) (plan .short-r) (plan .fit) s (plan .room) reads-old (plan .once) .only .size ∙ size-2
+  size-3 = d3 F h t p r s asks .only .size ∙ size2 F h t p r s asks
 
   size-4 : length A4 ≡ length s
-  size-4 = d4 F h t p r (plan .good) (plan .above) (plan .between) (plan .below) (plan .short-p) (plan .short-r) (plan .fit) s (plan .room) reads-old (plan .once) .only .size ∙ size-3
-
-  size-5 : length A5 ≡ length s
-  size-5 = size5 F h t p r (plan .good) (plan .above) (plan .between) (plan .below) (plan .short-p) (plan .short-r) (plan .fit) s (plan .room) reads-old (plan .once)
-
-  pub size-6 : length A6 ≡ length s
-  size-6 = size6 F h t p r (plan .good) (plan .above) (plan .between) (plan .below) (plan .short-p) (plan .short-r) (plan .fit) s (plan .room) reads-old (plan .once)
+  size-4 = d4 F h t p r s asks .only .size ∙ size-3
 
   root-1 : treeAt h A1 (headerOf s .root) ≡ t
-  root-1 =
-      ap (treeAt h A1) (sym root-number)
-      ∙ t1 F h t p r (plan .good) (plan .above) (plan .between) (plan .below) (plan .short-p) (plan .short-r) (plan .fit) s (plan .room) reads-old (plan .once)
-
-  number-left : numberOf (leftPastR F h t p r) ≡ F 0
-  number-left = n1 F h t p r (plan .good) (plan .above) (plan .between) (plan .below) (plan .short-p) (plan .short-r) (plan .fit) s (plan .room) reads-old (plan .once)
+  root-1 = ap (treeAt h A1) (sym root-number) ∙ t1 F h t p r s asks
 
   left-2 : treeAt h A2 (F 0) ≡ leftPastR F h t p r
-  left-2 = ap (treeAt h A2) (sym number-left) ∙ l1-2 F h t p r (plan .good) (plan .above) (plan .between) (plan .below) (plan .short-p) (plan .short-r) (plan .fit) s (plan .room) reads-old (plan .once)
-
-  number-mid : numberOf (leftR F h t p r) ≡ F (3 * h)
-  number-mid = n3 F h t p r (plan .good) (plan .above) (plan .between) (plan .below) (plan .short-p) (plan .short-r) (plan .fit) s (plan .room) reads-old (plan .once)
+  left-2 = ap (treeAt h A2) (sym (n1 F h t p r s asks)) ∙ l1-2 F h t p r s asks
 
   mid-3 : treeAt h A3 (F (3 * h)) ≡ leftR F h t p r
-  mid-3 = ap (treeAt h A3) (sym number-mid) ∙ l3-3 F h t p r (plan .good) (plan .above) (plan .between) (plan .below) (plan .short-p) (plan .short-r) (plan .fit) s (plan .room) reads-old (plan .once)
+  mid-3 = ap (treeAt h A3) (sym (n3 F h t p r s asks)) ∙ l3-3 F h t p r s asks
 
   mid-4 : treeAt h A4 (F (3 * h)) ≡ leftR F h t p r
-  mid-4 = ap (treeAt h A4) (sym number-mid) ∙ l3-4 F h t p r (plan .good) (plan .above) (plan .between) (plan .below) (plan .short-p) (plan .short-r) (plan .fit) s (plan .room) reads-old (plan .once)
-
-  number-low : numberOf (leftPastP F h t p r) ≡ F (4 * h)
-  number-low = n4 F h t p r (plan .good) (plan .above) (plan .between) (plan .below) (plan .short-p) (plan .short-r) (plan .fit) s (plan .room) reads-old (plan .once)
+  mid-4 = ap (treeAt h A4) (sym (n3 F h t p r s asks)) ∙ l3-4 F h t p r s asks
 
   low-5 : treeAt h A5 (F (4 * h)) ≡ leftPastP F h t p r
-  low-5 = ap (treeAt h A5) (sym number-low) ∙ l4-5 F h t p r (plan .good) (plan .above) (plan .between) (plan .below) (plan .short-p) (plan .short-r) (plan .fit) s (plan .room) reads-old (plan .once)
+  low-5 = ap (treeAt h A5) (sym (n4 F h t p r s asks)) ∙ l4-5 F h t p r s asks
 
   left-6 : treeAt h A6 (F 0) ≡ leftPastR F h t p r
-  left-6 = ap (treeAt h A6) (sym number-left) ∙ l1-6 F h t p r (plan .good) (plan .above) (plan .between) (plan .below) (plan .short-p) (plan .short-r) (plan .fit) s (plan .room) reads-old (plan .once)
+  left-6 = ap (treeAt h A6) (sym (n1 F h t p r s asks)) ∙ l1-6 F h t p r s asks
 
   low-6 : treeAt h A6 (F (4 * h)) ≡ leftPastP F h t p r
-  low-6 = ap (treeAt h A6) (sym number-low) ∙ l4-6 F h t p r (plan .good) (plan .above) (plan .between) (plan .below) (plan .short-p) (plan .short-r) (plan .fit) s (plan .room) reads-old (plan .once)
+  low-6 = ap (treeAt h A6) (sym (n4 F h t p r s asks)) ∙ l4-6 F h t p r s asks
 
-  write-1 : A1 ≡ leftWrite F t h [] highest (past r) 0 s
-  unfolding im1
-  write-1 = refl
+  high-writes : (A1 ≡ leftWrite F t h [] highest (past r) 0 s) × (A2 ≡ rightWrite F true t h [] highest (past r) h A1)
+      × (A3 ≡ leftWrite F (leftPastR F h t p r) h [] (past r) r (3 * h) A2)
+  unfolding im1 im2 im3
+  high-writes = (refl, refl, refl)
 
-  write-2 : A2 ≡ rightWrite F true t h [] highest (past r) h A1
-  unfolding im2
-  write-2 = refl
-
-  write-3 : A3 ≡ leftWrite F (leftPastR F h t p r) h [] (past r) r (3 * h) A2
-  unfolding im3
-  write-3 = refl
-
-  write-4 : A4 ≡ leftWrite F (leftR F h t p r) h [] r (past p) (4 * h) A3
-  unfolding im4
-  write-4 = refl
-
-  write-5 : A5 ≡ rightWrite F true (leftR F h t p r) h [] r (past p) (5 * h) A4
-  unfolding im5
-  write-5 = refl
-
-  write-6 : A6 ≡ leftWrite F (leftPastP F h t p r) h [] (past p) p (7 * h) A5
-  unfolding im6
-  write-6 = refl
+  low-writes : (A4 ≡ leftWrite F (leftR F h t p r) h [] r (past p) (4 * h) A3) × (A5 ≡ rightWrite F true (leftR F h t p r) h [] r (past p) (5 * h) A4)
+      × (A6 ≡ leftWrite F (leftPastP F h t p r) h [] (past p) p (7 * h) A5)
+  unfolding im4 im5 im6
+  low-writes = (refl, refl, refl)
 
   high-asks : RangeAsks s (headerOf s .root) h highest (past r) 0 free
   high-asks =
       range-asked free h (headerOf s .root) t (leftPastR F h t p r) highest (past r) r 0 h (3 * h) s A1 A2 A3 (omega arith) (omega arith) (front-past r)
-      root-reads root-1 left-2 write-1 write-2 write-3 (plan .some) (omega (arith, past-length r)) (plan .short-r)
+      root-reads root-1 left-2 (high-writes .0) (high-writes .1) (high-writes .2) (plan .some) (omega (arith, past-length r)) (plan .short-r)
       (left-at s (headerOf s .root) t 0 [] highest (past r) 0 root-reads refl (plan .good) (within-self F t (suc (10 * h)) (plan .once)) (omega arith) b-end-r (plan .below) (plan .short-r)
       (omega arith))
       (right-at A1 (headerOf s .root) t 0 [] highest (past r) h root-1 size-1 (plan .good) (within-self F t (suc (10 * h)) (plan .once)) (omega arith) b-end-r (plan .below) (plan .short-r)
       true refl (omega arith))
-      (left-at A2 (F 0) (leftPastR F h t p r) h [] (past r) r (3 * h) left-2 size-2 cut-left in-left (omega arith) b-path-r (before-past r) (short-of r (plan .short-r)) (omega arith))
+      (left-at A2 (F 0) (leftPastR F h t p r) h [] (past r) r (3 * h) left-2 (size2 F h t p r s asks) (g1 F h t p r s asks) (w1 F h t p r s asks) (omega arith) b-path-r (before-past r) (short-of r (plan .short-r)) (omega arith))
 
   high-is : highIn s h (past r) free ≡ A3
   unfolding highIn
   high-is =
       range-is free h (headerOf s .root) t (leftPastR F h t p r) highest (past r) r 0 h (3 * h) s A1 A2 A3 (omega arith) (omega arith) (front-past r)
-      root-reads root-1 left-2 write-1 write-2 write-3
+      root-reads root-1 left-2 (high-writes .0) (high-writes .1) (high-writes .2)
 
   -- THE LOWER RANGE
   low-asks : RangeAsks A3 (F (3 * h)) h r (past p) (4 * h) free
   low-asks =
       range-asked free h (F (3 * h)) (leftR F h t p r) (leftPastP F h t p r) r (past p) p (4 * h) (5 * h) (7 * h) A3 A4 A5 A6 (omega arith) (omega arith) (front-past p)
-      mid-3 mid-4 low-5 write-4 write-5 write-6 (plan .some) (omega (arith, past-length p)) (plan .short-p)
-      (left-at A3 (F (3 * h)) (leftR F h t p r) (4 * h) [] r (past p) (4 * h) mid-3 size-3 cut-mid in-mid (omega arith) b-end-p (plan .between) (plan .short-p) (omega arith))
-      (right-at A4 (F (3 * h)) (leftR F h t p r) (4 * h) [] r (past p) (5 * h) mid-4 size-4 cut-mid in-mid (omega arith) b-end-p (plan .between) (plan .short-p) true refl (omega arith))
-      (left-at A5 (F (4 * h)) (leftPastP F h t p r) (5 * h) [] (past p) p (7 * h) low-5 size-5 cut-low in-low (omega arith) (plan .above) (before-past p) (short-of p (plan .short-p))
+      mid-3 mid-4 low-5 (low-writes .0) (low-writes .1) (low-writes .2) (plan .some) (omega (arith, past-length p)) (plan .short-p)
+      (left-at A3 (F (3 * h)) (leftR F h t p r) (4 * h) [] r (past p) (4 * h) mid-3 size-3 (g3 F h t p r s asks) (w3 F h t p r s asks) (omega arith) b-end-p (plan .between) (plan .short-p) (omega arith))
+      (right-at A4 (F (3 * h)) (leftR F h t p r) (4 * h) [] r (past p) (5 * h) mid-4 size-4 (g3 F h t p r s asks) (w3 F h t p r s asks) (omega arith) b-end-p (plan .between) (plan .short-p) true refl (omega arith))
+      (left-at A5 (F (4 * h)) (leftPastP F h t p r) (5 * h) [] (past p) p (7 * h) low-5 (size5 F h t p r s asks) (g4 F h t p r s asks) (w4 F h t p r s asks) (omega arith) (plan .above) (before-past p) (short-of p (plan .short-p))
       (omega arith))
 
   pub both-asks : 12 ≤ length s → BothAsks s h (past p) (past r) free
@@ -320,28 +264,26 @@ module _ (s free p r : List ℕ) (up : Bool) (plan : Plan s free p r up) where
     pub both-written : s′ ≡ A6
     both-written =
         range-written free h (F (3 * h)) (leftR F h t p r) (leftPastP F h t p r) r (past p) p (4 * h) (5 * h) (7 * h) A3 A4 A5 A6 (omega arith) (omega arith) (front-past p)
-        mid-3 mid-4 low-5 write-4 write-5 write-6 s′ low (c .low) (low-as s′ low (c .low) (a .lower))
+        mid-3 mid-4 low-5 (low-writes .0) (low-writes .1) (low-writes .2) s′ low (c .low) (low-as s′ low (c .low) (a .lower))
 
     pub low-pieces : raiseBranches [] (branchesOf (rightPastP F h t p r)) ≡ piecesIn (F (5 * h)) (F (5 * h + 1)) (past p) low (c .low)
     unfolding rightPastP
     low-pieces =
         range-pieces free h (F (3 * h)) (leftR F h t p r) (leftPastP F h t p r) r (past p) p (4 * h) (5 * h) (7 * h) A3 A4 A5 A6 (omega arith) (omega arith) (front-past p)
-        mid-3 mid-4 low-5 write-4 write-5 write-6 s′ low (c .low) (low-as s′ low (c .low) (a .lower))
+        mid-3 mid-4 low-5 (low-writes .0) (low-writes .1) (low-writes .2) s′ low (c .low) (low-as s′ low (c .low) (a .lower))
 
     pub high-pieces : raiseBranches [] (branchesOf (rightPastR F h t p r)) ≡ piecesIn (F h) (F (h + 1)) (past r) high (c .high)
     unfolding rightPastR
     high-pieces =
         range-pieces free h (headerOf s .root) t (leftPastR F h t p r) highest (past r) r 0 h (3 * h) s A1 A2 A3 (omega arith) (omega arith) (front-past r)
-        root-reads root-1 left-2 write-1 write-2 write-3 (highIn s h (past r) free) high (c .high) (a .higher)
+        root-reads root-1 left-2 (high-writes .0) (high-writes .1) (high-writes .2) (highIn s h (past r) free) high (c .high) (a .higher)
 
   -- THE RANGE THAT MOVES
   module _ (u : Tree) (q : List ℕ) (num : ℕ) (gu : Good h u [] (past q)) (fu : fits u ≡ true) (wu : Within F t (suc (10 * h)) (plan .once) (8 * h) u)
       (nu : numberOf u ≡ num) (ru : treeAt h A6 num ≡ u) (b-q : before [] q ≡ true) (short-q : length (past q) ≤ pivotLimit) where
     sized : length (im7 F h t p r s u q) ≡ length s
     sized =
-        o7 F h t p r (plan .good) (plan .above) (plan .between) (plan .below) (plan .short-p) (plan .short-r) (plan .fit) s (plan .room) reads-old (plan .once) (some-level .0) (some-level .1) u q gu fu b-q
-        short-q wu (ap (treeAt h A6) nu ∙ ru) .size
-        ∙ size-6
+        o7 F h t p r s asks (levels .0) (levels .1) u q gu fu b-q short-q wu (ap (treeAt h A6) nu ∙ ru) .size ∙ size6 F h t p r s asks
 
     tail-is : tailIn A6 num h (past q) free ≡ im7 F h t p r s u q
     unfolding tailIn im7
@@ -358,7 +300,7 @@ module _ (s free p r : List ℕ) (up : Bool) (plan : Plan s free p r up) where
           short = short-q;
           right =
               subst (λ k. RightAsks false A6 num h [] (past q) k (8 * h) free) (sym (front-past q))
-              (right-at A6 num u (8 * h) [] (past q) q (8 * h) ru size-6 gu wu (omega arith) b-q (before-past q) (short-of q short-q) false (begins-past q highest) (omega arith));
+              (right-at A6 num u (8 * h) [] (past q) q (8 * h) ru (size6 F h t p r s asks) gu wu (omega arith) b-q (before-past q) (short-of q short-q) false (begins-past q highest) (omega arith));
           gap =
               subst (λ x. GapAsks x h (front (past q)) (9 * h) free) (sym tail-is)
               (subst (λ k. GapAsks (im7 F h t p r s u q) h k (9 * h) free) (sym (front-past q))
@@ -371,54 +313,48 @@ module _ (s free p r : List ℕ) (up : Bool) (plan : Plan s free p r up) where
               }));
         }
 
-  fits-low : fits (leftPastP F h t p r) ≡ true
-  fits-low = f4 F h t p r (plan .good) (plan .above) (plan .between) (plan .below) (plan .short-p) (plan .short-r) (plan .fit) s (plan .room) reads-old (plan .once)
-
-  fits-left : fits (leftPastR F h t p r) ≡ true
-  fits-left = f1 F h t p r (plan .good) (plan .above) (plan .between) (plan .below) (plan .short-p) (plan .short-r) (plan .fit) s (plan .room) reads-old (plan .once)
-
   later-low : Within F t (suc (10 * h)) (plan .once) (8 * h) (leftPastP F h t p r)
-  later-low = within-later F t (suc (10 * h)) (plan .once) (leftPastP F h t p r) (5 * h) (8 * h) (omega arith) in-low
+  later-low = within-later F t (suc (10 * h)) (plan .once) (leftPastP F h t p r) (5 * h) (8 * h) (omega arith) (w4 F h t p r s asks)
 
   later-left : Within F t (suc (10 * h)) (plan .once) (8 * h) (leftPastR F h t p r)
-  later-left = within-later F t (suc (10 * h)) (plan .once) (leftPastR F h t p r) h (8 * h) (omega arith) in-left
+  later-left = within-later F t (suc (10 * h)) (plan .once) (leftPastR F h t p r) h (8 * h) (omega arith) (w1 F h t p r s asks)
 
   -- by direction
   pub take-asks : (b : Bool) → TakeAsks A6 h (past p) (past r) free b
   take-asks true =
-      record { out = unfold takenNumber takenBound in out-asks (leftPastP F h t p r) p (F (4 * h)) cut-low fits-low later-low number-low low-6 (plan .above) (plan .short-p) }
+      record { out = unfold takenNumber takenBound in out-asks (leftPastP F h t p r) p (F (4 * h)) (g4 F h t p r s asks) (f4 F h t p r s asks) later-low (n4 F h t p r s asks) low-6 (plan .above) (plan .short-p) }
   take-asks false =
-      record { out = unfold takenNumber takenBound in out-asks (leftPastR F h t p r) r (F 0) cut-left fits-left later-left number-left left-6 b-path-r (plan .short-r) }
+      record { out = unfold takenNumber takenBound in out-asks (leftPastR F h t p r) r (F 0) (g1 F h t p r s asks) (f1 F h t p r s asks) later-left (n1 F h t p r s asks) left-6 b-path-r (plan .short-r) }
 
   pub taken-is : (b : Bool) → takenOut A6 h (past p) (past r) free b ≡ im8 F h t p r s (taken F h t p r b) (takenPath F h t p r b)
   unfolding takenOut takenNumber takenBound taken takenPath
-  taken-is true = out-is (leftPastP F h t p r) p (F (4 * h)) cut-low fits-low later-low number-low low-6 (plan .above) (plan .short-p)
-  taken-is false = out-is (leftPastR F h t p r) r (F 0) cut-left fits-left later-left number-left left-6 b-path-r (plan .short-r)
+  taken-is true = out-is (leftPastP F h t p r) p (F (4 * h)) (g4 F h t p r s asks) (f4 F h t p r s asks) later-low (n4 F h t p r s asks) low-6 (plan .above) (plan .short-p)
+  taken-is false = out-is (leftPastR F h t p r) r (F 0) (g1 F h t p r s asks) (f1 F h t p r s asks) later-left (n1 F h t p r s asks) left-6 b-path-r (plan .short-r)
 
   pub size-8 : (b : Bool) → length (im8 F h t p r s (taken F h t p r b) (takenPath F h t p r b)) ≡ length s
   unfolding taken takenPath
   size-8 true =
-      o08 F h t p r (plan .good) (plan .above) (plan .between) (plan .below) (plan .short-p) (plan .short-r) (plan .fit) s (plan .room) reads-old (plan .once) (some-level .0) (some-level .1)
-      (leftPastP F h t p r) p cut-low fits-low (plan .above) (plan .short-p) later-low (ap (treeAt h A6) number-low ∙ low-6) .size
+      o08 F h t p r s asks (levels .0) (levels .1)
+      (leftPastP F h t p r) p (g4 F h t p r s asks) (f4 F h t p r s asks) (plan .above) (plan .short-p) later-low (ap (treeAt h A6) (n4 F h t p r s asks) ∙ low-6) .size
   size-8 false =
-      o08 F h t p r (plan .good) (plan .above) (plan .between) (plan .below) (plan .short-p) (plan .short-r) (plan .fit) s (plan .room) reads-old (plan .once) (some-level .0) (some-level .1)
-      (leftPastR F h t p r) r cut-left fits-left b-path-r (plan .short-r) later-left (ap (treeAt h A6) number-left ∙ left-6) .size
+      o08 F h t p r s asks (levels .0) (levels .1)
+      (leftPastR F h t p r) r (g1 F h t p r s asks) (f1 F h t p r s asks) b-path-r (plan .short-r) later-left (ap (treeAt h A6) (n1 F h t p r s asks) ∙ left-6) .size
 
   -- THE NUMBERS UNDER THE NEW ROOT
   pub number-first : numberOf (leftP F h t p r) ≡ F (7 * h)
-  number-first = n6 F h t p r (plan .good) (plan .above) (plan .between) (plan .below) (plan .short-p) (plan .short-r) (plan .fit) s (plan .room) reads-old (plan .once)
+  number-first = n6 F h t p r s asks
 
   pub number-under-low : (b : Bool) → numberOf (underLow F h t p r b) ≡ F (lowPlace h b)
   unfolding underLow lowPlace midR
-  number-under-low true = gap-number-at F h (some-level .0) (some-level .1) p (9 * h)
+  number-under-low true = gap-number-at F h (levels .0) (levels .1) p (9 * h)
   number-under-low false =
       number-tail F (leftPastR F h t p r) [] (past r) r (8 * h)
-      (tail-good F (leftPastR F h t p r) h [] (past r) r (8 * h) cut-left b-path-r (before-past r) .sound)
+      (tail-good F (leftPastR F h t p r) h [] (past r) r (8 * h) (g1 F h t p r s asks) b-path-r (before-past r) .sound)
 
   pub number-under-high : (b : Bool) → numberOf (underHigh F h t p r b) ≡ F (17 * h - lowPlace h b)
   unfolding underHigh lowPlace midP
   number-under-high true =
       number-tail F (leftPastP F h t p r) [] (past p) p (8 * h)
-      (tail-good F (leftPastP F h t p r) h [] (past p) p (8 * h) cut-low (plan .above) (before-past p) .sound)
+      (tail-good F (leftPastP F h t p r) h [] (past p) p (8 * h) (g4 F h t p r s asks) (plan .above) (before-past p) .sound)
       ∙ ap F (let e : 8 * h ≡ 17 * h - 9 * h = omega arith in e)
-  number-under-high false = gap-number-at F h (some-level .0) (some-level .1) r (9 * h) ∙ ap F (let e : 9 * h ≡ 17 * h - 8 * h = omega arith in e)
+  number-under-high false = gap-number-at F h (levels .0) (levels .1) r (9 * h) ∙ ap F (let e : 9 * h ≡ 17 * h - 8 * h = omega arith in e)

@@ -3,9 +3,7 @@
 use node::writer;
 use slice::Parts;
 use slice::pieces::Numbered;
-ghost use mathlib.Core.Path.{_≡_};
-ghost use Prim.Native.Nat.{_+_, _*_, _<_, _≤_};
-ghost use lib.ListN.{length};
+ghost use Rattle.image.specs.Prelude.{_≡_, _+_, _*_, _<_, _≤_, length};
 ghost use Rattle.octets.specs.Put.{put};
 ghost use Rattle.laws.specs.Page.{page};
 ghost use Rattle.laws.specs.WriteNode.{writeNode};

@@ -1,9 +1,6 @@
 -- What an answer of the check promises: the marks that the definition's walk leaves, and the counts of the tree.
 -- Relies on Count. Each promise has a law that makes it and one that uses it, so that no proof of code unfolds it.
-use Prim.Native.Nat.{ℕ}
-use mathlib.Core.Path.{_≡_, refl, sym, subst, _∙_}
-use mathlib.Core.List.{List}
-use mathlib.Core.Option.{Option, none, some}
+use Rattle.image.specs.Prelude.{ℕ, _≡_, refl, sym, subst, _∙_, List, Option, none, some}
 use Rattle.tree_check.specs.declared.Tally.{Tally}
 use Rattle.tree_check.specs.declared.Checked.{Checked}
 use Rattle.tree_check.specs.Count.{Count, capped, tallySum}

@@ -1,19 +1,11 @@
 -- Laws for those who call the check: what its answer says of `sound`, of the live count, of `settled` and of the nodes in use.
 -- Relies on Whole and on the laws of a tree with no message (laws: LiveCount).
-use Prim.Native.Nat.{ℕ, suc, _+_, _<_, _≤_}
-use mathlib.Core.Path.{_≡_, refl, sym, ap, ap₂, subst, _∙_}
-use mathlib.Core.List.{List, [], _∷_}
-use mathlib.Core.Bool.{Bool, true, false, _&&_, false≢true}
-use native.Mathlib.Omega.{arith}
-use lib.ListN.{length}
-use lib.Dec.{leb, eqb}
-use borrow.Author.Tests.{eq-eqb, ne-eqb, eqb-true, eqb-false, leb-true, leb-false, le-leb}
+use Rattle.image.specs.Prelude.{ℕ, suc, _+_, _<_, _≤_, _≡_, refl, sym, ap, ap₂, subst, _∙_, List, [], _∷_, Bool, true, false, _&&_, false≢true, arith, length, leb, eqb, eq-eqb, ne-eqb, eqb-true, eqb-false, leb-true, leb-false, le-leb}
 use Rattle.image.specs.Image.{Tree, unread, leaf, interior, Forest, end, tree, nodesOf, headerOf, treeOf}
 use Rattle.image.specs.Sound.{sound, numbers, lowest, highest, tableOf}
 use Rattle.image.specs.Upkeep.{reachable, reachableNodes, every, holdsNoMessage, settled}
 use Rattle.laws.specs.Pieces.{still, stillIn}
-use Rattle.laws.specs.LiveCount.{pairCount, pairs-live, still-quiet}
-use Rattle.laws.specs.LiveCount.{quiet-still}
+use Rattle.laws.specs.LiveCount.{pairCount, pairs-live, still-quiet, quiet-still}
 use Rattle.tree_check.specs.declared.Tally.{Tally}
 use Rattle.tree_check.specs.declared.Checked.{Checked}
 use Rattle.tree_check.specs.Count.{messageCount, messageCountIn, countOf, capped}

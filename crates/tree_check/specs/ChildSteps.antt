@@ -1,12 +1,6 @@
 -- The exits of the check of a child, of the children that follow it, and of the messages after them.
 -- Relies on guard's walk over an interior node's entries (Inside) and on Sequence.
-use Prim.Native.Nat.{ℕ, _-_, _<_, _≤_}
-use mathlib.Core.Path.{_≡_, refl, sym, ap, ap₂, _∙_}
-use mathlib.Core.List.{List, [], _∷_}
-use mathlib.Core.Bool.{Bool, true, false, cond}
-use mathlib.Core.Option.{Option, none, some}
-use native.Mathlib.Omega.{arith}
-use lib.ListN.{length, take, drop}
+use Rattle.image.specs.Prelude.{ℕ, _-_, _<_, _≤_, _≡_, refl, sym, ap, ap₂, _∙_, List, [], _∷_, Bool, true, false, cond, Option, none, some, arith, length, take, drop}
 use Rattle.image.specs.Bytes.{before, shared}
 use Rattle.image.specs.Path.{owns}
 use Rattle.image.specs.Entry as defined
@@ -25,7 +19,7 @@ use Rattle.node.specs.declared.Step.{Step}
 use Rattle.node.specs.declared.search.Branch.{Branch}
 use Rattle.node.specs.Search.Own.{branchIs, branch-place, child-entry}
 use Rattle.lookup.specs.Look.{part-rest}
-use Rattle.tree_check.specs.Node.Inside.{messagesRun, childRun, branchesList, branchesRun, branches-step, branches-end, onward-some}
+use Rattle.tree_check.specs.Node.Inside.{messagesRun, childRun, branchesList, branchesRun, branches-step, branches-end, onward-some, onward-none}
 use Rattle.tree_check.specs.declared.Tally.{Tally}
 use Rattle.tree_check.specs.declared.Checked.{Checked}
 use Rattle.octets.specs.Cap.{cap}
@@ -44,11 +38,6 @@ module _ (b : Bool) (n : ℕ) where
       → Checks (cond b (some seen) none) (onlyMessages n) (Checked.Sound (record { pairs = 0; messages = k; nodes = 0 })) seen
   messages-sound e k ek seen =
       all-sound (cond b (some seen) none) (onlyMessages n) (record { pairs = 0; messages = k; nodes = 0 }) seen (rw e) (messages-capped k n ek)
-
-none-onward : (o : Option (List ℕ)) → none ≡ onward o (λ after. none)
-unfolding onward
-none-onward none = refl
-none-onward (some a) = refl
 
 -- one child
 module _ (level : ℕ) (s : List ℕ) (sh : Shape) (lo hi : List ℕ) (i : ℕ) (low high seen : List ℕ) where
@@ -179,10 +168,10 @@ module _ (level : ℕ) (s : List ℕ) (sh : Shape) (lo hi : List ℕ) (i : ℕ) 
           → branchesRun (nodeRun level s) sh lo hi i low (defined.entryThen (some (entryIn s e)) y) seen
           ≡ lastRun (nodeRun level s) sh lo hi i low (defined.entryThen (some (entryIn s e)) y) seen
       unfolding branchIs defined.entryThen branchesRun branchesList messagesRun
-      ends-run (Entry.Pair p v) none h = none-onward (childRun (nodeRun level s) sh lo hi i low hi seen)
-      ends-run (Entry.Pair p v) (some es) h = none-onward (childRun (nodeRun level s) sh lo hi i low hi seen)
+      ends-run (Entry.Pair p v) none h = onward-none (childRun (nodeRun level s) sh lo hi i low hi seen)
+      ends-run (Entry.Pair p v) (some es) h = onward-none (childRun (nodeRun level s) sh lo hi i low hi seen)
       ends-run (Entry.Child k p) y h = let z : _≡_ {A = ℕ} 0 1 = cc in absurd (omega arith)
-      ends-run (Entry.Message m) none h = none-onward (childRun (nodeRun level s) sh lo hi i low hi seen)
+      ends-run (Entry.Message m) none h = onward-none (childRun (nodeRun level s) sh lo hi i low hi seen)
       ends-run (Entry.Message m) (some es) h = refl
 
       count-rest : (x : Entry) (es : List defined.Entry) → branchIs x ≡ Branch.Other

@@ -1,8 +1,6 @@
 -- What the check counts in a tree: pairs, waiting messages and nodes, each shown up to 65,535 so that no sum of the code can overflow.
 -- Relies on the tree of image (Image), its numbers (Sound) and its pairs (laws: LiveCount). Definitions only.
-use Prim.Native.Nat.{ℕ, _+_}
-use mathlib.Core.List.{List, [], _∷_}
-use lib.ListN.{length}
+use Rattle.image.specs.Prelude.{ℕ, _+_, List, [], _∷_, length}
 use Rattle.image.specs.Entry as defined
 use Rattle.image.specs.Image.{Tree, unread, leaf, interior, Forest, end, tree}
 use Rattle.image.specs.Sound.{numbers, numbersIn}

@@ -1,11 +1,6 @@
 -- Sums of counts, also capped, and what the entries of a node hold.
 -- Relies on Count and on image's tree of entries.
-use Prim.Native.Nat.{ℕ, suc, _+_}
-use mathlib.Core.Path.{_≡_, refl, sym, ap, ap₂, subst, _∙_}
-use mathlib.Core.List.{List, [], _∷_, _++_}
-use mathlib.Core.Option.{Option, none, some}
-use native.Mathlib.Omega.{arith}
-use lib.ListN.{length, length-append}
+use Rattle.image.specs.Prelude.{ℕ, suc, _+_, _≡_, refl, sym, ap, ap₂, subst, _∙_, List, [], _∷_, _++_, Option, none, some, arith, length, length-append}
 use Rattle.image.specs.Entry as defined
 use Rattle.image.specs.Table.{Row}
 use Rattle.image.specs.Image.{Tree, leaf, interior, Forest, end, tree, Inside, pairThen, pairsOf, messageThen, messagesOf, noBranches, branchThen, insideOf, forestOf}

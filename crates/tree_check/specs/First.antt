@@ -1,17 +1,11 @@
 -- What the reader of an interior node's first entry promises: the first child, whose pivot is the node's own low one, or that there is none.
 -- Relies on Walk and Layout.
-use Prim.Native.Nat.{ℕ, zero, suc, _+_, _-_, _*_, _≤_}
-use mathlib.Core.Path.{_≡_, refl, sym, ap, subst, _∙_}
-use mathlib.Core.List.{List, []}
-use mathlib.Core.Bool.{Bool, true, false}
-use mathlib.Core.Option.{Option, none, some}
-use native.Mathlib.Omega.{arith}
-use lib.ListN.{length}
-use Rattle.image.specs.Bytes.{same, u16}
+use Rattle.image.specs.Prelude.{ℕ, zero, suc, _+_, _-_, _*_, _≤_, _≡_, refl, sym, ap, subst, _∙_, List, [], Bool, true, false, Option, none, some, arith, length}
+use Rattle.image.specs.Bytes.{same}
 use Rattle.image.specs.Entry as defined
 use Rattle.image.specs.Image.{nodeBytes, laidOut, nodeEntries}
 use Rattle.node.specs.Entries.{entriesFrom, entries-end}
-use Rattle.node.specs.Places.{part, entryIn, Within, Next, Stepped, step-bad-is, step-read-is}
+use Rattle.node.specs.Places.{part, entryIn, Within, Next, Stepped, step-bad-is, step-read-is, cursorOf, entries-inside}
 use Rattle.node.specs.declared.Place.{Place}
 use Rattle.node.specs.declared.Cursor.{Cursor}
 use Rattle.node.specs.declared.Entry.{Entry}
@@ -20,7 +14,7 @@ use Rattle.node.specs.declared.search.Branch.{Branch}
 use Rattle.node.specs.Search.Own.{branchIs, branch-place, child-entry}
 use Rattle.tree_check.specs.declared.First.{First}
 use Rattle.tree_check.specs.Walk.{headed}
-use Rattle.tree_check.specs.Layout.{entries-at, entries-none, laid-few}
+use Rattle.tree_check.specs.Layout.{entries-at, entries-none, laid-entries}
 
 pub record Leads (s : List ℕ) (i level : ℕ) (lo : List ℕ) (j : ℕ) (p : Place) (c : Cursor) : Type 0 where
   pub reads : nodeEntries 0x0002 level (nodeBytes s i) ≡ defined.entryThen (some (defined.child j (part s p))) (entriesFrom s (c .at) (c .end))
@@ -68,31 +62,31 @@ module _ (s : List ℕ) (i level : ℕ) (lo : List ℕ) (inside : i * 1024 + 102
   unfolding FirstAs
   not-laid f = headed-none lo (nodeEntries 0x0002 level (nodeBytes s i)) (entries-none s i 2 level inside (sym eb ∙ f))
 
-  module _ (f : b ≡ true) (len : ℕ) (el : len ≡ u16 s (i * 1024)) where
-    pub few : len ≤ 1016
-    few = laid-few s i 2 level inside len el (sym eb ∙ f)
+  module _ (f : b ≡ true) (entries : Cursor) (ee : entries ≡ cursorOf s i) where
+    pub first-inside : (entries .at ≤ entries .end) × (entries .end ≤ entries .at + 1016) × (entries .end ≤ length s)
+    first-inside = entries-inside s i entries ee (laid-entries s i 2 level inside (sym eb ∙ f))
 
     abbrev O : Option (List defined.Entry)
-    O = entriesFrom s (i * 1024 + 8) (i * 1024 + 8 + len)
+    O = entriesFrom s (entries .at) (entries .end)
 
     at-node : nodeEntries 0x0002 level (nodeBytes s i) ≡ O
-    at-node = entries-at s i 2 level inside len el (sym eb ∙ f) few
+    at-node = entries-at s i 2 level inside entries ee (sym eb ∙ f)
 
     first-none : headed lo O ≡ false → FirstAs s i level lo First.Nothing
     unfolding FirstAs
     first-none h = ap (λ o. headed lo o) at-node ∙ h
 
-    module _ (r : Step) (hr : Stepped s (i * 1024 + 8) (i * 1024 + 8 + len) r) where
+    module _ (r : Step) (hr : Stepped s (entries .at) (entries .end) r) where
       pub no-entry : r ≡ Step.Bad → FirstAs s i level lo First.Nothing
-      no-entry q = go len refl
+      no-entry q = go (entries .end - entries .at) refl
         where
-          go : (n : ℕ) → len ≡ n → FirstAs s i level lo First.Nothing
-          go zero e = first-none (headed-empty lo O (entries-end s (i * 1024 + 8) (i * 1024 + 8 + len) (omega arith)))
-          go (suc n) e = first-none (headed-none lo O (step-bad-is s (i * 1024 + 8) (i * 1024 + 8 + len) r hr q .0 (omega arith)))
+          go : (n : ℕ) → entries .end - entries .at ≡ n → FirstAs s i level lo First.Nothing
+          go zero e = first-none (headed-empty lo O (entries-end s (entries .at) (entries .end) (omega arith)))
+          go (suc n) e = first-none (headed-none lo O (step-bad-is s (entries .at) (entries .end) r hr q .0 (omega arith)))
 
       module _ (e : Entry) (c : Cursor) (er : r ≡ Step.Read e c) where
-        next : Next s (i * 1024 + 8) (i * 1024 + 8 + len) e c
-        next = step-read-is s (i * 1024 + 8) (i * 1024 + 8 + len) r e c hr er
+        next : Next s (entries .at) (entries .end) e c
+        next = step-read-is s (entries .at) (entries .end) r e c hr er
 
         pub no-child : branchIs e ≡ Branch.Other → FirstAs s i level lo First.Nothing
         no-child h = first-none (ap (λ o. headed lo o) (next .first) ∙ headed-other lo e s (entriesFrom s (c .at) (c .end)) h)
@@ -100,8 +94,8 @@ module _ (s : List ℕ) (i level : ℕ) (lo : List ℕ) (inside : i * 1024 + 102
         module _ (j : ℕ) (p : Place) (ek : branchIs e ≡ Branch.Of j p) where
           pub first-place : Within 0 (length s) p
           first-place =
-              let w = branch-place (i * 1024 + 8) (i * 1024 + 8 + len) e j p ek (next .reachable) in
-              let f1 = few in
+              let w = branch-place (entries .at) (entries .end) e j p ek (next .reachable) in
+              let w1 = first-inside in
               record { low = omega arith; rises = w .rises; high = omega arith }
 
           begins : O ≡ defined.entryThen (some (defined.child j (part s p))) (entriesFrom s (c .at) (c .end))
@@ -114,5 +108,5 @@ module _ (s : List ℕ) (i level : ℕ) (lo : List ℕ) (inside : i * 1024 + 102
           unfolding FirstAs
           first-child t et ft =
               let n = next in
-              let f1 = few in
+              let w1 = first-inside in
               record { reads = at-node ∙ begins; pivot = sym et ∙ ft; place = first-place; fits = omega arith; near = omega arith }

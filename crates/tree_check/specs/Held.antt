@@ -1,13 +1,6 @@
 -- What the check of a list of children is lent as plain numbers, the tally so far and its parent, and what it promises of the list.
 -- Relies on Answer and Sequence.
-use Prim.Native.Nat.{ℕ}
-use mathlib.Core.Path.{_≡_, refl, sym, ap}
-use mathlib.Core.List.{List, [], _∷_}
-use mathlib.Core.Bool.{Bool, true, false, cond}
-use mathlib.Core.Option.{Option}
-use lib.ListN.{getD}
-use lib.Dec.{eqb}
-use borrow.Author.Tests.{eq-eqb, ne-eqb}
+use Rattle.image.specs.Prelude.{ℕ, _≡_, refl, sym, ap, List, [], _∷_, Bool, true, false, cond, Option, getD, eqb, eq-eqb, ne-eqb}
 use Rattle.path.specs.declared.Shape.{Shape}
 use Rattle.tree_check.specs.declared.lent.Parent.{Parent}
 use Rattle.tree_check.specs.declared.Tally.{Tally}

@@ -1,11 +1,6 @@
 -- The exits of the check of a list of children, which adds to a tally that it is lent.
 -- Relies on Held and on ChildSteps.
-use Prim.Native.Nat.{ℕ, _<_, _≤_}
-use mathlib.Core.Path.{_≡_, refl, sym, subst}
-use mathlib.Core.List.{List}
-use mathlib.Core.Bool.{Bool, true, false}
-use mathlib.Core.Option.{Option}
-use native.Mathlib.Omega.{arith}
+use Rattle.image.specs.Prelude.{ℕ, _<_, _≤_, _≡_, refl, sym, subst, List, Bool, true, false, Option, arith}
 use Rattle.image.specs.Image.{treeAt}
 use Rattle.path.specs.Shape.{Shape}
 use Rattle.path.specs.Fed.{shapeIs}

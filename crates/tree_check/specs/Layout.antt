@@ -1,24 +1,18 @@
 -- The layout of a node and of node 0, read at its place in the store.
 -- Relies on image's layout (Image) and on lookup's laws of a node's bytes.
-use Prim.Native.Nat.{ℕ, suc, _+_, _-_, _*_, _/_, _<_, _≤_}
-use mathlib.Core.Path.{_≡_, refl, sym, ap, ap₂, _∙_}
-use mathlib.Core.List.{List, _∷_}
-use mathlib.Core.Bool.{Bool, true, false, _&&_, and-true}
-use mathlib.Core.Option.{none, some}
-use native.Mathlib.Omega.{arith}
-use native.Mathlib.Numerals.{add-one}
-use lib.ListN.{length, take, drop, getD}
-use lib.Seq.{drop-cons}
-use lib.Dec.{leb, eqb}
-use borrow.Author.Tests.{le-leb, lt-leb, eq-eqb, ne-eqb, eqb-true}
+use Rattle.image.specs.Prelude.{ℕ, suc, _+_, _-_, _*_, _/_, _<_, _≤_, _≡_, refl, sym, ap, ap₂, _∙_, List, _∷_, Bool, true, false, _&&_, and-true, none, some, arith, length, take, drop, getD, drop-cons, leb, eqb, le-leb, lt-leb, eq-eqb, ne-eqb, eqb-true, add-one}
 use Rattle.image.specs.Bytes.{u16, zeros}
 use Rattle.image.specs.Entry as defined
 use Rattle.image.specs.Image.{nodeBytes, nodesOf, laidOut, nodeEntries}
-use Rattle.octets.specs.Order.{and-false}
+use Rattle.octets.specs.Order.{and-false, and-assoc}
 use Rattle.node.specs.Cut.{cut, cut-drop, cut-u16, cut-nil}
 use Rattle.node.specs.Entries.{entriesFrom, listed, all-listed}
+use Rattle.node.specs.Places.{cursorOf}
+use Rattle.node.specs.Whole.{HasEntries}
+use Rattle.node.specs.declared.Cursor.{Cursor}
 use Rattle.lookup.specs.Look.{node-is, count-is, bytes-is, laid-short as look-short}
 
+-- the number of nodes as the code computes it
 pub nodes-are : (n : ℕ) → n / 1024 ≡ nodesOf n
 unfolding nodesOf
 nodes-are n = refl
@@ -39,11 +33,7 @@ module _ (s : List ℕ) (at end : ℕ) where
   unfolding zeros
   zeros-on answer b c h k e inv =
       let w : b && (eqb (getD s at 0) 0 && zeros (cut s (at + 1) end)) ≡ answer = rw (cut-cons h k) at inv in
-      ap (λ x. x && zeros (cut s (at + 1) end)) e ∙ regroup b (eqb (getD s at 0) 0) (zeros (cut s (at + 1) end)) ∙ w
-    where
-      regroup : (x y z : Bool) → (x && y) && z ≡ x && (y && z)
-      regroup true y z = refl
-      regroup false y z = refl
+      ap (λ x. x && zeros (cut s (at + 1) end)) e ∙ and-assoc b (eqb (getD s at 0) 0) (zeros (cut s (at + 1) end)) ∙ w
 
   pub zeros-done : (answer b : Bool) → end ≤ at → b && zeros (cut s at end) ≡ answer → b ≡ answer
   zeros-done answer b h inv = sym (ap (λ x. b && x) (zeros-end h) ∙ and-true b) ∙ inv
@@ -129,19 +119,17 @@ module _ (s : List ℕ) (i kind level : ℕ) (inside : i * 1024 + 1024 ≤ lengt
       ∙ rw (le-leb (u16 (nodeBytes s i) 0) 1016 (omega arith), eq-eqb (u16 (nodeBytes s i) 2) kind wa, eq-eqb (u16 (nodeBytes s i) 4) level wb, eq-eqb (u16 (nodeBytes s i) 6) 0 wz)
 
   -- the entries of a node that is laid out, and of one that is not
-  pub entries-at : (len : ℕ) → len ≡ u16 s (i * 1024) → laidOut kind level (nodeBytes s i) ≡ true → len ≤ 1016
-      → nodeEntries kind level (nodeBytes s i) ≡ entriesFrom s (i * 1024 + 8) (i * 1024 + 8 + len)
+  pub laid-entries : laidOut kind level (nodeBytes s i) ≡ true → HasEntries s i
+  laid-entries h =
+      let w = look-short kind level (nodeBytes s i) h in
+      let c : u16 (nodeBytes s i) 0 ≡ u16 s (i * 1024) = count-is s i inside in
+      (inside, omega arith)
+
+  pub entries-at : (entries : Cursor) → entries ≡ cursorOf s i → laidOut kind level (nodeBytes s i) ≡ true
+      → nodeEntries kind level (nodeBytes s i) ≡ entriesFrom s (entries .at) (entries .end)
   unfolding nodeEntries entriesFrom
-  entries-at len e h k =
-      let v : u16 s (i * 1024) ≤ 1016 = omega arith in
-      rw h (ap (λ l. defined.entriesOf l) (bytes-is s i inside v ∙ ap (λ n. cut s (i * 1024 + 8) (i * 1024 + 8 + n)) (sym e)))
+  entries-at entries e h = rw h (ap (λ l. defined.entriesOf l) (bytes-is s i inside (laid-entries h .1) ∙ ap (λ x. cut s (x .at) (x .end)) (sym e)))
 
   pub entries-none : laidOut kind level (nodeBytes s i) ≡ false → nodeEntries kind level (nodeBytes s i) ≡ none
   unfolding nodeEntries
   entries-none h = rw h
-
-  pub laid-few : (len : ℕ) → len ≡ u16 s (i * 1024) → laidOut kind level (nodeBytes s i) ≡ true → len ≤ 1016
-  laid-few len e h =
-      let w = look-short kind level (nodeBytes s i) h in
-      let c : u16 (nodeBytes s i) 0 ≡ u16 s (i * 1024) = count-is s i inside in
-      omega arith

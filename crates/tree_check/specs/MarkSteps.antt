@@ -1,12 +1,6 @@
 -- The walk that marks a sound store: what it leaves of a tree, and one law for each step of its code.
 -- Relies on laws/Reading (`markAll`, `usable`), on lookup's view of a usable node, and on RootSteps and Callers for the store as a whole.
-use Prim.Native.Nat.{ℕ, _+_, _*_, _-_, _<_, _≤_}
-use mathlib.Core.Path.{_≡_, refl, sym, ap, ap₂, subst, _∙_}
-use mathlib.Core.List.{List, [], _∷_}
-use mathlib.Core.Bool.{Bool, true, false, _&&_, and-true}
-use mathlib.Core.Option.{Option, none, some}
-use native.Mathlib.Omega.{arith}
-use lib.ListN.{length, set}
+use Rattle.image.specs.Prelude.{ℕ, _-_, _<_, _≤_, _≡_, refl, sym, ap, ap₂, subst, _∙_, List, [], _∷_, Bool, true, false, _&&_, and-true, Option, none, some, arith, length, set}
 use Rattle.image.specs.Bytes.{u16}
 use Rattle.image.specs.Entry as defined
 use Rattle.image.specs.Table.{Row}
@@ -14,13 +8,14 @@ use Rattle.image.specs.Image as image
 use Rattle.image.specs.Image.{Tree, leaf, interior, Forest, Inside, nodesOf, messageThen, messagesOf, noBranches, branchThen, insideOf, forestOf, treeAt, treeOf}
 use Rattle.image.specs.Sound.{sound, numbers, numbersIn}
 use Rattle.image.specs.Upkeep.{settled}
-use Rattle.octets.specs.Order.{and-false, and-left, and-right}
+use Rattle.octets.specs.Order.{and-false, and-left, and-right, and-assoc}
 use Rattle.laws.specs.Pieces.{still, stillIn}
 use Rattle.laws.specs.Reading.Relative.{usable, usableIn}
 use Rattle.laws.specs.Reading.Visit.{mark, markAll, blank, mark-append}
-use Rattle.node.specs.Places.{part, entryIn, messageIn}
+use Rattle.node.specs.Places.{part, entryIn, messageIn, cursorOf}
 use Rattle.node.specs.Entries.{listed}
 use Rattle.node.specs.declared.Place.{Place}
+use Rattle.node.specs.declared.Cursor.{Cursor}
 use Rattle.node.specs.declared.Entry.{Entry}
 use Rattle.node.specs.declared.search.Branch.{Branch}
 use Rattle.node.specs.Search.Own.{branch, branchIs, child-entry}
@@ -61,13 +56,13 @@ module _ (s : List ℕ) (level num : ℕ) (u : usable (nodesOf (length s)) (tree
   pub leaf-marked : (before : List ℕ) → level ≤ 1 → MarksTree (treeAt level s num) before true (set before num 1)
   leaf-marked before l = let n = leaf-at s num level l u in subst (λ t. MarksTree t before true (set before num 1)) (sym (n .tree)) (one-marked num (n .rs) before)
 
-  pub left-start : (start : List ℕ) → 2 ≤ level → (len : ℕ) → len ≡ u16 s (num * 1024)
-      → Left s (level - 1) num (treeAt level s num) start (listed s (num * 1024 + 8) (num * 1024 + 8 + len)) start true
-  left-start start l len e =
+  pub left-start : (start : List ℕ) → 2 ≤ level → (entries : Cursor) → entries ≡ cursorOf s num
+      → Left s (level - 1) num (treeAt level s num) start (listed s (entries .at) (entries .end)) start true
+  left-start start l entries e =
       let n = interior-at s num level l u in
       record {
         x = n .x;
-        splits = ap (λ k. insideOf (listed s (num * 1024 + 8) (num * 1024 + 8 + k))) e ∙ ap insideOf (n .node .lists) ∙ n .splits;
+        splits = ap (λ x. insideOf (listed s (x .at) (x .end))) e ∙ ap insideOf (n .node .lists) ∙ n .splits;
         branches = n .branches;
         marks = λ before q. node-marked num (forestOf (λ j. treeAt (level - 1) s j) (n .x .branches)) (n .x .messages) before start q
             ∙ ap (λ t. markAll before (numbers t)) (sym (n .tree));
@@ -112,11 +107,7 @@ more-marked under k ks seen = sym (mark-append seen (numbers (under (k .number))
 more-still : (under : ℕ → Tree) (k : image.Branch) (ks : List image.Branch) (num : ℕ) (ms : List defined.Message) (a : Bool)
     → a && still (under (k .number)) && still (interior num (forestOf under ks) ms) ≡ a && still (interior num (forestOf under (k ∷ ks)) ms)
 unfolding forestOf still stillIn
-more-still under k ks num [] a = group a (still (under (k .number))) (stillIn (forestOf under ks))
-  where
-    group : (a b c : Bool) → a && b && c ≡ a && (b && c)
-    group true b c = refl
-    group false b c = refl
+more-still under k ks num [] a = and-assoc a (still (under (k .number))) (stillIn (forestOf under ks))
 more-still under k ks num (m ∷ ms) a = and-false (a && still (under (k .number))) ∙ sym (and-false a)
 
 module _ (s : List ℕ) (lower num : ℕ) (t : Tree) (start : List ℕ) (es : List defined.Entry) (seen : List ℕ) (quiet : Bool) (l : Left s lower num t start es seen quiet) where

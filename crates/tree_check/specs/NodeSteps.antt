@@ -1,12 +1,6 @@
 -- The exits of the check of a node.
 -- Relies on Walk, First and Held.
-use Prim.Native.Nat.{ℕ, zero, suc, _-_, _<_, _≤_}
-use mathlib.Core.Path.{_≡_, refl, sym, ap, subst, _∙_}
-use mathlib.Core.List.{List, [], _∷_}
-use mathlib.Core.Bool.{Bool, true, false, cond}
-use mathlib.Core.Option.{Option, none, some}
-use native.Mathlib.Omega.{arith}
-use lib.ListN.{length, getD, set}
+use Rattle.image.specs.Prelude.{ℕ, zero, suc, _-_, _<_, _≤_, _≡_, refl, sym, ap, subst, _∙_, List, [], _∷_, Bool, true, false, cond, Option, none, some, arith, length, getD, set}
 use Rattle.image.specs.Image.{Tree, nodeBytes, nodesOf, nodeEntries, insideOf, orNone, interiorOf, treeAt}
 use Rattle.path.specs.Shape.{Shape}
 use Rattle.path.specs.Fed.{shapeIs}

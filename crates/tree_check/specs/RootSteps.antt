@@ -1,15 +1,6 @@
 -- The exits of the check of node 0 and of the check of an image.
 -- Relies on Whole, and on reading's law of the walk from the root with no mark set (`visit-root`).
-use Prim.Native.Nat.{ℕ, _+_, _*_, _<_, _≤_}
-use mathlib.Core.Path.{_≡_, refl, sym, ap, ap₂, subst, _∙_}
-use mathlib.Core.List.{List, [], _∷_}
-use mathlib.Core.Bool.{Bool, true, false, _&&_, _||_, cond}
-use mathlib.Core.Option.{none, some}
-use native.Mathlib.Omega.{arith}
-use lib.ListN.{length, drop, getD, set, length-set, length-replicate}
-use lib.Seq.{getD-set-same, getD-set-other, ext-getD}
-use lib.Dec.{ltb, leb, eqb}
-use borrow.Author.Tests.{lt-ltb, le-ltb, le-leb, lt-leb, eq-eqb, ne-eqb, eqb-true, eqb-false, ltb-true}
+use Rattle.image.specs.Prelude.{ℕ, _+_, _*_, _<_, _≤_, _≡_, refl, sym, ap, ap₂, subst, _∙_, List, [], _∷_, Bool, true, false, _&&_, _||_, cond, and-true, none, some, arith, length, drop, getD, set, length-set, length-replicate, getD-set-same, getD-set-other, ext-getD, ltb, leb, eqb, lt-ltb, le-ltb, le-leb, lt-leb, eq-eqb, ne-eqb, eqb-true, eqb-false, ltb-true}
 use Rattle.image.specs.Bytes.{u16, zeros}
 use Rattle.image.specs.Image.{Tree, nodeBytes, nodesOf, header, headerOf, headerLaidOut, treeAt, treeOf}
 use Rattle.image.specs.Sound.{soundTree, soundHeader, once, inRange, numbers, isIn, lowest, highest}
@@ -100,17 +91,13 @@ module _ (s : List ℕ) (long : 1024 ≤ length s) (n : ℕ) (en : n ≡ nodesOf
                 e ∙ sym (ap₂ (λ x y. x && y)
                 (both-yes (zeros (cut s 12 1024)))
                 (all-yes (zeros (cut s 12 1024)))
-                ∙ and-yes (zeros (cut s 12 1024))) ∙ whole
+                ∙ and-true (zeros (cut s 12 1024))) ∙ whole
               where
                 both-yes : (z : Bool) → A ≡ zeros (cut s 12 1024)
                 both-yes z = rw (eq-eqb len 8 a, eq-eqb kind 0x0100 k)
 
                 all-yes : (z : Bool) → B ≡ true
                 all-yes z = rw (eq-eqb count n c, le-leb 1 root r, lt-ltb root n q, le-leb 1 levels l, le-leb levels 8 m, le-leb live n h)
-
-                and-yes : (z : Bool) → z && true ≡ z
-                and-yes true = refl
-                and-yes false = refl
 
 -- zeroing a list, a byte at a time
 pub zero-next : (l : List ℕ) (i : ℕ) → i < length l → ((k : ℕ) → k < i → getD l k 0 ≡ 0) → (k : ℕ) → k < i + 1 → getD (set l i 0) k 0 ≡ 0

@@ -1,9 +1,6 @@
 -- Checks one after another: each starts from the marks of the one before it, and the counts add up.
 -- Relies on Answer.
-use Prim.Native.Nat.{ℕ}
-use mathlib.Core.Path.{_≡_, refl, sym, ap, _∙_}
-use mathlib.Core.List.{List}
-use mathlib.Core.Option.{Option, none, some}
+use Rattle.image.specs.Prelude.{ℕ, _≡_, refl, sym, ap, _∙_, List, Option, none, some}
 use Rattle.laws.specs.Reading.Visit.{onward}
 use Rattle.tree_check.specs.declared.Tally.{Tally}
 use Rattle.tree_check.specs.declared.Checked.{Checked}

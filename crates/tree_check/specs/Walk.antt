@@ -1,14 +1,6 @@
 -- The check of one node by its entries: what the walk of reading (Visit) is for a leaf and for an interior node of an image.
 -- Relies on guard's walks over pairs (Leaf) and over children and messages (Inside).
-use Prim.Native.Nat.{ℕ, zero, suc, _<_, _≤_}
-use mathlib.Core.Path.{_≡_, refl, sym, ap, _∙_}
-use mathlib.Core.List.{List, [], _∷_}
-use mathlib.Core.Bool.{Bool, true, false, _&&_, cond}
-use mathlib.Core.Option.{Option, none, some}
-use native.Mathlib.Omega.{arith}
-use lib.ListN.{length, getD, set}
-use lib.Dec.{ltb, leb, eqb}
-use borrow.Author.Tests.{lt-ltb, le-ltb, le-leb, lt-leb, eq-eqb, ne-eqb}
+use Rattle.image.specs.Prelude.{ℕ, zero, suc, _<_, _≤_, _≡_, refl, sym, ap, _∙_, List, [], _∷_, Bool, true, false, _&&_, cond, Option, none, some, arith, length, getD, set, ltb, leb, eqb, lt-ltb, le-ltb, le-leb, lt-leb, eq-eqb, ne-eqb}
 use Rattle.image.specs.Bytes.{same}
 use Rattle.image.specs.Entry as defined
 use Rattle.image.specs.Table.{Row}

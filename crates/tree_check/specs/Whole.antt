@@ -1,10 +1,6 @@
 -- The whole check: all that makes an image sound but its live count, and what the check of an image promises.
 -- Relies on image's `sound` and on Count and Answer. Definitions only.
-use Prim.Native.Nat.{ℕ, _<_}
-use mathlib.Core.Path.{_≡_}
-use mathlib.Core.List.{List}
-use mathlib.Core.Bool.{Bool, true, false, cond}
-use lib.ListN.{length, getD}
+use Rattle.image.specs.Prelude.{ℕ, _<_, _≡_, List, Bool, true, false, cond, length, getD}
 use Rattle.image.specs.Image.{nodesOf, treeOf}
 use Rattle.image.specs.Sound.{numbers, isIn}
 use Rattle.laws.specs.ButLive.{soundButLive}

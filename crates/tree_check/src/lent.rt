@@ -4,7 +4,7 @@ use crate::Checked;
 use crate::Tally;
 use node::Place;
 use path::Shape;
-ghost use mathlib.Core.Path.{_≡_};
+ghost use Rattle.image.specs.Prelude.{_≡_};
 ghost use Rattle.tree_check.specs.Answer.{withRest};
 ghost use Rattle.tree_check.specs.Held.{tallyIs, answerIs, parentIs};
 

@@ -12,12 +12,7 @@ use node::Step;
 use node::search::Branch;
 use node_check::Counted;
 use path::Shape;
-ghost use mathlib.Core.Path.{_≡_};
-ghost use mathlib.Core.Bool.{cond};
-ghost use mathlib.Core.List.{List};
-ghost use mathlib.Core.Option.{none, some};
-ghost use Prim.Native.Nat.{ℕ, _+_, _*_, _≤_};
-ghost use lib.ListN.{length};
+ghost use Rattle.image.specs.Prelude.{_≡_, cond, List, none, some, ℕ, _≤_, length};
 ghost use Rattle.image.specs.Image.{nodesOf, treeAt};
 ghost use Rattle.laws.specs.Reading.SoundHere.{soundHere};
 ghost use Rattle.laws.specs.Reading.Visit.{visit, blank};
@@ -84,11 +79,8 @@ pub fn check_leaf(store: &[u8], num: usize, lo: &[u8], hi: &[u8], sh: Shape) -> 
     if !header::laid_out(store, num, 1, 1) {
         return Checked::Unsound;
     }
-    let at = num * image::NODE_SIZE;
-    let len = node::header::read_length(store, at);
-    let from = at + image::ENTRIES_AT;
-    let end = from + len;
-    let Counted::All(pairs) = node_check::check_leaf(store, from, end, lo, hi, sh) else {
+    let c = node::entries_of(store, num);
+    let Counted::All(pairs) = node_check::check_leaf(store, c.at, c.end, lo, hi, sh) else {
         return Checked::Unsound;
     };
     Checked::Sound(Tally {
@@ -106,13 +98,7 @@ pub fn first_child(store: &[u8], num: usize, level: usize, lo: &[u8]) -> First
     if !header::laid_out(store, num, 2, level) {
         return First::Nothing;
     }
-    let at = num * image::NODE_SIZE;
-    let len = node::header::read_length(store, at);
-    let from = at + image::ENTRIES_AT;
-    let c = Cursor {
-        at: from,
-        end: from + len,
-    };
+    let c = node::entries_of(store, num);
     let Step::Read(e, next) = c.step(store) else {
         return First::Nothing;
     };

@@ -1,13 +1,9 @@
 // The nodes in use of a store that is known to be sound, marked by a walk that reads interior nodes only: a leaf is marked by its parent's
 // entry, and nothing is judged again. The walk tells too whether a message waits anywhere.
 // Relies on node (the cursor over a node's entries) and on laws/Reading (`usable`: what a reader of a sound store may rely on).
-use node::Cursor;
 use node::Step;
 use node::search::Branch;
-ghost use mathlib.Core.Path.{_≡_};
-ghost use mathlib.Core.Bool.{true, _&&_};
-ghost use Prim.Native.Nat.{_≤_};
-ghost use lib.ListN.{length};
+ghost use Rattle.image.specs.Prelude.{_≡_, true, _&&_, _≤_, length};
 ghost use Rattle.image.specs.Image.{wholeNodes, nodesOf, treeAt};
 ghost use Rattle.image.specs.Sound.{sound};
 ghost use Rattle.image.specs.Upkeep.{settled};
@@ -34,13 +30,7 @@ fn mark_tree(store: &[u8], num: usize, level: usize, seen: &mut [u8; 1024]) -> b
     if level <= 1 {
         return true;
     }
-    let at = num * image::NODE_SIZE;
-    let len = node::header::read_length(store, at);
-    let from = at + image::ENTRIES_AT;
-    let mut c = Cursor {
-        at: from,
-        end: from + len,
-    };
+    let mut c = node::entries_of(store, num);
     let mut quiet = true;
     loop {
         let Step::Read(e, next) = c.step(store) else {

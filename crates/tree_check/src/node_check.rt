@@ -7,9 +7,7 @@ use node::Place;
 use node::Step;
 use node::search::PairStep;
 use path::Shape;
-ghost use mathlib.Core.Path.{_≡_};
-ghost use Prim.Native.Nat.{_≤_};
-ghost use lib.ListN.{length};
+ghost use Rattle.image.specs.Prelude.{_≡_, _≤_, length, none};
 ghost use Rattle.node.specs.Places.{Within, MessageWithin, part, messageIn};
 ghost use Rattle.laws.specs.Reading.SoundHere.{messageHere};
 ghost use Rattle.tree_check.specs.Node.Inside.{messagesRun};
@@ -19,7 +17,6 @@ ghost use Rattle.path.specs.Fed.{shapeIs};
 ghost use Rattle.tree_check.specs.Node.Leaf.{prevIn, PrevFits, leafRun};
 ghost use Rattle.tree_check.specs.Node.Ends.{after, rowNext, closes};
 ghost use Rattle.tree_check.specs.Node.Counted.{Counts};
-ghost use mathlib.Core.Option.{none};
 
 // That an entry is not sound; or that all are, and how many, shown up to 65,535.
 pub enum Counted {

@@ -1,11 +1,9 @@
 -- `append::append_drop` meets its contract: what it writes is `appended`; the room that it requires bounds every place.
-use mathlib.Core.Path.{sym}
+use Rattle.image.specs.Prelude.{sym, needs}
 use Rattle.laws.specs.Encode.{drop-entry, short-length}
 use Rattle.append.specs.WriteSteps.{appends, room-at, small-store}
-use borrow.Author.Needs.{needs}
 use Rattle.append.proofs.append_drop.Statement.{statement}
 use Rattle.append.proofs.append_drop.Tie as tie
-use Rattle.append.proofs.root_at.Reads as root-at-reads
 
 root-at-requires : tie.Need-root-at-requires
 root-at-requires c κs = search needs

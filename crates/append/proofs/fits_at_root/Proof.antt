@@ -1,7 +1,6 @@
 -- `append::fits_at_root` meets its contract: the tests it makes are those of `roomAtRoot`.
 use Rattle.append.specs.WriteSteps.{long, no-room, room-by}
-use borrow.Author.Needs.{needs}
-use native.Mathlib.Omega.{arith}
+use Rattle.image.specs.Prelude.{needs, arith}
 use Rattle.append.proofs.fits_at_root.Statement.{statement}
 use Rattle.append.proofs.fits_at_root.Tie as tie
 

@@ -1,6 +1,6 @@
 -- `append::install_root` meets its contract: its three writes, in this order.
 use Rattle.append.specs.WriteSteps.{installs}
-use borrow.Author.Needs.{needs}
+use Rattle.image.specs.Prelude.{needs}
 use Rattle.append.proofs.install_root.Statement.{statement}
 use Rattle.append.proofs.install_root.Tie as tie
 

@@ -1,7 +1,6 @@
 -- `append::root_at` meets its contract: the root of an image that is sound but for its count lies in the store.
 use Rattle.append.specs.WriteSteps.{long, root-place}
-use borrow.Author.Needs.{needs}
-use native.Mathlib.Omega.{arith}
+use Rattle.image.specs.Prelude.{needs, arith}
 use Rattle.append.proofs.root_at.Statement.{statement}
 use Rattle.append.proofs.root_at.Tie as tie
 

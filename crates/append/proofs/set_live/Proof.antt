@@ -1,6 +1,6 @@
 -- `append::set_live` meets its contract: one number of node 0.
 use Rattle.append.specs.WriteSteps.{sets-live}
-use borrow.Author.Needs.{needs}
+use Rattle.image.specs.Prelude.{needs}
 use Rattle.append.proofs.set_live.Statement.{statement}
 use Rattle.append.proofs.set_live.Tie as tie
 

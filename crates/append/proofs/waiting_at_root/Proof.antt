@@ -1,8 +1,7 @@
 -- `append::waiting_at_root` meets its contract: the entries that it walks are those of the root, which Waiting takes from lookup.
 use Rattle.append.specs.Waiting.{no-levels, root-short, root-counted}
 use Rattle.append.specs.WriteSteps.{long}
-use borrow.Author.Needs.{needs}
-use native.Mathlib.Omega.{arith}
+use Rattle.image.specs.Prelude.{needs, arith}
 use Rattle.append.proofs.waiting_at_root.Statement.{statement}
 use Rattle.append.proofs.waiting_at_root.Tie as tie
 

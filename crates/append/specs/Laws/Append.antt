@@ -1,14 +1,6 @@
 -- A message appended to the root: the bytes that stand there afterwards, and that they are sound and mean the table after the message.
 -- Relies on Grown for the node that is written, and on laws' Frame for the nodes that are not. The live count is written later: see SetLive.
-use Prim.Native.Nat.{ℕ, zero, suc, _+_, _*_, _≤_, _<_}
-use mathlib.Core.Path.{_≡_, refl, sym, ap, ap₂, subst, _∙_}
-use mathlib.Core.List.{List, [], _∷_, _++_}
-use mathlib.Core.Bool.{Bool, true, _&&_, false≢true}
-use mathlib.Core.Option.{Option, none, some}
-use native.Mathlib.Omega.{arith}
-use lib.ListN.{length}
-use lib.Dec.{leb}
-use borrow.Author.Tests.{leb-true}
+use Rattle.image.specs.Prelude.{ℕ, zero, suc, _+_, _*_, _≤_, _<_, _≡_, refl, sym, ap, ap₂, subst, _∙_, List, [], _∷_, _++_, Bool, true, _&&_, false≢true, Option, none, some, arith, length, leb, leb-true}
 use Rattle.image.specs.Bytes.{u16, u16Bytes, shared}
 use Rattle.image.specs.Entry.{Message, Entry, message}
 use Rattle.image.specs.Image.{unread, interior, Forest, Inside, header, nodeBytes, nodesOf, nodeEntries, insideOf, forestOf, interiorOf, orNone, treeAt, headerOf, headerLaidOut, treeOf}

@@ -1,15 +1,6 @@
 -- One entry written after the others of a node: the node reads as before, with that entry last.
 -- Relies on InNode for the bytes, and on laws' Encode for the one entry.
-use Prim.Native.Nat.{ℕ, zero, suc, _+_, _≤_}
-use mathlib.Core.Path.{_≡_, refl, sym, ap, ap₂, _∙_}
-use mathlib.Core.List.{List, [], _∷_, _++_, append-assoc, append-nil}
-use mathlib.Core.Bool.{Bool, true, false, _&&_}
-use mathlib.Core.Option.{Option, none, some, Option·some-injective, Option·none-ne-some}
-use native.Mathlib.Omega.{arith}
-use lib.ListN.{length, take, drop, length-append, length-drop}
-use lib.Seq.{take-at, drop-at, drop-drop, take-add, length-take-le}
-use lib.Dec.{leb, eqb}
-use borrow.Author.Tests.{le-leb}
+use Rattle.image.specs.Prelude.{ℕ, zero, suc, _+_, _≤_, _≡_, refl, sym, ap, ap₂, _∙_, List, [], _∷_, _++_, append-assoc, append-nil, Bool, true, false, _&&_, Option, none, some, Option·some-injective, Option·none-ne-some, arith, length, take, drop, length-append, length-drop, take-at, drop-at, drop-drop, take-add, length-take-le, leb, eqb, le-leb}
 use Rattle.image.specs.Bytes.{u16, u16Bytes, zeros}
 use Rattle.image.specs.Entry.{Message, Entry, pair, child, message, entriesOf}
 use Rattle.image.specs.Image.{Inside, laidOut, entryBytes, nodeEntries, messageThen, messagesOf, noBranches, branchThen, insideOf}

@@ -1,11 +1,6 @@
 -- Bytes put inside one node: that node has them at the same place, every other node stays. And what a page reads after a put.
 -- Relies on octets' `put` and on laws' `writeNode`.
-use Prim.Native.Nat.{ℕ, _+_, _*_, _-_, _≤_, _<_}
-use mathlib.Core.Path.{_≡_, sym, ap, ap₂, _∙_}
-use mathlib.Core.List.{List, _++_, append-assoc}
-use native.Mathlib.Omega.{arith}
-use lib.ListN.{length, take, drop, getD, length-append, length-drop, take-append-drop, List·getD-append}
-use lib.Seq.{take-add, take-take, drop-drop, drop-append-le, drop-append-add, length-take-le, getD-take, getD-drop}
+use Rattle.image.specs.Prelude.{ℕ, _+_, _*_, _-_, _≤_, _<_, _≡_, sym, ap, ap₂, _∙_, List, _++_, append-assoc, arith, length, take, drop, getD, length-append, length-drop, take-append-drop, List·getD-append, take-add, take-take, drop-drop, drop-append-le, drop-append-add, length-take-le, getD-take, getD-drop}
 use Rattle.image.specs.Bytes.{u16}
 use Rattle.image.specs.Image.{nodeBytes}
 use Rattle.octets.specs.Put.{put, put-size}

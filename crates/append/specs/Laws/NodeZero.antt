@@ -1,12 +1,6 @@
 -- A number of node 0 written anew: the root, the levels or the live count. Node 0 stays laid out, its other numbers stay.
 -- Relies on InNode.
-use Prim.Native.Nat.{ℕ, _+_, _≤_}
-use mathlib.Core.Path.{_≡_, ap, _∙_}
-use mathlib.Core.List.{List}
-use mathlib.Core.Bool.{true, _&&_}
-use native.Mathlib.Omega.{arith}
-use lib.ListN.{length}
-use lib.Dec.{eqb}
+use Rattle.image.specs.Prelude.{ℕ, _+_, _≤_, _≡_, ap, _∙_, List, true, _&&_, arith, length, eqb}
 use Rattle.image.specs.Bytes.{u16, u16Bytes, zeros}
 use Rattle.image.specs.Image.{headerLaidOut}
 use Rattle.octets.specs.Order.{and-left, and-right}

@@ -1,12 +1,6 @@
 -- A new root above the old one, with one message: the bytes that stand there afterwards, that they are sound, and what they mean.
 -- Relies on laws' Page for the new node, on NodeZero for node 0, and on laws' Frame for the old tree, which stays whole.
-use Prim.Native.Nat.{ℕ, zero, suc, _+_, _*_, _≤_, _<_}
-use mathlib.Core.Path.{_≡_, refl, sym, ap, ap₂, subst, _∙_}
-use mathlib.Core.List.{List, [], _∷_, _++_, append-nil}
-use mathlib.Core.Bool.{true, false}
-use native.Mathlib.Omega.{arith}
-use lib.ListN.{length, drop-of-length-le}
-use borrow.Author.Tests.{le-leb, lt-ltb}
+use Rattle.image.specs.Prelude.{ℕ, zero, suc, _+_, _*_, _≤_, _<_, _≡_, refl, sym, ap, ap₂, subst, _∙_, List, [], _∷_, _++_, append-nil, true, false, arith, length, drop-of-length-le, le-leb, lt-ltb}
 use Rattle.image.specs.Bytes.{u16, u16Bytes, same, before, shared}
 use Rattle.image.specs.Path.{owns}
 use Rattle.image.specs.Entry.{Message, child, message}

@@ -1,21 +1,13 @@
 -- Which messages are sound at the root: it lifts nothing and owns every path, so a well-formed path and a value that fits are enough.
 -- Relies on packed's Leaves: a well-formed path comes before FF.
-use Prim.Native.Nat.{ℕ}
-use mathlib.Core.Path.{_≡_, refl}
-use mathlib.Core.List.{List, [], _∷_}
-use mathlib.Core.Bool.{true, false}
-use Rattle.image.specs.Bytes.{same, before, shared}
+use Rattle.image.specs.Prelude.{ℕ, _≡_, List, [], true}
+use Rattle.image.specs.Bytes.{same, shared}
 use Rattle.image.specs.Path.{wellFormed, owns, valueFits}
 use Rattle.image.specs.Entry.{puts, drops, clears}
 use Rattle.image.specs.Sound.{soundMessage, lowest, highest}
 use Rattle.laws.specs.Frame.{or-right}
 use Rattle.laws.specs.Rising.{both}
-use Rattle.packed.specs.Form.Leaves.{formed-under}
-
-not-before-nil : (p : List ℕ) → before p [] ≡ false
-unfolding before
-not-before-nil [] = refl
-not-before-nil (b ∷ p) = refl
+use Rattle.packed.specs.Form.Leaves.{formed-under, not-before-nil}
 
 root-owns : (p : List ℕ) → wellFormed p ≡ true → owns lowest highest p ≡ true
 unfolding owns

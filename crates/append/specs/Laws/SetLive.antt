@@ -1,11 +1,6 @@
 -- The live count of node 0 written: the tree and the table stay, and with the right count the image is sound.
 -- Relies on NodeZero, and on laws' Frame: node 0 is no node of the tree.
-use Prim.Native.Nat.{ℕ, _+_, _*_, _≤_, _<_}
-use mathlib.Core.Path.{_≡_, sym, ap, ap₂, subst, _∙_}
-use mathlib.Core.List.{List}
-use mathlib.Core.Bool.{true}
-use native.Mathlib.Omega.{arith}
-use lib.ListN.{length}
+use Rattle.image.specs.Prelude.{ℕ, _+_, _*_, _≤_, _<_, _≡_, sym, ap, ap₂, subst, _∙_, List, true, arith, length}
 use Rattle.image.specs.Bytes.{u16Bytes}
 use Rattle.image.specs.Image.{header, nodeBytes, nodesOf, headerOf, headerLaidOut, treeAt, treeOf}
 use Rattle.image.specs.Meaning.{rows}

@@ -1,10 +1,7 @@
 -- `batch::answer_query` meets its contract. Relies on specs/Steps.
 use Rattle.batch.specs.Steps.{get-within, next-within, got, stepped}
 use Rattle.requests.specs.Steps.{most-get, most-next}
-use borrow.Author.Needs.{needs}
-use native.Mathlib.Omega.{arith}
-use mathlib.Core.Path.{_≡_}
-use lib.ListN.{length}
+use Rattle.image.specs.Prelude.{needs, arith, _≡_, length}
 use Rattle.batch.proofs.answer_query.Statement.{statement}
 use Rattle.batch.proofs.answer_query.Tie as tie
 

@@ -1,7 +1,6 @@
 -- `batch::batch` meets its contract: questions 1 and 2, the work area zeroed, then turn after turn. Relies on specs/Turns.
 use Rattle.batch.specs.Turns.{area-long, fresh, refused, accepted}
-use borrow.Author.Needs.{needs}
-use mathlib.Core.Path.{refl}
+use Rattle.image.specs.Prelude.{needs, refl}
 use Rattle.batch.proofs.batch.Statement.{statement}
 use Rattle.batch.proofs.batch.Tie as tie
 

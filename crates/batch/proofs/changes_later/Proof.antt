@@ -1,9 +1,6 @@
 -- `batch::changes_later` ends and stays inside the list: each piece that reads ends behind its place. Relies on specs/Steps.
 use Rattle.batch.specs.Steps.{change-moves, query-moves}
-use borrow.Author.Needs.{needs}
-use native.Mathlib.Omega.{arith}
-use Prim.Native.Nat.{_-_, _≤_}
-use lib.ListN.{length}
+use Rattle.image.specs.Prelude.{needs, arith, _-_, _≤_, length}
 use Rattle.batch.proofs.changes_later.Statement.{statement}
 use Rattle.batch.proofs.changes_later.Tie as tie
 

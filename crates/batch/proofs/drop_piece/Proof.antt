@@ -1,7 +1,7 @@
 -- `batch::drop_piece` meets its contract. Relies on specs/Steps.
 use Rattle.batch.specs.Steps.{served-act}
 use Rattle.edit.specs.Room.{unmarked-so}
-use borrow.Author.Needs.{needs}
+use Rattle.image.specs.Prelude.{needs}
 use Rattle.batch.proofs.drop_piece.Statement.{statement}
 use Rattle.batch.proofs.drop_piece.Tie as tie
 

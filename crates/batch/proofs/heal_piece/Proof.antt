@@ -1,6 +1,6 @@
 -- `batch::heal_piece` meets its contract. Relies on specs/Steps.
 use Rattle.batch.specs.Steps.{served-keeps}
-use borrow.Author.Needs.{needs}
+use Rattle.image.specs.Prelude.{needs}
 use Rattle.batch.proofs.heal_piece.Statement.{statement}
 use Rattle.batch.proofs.heal_piece.Tie as tie
 

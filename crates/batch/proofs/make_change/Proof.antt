@@ -1,6 +1,6 @@
 -- `batch::make_change` meets its contract. Relies on specs/Steps.
 use Rattle.batch.specs.Steps.{two-within, drop-within, clear-within, move-within, made-put, made-drop, made-clear, made-move, made-settle, made-tidy, made-flush, made-heal}
-use borrow.Author.Needs.{needs}
+use Rattle.image.specs.Prelude.{needs}
 use Rattle.batch.proofs.make_change.Statement.{statement}
 use Rattle.batch.proofs.make_change.Tie as tie
 

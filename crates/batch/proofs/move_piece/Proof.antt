@@ -1,6 +1,6 @@
 -- `batch::move_piece` meets its contract. Relies on specs/Steps.
 use Rattle.batch.specs.Steps.{served-meets}
-use borrow.Author.Needs.{needs}
+use Rattle.image.specs.Prelude.{needs}
 use Rattle.batch.proofs.move_piece.Statement.{statement}
 use Rattle.batch.proofs.move_piece.Tie as tie
 

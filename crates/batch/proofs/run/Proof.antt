@@ -1,11 +1,7 @@
 -- `batch::run` meets its contract: the turns so far are a run of calls. Relies on specs/Turns.
 use Rattle.batch.specs.Served.{SoFar}
 use Rattle.batch.specs.Turns.{begins, turn-asks, moved, goes-on, ends}
-use borrow.Author.Needs.{needs}
-use native.Mathlib.Omega.{arith}
-use Prim.Native.Nat.{_-_}
-use mathlib.Core.Path.{_≡_, refl}
-use lib.ListN.{length}
+use Rattle.image.specs.Prelude.{needs, arith, _-_, _≡_, refl, length}
 use Rattle.batch.proofs.run.Statement.{statement}
 use Rattle.batch.proofs.run.Tie as tie
 

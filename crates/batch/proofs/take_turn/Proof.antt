@@ -1,7 +1,6 @@
 -- `batch::take_turn` meets its contract. Relies on specs/Steps.
 use Rattle.batch.specs.Steps.{change-within, query-within, turn-none, turn-full, turn-narrow, turn-change, turn-query}
-use borrow.Author.Needs.{needs}
-use native.Mathlib.Omega.{arith}
+use Rattle.image.specs.Prelude.{needs, arith}
 use Rattle.batch.proofs.take_turn.Statement.{statement}
 use Rattle.batch.proofs.take_turn.Tie as tie
 

@@ -1,6 +1,6 @@
 -- `batch::tidy_piece` meets its contract. Relies on specs/Steps.
 use Rattle.batch.specs.Steps.{served-meets}
-use borrow.Author.Needs.{needs}
+use Rattle.image.specs.Prelude.{needs}
 use Rattle.batch.proofs.tidy_piece.Statement.{statement}
 use Rattle.batch.proofs.tidy_piece.Tie as tie
 

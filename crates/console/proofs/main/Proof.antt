@@ -1,7 +1,6 @@
 -- `console::main` meets its contract: the store that make leaves is what run asks for. Assumes nothing.
-use native.Mathlib.Omega.{arith}
+use Rattle.image.specs.Prelude.{arith, needs}
 use Rattle.script.specs.Input.{made-held}
-use borrow.Author.Needs.{needs}
 use Rattle.console.proofs.main.Statement.{statement}
 use Rattle.console.proofs.main.Tie as tie
 

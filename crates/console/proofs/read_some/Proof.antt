@@ -1,7 +1,5 @@
 -- `console::read_some` meets its contract: the measure is the tries that are left. Assumes nothing.
-use borrow.Author.Needs.{needs}
-use mathlib.Core.Path.{_≡_}
-use lib.ListN.{length}
+use Rattle.image.specs.Prelude.{needs, _≡_, length}
 use Rattle.console.proofs.read_some.Statement.{statement}
 use Rattle.console.proofs.read_some.Tie as tie
 

@@ -1,9 +1,5 @@
 -- `console::run` meets its contract: the store stays sound and of its size; the measure is the turns that are left. Assumes nothing.
-use borrow.Author.Needs.{needs}
-use native.Mathlib.Omega.{arith}
-use Prim.Native.Nat.{_≤_}
-use mathlib.Core.Path.{_≡_, refl}
-use lib.ListN.{length}
+use Rattle.image.specs.Prelude.{needs, arith, _≤_, _≡_, refl, length}
 use Rattle.script.specs.Answered.{Held}
 use Rattle.console.proofs.run.Statement.{statement}
 use Rattle.console.proofs.run.Tie as tie

@@ -1,5 +1,5 @@
 -- `console::write_some` meets its contract: the measure is the tries that are left. Assumes nothing.
-use borrow.Author.Needs.{needs}
+use Rattle.image.specs.Prelude.{needs}
 use Rattle.console.proofs.write_some.Statement.{statement}
 use Rattle.console.proofs.write_some.Tie as tie
 

@@ -1,7 +1,5 @@
 -- `console::write_text` meets its contract: the measure is what is left of the text. Assumes nothing.
-use borrow.Author.Needs.{needs}
-use Prim.Native.Nat.{_-_, _≤_}
-use lib.ListN.{length}
+use Rattle.image.specs.Prelude.{needs, _-_, _≤_, length}
 use Rattle.console.proofs.write_text.Statement.{statement}
 use Rattle.console.proofs.write_text.Tie as tie
 

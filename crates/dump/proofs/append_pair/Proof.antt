@@ -1,9 +1,6 @@
 -- One pair's row: hidden, or put after the rows in the area (specs/AppendSteps).
 use Rattle.dump.specs.AppendSteps.{pair-hidden, joined-short, pair-room, pair-added, value-short}
-use borrow.Author.Needs.{needs}
-use native.Mathlib.Omega.{arith}
-use mathlib.Core.Path.{_≡_}
-use lib.ListN.{length}
+use Rattle.image.specs.Prelude.{needs, arith, _≡_, length}
 use Rattle.dump.proofs.append_pair.Statement.{statement}
 use Rattle.dump.proofs.append_pair.Tie as tie
 

@@ -10,11 +10,7 @@ use Rattle.laws.specs.Filter.{keep}
 use Rattle.image.specs.Table.{underPrefix}
 use Rattle.dump.specs.Dump.{pairsAmong, Room}
 use Rattle.dump.specs.AppendSteps.{Appending, added-as, append-first, append-end, append-room, append-next, values-first, told-first, told-later, told-key, leaf-ends, pair-rows, pair-value}
-use borrow.Author.Needs.{needs}
-use native.Mathlib.Omega.{arith}
-use Prim.Native.Nat.{_-_}
-use mathlib.Core.Path.{_≡_, refl, sym, subst, _∙_}
-use lib.ListN.{length}
+use Rattle.image.specs.Prelude.{needs, arith, _-_, _≡_, refl, sym, subst, _∙_, length}
 use Rattle.dump.proofs.append_pairs.Statement.{statement}
 use Rattle.dump.proofs.append_pairs.Tie as tie
 

@@ -3,9 +3,7 @@
 use Rattle.dump.specs.RootSteps.{dump-long, dump-ready, dump-sound, dump-room, dump-done}
 use Rattle.dump.specs.RootPuts.{root-inside}
 use Rattle.live_count.specs.NotedSteps.{root-told}
-use borrow.Author.Needs.{needs}
-use native.Mathlib.Omega.{arith}
-use mathlib.Core.Path.{refl, sym, _∙_}
+use Rattle.image.specs.Prelude.{needs, arith, refl, sym, _∙_}
 use Rattle.dump.proofs.dump.Statement.{statement}
 use Rattle.dump.proofs.dump.Tie as tie
 

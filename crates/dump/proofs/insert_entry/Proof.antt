@@ -1,9 +1,7 @@
 -- An entry by its kind: only a message may bring a row (specs/InsertSteps).
-use mathlib.Core.Path.{subst, ap}
+use Rattle.image.specs.Prelude.{subst, ap, length, needs}
 use Rattle.node.specs.Places.{EntryWithin, entryIn}
 use Rattle.dump.specs.InsertSteps.{placed-same, open-as, placed-as, after-pair, after-child}
-use borrow.Author.Needs.{needs}
-use lib.ListN.{length}
 use Rattle.dump.proofs.insert_entry.Statement.{statement}
 use Rattle.dump.proofs.insert_entry.Tie as tie
 

@@ -1,10 +1,8 @@
 -- A message by its kind: only a put has a row (specs/InsertSteps).
-use mathlib.Core.Path.{subst, ap}
+use Rattle.image.specs.Prelude.{subst, ap, length, needs}
 use Rattle.node.specs.Places.{MessageWithin, messageIn}
 use Rattle.image.specs.Entry as defined
 use Rattle.dump.specs.InsertSteps.{placed-same, open-as, placed-as, after-drop, after-clear}
-use borrow.Author.Needs.{needs}
-use lib.ListN.{length}
 use Rattle.dump.proofs.insert_message.Statement.{statement}
 use Rattle.dump.proofs.insert_message.Tie as tie
 

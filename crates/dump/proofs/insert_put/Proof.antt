@@ -3,10 +3,7 @@ use Rattle.live_count.specs.Walk.{passing}
 use Rattle.node.specs.Entries.{listed}
 use Rattle.dump.specs.InsertSteps.{put-told, put-hidden, put-value, put-room, full-absent, put-placed}
 use Rattle.dump.specs.AppendSteps.{key-short, full-short, path-short, value-short}
-use borrow.Author.Needs.{needs}
-use native.Mathlib.Omega.{arith}
-use mathlib.Core.Path.{_≡_}
-use lib.ListN.{length}
+use Rattle.image.specs.Prelude.{needs, arith, _≡_, length}
 use Rattle.dump.proofs.insert_put.Statement.{statement}
 use Rattle.dump.proofs.insert_put.Tie as tie
 

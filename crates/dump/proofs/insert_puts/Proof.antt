@@ -6,11 +6,7 @@ use Rattle.node.specs.Entries.{listed, listed-end}
 use Rattle.packed.specs.Rows.Area.{rowsOf}
 use Rattle.dump.specs.Dump.{insertAmong}
 use Rattle.dump.specs.InsertSteps.{Inserting, insert-first, insert-end, insert-open, insert-next}
-use borrow.Author.Needs.{needs}
-use native.Mathlib.Omega.{arith}
-use Prim.Native.Nat.{_-_}
-use mathlib.Core.Path.{_≡_, refl, _∙_}
-use lib.ListN.{length}
+use Rattle.image.specs.Prelude.{needs, arith, _-_, _≡_, refl, _∙_, length}
 use Rattle.dump.proofs.insert_puts.Statement.{statement}
 use Rattle.dump.proofs.insert_puts.Tie as tie
 

@@ -1,7 +1,5 @@
 -- `is_shown` meets its contract: by the notes, or where they have no room, by the trail.
-use borrow.Author.Needs.{needs}
-use native.Mathlib.Omega.{arith}
-use mathlib.Core.Path.{sym, _∙_}
+use Rattle.image.specs.Prelude.{needs, arith, sym, _∙_}
 use Rattle.dump.proofs.is_shown.Statement.{statement}
 use Rattle.dump.proofs.is_shown.Tie as tie
 

@@ -1,15 +1,6 @@
 -- Steps of the insertion of a row: what the move leaves for the writer of the row, and what the two leave together.
 -- Relies on the laws of slots and ranks, and on what the writer of one row promises (`build`).
-use Prim.Native.Nat.{ℕ, _+_, _*_, _-_, _≤_, _<_}
-use mathlib.Core.Path.{_≡_, refl, sym, ap, ap₂, _∙_}
-use mathlib.Core.List.{List, [], _∷_, _++_, append-assoc}
-use mathlib.Core.Bool.{Bool, true, false}
-use mathlib.Core.Option.{none}
-use native.Mathlib.Omega.{arith}
-use lib.ListN.{length, take, drop, length-drop}
-use lib.Seq.{length-take-le}
-use lib.Dec.{leb}
-use borrow.Author.Tests.{leb-true, leb-false}
+use Rattle.image.specs.Prelude.{ℕ, _+_, _*_, _-_, _≤_, _<_, _≡_, refl, sym, ap, ap₂, _∙_, List, [], _∷_, _++_, append-assoc, Bool, true, false, none, arith, length, take, drop, length-drop, length-take-le, leb, leb-true, leb-false}
 use Rattle.image.specs.Table.{find, withRow}
 use Rattle.octets.specs.Put.{put, put-size}
 use Rattle.packed.specs.Rows.Area.{rowsOf, RowsFit}

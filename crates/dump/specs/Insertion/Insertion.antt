@@ -1,9 +1,5 @@
 -- What the insertion of a row and the merge of rows ask and promise, and the place that a row is put at. Definitions only.
-use Prim.Native.Nat.{ℕ, suc, _+_, _*_, _-_, _≤_}
-use mathlib.Core.Path.{_≡_}
-use mathlib.Core.List.{List, [], _∷_, _++_}
-use mathlib.Core.Bool.{Bool, true, cond}
-use lib.ListN.{length, take, drop}
+use Rattle.image.specs.Prelude.{ℕ, suc, _+_, _*_, _-_, _≤_, _≡_, List, [], _∷_, _++_, Bool, true, cond, length, take, drop}
 use Rattle.image.specs.Bytes.{before}
 use Rattle.image.specs.Table.{Row, find, isSome, withRow, putAll, rising}
 use Rattle.octets.specs.Put.{put}

@@ -1,12 +1,6 @@
 -- Rows put into a table that rises: puts of different paths change places, so parts of the rows may go in one after the other, and the last
 -- row of some that rise goes in at its place, with what stands before it for the others. Relies on the laws of tables (`laws`) and of ranks.
-use Prim.Native.Nat.{ℕ, suc, _+_, _<_, _≤_}
-use mathlib.Core.Path.{_≡_, refl, sym, ap, _∙_}
-use mathlib.Core.List.{List, [], _∷_, _++_}
-use mathlib.Core.Bool.{Bool, true, false, cond, false≢true}
-use mathlib.Core.Option.{Option, none, Option·none-ne-some}
-use native.Mathlib.Omega.{arith}
-use lib.ListN.{length, length-append}
+use Rattle.image.specs.Prelude.{ℕ, suc, _+_, _<_, _≤_, _≡_, refl, sym, ap, _∙_, List, [], _∷_, _++_, Bool, true, false, cond, false≢true, Option, none, Option·none-ne-some, arith, length, length-append}
 use Rattle.image.specs.Bytes.{same, before}
 use Rattle.image.specs.Table.{Row, find, isSome, withRow, putAll, everyKey, leads, rising}
 use Rattle.octets.specs.Order.{and-left, and-right, same-eq, before-trans, before-not-same, before-total}

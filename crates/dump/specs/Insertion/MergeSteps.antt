@@ -1,14 +1,6 @@
 -- Steps of the merge: one row put in; a chunk of rows set aside, from the last to the first; chunk after chunk.
 -- Relies on the laws of slots, of moves and of tables (Merge).
-use Prim.Native.Nat.{ℕ, _+_, _*_, _-_, _≤_, _<_}
-use mathlib.Core.Path.{_≡_, refl, sym, ap, ap₂, subst, _∙_}
-use mathlib.Core.List.{List, [], _∷_, _++_, append-assoc, append-nil}
-use mathlib.Core.Bool.{Bool, true, false}
-use native.Mathlib.Omega.{arith}
-use lib.ListN.{length, take, drop, getD, length-append, length-drop}
-use lib.Seq.{length-take-le, drop-drop}
-use lib.Dec.{leb}
-use borrow.Author.Tests.{leb-true, leb-false}
+use Rattle.image.specs.Prelude.{ℕ, _+_, _*_, _-_, _≤_, _<_, _≡_, refl, sym, ap, ap₂, subst, _∙_, List, [], _∷_, _++_, append-assoc, append-nil, Bool, true, false, arith, length, take, drop, getD, length-append, length-drop, length-take-le, drop-drop, leb, leb-true, leb-false}
 use Rattle.image.specs.Table.{Row, putAll, rising}
 use Rattle.octets.specs.Put.{put, put-size, put-nil}
 use Rattle.laws.specs.Tables.{put-length}

@@ -1,10 +1,5 @@
 -- Rows moved up, the last first: what has been moved once the rows from `at` on are. Relies on the laws of puts (`octets`, `packed`).
-use Prim.Native.Nat.{ℕ, _+_, _*_, _-_, _≤_}
-use mathlib.Core.Path.{_≡_, sym, ap, ap₂, _∙_}
-use mathlib.Core.List.{List, _++_, append-assoc, append-nil}
-use native.Mathlib.Omega.{arith}
-use lib.ListN.{length, take, drop, length-append, length-drop, drop-of-length-le}
-use lib.Seq.{length-take-le, take-append-le, take-take, take-add, drop-at, drop-drop}
+use Rattle.image.specs.Prelude.{ℕ, _+_, _*_, _-_, _≤_, _≡_, sym, ap, ap₂, _∙_, List, _++_, append-assoc, append-nil, arith, length, take, drop, length-append, length-drop, drop-of-length-le, length-take-le, take-append-le, take-take, take-add, drop-at, drop-drop}
 use Rattle.octets.specs.Put.{put, put-nil}
 use Rattle.packed.specs.Build.PutLaws.{put-before}
 use Rattle.dump.specs.Insertion.Insertion.{slot}

@@ -1,12 +1,6 @@
 -- The place of a path among rows: what one comparison says of it where the rows rise, and that the path's row is put there.
 -- Relies on the order of paths (`octets`) and on the laws of tables (`laws`).
-use Prim.Native.Nat.{ℕ, zero, suc, _+_, _-_, _≤_, _<_}
-use mathlib.Core.Path.{_≡_, refl, sym, ap, _∙_}
-use mathlib.Core.List.{List, [], _∷_, _++_}
-use mathlib.Core.Bool.{Bool, true, false}
-use mathlib.Core.Option.{none, Option·none-ne-some}
-use native.Mathlib.Omega.{arith}
-use lib.ListN.{length}
+use Rattle.image.specs.Prelude.{ℕ, zero, suc, _+_, _-_, _≤_, _<_, _≡_, refl, sym, ap, _∙_, List, [], _∷_, _++_, Bool, true, false, none, Option·none-ne-some, arith, length}
 use Rattle.image.specs.Bytes.{same, before}
 use Rattle.image.specs.Table.{Row, find, isSome, withRow, leads, rising}
 use Rattle.octets.specs.Order.{and-left, and-right, before-trans, before-not-same, before-total}

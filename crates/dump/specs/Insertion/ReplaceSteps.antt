@@ -1,15 +1,6 @@
 -- Steps of the replacement of a row's value, and of the setting of a row: in the first part of the rows, in the second, or new in the second.
 -- Relies on the laws of slots, ranks and puts into tables, and on what the writer of one row promises (`packed`).
-use Prim.Native.Nat.{ℕ, _+_, _*_, _-_, _≤_, _<_}
-use mathlib.Core.Path.{_≡_, refl, sym, ap, ap₂, subst, _∙_}
-use mathlib.Core.List.{List, [], _∷_, _++_, append-assoc}
-use mathlib.Core.Bool.{Bool, true, false, not, true≢false}
-use mathlib.Core.Option.{Option, none, some}
-use native.Mathlib.Omega.{arith}
-use lib.ListN.{length, drop}
-use lib.Seq.{drop-drop}
-use lib.Dec.{leb}
-use borrow.Author.Tests.{leb-true, leb-false, not-true, not-false}
+use Rattle.image.specs.Prelude.{ℕ, _+_, _*_, _-_, _≤_, _<_, _≡_, refl, sym, ap, ap₂, subst, _∙_, List, [], _∷_, _++_, append-assoc, Bool, true, false, not, true≢false, Option, none, some, arith, length, drop, drop-drop, leb, leb-true, leb-false, not-true, not-false}
 use Rattle.image.specs.Bytes.{same}
 use Rattle.image.specs.Table.{Row, find, isSome, withRow, putAll, rising}
 use Rattle.octets.specs.Order.{same-refl, same-eq, same-turn}

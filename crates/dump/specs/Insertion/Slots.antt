@@ -1,14 +1,6 @@
 -- The 128 bytes of a row, and rows side by side: a row is read from its own bytes only, so rows whose bytes are alike are alike.
 -- Relies on the layout of a row and on the laws of puts (`packed`).
-use Prim.Native.Nat.{ℕ, zero, suc, _+_, _*_, _-_, _≤_, _<_}
-use mathlib.Core.Path.{_≡_, refl, sym, ap, ap₂, _∙_}
-use mathlib.Core.List.{List, [], _∷_, _++_}
-use mathlib.Core.Bool.{Bool, true, false}
-use native.Mathlib.Omega.{arith}
-use lib.ListN.{length, take, drop, getD, length-append, length-drop}
-use lib.Seq.{length-take-le, take-take, drop-drop, drop-append-le, take-append-le, drop-append-add, take-append-seam, drop-append-seam}
-use lib.Dec.{leb}
-use borrow.Author.Tests.{leb-true, leb-false}
+use Rattle.image.specs.Prelude.{ℕ, zero, suc, _+_, _*_, _-_, _≤_, _<_, _≡_, refl, sym, ap, ap₂, _∙_, List, [], _∷_, _++_, Bool, true, false, arith, length, take, drop, getD, length-append, length-drop, length-take-le, take-take, drop-drop, drop-append-le, take-append-le, drop-append-add, take-append-seam, drop-append-seam, leb, leb-true, leb-false}
 use Rattle.octets.specs.Put.{put}
 use Rattle.image.specs.Table.{Row}
 use Rattle.packed.specs.Rows.Area.{rowAt, rowsOf, RowsFit}

@@ -1,4 +1,5 @@
-use borrow.Author.Needs.{needs}
+-- `add` meets its contract. Relies on specs/Edited.
+use Rattle.image.specs.Prelude.{needs}
 use Rattle.edit.specs.Edited.{spot-root, spot-above}
 use Rattle.edit.proofs.add.Statement.{statement}
 use Rattle.edit.proofs.add.Tie as tie

@@ -1,5 +1,5 @@
-use native.Mathlib.Omega.{arith}
-use borrow.Author.Needs.{needs}
+-- `add_above` meets its contract. Relies on specs/Change and specs/Edited.
+use Rattle.image.specs.Prelude.{arith, needs}
 use Rattle.laws.specs.ButLive.{sound-but-live}
 use Rattle.edit.specs.declared.Change.{Change}
 use Rattle.edit.specs.Change.{size-small}

@@ -1,4 +1,5 @@
-use borrow.Author.Needs.{needs}
+-- `add_at_root` meets its contract. Relies on specs/Edited.
+use Rattle.image.specs.Prelude.{needs}
 use Rattle.laws.specs.ButLive.{sound-but-live}
 use Rattle.edit.specs.Edited.{put-here, drop-here, clear-here, room-put, room-drop, room-clear}
 use Rattle.edit.proofs.add_at_root.Statement.{statement}

@@ -1,12 +1,10 @@
 -- `edit::apply_change` meets its contract: room, the message, the live count. Relies on specs/Edited.
-use mathlib.Core.Path.{subst, sym}
+use Rattle.image.specs.Prelude.{subst, sym, arith, _+_, _≤_, [], needs}
 use Rattle.edit.specs.Change.{size-small}
 use Rattle.edit.specs.Edited.{edited, new-table, few-rows, still-whole, spot-sized, room-whole}
 use Rattle.edit.specs.Known.{known-after}
-use borrow.Author.Needs.{needs}
-use native.Mathlib.Omega.{arith}
-use Prim.Native.Nat.{_≤_}
-use mathlib.Core.List.{[]}
+use Rattle.image.specs.Image.{entriesLimit}
+use Rattle.edit.specs.Room.{spare}
 use Rattle.edit.proofs.apply_change.Statement.{statement}
 use Rattle.edit.proofs.apply_change.Tie as tie
 
@@ -16,7 +14,7 @@ entry-size-requires c κs = let z = size-small (c .before .before .before .befor
 make-room-requires : tie.Need-make-room-requires
 make-room-requires c κs =
     let z = size-small (c .before .before .before .before .before .before .before .args .edit .change) _ _ (c .before .before .before .before .before .before .before .pre .2 .formed) (c .before .before .before .before .before .before .before .pre .2 .fits) in
-    (c .before .before .before .before .before .before .before .pre .0, subst (λ k. k ≤ 616) (sym (c .before .before .entry-size .ensures)) (omega (arith, z .0)), c .before .before .before .before .before .before .before .pre .1)
+    (c .before .before .before .before .before .before .before .pre .0, subst (λ k. k + spare ≤ entriesLimit) (sym (c .before .before .entry-size .ensures)) (omega (arith, z .0)), c .before .before .before .before .before .before .before .pre .1)
 
 add-requires : tie.Need-add-requires
 add-requires c κs = (

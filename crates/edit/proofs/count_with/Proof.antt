@@ -1,8 +1,7 @@
 -- `count_with` meets its contract, by whether the path is there. Relies on specs/Known.
-use native.Mathlib.Omega.{arith}
+use Rattle.image.specs.Prelude.{arith, needs}
 use Rattle.edit.specs.Room.{few-nodes}
 use Rattle.edit.specs.Known.{with-over, with-new}
-use borrow.Author.Needs.{needs}
 use Rattle.edit.proofs.count_with.Statement.{statement}
 use Rattle.edit.proofs.count_with.Tie as tie
 

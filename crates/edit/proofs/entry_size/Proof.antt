@@ -1,4 +1,5 @@
-use borrow.Author.Needs.{needs}
+-- `entry_size` meets its contract. Relies on specs/Edited.
+use Rattle.image.specs.Prelude.{needs}
 use Rattle.edit.specs.Edited.{size-put, size-drop, size-clear}
 use Rattle.edit.proofs.entry_size.Statement.{statement}
 use Rattle.edit.proofs.entry_size.Tie as tie

@@ -1,5 +1,5 @@
-use borrow.Author.Needs.{needs}
-use Prim.Native.Nat.{_-_, _≤_}
+-- `first_free` meets its contract: its loop keeps an invariant. Relies on specs/Free.
+use Rattle.image.specs.Prelude.{needs, _-_, _≤_}
 use Rattle.edit.specs.Free.{free-found, free-none}
 use Rattle.edit.proofs.first_free.Statement.{statement}
 use Rattle.edit.proofs.first_free.Tie as tie

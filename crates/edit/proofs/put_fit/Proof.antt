@@ -1,10 +1,7 @@
 -- `edit::put_fit` meets its contract, question by question. Relies on specs/Edited.
-use borrow.Author.Tests.{not-true, not-false}
-use mathlib.Core.Path.{refl}
+use Rattle.image.specs.Prelude.{not-true, not-false, refl, arith, needs}
 use Rattle.edit.specs.Edited.{put-malformed, put-long, put-full, put-allowed, put-done}
 use Rattle.edit.specs.Known.{known-put}
-use borrow.Author.Needs.{needs}
-use native.Mathlib.Omega.{arith}
 use Rattle.edit.proofs.put_fit.Statement.{statement}
 use Rattle.edit.proofs.put_fit.Tie as tie
 

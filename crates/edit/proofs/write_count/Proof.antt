@@ -2,8 +2,7 @@
 use Rattle.live_count.specs.RootSteps.{countable}
 use Rattle.finish.specs.Finished.{small-live, known-cap}
 use Rattle.edit.specs.Edited.{counted-anew, counted-known}
-use borrow.Author.Needs.{needs}
-use native.Mathlib.Omega.{arith}
+use Rattle.image.specs.Prelude.{needs, arith}
 use Rattle.edit.proofs.write_count.Statement.{statement}
 use Rattle.edit.proofs.write_count.Tie as tie
 

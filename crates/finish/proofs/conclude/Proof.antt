@@ -1,7 +1,6 @@
 -- `conclude` meets its contract: the count written, then the area zeroed. Relies on specs/Finished.
 use Rattle.finish.specs.Finished.{finish-done, small-live, area-fits, len-kept}
-use borrow.Author.Needs.{needs}
-use Prim.Native.Nat.{_-_}
+use Rattle.image.specs.Prelude.{needs}
 use Rattle.finish.proofs.conclude.Statement.{statement}
 use Rattle.finish.proofs.conclude.Tie as tie
 

@@ -1,7 +1,6 @@
 -- `finish` meets its contract: a count, and then conclude. Relies on the contract of live.
 use Rattle.live_count.specs.RootSteps.{countable}
-use borrow.Author.Needs.{needs}
-use Prim.Native.Nat.{_-_}
+use Rattle.image.specs.Prelude.{needs}
 use Rattle.finish.proofs.finish.Statement.{statement}
 use Rattle.finish.proofs.finish.Tie as tie
 

@@ -5,12 +5,7 @@ use Rattle.successor.specs.Walk.{pathsOf}
 use Rattle.node.specs.Entries.{listed, listed-end}
 use Rattle.node.specs.Places.{Next, step-bad-is, step-read-is, entry-wider}
 use Rattle.laws.specs.Reading.SeekHere.{under}
-use lib.ListN.{length}
-use mathlib.Core.Path.{_≡_, refl, _∙_}
-use Prim.Native.Nat.{_-_}
-use native.Mathlib.Omega.{arith}
-use borrow.Author.Needs.{needs}
-use borrow.Author.Tests.{not-true, not-false}
+use Rattle.image.specs.Prelude.{length, _≡_, refl, _∙_, _-_, arith, not-true, not-false, needs}
 use Rattle.inclusion.proofs.holds_entries.Statement.{statement}
 use Rattle.inclusion.proofs.holds_entries.Tie as tie
 

@@ -4,10 +4,7 @@ use Rattle.successor.specs.Steps.{suffix-place}
 use Rattle.successor.specs.Suffixes.{suffixIs}
 use Rattle.successor.specs.declared.Suffix.{Suffix}
 use Rattle.node.specs.Places.{Within}
-use lib.ListN.{length}
-use mathlib.Core.Path.{_≡_, sym, _∙_}
-use native.Mathlib.Omega.{arith}
-use borrow.Author.Needs.{needs}
+use Rattle.image.specs.Prelude.{length, _≡_, sym, _∙_, arith, needs}
 use Rattle.inclusion.proofs.holds_entry.Statement.{statement}
 use Rattle.inclusion.proofs.holds_entry.Tie as tie
 

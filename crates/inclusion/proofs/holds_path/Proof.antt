@@ -1,9 +1,6 @@
 -- `inclusion::holds_path` meets the contract: the length, then the lookup in the other store, then in the store itself (specs/Steps).
 use Rattle.inclusion.specs.Steps.{path-long, path-found, path-missing, path-removed}
-use lib.ListN.{length}
-use mathlib.Core.Path.{_≡_}
-use native.Mathlib.Omega.{arith}
-use borrow.Author.Needs.{needs}
+use Rattle.image.specs.Prelude.{length, _≡_, arith, needs}
 use Rattle.inclusion.proofs.holds_path.Statement.{statement}
 use Rattle.inclusion.proofs.holds_path.Tie as tie
 

@@ -2,9 +2,7 @@
 use Rattle.inclusion.specs.Root.{root-decides}
 use Rattle.successor.specs.Present.{root-ready}
 use Rattle.lookup.specs.Root.{long-enough}
-use mathlib.Core.Path.{_∙_}
-use native.Mathlib.Omega.{arith}
-use borrow.Author.Needs.{needs}
+use Rattle.image.specs.Prelude.{_∙_, arith, needs}
 use Rattle.inclusion.proofs.is_included.Statement.{statement}
 use Rattle.inclusion.proofs.is_included.Tie as tie
 

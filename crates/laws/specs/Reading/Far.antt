@@ -1,15 +1,9 @@
 -- A skip that is fair: a child that no wanted path can stand in may be left out of the walk for next. Relies on Seek.
-use Prim.Native.Nat.{ℕ}
-use mathlib.Core.Path.{_≡_, refl, ap}
-use mathlib.Core.List.{List, [], _∷_}
-use mathlib.Core.Logic.{_⊎_, inl, inr}
-use mathlib.Core.Bool.{Bool, true, false, _&&_, _||_, not, false≢true}
-use mathlib.Core.Option.{Option, none, some}
+use Rattle.image.specs.Prelude.{ℕ, _≡_, refl, ap, List, [], _∷_, _⊎_, inl, inr, Bool, true, false, _&&_, _||_, not, false≢true, Option, none, some, eqb, cases}
 use Rattle.image.specs.Bytes.{before, begins, shared}
 use Rattle.image.specs.Path.{wellFormed}
-use Rattle.octets.specs.Order.{and-left, and-right, not-so, not-true, before-trans, before-irrefl, before-asym, before-le, between-begins}
+use Rattle.octets.specs.Order.{and-left, and-right, not-so, not-true, before-trans, before-irrefl, before-asym, before-le, between-begins, le-before}
 use Rattle.laws.specs.Rising.{one-key}
-use lib.Dec.{eqb}
 use Rattle.laws.specs.LookupTable.{not-low, under-high}
 use Rattle.laws.specs.Reading.Seek.{better, holds, wanted}
 use Rattle.octets.specs.Beginnings.{begins-not-before}
@@ -27,11 +21,7 @@ begins-shared (a ∷ below) [] e = absurd (false≢true e)
 begins-shared (a ∷ below) (b ∷ k) e = rw (and-left (eqb a b) (begins below k) e) (ap (λ l. a ∷ l) (begins-shared below k (and-right (eqb a b) _ e)))
 
 between : (below k lo : List ℕ) → begins below k ≡ true → before lo below ≡ false → before k lo ≡ false → begins below lo ≡ true
-between below k lo e a b = go (before lo k) refl
-  where
-    go : (x : Bool) → before lo k ≡ x → begins below lo ≡ true
-    go true c = rw (begins-shared below k e) at (between-begins below k lo a c)
-    go false c = rw (one-key lo k c b) e
+between below k lo e a b = cases (before lo k) (λ c. rw (begins-shared below k e) at (between-begins below k lo a c)) (λ c. rw (one-key lo k c b) e)
 
 or-cases : (a b : Bool) → a || b ≡ true → (a ≡ true) ⊎ (b ≡ true)
 or-cases true b e = inl refl
@@ -50,11 +40,7 @@ unwanted below after best k h = go (begins below k) refl (before after k) refl (
 better-low : (best : Option (List ℕ)) (lo k : List ℕ) → before k lo ≡ false → better best k ≡ true → better best lo ≡ true
 unfolding better
 better-low none lo k a b = refl
-better-low (some m) lo k a b = go (before lo m) refl
-  where
-    go : (x : Bool) → before lo m ≡ x → before lo m ≡ true
-    go true c = c
-    go false c = not-so (before-le k m lo b c) a
+better-low (some m) lo k a b = le-before lo k m a b
 
 -- k < hi and not m < hi: not m < k
 beyond : (m k hi : List ℕ) → before k hi ≡ true → before m hi ≡ false → before k m ≡ true

@@ -1,12 +1,5 @@
 -- Lookup told from inside a node: pivots and path without the bytes that the node lifts. And the same on the bytes of an image.
-use borrow.Author.Tests.{ltb-true}
-use Prim.Native.Nat.{ℕ, _<_}
-use mathlib.Core.Path.{_≡_, refl, sym, ap, _∙_}
-use mathlib.Core.List.{List, [], _∷_, _++_, append-nil}
-use mathlib.Core.Bool.{Bool, true, false, _&&_, cond, false≢true}
-use mathlib.Core.Option.{Option, none}
-use lib.ListN.{length, drop}
-use lib.Dec.{ltb, leb}
+use Rattle.image.specs.Prelude.{ltb-true, ℕ, _<_, _≡_, refl, sym, ap, _∙_, List, [], _∷_, _++_, append-nil, Bool, true, false, _&&_, cond, false≢true, Option, none, length, drop, ltb, leb}
 use Rattle.image.specs.Bytes.{shared}
 use Rattle.image.specs.Path.{owns}
 use Rattle.image.specs.Table.{find}

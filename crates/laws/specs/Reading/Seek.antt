@@ -1,11 +1,6 @@
 -- Next as one walk over a tree: it carries the best path so far, and takes a pair's or a put's path if it is below `below`, after `since`, before the
 -- best, and present. A child may be skipped if no path that it can hold is wanted.
-use Prim.Native.Nat.{ℕ}
-use mathlib.Core.Path.{_≡_, refl, sym, ap, _∙_}
-use mathlib.Core.List.{List, [], _∷_, _++_}
-use mathlib.Core.Logic.{_⊎_, inl, inr}
-use mathlib.Core.Bool.{Bool, true, false, _&&_, _||_, not, cond, false≢true, true≢false}
-use mathlib.Core.Option.{Option, none, some}
+use Rattle.image.specs.Prelude.{ℕ, _≡_, refl, sym, ap, _∙_, List, [], _∷_, _++_, _⊎_, inl, inr, Bool, true, false, _&&_, _||_, not, cond, false≢true, true≢false, Option, none, some, cases}
 use Rattle.image.specs.Bytes.{same, before, begins, shared}
 use Rattle.image.specs.Path.{wellFormed, owns, valueFits}
 use Rattle.image.specs.Entry.{Message, puts, drops, clears}
@@ -13,13 +8,12 @@ use Rattle.image.specs.Table.{Row, find, isSome, without, withoutBelow, underPr
 use Rattle.image.specs.Image.{Tree, unread, leaf, interior, Forest, end, tree}
 use Rattle.image.specs.Meaning.{highOf, apply, applyAll, rows, rowsIn}
 use Rattle.image.specs.Sound.{soundTree, soundForest, soundMessage, soundMessages}
-use Rattle.octets.specs.Order.{and-left, and-right, and-assoc, not-so, not-true, same-eq, before-trans, before-irrefl, before-le}
+use Rattle.octets.specs.Order.{and-left, and-right, and-assoc, not-so, not-true, same-eq, before-trans, before-irrefl, before-le, refuted}
 use Rattle.laws.specs.Tables.{find-nil, find-no, find-with-other, find-without, find-without-other, find-cleared, find-spared, find-append-none}
 use Rattle.laws.specs.Frame.{or-left, or-right}
 use Rattle.laws.specs.Rising.{both}
-use Rattle.laws.specs.LookupTable.{parts, inner, not-low, under-high, does-own}
+use Rattle.laws.specs.LookupTable.{parts, inner, not-low, under-high, does-own, high-under as high-in}
 use Rattle.laws.specs.Next.{Fits, least-is, least-none}
-use Rattle.laws.specs.LookupTable.{high-under as high-in}
 
 -- The paths of all pairs and puts of a tree, in the order of the entries.
 unfoldable pub keysOf : List Row → List (List ℕ)
@@ -159,16 +153,22 @@ present k t = isSome (find k t)
 key-left : (k : List ℕ) (a b : List (List ℕ)) → isKey k a ≡ true → isKey k (a ++ b) ≡ true
 unfolding isKey
 key-left k [] b e = absurd (false≢true e)
-key-left k (m ∷ a) b e = go (same k m) refl (key-left k a b)
-  where
-    go : (x : Bool) → same k m ≡ x → (isKey k a ≡ true → isKey k (a ++ b) ≡ true) → isKey k ((m ∷ a) ++ b) ≡ true
-    go true s ih = rw s
-    go false s ih = rw s (ih (rw s at e))
+key-left k (m ∷ a) b e = cases (same k m) (λ s. rw s) (λ s. rw s (key-left k a b (rw s at e)))
 
 key-right : (k : List ℕ) (a b : List (List ℕ)) → isKey k b ≡ true → isKey k (a ++ b) ≡ true
 unfolding isKey
 key-right k [] b e = e
 key-right k (m ∷ a) b e = or-right (same k m) (isKey k (a ++ b)) (key-right k a b e)
+
+-- a path that stands among paths that all pass a test passes it
+pub key-passes : (test : List ℕ → Bool) (k : List ℕ) (ks : List (List ℕ)) → isKey k ks ≡ true → every test ks ≡ true → test k ≡ true
+unfolding isKey every
+key-passes test k [] h e = absurd (false≢true h)
+key-passes test k (m ∷ ks) h e = go (same k m) refl (λ g. key-passes test k ks g (and-right (test m) _ e))
+  where
+    go : (x : Bool) → same k m ≡ x → (isKey k ks ≡ true → test k ≡ true) → test k ≡ true
+    go true a ih = rw (same-eq k m a) (and-left (test m) (every test ks) e)
+    go false a ih = ih (rw a at h)
 
 pub not-present : (k : List ℕ) (t : List Row) → find k t ≡ none → present k t ≡ false
 unfolding present isSome
@@ -177,31 +177,21 @@ not-present k t e = rw e
 rows-stand : (k : List ℕ) (t : List Row) → present k t ≡ true → isKey k (keysOf t) ≡ true
 unfolding isKey keysOf present
 rows-stand k [] e = absurd (not-so e (not-present k [] (find-nil k)))
-rows-stand k (r ∷ t) e = go (same k (r .key)) refl (rows-stand k t)
-  where
-    go : (x : Bool) → same k (r .key) ≡ x → (present k t ≡ true → isKey k (keysOf t) ≡ true) → isKey k (keysOf (r ∷ t)) ≡ true
-    go true s ih = rw s
-    go false s ih = rw s (ih (rw (find-no k r t s) at e))
+rows-stand k (r ∷ t) e = cases (same k (r .key)) (λ s. rw s) (λ s. rw s (rows-stand k t (rw (find-no k r t s) at e)))
 
 -- present after a message: it was so before, or the message is the put of it
 apply-stand : (l k : List ℕ) (m : Message) (ms : List Message) (t : List Row) → present k (apply l m t) ≡ true
     → (isKey k (putsOf l (m ∷ ms)) ≡ true) ⊎ (present k t ≡ true)
 unfolding apply putsOf isKey present
-apply-stand l k (puts s v) ms t e = go (same k (l ++ s)) refl
-  where
-    go : (x : Bool) → same k (l ++ s) ≡ x → (isKey k (putsOf l (puts s v ∷ ms)) ≡ true) ⊎ (present k t ≡ true)
-    go true a = inl (or-left (same k (l ++ s)) (isKey k (putsOf l ms)) a)
-    go false a = inr (rw (find-with-other k (l ++ s) v t a) at e)
-apply-stand l k (drops s) ms t e = go (same k (l ++ s)) refl
-  where
-    go : (x : Bool) → same k (l ++ s) ≡ x → (isKey k (putsOf l (drops s ∷ ms)) ≡ true) ⊎ (present k t ≡ true)
-    go true a = not-so e (not-present k (without (l ++ s) t) (rw (← same-eq k (l ++ s) a) (find-without k t)))
-    go false a = inr (rw (find-without-other k (l ++ s) t a) at e)
-apply-stand l k (clears s) ms t e = go (begins (l ++ s) k) refl
-  where
-    go : (x : Bool) → begins (l ++ s) k ≡ x → (isKey k (putsOf l (clears s ∷ ms)) ≡ true) ⊎ (present k t ≡ true)
-    go true a = not-so e (not-present k (withoutBelow (l ++ s) t) (find-cleared k (l ++ s) t a))
-    go false a = inr (rw (find-spared k (l ++ s) t a) at e)
+apply-stand l k (puts s v) ms t e =
+    cases (same k (l ++ s)) (λ a. inl (or-left (same k (l ++ s)) (isKey k (putsOf l ms)) a))
+    (λ a. inr (rw (find-with-other k (l ++ s) v t a) at e))
+apply-stand l k (drops s) ms t e =
+    cases (same k (l ++ s)) (λ a. not-so e (not-present k (without (l ++ s) t) (rw (← same-eq k (l ++ s) a) (find-without k t))))
+    (λ a. inr (rw (find-without-other k (l ++ s) t a) at e))
+apply-stand l k (clears s) ms t e =
+    cases (begins (l ++ s) k) (λ a. not-so e (not-present k (withoutBelow (l ++ s) t) (find-cleared k (l ++ s) t a)))
+    (λ a. inr (rw (find-spared k (l ++ s) t a) at e))
 
 -- an older put stands, whatever follows it
 put-later : (l k : List ℕ) (m : Message) (ms : List Message) → isKey k (putsOf l ms) ≡ true → isKey k (putsOf l (m ∷ ms)) ≡ true
@@ -229,15 +219,12 @@ node-stand l k ms t ks h e = go (all-stand l k ms t e)
 
 branches-stand : (k : List ℕ) (t u : List Row) (a b : List (List ℕ)) → (present k t ≡ true → isKey k a ≡ true) → (present k u ≡ true → isKey k b ≡ true)
     → present k (t ++ u) ≡ true → isKey k (a ++ b) ≡ true
-unfolding present
+unfolding present isSome
 branches-stand k t u a b f g e = go (find k t) refl
   where
     go : (x : Option (List ℕ)) → find k t ≡ x → isKey k (a ++ b) ≡ true
     go none z = key-right k a b (g (rw (find-append-none k t u z) at e))
-    go (some v) z = key-left k a b (f (rw z (is-some v)))
-      where
-        is-some : (v : List ℕ) → isSome (some v) ≡ true
-        is-some v = unfold isSome in refl
+    go (some v) z = key-left k a b (f (rw z))
 
 mutual
   unfolding rows rowsIn keys keysIn
@@ -285,18 +272,12 @@ module _ (below since : List ℕ) (T : List Row) where
 
   not-better : (best : Option (List ℕ)) (k : List ℕ) → Fits below since T k → wanted below since best k && present k T ≡ false → better best k ≡ false
   unfolding wanted present
-  not-better best k f e = go (better best k) refl
-    where
-      go : (x : Bool) → better best k ≡ x → better best k ≡ false
-      go true b = not-so (both (both (both (f .under) (f .after)) b) (f .present)) e
-      go false b = b
+  not-better best k f e = refuted (λ b. not-so (both (both (both (f .under) (f .after)) b) (f .present)) e)
 
   try-good : (best : Option (List ℕ)) (k : List ℕ) → Good best → Good (try there below since best k)
-  try-good best k g = go (wanted below since best k && present k T) refl
-    where
-      go : (x : Bool) → wanted below since best k && present k T ≡ x → Good (try there below since best k)
-      go true e = rw (try-yes best k e) (someone (fits best k e))
-      go false e = rw (try-no best k e) g
+  try-good best k g =
+      cases (wanted below since best k && present k T) (λ e. rw (try-yes best k e) (someone (fits best k e)))
+      (λ e. rw (try-no best k e) g)
 
   walk-good : (best : Option (List ℕ)) (ks : List (List ℕ)) → Good best → Good (walk there below since best ks)
   unfolding walk
@@ -307,18 +288,12 @@ module _ (below since : List ℕ) (T : List Row) where
   stays-low : (best : Option (List ℕ)) (k m : List ℕ) → better best k ≡ true → better best m ≡ false → better (some k) m ≡ false
   unfolding better
   stays-low none k m a e = absurd (true≢false e)
-  stays-low (some b) k m a e = go (before m k) refl
-    where
-      go : (x : Bool) → before m k ≡ x → before m k ≡ false
-      go true h = not-so (before-trans m k b h a) e
-      go false h = h
+  stays-low (some b) k m a e = refuted (λ h. not-so (before-trans m k b h a) e)
 
   try-low : (best : Option (List ℕ)) (k m : List ℕ) → better best m ≡ false → better (try there below since best k) m ≡ false
-  try-low best k m e = go (wanted below since best k && present k T) refl
-    where
-      go : (x : Bool) → wanted below since best k && present k T ≡ x → better (try there below since best k) m ≡ false
-      go true h = rw (try-yes best k h) (stays-low best k m (is-better best k h) e)
-      go false h = rw (try-no best k h) e
+  try-low best k m e =
+      cases (wanted below since best k && present k T) (λ h. rw (try-yes best k h) (stays-low best k m (is-better best k h) e))
+      (λ h. rw (try-no best k h) e)
 
   walk-low : (best : Option (List ℕ)) (ks : List (List ℕ)) (m : List ℕ) → better best m ≡ false → better (walk there below since best ks) m ≡ false
   unfolding walk
@@ -330,20 +305,16 @@ module _ (below since : List ℕ) (T : List Row) where
   better-irrefl k = before-irrefl k
 
   try-met : (best : Option (List ℕ)) (k : List ℕ) → Fits below since T k → better (try there below since best k) k ≡ false
-  try-met best k f = go (wanted below since best k && present k T) refl
-    where
-      go : (x : Bool) → wanted below since best k && present k T ≡ x → better (try there below since best k) k ≡ false
-      go true h = rw (try-yes best k h) (better-irrefl k)
-      go false h = rw (try-no best k h) (not-better best k f h)
+  try-met best k f =
+      cases (wanted below since best k && present k T) (λ h. rw (try-yes best k h) (better-irrefl k))
+      (λ h. rw (try-no best k h) (not-better best k f h))
 
   walk-met : (best : Option (List ℕ)) (ks : List (List ℕ)) (m : List ℕ) → Fits below since T m → isKey m ks ≡ true → better (walk there below since best ks) m ≡ false
   unfolding walk isKey
   walk-met best [] m f e = absurd (false≢true e)
-  walk-met best (k ∷ ks) m f e = go (same m k) refl (walk-met (try there below since best k) ks m f)
-    where
-      go : (x : Bool) → same m k ≡ x → (isKey m ks ≡ true → better (walk there below since (try there below since best k) ks) m ≡ false) → better (walk there below since (try there below since best k) ks) m ≡ false
-      go true s ih = walk-low (try there below since best k) ks m (rw (← same-eq m k s) (try-met best m f))
-      go false s ih = ih (rw s at e)
+  walk-met best (k ∷ ks) m f e =
+      cases (same m k) (λ s. walk-low (try there below since best k) ks m (rw (← same-eq m k s) (try-met best m f)))
+      (λ s. walk-met (try there below since best k) ks m f (rw s at e))
 
   ends-at : (r : Option (List ℕ)) → rising T ≡ true → Good r → ((m : List ℕ) → Fits below since T m → better r m ≡ false) → r ≡ leastAfter below since T
   unfolding better

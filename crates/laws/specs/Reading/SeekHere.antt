@@ -1,11 +1,5 @@
 -- The keys of a tree told from inside a node, and the walk over them: what the code of next carries down is the lifted prefix.
-use Prim.Native.Nat.{ℕ}
-use mathlib.Core.Path.{_≡_, refl, sym, ap, ap₂, _∙_}
-use mathlib.Core.List.{List, [], _∷_, _++_, append-assoc}
-use mathlib.Core.Bool.{Bool, true, false, _&&_, not}
-use mathlib.Core.Option.{Option, none}
-use lib.ListN.{length, drop, length-append}
-use lib.Seq.{drop-append-add}
+use Rattle.image.specs.Prelude.{ℕ, _≡_, refl, sym, ap, ap₂, _∙_, List, [], _∷_, _++_, append-assoc, Bool, true, false, _&&_, not, Option, none, length, drop, length-append, drop-append-add}
 use Rattle.image.specs.Bytes.{same, shared}
 use Rattle.image.specs.Entry.{Message, puts, drops, clears}
 use Rattle.image.specs.Table.{Row, find, isSome, underPrefix, leastAfter}

@@ -1,11 +1,6 @@
 -- Soundness told from inside a node: pivots and suffixes are without the lifted bytes, which are there only as a path shape.
 -- `sound-here`: it is the definition of soundness, as an equation without hypotheses.
-use Prim.Native.Nat.{ℕ}
-use mathlib.Core.Path.{_≡_, refl, sym, ap, ap₂, _∙_}
-use mathlib.Core.List.{List, [], _∷_, _++_}
-use mathlib.Core.Bool.{Bool, true, false, _&&_, _||_}
-use lib.ListN.{length, drop, length-append}
-use lib.Seq.{drop-append-add}
+use Rattle.image.specs.Prelude.{ℕ, _≡_, refl, sym, ap, ap₂, _∙_, List, [], _∷_, _++_, Bool, true, false, _&&_, _||_, drop}
 use Rattle.image.specs.Bytes.{same, before, shared}
 use Rattle.image.specs.Path.{wellFormed, owns, valueFits}
 use Rattle.image.specs.Entry.{Message, puts, drops, clears}
@@ -18,6 +13,7 @@ use Rattle.octets.specs.Order.{same-append, before-append, shared-append, begin
 use Rattle.path.specs.Shape.{Shape, feed, goesOn, feed-append, fresh, shape-is}
 use Rattle.laws.specs.Reading.Relative.{lifts}
 use Rattle.laws.specs.Reading.SeekHere.{high-split as right-split}
+use Rattle.laws.specs.Shift.{drop-shift, owns-shift}
 
 -- Soundness from inside a node: its pivots and suffixes are without what it lifts, and that is there only by its shape.
 unfoldable pub messageHere : Shape → List ℕ → List ℕ → Message → Bool
@@ -44,10 +40,6 @@ unfoldable mutual
 
 -- with the same bytes `prefix` in front of everything
 module _ (prefix : List ℕ) where
-  owns-under : (lo hi q : List ℕ) → owns (prefix ++ lo) (prefix ++ hi) (prefix ++ q) ≡ owns lo hi q
-  unfolding owns
-  owns-under lo hi q = rw (before-append prefix q lo, before-append prefix q hi)
-
   keys-shape : (rs : List Row) → everyKey wellFormed (underPrefix prefix rs) ≡ everyKey (goesOn (feed fresh prefix)) rs
   unfolding everyKey underPrefix
   keys-shape [] = refl
@@ -56,15 +48,12 @@ module _ (prefix : List ℕ) where
   keys-owned : (lo hi : List ℕ) (rs : List Row) → everyKey (owns (prefix ++ lo) (prefix ++ hi)) (underPrefix prefix rs) ≡ everyKey (owns lo hi) rs
   unfolding everyKey underPrefix
   keys-owned lo hi [] = refl
-  keys-owned lo hi (r ∷ rs) = ap₂ (λ a b. a && b) (owns-under lo hi (r .key)) (keys-owned lo hi rs)
+  keys-owned lo hi (r ∷ rs) = ap₂ (λ a b. a && b) (owns-shift prefix lo hi (r .key)) (keys-owned lo hi rs)
 
   high-under : (hi : List ℕ) (f : Forest) → highOf prefix (prefix ++ hi) f ≡ prefix ++ highOf [] hi f
   unfolding highOf
   high-under hi end = refl
   high-under hi (tree s t f) = refl
-
-  drop-under : (l q : List ℕ) → drop (length (prefix ++ l)) (prefix ++ q) ≡ drop (length l) q
-  drop-under l q = rw (length-append prefix l) (drop-append-add prefix q (length l))
 
 and3 : {a b c x y z : Bool} → a ≡ x → b ≡ y → c ≡ z → a && b && c ≡ x && y && z
 and3 p q r = ap₂ (λ u v. u && v) (ap₂ (λ u v. u && v) p q) r
@@ -75,9 +64,9 @@ and4 p q r t = ap₂ (λ u v. u && v) (and3 p q r) t
 message-here : (lo hi prefix lo′ hi′ : List ℕ) → shared lo hi ≡ prefix → prefix ++ lo′ ≡ lo → prefix ++ hi′ ≡ hi → (m : Message) → soundMessage lo hi m ≡ messageHere (feed fresh prefix) lo′ hi′ m
 unfolding soundMessage messageHere
 message-here lo hi prefix lo′ hi′ e a b (puts s v) =
-    rw e (and3 (sym (shape-is prefix s)) (ap₂ (λ p q. owns p q (prefix ++ s)) (sym a) (sym b) ∙ owns-under prefix lo′ hi′ s) refl)
+    rw e (and3 (sym (shape-is prefix s)) (ap₂ (λ p q. owns p q (prefix ++ s)) (sym a) (sym b) ∙ owns-shift prefix lo′ hi′ s) refl)
 message-here lo hi prefix lo′ hi′ e a b (drops s) =
-    rw e (ap₂ (λ u v. u && v) (sym (shape-is prefix s)) (ap₂ (λ p q. owns p q (prefix ++ s)) (sym a) (sym b) ∙ owns-under prefix lo′ hi′ s))
+    rw e (ap₂ (λ u v. u && v) (sym (shape-is prefix s)) (ap₂ (λ p q. owns p q (prefix ++ s)) (sym a) (sym b) ∙ owns-shift prefix lo′ hi′ s))
 message-here lo hi prefix lo′ hi′ e a b (clears s) = rw e (ap (λ u. same s [] || u) (sym (shape-is prefix s)))
 
 messages-here : (lo hi prefix lo′ hi′ : List ℕ) → shared lo hi ≡ prefix → prefix ++ lo′ ≡ lo → prefix ++ hi′ ≡ hi → (ms : List Message) → soundMessages lo hi ms ≡ messagesHere (feed fresh prefix) lo′ hi′ ms
@@ -95,7 +84,7 @@ child-here : (prefix s h : List ℕ) (t : Tree)
     ≡ soundHere t (feed (feed fresh prefix) (shared s h)) (drop (lifts s h) s) (drop (lifts s h) h)
 unfolding lifts
 child-here prefix s h t =
-    rw (shared-append prefix s h, feed-append fresh prefix (shared s h), drop-under prefix (shared s h) s, drop-under prefix (shared s h) h)
+    rw (shared-append prefix s h, feed-append fresh prefix (shared s h), drop-shift prefix (shared s h) s, drop-shift prefix (shared s h) h)
 
 left-split : (lo hi : List ℕ) → shared lo hi ++ drop (lifts lo hi) lo ≡ lo
 unfolding lifts
@@ -122,7 +111,7 @@ mutual
   sound-branches end prefix lo hi = refl
   sound-branches (tree s t f) prefix lo hi =
       rw (high-under prefix hi f)
-      (and4 (owns-under prefix lo hi s) (before-append prefix s (highOf [] hi f))
+      (and4 (owns-shift prefix lo hi s) (before-append prefix s (highOf [] hi f))
       (sound-here t (prefix ++ s) (prefix ++ highOf [] hi f) ∙ child-here prefix s (highOf [] hi f) t)
       (sound-branches f prefix lo hi))
 

@@ -1,14 +1,5 @@
 -- The check as one walk that marks the nodes it reaches: what the code of check does, and that it is soundness with every node in range and reached once.
-use Prim.Native.Nat.{ℕ, zero, suc, _<_, _≤_}
-use mathlib.Core.Path.{_≡_, refl, sym, ap, ap₂, _∙_}
-use mathlib.Core.List.{List, [], _∷_, _++_}
-use mathlib.Core.Bool.{Bool, true, false, _&&_, not, cond}
-use mathlib.Core.Option.{Option, none, some}
-use native.Mathlib.Omega.{arith}
-use lib.ListN.{length, drop, getD, set, replicate, length-set, length-replicate}
-use lib.Seq.{getD-set-same, getD-set-other}
-use lib.Dec.{ltb, leb, eqb}
-use borrow.Author.Tests.{eqb-true, eqb-false, ltb-true}
+use Rattle.image.specs.Prelude.{ℕ, zero, suc, _<_, _≤_, _≡_, refl, sym, ap, ap₂, _∙_, List, [], _∷_, _++_, Bool, true, false, _&&_, not, cond, and-true, Option, none, some, arith, length, drop, getD, set, replicate, length-set, length-replicate, getD-set-same, getD-set-other, ltb, leb, eqb, eqb-true, eqb-false, ltb-true}
 use Rattle.image.specs.Bytes.{before, shared}
 use Rattle.image.specs.Path.{owns}
 use Rattle.image.specs.Table.{Row}
@@ -18,6 +9,7 @@ use Rattle.image.specs.Sound.{firstPivot, numbers, numbersIn, isIn, once, inRan
 use Rattle.laws.specs.Reading.Relative.{lifts}
 use Rattle.path.specs.Shape.{Shape, fresh, feed}
 use Rattle.laws.specs.Reading.SoundHere.{soundHere, soundBranches, messagesHere, sound-root}
+use Rattle.octets.specs.Order.{and-assoc, and-false}
 
 -- one byte a node: 0 where it is not yet reached
 unfoldable pub mark : List ℕ → ℕ → List ℕ
@@ -57,11 +49,7 @@ unfoldable mutual
 unmet-append : (n : ℕ) (seen a b : List ℕ) → allUnmet n seen (a ++ b) ≡ allUnmet n seen a && allUnmet n (markAll seen a) b
 unfolding allUnmet markAll
 unmet-append n seen [] b = refl
-unmet-append n seen (i ∷ a) b = ap (λ z. unmet n seen i && z) (unmet-append n (mark seen i) a b) ∙ group (unmet n seen i) (allUnmet n (mark seen i) a) (allUnmet n (markAll (mark seen i) a) b)
-  where
-    group : (x y z : Bool) → x && (y && z) ≡ x && y && z
-    group true y z = refl
-    group false y z = refl
+unmet-append n seen (i ∷ a) b = ap (λ z. unmet n seen i && z) (unmet-append n (mark seen i) a b) ∙ sym (and-assoc (unmet n seen i) (allUnmet n (mark seen i) a) (allUnmet n (markAll (mark seen i) a) b))
 
 pub mark-append : (seen a b : List ℕ) → markAll seen (a ++ b) ≡ markAll (markAll seen a) b
 unfolding markAll
@@ -182,11 +170,7 @@ gather true true true true N E = cut N E
 gather true true true false true E = refl
 gather true true true false false E = refl
 gather true true false O N E = refl
-gather true false true O true E = no O
-  where
-    no : (a : Bool) → false ≡ a && false
-    no true = refl
-    no false = refl
+gather true false true O true E = sym (and-false O)
 gather true false true O false E = refl
 gather true false false O N E = refl
 gather false f R O N E = refl
@@ -223,16 +207,12 @@ unfolding clean
 clean-zeros m [] = refl
 clean-zeros m (i ∷ is) = rw (zero-at m i) (clean-zeros m is)
 
-and-yes : (a : Bool) → a && true ≡ a
-and-yes true = refl
-and-yes false = refl
-
 -- The check from the root with no mark set: the three rules that `soundRoot` has of the tree.
 pub visit-root : (t : Tree) (n m : ℕ) (hi : List ℕ) → n ≤ m
     → visit t n fresh [] hi (blank m) ≡ cond (soundTree t [] hi && (inRange n (numbers t) && once (numbers t))) (some (markAll (blank m) (numbers t))) none
 visit-root t n m hi h =
     let l : length (blank m) ≡ m = length-replicate {A = ℕ} m 0 in
     let u : allUnmet n (blank m) (numbers t) ≡ inRange n (numbers t) && once (numbers t)
-    = unmet-once n (blank m) (omega arith) (numbers t) ∙ ap (λ z. inRange n (numbers t) && once (numbers t) && z) (clean-zeros m (numbers t)) ∙ and-yes (inRange n (numbers t) && once (numbers t)) in
+    = unmet-once n (blank m) (omega arith) (numbers t) ∙ ap (λ z. inRange n (numbers t) && once (numbers t) && z) (clean-zeros m (numbers t)) ∙ and-true (inRange n (numbers t) && once (numbers t)) in
     visit-is t n fresh [] hi (blank m)
     ∙ ap₂ (λ a b. cond (a && b) (some (markAll (blank m) (numbers t))) none) (sym (sound-root t hi)) u

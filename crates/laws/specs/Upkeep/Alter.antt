@@ -1,17 +1,12 @@
 -- The node of a given number, anywhere in a tree, changed.
-use Prim.Native.Nat.{ℕ, _-_}
-use mathlib.Core.Path.{_≡_, refl, ap, ap₂}
-use mathlib.Core.Logic.{inl}
-use mathlib.Core.List.{List, [], _++_}
-use mathlib.Core.Bool.{Bool, true, false, cond}
-use lib.Dec.{eqb}
+use Rattle.image.specs.Prelude.{ℕ, _-_, _≡_, refl, ap, ap₂, inl, List, [], _++_, Bool, true, false, cond, eqb}
 use Rattle.image.specs.Bytes.{shared}
 use Rattle.image.specs.Entry.{Message}
 use Rattle.image.specs.Image.{Tree, unread, leaf, interior, Forest, end, tree}
 use Rattle.image.specs.Meaning.{highOf}
 use Rattle.image.specs.Sound.{soundTree, soundForest, numbers, numbersIn, isIn}
 use Rattle.image.specs.Upkeep.{reachable, reachableIn}
-use Rattle.octets.specs.Order.{not-so, or-none-right, or-none-left}
+use Rattle.octets.specs.Order.{not-so, or-none-right, or-none-left, refuted}
 use Rattle.laws.specs.LookupTable.{parts, inner}
 use Rattle.laws.specs.Frame.{in-left, in-right}
 use Rattle.laws.specs.Upkeep.Kept.{Kept, kept-refl, kept-append}
@@ -144,18 +139,10 @@ mutual
       (λ j b. a j (in-right j (headsAt t n) (headsAtIn f n) b)))
 
 not-in-left : (j : ℕ) (is js : List ℕ) → isIn j (is ++ js) ≡ false → isIn j is ≡ false
-not-in-left j is js e = go (isIn j is) refl
-  where
-    go : (x : Bool) → isIn j is ≡ x → isIn j is ≡ false
-    go true f = not-so (in-left j is js f) e
-    go false f = f
+not-in-left j is js e = refuted (λ f. not-so (in-left j is js f) e)
 
 not-in-right : (j : ℕ) (is js : List ℕ) → isIn j (is ++ js) ≡ false → isIn j js ≡ false
-not-in-right j is js e = go (isIn j js) refl
-  where
-    go : (x : Bool) → isIn j js ≡ x → isIn j js ≡ false
-    go true f = not-so (in-right j is js f) e
-    go false f = f
+not-in-right j is js e = refuted (λ f. not-so (in-right j is js f) e)
 
 mutual
   unfolding altered alteredIn numbers numbersIn isIn

@@ -1,35 +1,22 @@
 -- From trees to images: where only the subtree of node n is written anew, the tree of the image is the old one with that node changed.
-use Prim.Native.Nat.{ℕ, zero, suc, _-_, _≤_}
-use mathlib.Core.Path.{_≡_, refl, sym, ap, ap₂, subst, _∙_}
-use mathlib.Core.List.{List, [], _∷_, _++_, append-nil}
-use mathlib.Core.Bool.{Bool, true, false, _&&_, _||_, not, false≢true}
-use mathlib.Core.Option.{Option, none, some, Option·some-injective, Option·none-ne-some}
-use native.Mathlib.Omega.{arith}
-use lib.ListN.{length}
-use lib.Dec.{leb, eqb}
-use borrow.Author.Tests.{eqb-true, eq-eqb}
+use Rattle.image.specs.Prelude.{ℕ, zero, suc, _-_, _≤_, _≡_, refl, sym, ap, ap₂, subst, _∙_, List, [], _∷_, _++_, append-nil, Bool, true, false, _&&_, _||_, not, false≢true, Option, none, some, Option·some-injective, Option·none-ne-some, arith, length, leb, eqb, eqb-true, eq-eqb, leb-true, cases}
 use Rattle.image.specs.Bytes.{shared}
 use Rattle.image.specs.Table.{Row}
-use Rattle.image.specs.Image.{Tree, leaf, interior, Forest, end, tree, Branch, Inside, nodeBytes, nodeEntries, pairsOf, insideOf, forestOf, leafOf, interiorOf, orNone, treeAt}
-use Rattle.image.specs.Meaning.{highOf}
-use Rattle.image.specs.Sound.{soundTree, soundForest, numbers, numbersIn, isIn, once}
+use Rattle.image.specs.Image.{Tree, interior, end, tree, Branch, Inside, nodeBytes, nodeEntries, pairsOf, insideOf, forestOf, leafOf, interiorOf, orNone, treeAt, header, headerOf, headerLaidOut, nodesOf, treeOf}
+use Rattle.image.specs.Meaning.{highOf, rows}
+use Rattle.image.specs.Sound.{soundTree, soundForest, numbers, numbersIn, isIn, once, soundHeader, soundRoot, sound, tableOf, lowest, highest}
 use Rattle.image.specs.Upkeep.{Reachable, reachable, reachableIn, reachableAt}
-use Rattle.octets.specs.Order.{and-left, and-right, not-so, not-true, not-false}
+use Rattle.octets.specs.Order.{and-left, and-right, not-so, not-true, not-false, refuted}
 use Rattle.laws.specs.Rising.{both}
 use Rattle.laws.specs.Frame.{Keeps, tree-stays, forest-stays, or-right, in-left, in-right}
 use Rattle.laws.specs.LookupTable.{Parts, parts, inner}
 use Rattle.laws.specs.Upkeep.Sublists.{Sub, sub-refl, sub-append, sub-in, sub-none}
 use Rattle.laws.specs.Upkeep.Kept.{numbersOf, numbers-places}
-use Rattle.laws.specs.Upkeep.Alter.{altered, alteredIn, altered-absent, altered-absent-in}
+use Rattle.laws.specs.Upkeep.Alter.{altered, alteredIn, altered-absent, altered-absent-in, Sane, altered-mends}
 use Rattle.laws.specs.Upkeep.Healed.{orElse, place-append, place-test, mends-root, tree-tall}
 use Rattle.laws.specs.Upkeep.Flushed.{places-under}
 use Rattle.laws.specs.Upkeep.Merge.{tall}
 use Rattle.laws.specs.Upkeep.Mends.{Mends}
-use Rattle.laws.specs.Upkeep.Alter.{Sane, altered-mends}
-use borrow.Author.Tests.{leb-true}
-use Rattle.image.specs.Meaning.{rows}
-use Rattle.image.specs.Image.{header, headerOf, headerLaidOut, nodesOf, treeOf}
-use Rattle.image.specs.Sound.{soundHeader, soundRoot, sound, tableOf, lowest, highest}
 use Rattle.laws.specs.ButLive.{sound-parts}
 
 -- distinct numbers of two lists
@@ -37,11 +24,7 @@ pub once-left : (is js : List ℕ) → once (is ++ js) ≡ true → once is ≡ 
 unfolding once
 once-left [] js e = refl
 once-left (i ∷ is) js e =
-    both (not-false (isIn i is) (away (isIn i is) refl)) (once-left is js (and-right (not (isIn i (is ++ js))) _ e))
-  where
-    away : (x : Bool) → isIn i is ≡ x → isIn i is ≡ false
-    away true f = not-so (in-left i is js f) (not-true (isIn i (is ++ js)) (and-left _ _ e))
-    away false f = f
+    both (not-false (isIn i is) (refuted (λ f. not-so (in-left i is js f) (not-true (isIn i (is ++ js)) (and-left _ _ e))))) (once-left is js (and-right (not (isIn i (is ++ js))) _ e))
 
 pub once-right : (is js : List ℕ) → once (is ++ js) ≡ true → once js ≡ true
 unfolding once
@@ -53,12 +36,8 @@ unfolding once isIn
 once-apart [] js j e f = absurd (false≢true f)
 once-apart (i ∷ is) js j e f = go (eqb j i) refl (λ h. once-apart is js j (and-right (not (isIn i (is ++ js))) _ e) h)
   where
-    apart : (x : Bool) → isIn i js ≡ x → isIn i js ≡ false
-    apart true g = not-so (in-right i is js g) (not-true (isIn i (is ++ js)) (and-left _ _ e))
-    apart false g = g
-
     go : (x : Bool) → eqb j i ≡ x → (isIn j is ≡ true → isIn j js ≡ false) → isIn j js ≡ false
-    go true g ih = ap (λ k. isIn k js) (eqb-true j i g) ∙ apart (isIn i js) refl
+    go true g ih = ap (λ k. isIn k js) (eqb-true j i g) ∙ refuted (λ g. not-so (in-right i is js g) (not-true (isIn i (is ++ js)) (and-left _ _ e)))
     go false g ih = ih (subst (λ x. x || isIn j is ≡ true) g f)
 
 -- the numbers of places that are found, and not found
@@ -80,6 +59,9 @@ not-found n (y ∷ xs) e = go (eqb n (y .number)) refl (λ h. not-found n xs h)
     go true f ih = let h : some y ≡ none = rw f at e in absurd (Option·none-ne-some y (sym h))
     go false f ih = rw f (ih (rw f at e))
 
+pub level-below : (l : ℕ) → suc (suc l) - 1 ≡ suc l
+level-below l = omega arith
+
 -- THE SUBTREE OF A PLACE
 module _ (s : List ℕ) (n : ℕ) (x : Reachable) where
   abbrev sub : List ℕ
@@ -91,27 +73,30 @@ module _ (s : List ℕ) (n : ℕ) (x : Reachable) where
   here-sub : (l : ℕ) (i : ℕ) → x .level ≡ l → n ≡ i → Sub sub (numbers (treeAt l s i))
   here-sub l i a b = subst (λ t. Sub sub (numbers t)) (here l i a b) (sub-refl sub)
 
-  forest-sub : (under : ℕ → Tree) (level : ℕ)
-      → ((j : ℕ) (lo hi : List ℕ) → reachableAt n (reachable (under j) level lo hi) ≡ some x → Sub sub (numbers (under j)))
-      → (ks : List Branch) (lifted hi : List ℕ) → reachableAt n (reachableIn (forestOf under ks) level lifted hi) ≡ some x → Sub sub (numbersIn (forestOf under ks))
-  unfolding forestOf reachableIn numbersIn reachableAt orElse
-  forest-sub under level law [] lifted hi p = absurd (Option·none-ne-some x p)
-  forest-sub under level law (k ∷ ks) lifted hi p =
-      go (reachableAt n (reachable (under (k .number)) level (lifted ++ k .pivot) (highOf lifted hi (forestOf under ks)))) refl (λ q. forest-sub under level law ks lifted hi q)
+  -- the place is under the first child, or further on
+  pub child-cases : (under : ℕ → Tree) (level : ℕ) (k : Branch) (ks : List Branch) (lifted hi : List ℕ) {A : Type 0}
+      → reachableAt n (reachableIn (forestOf under (k ∷ ks)) level lifted hi) ≡ some x
+      → (reachableAt n (reachable (under (k .number)) level (lifted ++ k .pivot) (highOf lifted hi (forestOf under ks))) ≡ some x → A)
+      → (reachableAt n (reachable (under (k .number)) level (lifted ++ k .pivot) (highOf lifted hi (forestOf under ks))) ≡ none → reachableAt n (reachableIn (forestOf under ks) level lifted hi) ≡ some x → A) → A
+  unfolding forestOf reachableIn orElse
+  child-cases under level k ks lifted hi {A} p here-first further = go (reachableAt n (reachable (under (k .number)) level (lifted ++ k .pivot) (highOf lifted hi (forestOf under ks)))) refl
     where
       both-places : orElse (reachableAt n (reachable (under (k .number)) level (lifted ++ k .pivot) (highOf lifted hi (forestOf under ks)))) (reachableAt n (reachableIn (forestOf under ks) level lifted hi)) ≡ some x
       both-places = sym (place-append n (reachable (under (k .number)) level (lifted ++ k .pivot) (highOf lifted hi (forestOf under ks))) (reachableIn (forestOf under ks) level lifted hi)) ∙ p
 
-      go : (o : Option Reachable) → reachableAt n (reachable (under (k .number)) level (lifted ++ k .pivot) (highOf lifted hi (forestOf under ks))) ≡ o
-          → (reachableAt n (reachableIn (forestOf under ks) level lifted hi) ≡ some x → Sub sub (numbersIn (forestOf under ks)))
-          → Sub sub (numbers (under (k .number)) ++ numbersIn (forestOf under ks))
-      go none e ih =
-          sub-append (sub-none (numbers (under (k .number))))
-          (ih (subst (λ o. orElse o (reachableAt n (reachableIn (forestOf under ks) level lifted hi)) ≡ some x) e both-places))
-      go (some z) e ih =
-          rw (← append-nil sub)
-          (sub-append (law (k .number) (lifted ++ k .pivot) (highOf lifted hi (forestOf under ks))
-          (e ∙ subst (λ o. orElse o (reachableAt n (reachableIn (forestOf under ks) level lifted hi)) ≡ some x) e both-places)) (sub-none (numbersIn (forestOf under ks))))
+      go : (o : Option Reachable) → reachableAt n (reachable (under (k .number)) level (lifted ++ k .pivot) (highOf lifted hi (forestOf under ks))) ≡ o → A
+      go none e = further e (subst (λ o. orElse o (reachableAt n (reachableIn (forestOf under ks) level lifted hi)) ≡ some x) e both-places)
+      go (some z) e = here-first (e ∙ subst (λ o. orElse o (reachableAt n (reachableIn (forestOf under ks) level lifted hi)) ≡ some x) e both-places)
+
+  forest-sub : (under : ℕ → Tree) (level : ℕ)
+      → ((j : ℕ) (lo hi : List ℕ) → reachableAt n (reachable (under j) level lo hi) ≡ some x → Sub sub (numbers (under j)))
+      → (ks : List Branch) (lifted hi : List ℕ) → reachableAt n (reachableIn (forestOf under ks) level lifted hi) ≡ some x → Sub sub (numbersIn (forestOf under ks))
+  unfolding forestOf reachableIn numbersIn reachableAt
+  forest-sub under level law [] lifted hi p = absurd (Option·none-ne-some x p)
+  forest-sub under level law (k ∷ ks) lifted hi p =
+      child-cases under level k ks lifted hi p
+      (λ q. rw (← append-nil sub) (sub-append (law (k .number) (lifted ++ k .pivot) (highOf lifted hi (forestOf under ks)) q) (sub-none (numbersIn (forestOf under ks)))))
+      (λ o q. sub-append (sub-none (numbers (under (k .number)))) (forest-sub under level law ks lifted hi q))
 
   pub place-here : (y : Reachable) (ys : List Reachable) → eqb n (y .number) ≡ true → reachableAt n (y ∷ ys) ≡ some x → y ≡ x
   unfolding reachableAt
@@ -129,11 +114,10 @@ module _ (s : List ℕ) (n : ℕ) (x : Reachable) where
       → reachableAt n (reachable (leafOf i o) 1 lo hi) ≡ some x → Sub sub (numbers (leafOf i o))
   unfolding leafOf reachable
   leaf-sub i none lo hi k p = absurd (place-nil p)
-  leaf-sub i (some rs) lo hi k p = go (eqb n i) refl
-    where
-      go : (b : Bool) → eqb n i ≡ b → Sub sub (numbers (leaf i rs))
-      go true e = k (ap (λ (z : Reachable). z .level) (sym (place-here (record { number = i; level = 1; low = lo; high = hi; messages = []; children = end }) [] e p))) (eqb-true n i e)
-      go false e = absurd (place-nil (place-past (record { number = i; level = 1; low = lo; high = hi; messages = []; children = end }) [] e p))
+  leaf-sub i (some rs) lo hi k p =
+      cases (eqb n i)
+      (λ e. k (ap (λ (z : Reachable). z .level) (sym (place-here (record { number = i; level = 1; low = lo; high = hi; messages = []; children = end }) [] e p))) (eqb-true n i e))
+      (λ e. absurd (place-nil (place-past (record { number = i; level = 1; low = lo; high = hi; messages = []; children = end }) [] e p)))
 
   inner-sub : (under : ℕ → Tree) (l i : ℕ) (o : Option Inside) (lo hi : List ℕ)
       → ((j : ℕ) (clo chi : List ℕ) → reachableAt n (reachable (under j) (l - 1) clo chi) ≡ some x → Sub sub (numbers (under j)))
@@ -159,11 +143,8 @@ module _ (s : List ℕ) (n : ℕ) (x : Reachable) where
       leaf-sub i (orNone pairsOf (nodeEntries 0x0001 1 (nodeBytes s i))) lo hi (λ a b. here-sub 1 i a b) p
   place-sub (suc (suc l)) i lo hi p =
       inner-sub (λ j. treeAt (suc l) s j) (suc (suc l)) i (orNone insideOf (nodeEntries 0x0002 (suc (suc l)) (nodeBytes s i))) lo hi
-      (λ j clo chi q. place-sub (suc l) j clo chi (subst (λ m. reachableAt n (reachable (treeAt (suc l) s j) m clo chi) ≡ some x) (down l) q))
+      (λ j clo chi q. place-sub (suc l) j clo chi (subst (λ m. reachableAt n (reachable (treeAt (suc l) s j) m clo chi) ≡ some x) (level-below l) q))
       (λ a b. here-sub (suc (suc l)) i a b) p
-    where
-      down : (k : ℕ) → suc (suc k) - 1 ≡ suc k
-      down k = omega arith
 
 pub root-sound : (n live : ℕ) (t : Tree) → soundRoot n live t ≡ true → soundTree t lowest highest ≡ true
 unfolding soundRoot
@@ -191,19 +172,11 @@ module _ (s s′ : List ℕ) (n : ℕ) (x : Reachable) (change : Tree → List �
 
   out-of-sub : {js : List ℕ} (is : List ℕ) (j : ℕ) → Sub (numbers (treeAt (x .level) s n)) js → (isIn j js ≡ true → isIn j is ≡ false) → isIn j is ≡ true
       → isIn j (numbers (treeAt (x .level) s n)) ≡ false
-  out-of-sub is j k away h = go (isIn j (numbers (treeAt (x .level) s n))) refl
-    where
-      go : (b : Bool) → isIn j (numbers (treeAt (x .level) s n)) ≡ b → isIn j (numbers (treeAt (x .level) s n)) ≡ false
-      go true e = not-so h (away (sub-in j k e))
-      go false e = e
+  out-of-sub is j k away h = refuted (λ e. not-so h (away (sub-in j k e)))
 
   -- the two sides of the list of children
   apart-left : (is js : List ℕ) → once (is ++ js) ≡ true → (j : ℕ) → isIn j js ≡ true → isIn j is ≡ false
-  apart-left is js e j h = go (isIn j is) refl
-    where
-      go : (b : Bool) → isIn j is ≡ b → isIn j is ≡ false
-      go true f = not-so h (once-apart is js j e f)
-      go false f = f
+  apart-left is js e j h = refuted (λ f. not-so h (once-apart is js j e f))
 
   module _ (under under′ : ℕ → Tree) (level : ℕ) (rec : Bridged level under under′)
       (stay : (j : ℕ) → Keeps s s′ (numbers (under j)) → under′ j ≡ under j)
@@ -238,38 +211,23 @@ module _ (s s′ : List ℕ) (n : ℕ) (x : Reachable) (change : Tree → List �
     forest-bridge : (ks : List Branch) (lifted lo hi : List ℕ) → soundForest (forestOf under ks) lifted lo hi ≡ true → once (numbersIn (forestOf under ks)) ≡ true
         → reachableAt n (reachableIn (forestOf under ks) level lifted hi) ≡ some x → Other (numbersIn (forestOf under ks))
         → forestOf under′ ks ≡ alteredIn (forestOf under ks) n change lifted hi
-    unfolding forestOf reachableIn numbersIn alteredIn orElse
+    unfolding forestOf reachableIn numbersIn alteredIn
     forest-bridge [] lifted lo hi e o p h = absurd (place-nil s n x p)
     forest-bridge (k ∷ ks) lifted lo hi e o p h =
-        go (reachableAt n (reachable (under (k .number)) level (lifted ++ k .pivot) (highOf lifted hi (forestOf under ks)))) refl
-        (λ q. forest-bridge ks lifted lo hi (ps .later) (once-right (numbers (under (k .number))) (numbersIn (forestOf under ks)) o) q
-        (λ j b c. h j (in-right j (numbers (under (k .number))) (numbersIn (forestOf under ks)) b) c))
+        child-cases s n x under level k ks lifted hi p
+        (λ r. ap₂ (λ a b. tree (k .pivot) a b)
+        (rec (k .number) (lifted ++ k .pivot) (highOf lifted hi (forestOf under ks)) (ps .first) (once-left (numbers (under (k .number))) (numbersIn (forestOf under ks)) o) r
+        (λ j b c. h j (in-left j (numbers (under (k .number))) (numbersIn (forestOf under ks)) b) c))
+        (first-bridge (under (k .number)) (under′ (k .number)) ks (lifted ++ k .pivot) (highOf lifted hi (forestOf under ks)) lifted hi (ps .first) o r h
+        (subs (k .number) (lifted ++ k .pivot) (highOf lifted hi (forestOf under ks)) r)))
+        (λ q r. ap₂ (λ a b. tree (k .pivot) a b)
+        (later-bridge (k .number) ks (lifted ++ k .pivot) (highOf lifted hi (forestOf under ks)) lifted hi (ps .first) o q h
+        (forest-sub s n x under level subs ks lifted hi r))
+        (forest-bridge ks lifted lo hi (ps .later) (once-right (numbers (under (k .number))) (numbersIn (forestOf under ks)) o) r
+        (λ j b c. h j (in-right j (numbers (under (k .number))) (numbersIn (forestOf under ks)) b) c)))
       where
         ps : Parts (k .pivot) (under (k .number)) (forestOf under ks) lifted lo hi
         ps = parts (k .pivot) (under (k .number)) (forestOf under ks) lifted lo hi e
-
-        both-places : orElse (reachableAt n (reachable (under (k .number)) level (lifted ++ k .pivot) (highOf lifted hi (forestOf under ks)))) (reachableAt n (reachableIn (forestOf under ks) level lifted hi)) ≡ some x
-        both-places = sym (place-append n (reachable (under (k .number)) level (lifted ++ k .pivot) (highOf lifted hi (forestOf under ks))) (reachableIn (forestOf under ks) level lifted hi)) ∙ p
-
-        go : (w : Option Reachable) → reachableAt n (reachable (under (k .number)) level (lifted ++ k .pivot) (highOf lifted hi (forestOf under ks))) ≡ w
-            → (reachableAt n (reachableIn (forestOf under ks) level lifted hi) ≡ some x → forestOf under′ ks ≡ alteredIn (forestOf under ks) n change lifted hi)
-            → _≡_ {A = Forest} (tree (k .pivot) (under′ (k .number)) (forestOf under′ ks))
-            (tree (k .pivot) (altered (under (k .number)) n change (lifted ++ k .pivot) (highOf lifted hi (forestOf under ks))) (alteredIn (forestOf under ks) n change lifted hi))
-        go none q ih =
-            let r : reachableAt n (reachableIn (forestOf under ks) level lifted hi) ≡ some x =
-            subst (λ w. orElse w (reachableAt n (reachableIn (forestOf under ks) level lifted hi)) ≡ some x) q both-places in
-            ap₂ (λ a b. tree (k .pivot) a b)
-            (later-bridge (k .number) ks (lifted ++ k .pivot) (highOf lifted hi (forestOf under ks)) lifted hi (ps .first) o q h
-            (forest-sub s n x under level subs ks lifted hi r))
-            (ih r)
-        go (some z) q ih =
-            let r : reachableAt n (reachable (under (k .number)) level (lifted ++ k .pivot) (highOf lifted hi (forestOf under ks))) ≡ some x =
-            q ∙ subst (λ w. orElse w (reachableAt n (reachableIn (forestOf under ks) level lifted hi)) ≡ some x) q both-places in
-            ap₂ (λ a b. tree (k .pivot) a b)
-            (rec (k .number) (lifted ++ k .pivot) (highOf lifted hi (forestOf under ks)) (ps .first) (once-left (numbers (under (k .number))) (numbersIn (forestOf under ks)) o) r
-            (λ j b c. h j (in-left j (numbers (under (k .number))) (numbersIn (forestOf under ks)) b) c))
-            (first-bridge (under (k .number)) (under′ (k .number)) ks (lifted ++ k .pivot) (highOf lifted hi (forestOf under ks)) lifted hi (ps .first) o r h
-            (subs (k .number) (lifted ++ k .pivot) (highOf lifted hi (forestOf under ks)) r))
 
     -- a node above n: its own bytes stay
     above-bridge : (i l : ℕ) (o : Option Inside) (lo hi : List ℕ) → l - 1 ≡ level → soundTree (interiorOf under i o) lo hi ≡ true → once (numbers (interiorOf under i o)) ≡ true
@@ -291,7 +249,7 @@ module _ (s s′ : List ℕ) (n : ℕ) (x : Reachable) (change : Tree → List �
         → eqb n i ≡ false → reachableAt n (reachable (interiorOf under i o) l lo hi) ≡ some x → isIn i (numbers (treeAt (x .level) s n)) ≡ false
     unfolding interiorOf reachable numbers once
     above-out i l none lo hi d o m p = absurd (place-nil s n x p)
-    above-out i l (some y) lo hi d o m p = go (isIn i (numbers (treeAt (x .level) s n))) refl
+    above-out i l (some y) lo hi d o m p = refuted (λ c. not-so (sub-in i down c) (not-true (isIn i (numbersIn (forestOf under (y .branches)))) (and-left _ _ o)))
       where
         down : Sub (numbers (treeAt (x .level) s n)) (numbersIn (forestOf under (y .branches)))
         down =
@@ -299,10 +257,6 @@ module _ (s s′ : List ℕ) (n : ℕ) (x : Reachable) (change : Tree → List �
             (subst (λ k. reachableAt n (reachableIn (forestOf under (y .branches)) k (shared lo hi) hi) ≡ some x) d
             (place-past s n x (record { number = i; level = l; low = lo; high = hi; messages = y .messages; children = forestOf under (y .branches) })
             (reachableIn (forestOf under (y .branches)) (l - 1) (shared lo hi) hi) m p))
-
-        go : (b : Bool) → isIn i (numbers (treeAt (x .level) s n)) ≡ b → isIn i (numbers (treeAt (x .level) s n)) ≡ false
-        go true c = not-so (sub-in i down c) (not-true (isIn i (numbersIn (forestOf under (y .branches)))) (and-left _ _ o))
-        go false c = c
 
   -- node n itself
   top-level : (under : ℕ → Tree) (l i : ℕ) (o : Option Inside) (lo hi : List ℕ) → eqb n i ≡ true → reachableAt n (reachable (interiorOf under i o) l lo hi) ≡ some x

@@ -1,10 +1,7 @@
 -- The definitions on small trees, by computation.
-use Prim.Native.Nat.{ℕ}
-use mathlib.Core.Path.{_≡_, refl}
-use mathlib.Core.List.{List, [], _∷_}
-use mathlib.Core.Bool.{true, false}
+use Rattle.image.specs.Prelude.{ℕ, _≡_, refl, List, [], _∷_, true, false}
 use Rattle.image.specs.Bytes.{same, before, begins, shared}
-use Rattle.image.specs.Path.{letter, readsOn, wellFormed, below, owns, valueLimit, valueFits, pathLimit}
+use Rattle.image.specs.Path.{letter, readsOn, wellFormed, below, owns, valueFits}
 use Rattle.image.specs.Entry.{puts, drops, clears}
 use Rattle.image.specs.Table.{Row, withRow, without, withoutBelow, everyKey, leads, rising, underPrefix}
 use Rattle.image.specs.Image.{Tree, leaf, interior, end, tree}
@@ -63,7 +60,7 @@ pub record Tried : Type 0 where
   order-gains : isSublist [] (drops (1 ∷ []) ∷ drops (2 ∷ []) ∷ []) [] (drops (2 ∷ []) ∷ drops (1 ∷ []) ∷ []) ≡ false
 
 pub tried : Tried
-unfolding same before begins shared letter readsOn wellFormed below owns valueLimit valueFits pathLimit withRow without withoutBelow everyKey leads rising underPrefix highOf apply applyAll rows rowsIn valuesFit soundMessage soundMessages firstPivot soundTree soundForest numbers numbersIn reachable reachableIn reachableAt holdsNoMessage every overlap flushed sameMessage isSublist gainsNoMessage noneGains pairBytes childBytes shortPivots treeBytes treeShort noMessage wouldFit unmergeable unmergeableAt keepsRange healed taken touches lowered sent pushed raised rewritten repointed followed sameKind merged joins joinAt firstPair mended branchCount healing altered alteredIn onBranches healedTree pushedAll flushedNode flushedTree
+unfolding same before begins shared letter readsOn wellFormed below owns valueFits withRow without withoutBelow everyKey leads rising underPrefix highOf apply applyAll rows rowsIn valuesFit soundMessage soundMessages firstPivot soundTree soundForest numbers numbersIn reachable reachableIn reachableAt holdsNoMessage every overlap flushed sameMessage isSublist gainsNoMessage noneGains pairBytes childBytes shortPivots treeBytes treeShort noMessage wouldFit unmergeable unmergeableAt keepsRange healed taken touches lowered sent pushed raised rewritten repointed followed sameKind merged joins joinAt firstPair mended branchCount healing altered alteredIn onBranches healedTree pushedAll flushedNode flushedTree
 tried =
     record {
       is-sound = refl;

@@ -1,10 +1,5 @@
 -- A flush by one level: all messages of a node, oldest first, go to its children.
-use Prim.Native.Nat.{ℕ, _-_}
-use mathlib.Core.Path.{_≡_, refl, sym, ap, ap₂, subst, _∙_}
-use mathlib.Core.List.{List, [], _∷_, _++_, append-nil}
-use mathlib.Core.Bool.{Bool, true, false, _&&_, _||_, cond}
-use lib.ListN.{length, drop}
-use lib.Dec.{leb}
+use Rattle.image.specs.Prelude.{ℕ, _-_, _≡_, refl, sym, ap, ap₂, subst, _∙_, List, [], _∷_, _++_, append-nil, Bool, true, false, _&&_, _||_, cond, length, drop, leb, cases}
 use Rattle.image.specs.Bytes.{same, begins, shared}
 use Rattle.image.specs.Path.{below, owns, wellFormed, valueFits}
 use Rattle.image.specs.Entry.{Message, puts, drops, clears}
@@ -14,23 +9,18 @@ use Rattle.image.specs.Meaning.{highOf, apply, applyAll, rows, rowsIn}
 use Rattle.image.specs.Sound.{soundTree, soundForest, soundMessage, soundMessages, firstPivot, valuesFit, numbers, numbersIn}
 use Rattle.octets.specs.Order.{and-left, and-right, not-so, same-eq, begins-split, drop-beyond}
 use Rattle.laws.specs.Rising.{both}
-use Rattle.laws.specs.Filter.{every-with}
+use Rattle.laws.specs.Filter.{every-with, owned-begins}
 use Rattle.laws.specs.RowsRising.{leaf-rises, rising-apply}
 use Rattle.laws.specs.LookupTable.{Parts, parts, inner, leaf-owned}
 use Rattle.laws.specs.Frame.{or-right}
 use Rattle.laws.specs.PushDown.{apply-nil-under, taken, touches, lowered, sent, pushed, raised, high-pushed, push-apply}
-use Rattle.laws.specs.Filter.{owned-begins}
 use Rattle.laws.specs.Upkeep.Sublists.{Sub, sub-refl}
 use Rattle.laws.specs.Page.{numberOf}
 use Rattle.laws.specs.Upkeep.Merge.{tall, tallIn, first-of, inner-sound}
 use Rattle.laws.specs.Upkeep.Mends.{Mends}
 use Rattle.laws.specs.Upkeep.Alter.{Sane, altered}
-use Rattle.octets.specs.Beginnings.{begins-append as begins-longer}
-use Rattle.laws.specs.ValuesFit.{with-fit as values-with, leaf-values}
-use Rattle.laws.specs.ValuesFit.{without-fit as values-without}
-use Rattle.laws.specs.ValuesFit.{cleared-fit as values-cleared}
-use Rattle.octets.specs.Beginnings.{shared-right as shared-second}
-use Rattle.octets.specs.Beginnings.{shared-most as begins-shared}
+use Rattle.octets.specs.Beginnings.{begins-append as begins-longer, shared-right as shared-second, shared-most as begins-shared}
+use Rattle.laws.specs.ValuesFit.{with-fit as values-with, leaf-values, without-fit as values-without, cleared-fit as values-cleared}
 use Rattle.laws.specs.Pieces.{messages-none}
 
 -- all messages of a node, oldest first, each to the children that it touches
@@ -62,20 +52,16 @@ smallValue (clears s) = true
 every-without : (test : List ℕ → Bool) (p : List ℕ) (t : List Row) → everyKey test t ≡ true → everyKey test (without p t) ≡ true
 unfolding everyKey without
 every-without test p [] e = refl
-every-without test p (r ∷ t) e = go (same p (r .key)) refl (every-without test p t (and-right (test (r .key)) _ e))
-  where
-    go : (x : Bool) → same p (r .key) ≡ x → everyKey test (without p t) ≡ true → everyKey test (without p (r ∷ t)) ≡ true
-    go true b ih = rw b ih
-    go false b ih = rw b (both (and-left (test (r .key)) _ e) ih)
+every-without test p (r ∷ t) e =
+    cases (same p (r .key)) (λ b. rw b (every-without test p t (and-right (test (r .key)) _ e)))
+    (λ b. rw b (both (and-left (test (r .key)) _ e) (every-without test p t (and-right (test (r .key)) _ e))))
 
 every-cleared : (test : List ℕ → Bool) (p : List ℕ) (t : List Row) → everyKey test t ≡ true → everyKey test (withoutBelow p t) ≡ true
 unfolding everyKey withoutBelow
 every-cleared test p [] e = refl
-every-cleared test p (r ∷ t) e = go (below (r .key) p) refl (every-cleared test p t (and-right (test (r .key)) _ e))
-  where
-    go : (x : Bool) → below (r .key) p ≡ x → everyKey test (withoutBelow p t) ≡ true → everyKey test (withoutBelow p (r ∷ t)) ≡ true
-    go true b ih = rw b ih
-    go false b ih = rw b (both (and-left (test (r .key)) _ e) ih)
+every-cleared test p (r ∷ t) e =
+    cases (below (r .key) p) (λ b. rw b (every-cleared test p t (and-right (test (r .key)) _ e)))
+    (λ b. rw b (both (and-left (test (r .key)) _ e) (every-cleared test p t (and-right (test (r .key)) _ e))))
 
 every-apply : (test : List ℕ → Bool) (l : List ℕ) (m : Message) (t : List Row) → passes test l m ≡ true → everyKey test t ≡ true → everyKey test (apply l m t) ≡ true
 unfolding apply passes
@@ -168,11 +154,10 @@ lowered-sound (clears s) lo hi clo chi w b o = clear-lowered s (shared lo hi) (s
 pub sent-sound : (m : Message) (t : Tree) (lo hi clo chi : List ℕ) → soundTree t clo chi ≡ true → soundMessage lo hi m ≡ true
     → begins (shared lo hi) (shared clo chi) ≡ true → soundTree (sent (raised (shared lo hi) m) t clo chi) clo chi ≡ true
 unfolding sent
-sent-sound m t lo hi clo chi e w b = go (touches (raised (shared lo hi) m) clo chi) refl
-  where
-    go : (x : Bool) → touches (raised (shared lo hi) m) clo chi ≡ x → soundTree (sent (raised (shared lo hi) m) t clo chi) clo chi ≡ true
-    go true o = rw o (taken-sound (lowered (shared clo chi) (raised (shared lo hi) m)) t clo chi e (lowered-sound m lo hi clo chi w b o))
-    go false o = rw o e
+sent-sound m t lo hi clo chi e w b =
+    cases (touches (raised (shared lo hi) m) clo chi)
+    (λ o. rw o (taken-sound (lowered (shared clo chi) (raised (shared lo hi) m)) t clo chi e (lowered-sound m lo hi clo chi w b o)))
+    (λ o. rw o e)
 
 -- THE CHILDREN OF A NODE
 pub pushed-sound : (m : Message) (f : Forest) (lo hi : List ℕ) → soundForest f (shared lo hi) lo hi ≡ true → soundMessage lo hi m ≡ true

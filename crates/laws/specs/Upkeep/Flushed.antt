@@ -1,13 +1,6 @@
 -- A flush by one level meets document 01's rule: its messages go down, and no reachable node of the flushed node's level that owns any of what it
 -- owned holds a message.
-use Prim.Native.Nat.{ℕ, _-_, _≤_, _<_}
-use mathlib.Core.Path.{_≡_, refl, sym, ap, subst, _∙_}
-use mathlib.Core.List.{List, [], _∷_, _++_}
-use mathlib.Core.Bool.{Bool, true, false, _&&_, _||_, not, cond}
-use mathlib.Core.Option.{Option, none, some, Option·some-injective}
-use native.Mathlib.Omega.{arith}
-use lib.Dec.{leb, eqb}
-use borrow.Author.Tests.{ne-eqb, eqb-true, le-leb, lt-leb, leb-true}
+use Rattle.image.specs.Prelude.{ℕ, _-_, _≤_, _<_, _≡_, refl, sym, ap, subst, _∙_, List, [], _∷_, _++_, Bool, true, false, _&&_, _||_, not, cond, Option, none, some, Option·some-injective, arith, leb, eqb, ne-eqb, eqb-true, le-leb, lt-leb, leb-true, cases}
 use Rattle.image.specs.Bytes.{before, shared}
 use Rattle.image.specs.Entry.{Message}
 use Rattle.image.specs.Table.{Row}
@@ -15,7 +8,7 @@ use Rattle.image.specs.Image.{Tree, unread, leaf, interior, Forest, end, tree}
 use Rattle.image.specs.Meaning.{highOf}
 use Rattle.image.specs.Sound.{soundTree, soundForest, numbers, once}
 use Rattle.image.specs.Upkeep.{Reachable, reachable, reachableIn, reachableAt, every, holdsNoMessage, overlap, gainsNoMessage, fromLevel, emptied, noneWaits, flushed}
-use Rattle.octets.specs.Order.{and-left, and-right, and-false, not-so, not-true, before-irrefl, before-le}
+use Rattle.octets.specs.Order.{and-left, and-right, and-false, not-so, not-true, before-irrefl, before-le, refuted, before-asym as lt-not}
 use Rattle.laws.specs.Rising.{both}
 use Rattle.laws.specs.Frame.{or-left, or-right}
 use Rattle.laws.specs.LookupTable.{parts, inner, high-under}
@@ -25,7 +18,6 @@ use Rattle.laws.specs.Upkeep.Mends.{tall-branches, tall-first, tall-late
 use Rattle.laws.specs.Upkeep.Alter.{altered, alteredIn, high-altered, altered-mends, altered-mends-in}
 use Rattle.laws.specs.Upkeep.Healed.{orElse, place-append, place-number, place-test}
 use Rattle.laws.specs.Upkeep.Flush.{pushedAll, flushedNode, flush-sane, flushedTree}
-use Rattle.octets.specs.Order.{before-asym as lt-not}
 use Rattle.laws.specs.LiveCount.{every-both}
 
 every-weaker : (a b : Reachable → Bool) (xs : List Reachable) → ((y : Reachable) → a y ≡ true → b y ≡ true) → every a xs ≡ true → every b xs ≡ true
@@ -74,18 +66,10 @@ is-within lo hi y a b = rw (a, b)
 
 -- a ≤ b, b ≤ c: a ≤ c, each told as "not the other way"
 le-le : (a b c : List ℕ) → before b a ≡ false → before c b ≡ false → before c a ≡ false
-le-le a b c e f = go (before c a) refl
-  where
-    go : (x : Bool) → before c a ≡ x → before c a ≡ false
-    go true g = not-so (before-le c a b g e) f
-    go false g = g
+le-le a b c e f = refuted (λ g. not-so (before-le c a b g e) f)
 
 high-low : (f : Forest) (lifted lo hi : List ℕ) → soundForest f lifted lo hi ≡ true → before hi (highOf lifted hi f) ≡ false
-high-low f lifted lo hi e = go (before hi (highOf lifted hi f)) refl
-  where
-    go : (x : Bool) → before hi (highOf lifted hi f) ≡ x → before hi (highOf lifted hi f) ≡ false
-    go true g = not-so (high-under f lifted lo hi hi e g) (before-irrefl hi)
-    go false g = g
+high-low f lifted lo hi e = refuted (λ g. not-so (high-under f lifted lo hi hi e g) (before-irrefl hi))
 
 within-branches : (i : ℕ) (f : Forest) (ms : List Message) (lo hi : List ℕ) (xs : List Reachable) → soundTree (interior i f ms) lo hi ≡ true
     → every (within (highOf (shared lo hi) hi f) hi) xs ≡ true → every (within lo hi) xs ≡ true
@@ -278,11 +262,7 @@ emptied-append n xs ys a b = ap emptied (place-append n xs ys) ∙ go (reachable
 one-emptied : (n : ℕ) (y : Reachable) (ys : List Reachable) → (eqb n (y .number) ≡ true → holdsNoMessage y ≡ true) → (eqb n (y .number) ≡ false → emptied (reachableAt n ys) ≡ true)
     → emptied (reachableAt n (y ∷ ys)) ≡ true
 unfolding reachableAt emptied
-one-emptied n y ys a b = go (eqb n (y .number)) refl
-  where
-    go : (x : Bool) → eqb n (y .number) ≡ x → emptied (cond (eqb n (y .number)) (some y) (reachableAt n ys)) ≡ true
-    go true e = rw e (a e)
-    go false e = rw e (b e)
+one-emptied n y ys a b = cases (eqb n (y .number)) (λ e. rw e (a e)) (λ e. rw e (b e))
 
 node-emptied : (b : Bool) (n i : ℕ) (f g : Forest) (ms : List Message) (level : ℕ) (lo hi : List ℕ) → eqb n i ≡ b
     → emptied (reachableAt n (reachableIn g (level - 1) (shared lo hi) hi)) ≡ true

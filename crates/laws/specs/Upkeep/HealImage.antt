@@ -1,26 +1,17 @@
 -- One step of heal on an image: the left one of a pair is written with the entries of both, the node above it without the right one's entry.
-use Prim.Native.Nat.{ℕ, zero, suc, _-_, _≤_}
-use mathlib.Core.Path.{_≡_, refl, sym, ap, subst, _∙_}
-use mathlib.Core.List.{List, [], _∷_, _++_, append-assoc}
-use mathlib.Core.Bool.{Bool, true, false, _||_, not, false≢true}
-use mathlib.Core.Option.{Option, none, some}
-use native.Mathlib.Omega.{arith}
-use lib.ListN.{length}
-use lib.Dec.{leb, eqb}
-use borrow.Author.Tests.{eqb-true, eq-eqb, ne-eqb}
+use Rattle.image.specs.Prelude.{ℕ, zero, suc, _-_, _≤_, _≡_, refl, sym, ap, subst, _∙_, List, [], _∷_, _++_, append-assoc, Bool, true, false, _||_, false≢true, some, arith, length, leb, eqb, eqb-true, eq-eqb, ne-eqb, cases}
 use Rattle.image.specs.Bytes.{shared}
 use Rattle.image.specs.Entry.{Entry}
 use Rattle.image.specs.Table.{Row}
-use Rattle.image.specs.Image.{Tree, unread, leaf, interior, Forest, end, tree, Branch, Inside, nodeBytes, nodeEntries, pairsOf, insideOf, forestOf, leafOf, interiorOf, orNone, treeAt, headerOf, treeOf}
+use Rattle.image.specs.Image.{Tree, unread, leaf, interior, Forest, end, tree, nodeBytes, treeAt, headerOf, treeOf}
 use Rattle.image.specs.Meaning.{highOf}
-use Rattle.image.specs.Sound.{soundTree, soundForest, sound, tableOf, numbers, numbersIn, isIn, once, lowest, highest}
-use Rattle.image.specs.Upkeep.{Reachable, reachable, reachableIn, reachableAt}
+use Rattle.image.specs.Sound.{sound, tableOf, numbers, numbersIn, isIn, once, lowest, highest}
+use Rattle.image.specs.Upkeep.{Reachable, reachable, reachableAt}
 use Rattle.laws.specs.Encode.{allowed, allAllowed}
 use Rattle.octets.specs.Order.{and-left, and-right, not-so, not-true, or-none-right, or-none-left}
 use Rattle.laws.specs.Rising.{both}
 use Rattle.laws.specs.Frame.{Keeps, tree-stays, or-right, in-left, in-right, keeps-left, keeps-right}
 use Rattle.laws.specs.LookupTable.{inner}
-use Rattle.laws.specs.Upkeep.Sublists.{once-sub}
 use Rattle.laws.specs.Page.{numberOf, pairEntries, childEntries}
 use Rattle.laws.specs.Upkeep.Merge.{repointed, followed, merged, tall, tallIn, Pair, merged-number}
 use Rattle.laws.specs.Upkeep.Size.{messageEntries, entriesFor, sizeOf, ownBytes}
@@ -28,13 +19,12 @@ use Rattle.laws.specs.Upkeep.Mends.{tall-first, tall-later, mends-node, 
 use Rattle.laws.specs.Upkeep.Join.{joins, joinAt, firstPair, join-pair, join-mends}
 use Rattle.laws.specs.Upkeep.Steps.{stepped}
 use Rattle.laws.specs.Upkeep.Alter.{altered, onBranches, Sane}
-use Rattle.laws.specs.Upkeep.Healed.{place-append, place-test, orElse, goodPlace, places-good}
 use Rattle.laws.specs.Upkeep.Room.{merged-fits, merged-short, join-own}
 use Rattle.laws.specs.Upkeep.Page.{pageOf, Reads, none-left, one-more, leaf-reads, inner-reads}
-use Rattle.laws.specs.Upkeep.Bridge.{once-left, once-right, once-apart, here, place-here, place-past, place-nil, place-sub, image-tall, image-tree, image-mends}
+use Rattle.laws.specs.Upkeep.Bridge.{once-left, once-right, once-apart, image-tree, image-mends}
 use Rattle.laws.specs.Upkeep.Reading.{Node, node-of}
 use Rattle.laws.specs.Upkeep.Flushed.{tall-two}
-use Rattle.laws.specs.ButLive.{sound-parts}
+use Rattle.laws.specs.Upkeep.Site.{Site, site}
 
 -- the page of a node of this level
 unfoldable pub pageFor : ℕ → Tree → List ℕ
@@ -186,11 +176,10 @@ join-short : (k : ℕ) (f : Forest) (lifted hi : List ℕ) (es : List Entry) →
 unfolding joinAt childEntries allAllowed allowed
 join-short k end lifted hi es e = e
 join-short k (tree s t end) lifted hi es e = e
-join-short zero (tree s t (tree q u f)) lifted hi es e = go (joins t u (lifted ++ s) (lifted ++ q) (highOf lifted hi f)) refl
-  where
-    go : (x : Bool) → joins t u (lifted ++ s) (lifted ++ q) (highOf lifted hi f) ≡ x → allAllowed (childEntries (joinAt zero (tree s t (tree q u f)) lifted hi) ++ es) ≡ true
-    go true a = rw a (both (and-left (leb (length s) 65) _ e) (and-right (leb (length q) 65) _ (and-right (leb (length s) 65) _ e)))
-    go false a = rw a e
+join-short zero (tree s t (tree q u f)) lifted hi es e =
+    cases (joins t u (lifted ++ s) (lifted ++ q) (highOf lifted hi f))
+    (λ a. rw a (both (and-left (leb (length s) 65) _ e) (and-right (leb (length q) 65) _ (and-right (leb (length s) 65) _ e))))
+    (λ a. rw a e)
 join-short (suc k) (tree s t (tree q u f)) lifted hi es e =
     both (and-left (leb (length s) 65) _ e) (join-short k (tree q u f) lifted hi es (and-right (leb (length s) 65) _ e))
 
@@ -200,68 +189,6 @@ join-sane k i f ms lo hi level e h =
     mends-node i f (joinAt k f (shared lo hi) hi) ms lo hi level e h
     (join-mends k f (shared lo hi) lo hi (level - 1) (inner i f ms lo hi e .branches) (tall-branches i f ms level h))
 
--- THE TREE OF A PLACE
-module _ (s : List ℕ) (n : ℕ) (x : Reachable) where
-  abbrev There : Type 0
-  There = 2 ≤ x .level → treeAt (x .level) s n ≡ interior n (x .children) (x .messages)
-
-  find-in : (under : ℕ → Tree) (level : ℕ) → ((j : ℕ) (lo hi : List ℕ) → reachableAt n (reachable (under j) level lo hi) ≡ some x → There)
-      → (ks : List Branch) (lifted hi : List ℕ) → reachableAt n (reachableIn (forestOf under ks) level lifted hi) ≡ some x → There
-  unfolding forestOf reachableIn orElse
-  find-in under level law [] lifted hi p = absurd (place-nil s n x p)
-  find-in under level law (k ∷ ks) lifted hi p =
-      go (reachableAt n (reachable (under (k .number)) level (lifted ++ k .pivot) (highOf lifted hi (forestOf under ks)))) refl (λ q. find-in under level law ks lifted hi q)
-    where
-      both-places : orElse (reachableAt n (reachable (under (k .number)) level (lifted ++ k .pivot) (highOf lifted hi (forestOf under ks)))) (reachableAt n (reachableIn (forestOf under ks) level lifted hi)) ≡ some x
-      both-places = sym (place-append n (reachable (under (k .number)) level (lifted ++ k .pivot) (highOf lifted hi (forestOf under ks))) (reachableIn (forestOf under ks) level lifted hi)) ∙ p
-
-      go : (o : Option Reachable) → reachableAt n (reachable (under (k .number)) level (lifted ++ k .pivot) (highOf lifted hi (forestOf under ks))) ≡ o
-          → (reachableAt n (reachableIn (forestOf under ks) level lifted hi) ≡ some x → There) → There
-      go none e ih = ih (subst (λ o. orElse o (reachableAt n (reachableIn (forestOf under ks) level lifted hi)) ≡ some x) e both-places)
-      go (some z) e ih =
-          law (k .number) (lifted ++ k .pivot) (highOf lifted hi (forestOf under ks))
-          (e ∙ subst (λ o. orElse o (reachableAt n (reachableIn (forestOf under ks) level lifted hi)) ≡ some x) e both-places)
-
-  leaf-there : (i : ℕ) (o : Option (List Row)) (lo hi : List ℕ) → reachableAt n (reachable (leafOf i o) 1 lo hi) ≡ some x → There
-  unfolding leafOf reachable
-  leaf-there i none lo hi p = absurd (place-nil s n x p)
-  leaf-there i (some rs) lo hi p = go (eqb n i) refl
-    where
-      go : (b : Bool) → eqb n i ≡ b → There
-      go true e = λ big.
-          let low : 1 ≡ x .level = ap (λ (z : Reachable). z .level) (place-here s n x (record { number = i; level = 1; low = lo; high = hi; messages = []; children = end }) [] e p) in
-          absurd (omega arith)
-      go false e = absurd (place-nil s n x (place-past s n x (record { number = i; level = 1; low = lo; high = hi; messages = []; children = end }) [] e p))
-
-  inner-there : (under : ℕ → Tree) (l i : ℕ) (o : Option Inside) (lo hi : List ℕ) → treeAt l s i ≡ interiorOf under i o
-      → ((j : ℕ) (clo chi : List ℕ) → reachableAt n (reachable (under j) (l - 1) clo chi) ≡ some x → There)
-      → reachableAt n (reachable (interiorOf under i o) l lo hi) ≡ some x → There
-  unfolding interiorOf reachable
-  inner-there under l i none lo hi t law p = absurd (place-nil s n x p)
-  inner-there under l i (some y) lo hi t law p = go (eqb n i) refl
-    where
-      top : Reachable
-      top = record { number = i; level = l; low = lo; high = hi; messages = y .messages; children = forestOf under (y .branches) }
-
-      go : (b : Bool) → eqb n i ≡ b → There
-      go true e = λ big.
-          let is : top ≡ x = place-here s n x top (reachableIn (forestOf under (y .branches)) (l - 1) (shared lo hi) hi) e p in
-          here s n x l i (ap (λ (z : Reachable). z .level) (sym is)) (eqb-true n i e) ∙ t
-          ∙ ap (λ (z : Reachable). interior i (z .children) (z .messages)) is ∙ ap (λ j. interior j (x .children) (x .messages)) (sym (eqb-true n i e))
-      go false e =
-          find-in under (l - 1) law (y .branches) (shared lo hi) hi (place-past s n x top (reachableIn (forestOf under (y .branches)) (l - 1) (shared lo hi) hi) e p)
-
-  pub place-tree : (l i : ℕ) (lo hi : List ℕ) → reachableAt n (reachable (treeAt l s i) l lo hi) ≡ some x → There
-  unfolding treeAt reachable
-  place-tree zero i lo hi p = absurd (place-nil s n x p)
-  place-tree (suc zero) i lo hi p = leaf-there i (orNone pairsOf (nodeEntries 0x0001 1 (nodeBytes s i))) lo hi p
-  place-tree (suc (suc l)) i lo hi p =
-      inner-there (λ j. treeAt (suc l) s j) (suc (suc l)) i (orNone insideOf (nodeEntries 0x0002 (suc (suc l)) (nodeBytes s i))) lo hi refl
-      (λ j clo chi q. place-tree (suc l) j clo chi (subst (λ m. reachableAt n (reachable (treeAt (suc l) s j) m clo chi) ≡ some x) (down l) q)) p
-    where
-      down : (k : ℕ) → suc (suc k) - 1 ≡ suc k
-      down k = omega arith
-
 -- ONE STEP: node n, of level l + 2, at the place x; its children k and k + 1 join
 module _ (s s′ : List ℕ) (n : ℕ) (x : Reachable) (l k : ℕ) (e : sound s ≡ true) (len : length s′ ≡ length s) (z : nodeBytes s′ 0 ≡ nodeBytes s 0)
     (p : reachableAt n (reachable (treeOf s) (headerOf s .levels) lowest highest) ≡ some x) (level : x .level ≡ suc (suc l))
@@ -269,53 +196,18 @@ module _ (s s′ : List ℕ) (n : ℕ) (x : Reachable) (l k : ℕ) (e : sound s 
     (top : nodeBytes s′ n ≡ pageFor (suc (suc l)) (interior n (joinAt k (x .children) (shared (x .low) (x .high)) (x .high)) (x .messages)))
     (left : nodeBytes s′ (leftAt k (x .children)) ≡ pageFor (suc l) (mergedAt k (x .children) (shared (x .low) (x .high)) (x .high)))
     (rest : (j : ℕ) → eqb j n ≡ false → eqb j (leftAt k (x .children)) ≡ false → nodeBytes s′ j ≡ nodeBytes s j) where
-  whole-sound : soundTree (treeOf s) lowest highest ≡ true
-  whole-sound = sound-parts s e .tree
+  abbrev at : Site s n x l
+  at = site s n x l e p level
 
-  whole-once : once (numbers (treeOf s)) ≡ true
-  whole-once = sound-parts s e .once
-
-  node : treeAt (suc (suc l)) s n ≡ interior n (x .children) (x .messages)
-  unfolding treeOf
-  node = ap (λ m. treeAt m s n) (sym level) ∙ place-tree s n x (headerOf s .levels) (headerOf s .root) lowest highest p (omega (arith, level))
-
-  node-there : treeAt (x .level) s n ≡ interior n (x .children) (x .messages)
-  node-there = ap (λ m. treeAt m s n) level ∙ node
-
-  parts-of : Node l s (x .children) (x .messages)
-  parts-of = node-of l s n (x .children) (x .messages) node
-
-  sub-once : once (n ∷ numbersIn (x .children)) ≡ true
-  unfolding treeOf numbers
-  sub-once =
-      ap (λ t. once (numbers t)) (sym node-there)
-      ∙ once-sub (place-sub s n x (headerOf s .levels) (headerOf s .root) lowest highest p) whole-once
-
-  good : goodPlace x ≡ true
-  good =
-      place-test goodPlace n (reachable (treeOf s) (headerOf s .levels) lowest highest) x
-      (places-good (treeOf s) (headerOf s .levels) lowest highest whole-sound (image-tall s whole-sound)) p
-
-  branches-tall : tallIn (x .children) (suc l) ≡ true
-  unfolding goodPlace
-  branches-tall =
-      let down : x .level - 1 ≡ suc l = omega (arith, level) in
-      ap (λ m. tallIn (x .children) m) (sym down) ∙ and-right (soundForest (x .children) (shared (x .low) (x .high)) (x .low) (x .high)) _ good
-
-  branches-once : once (numbersIn (x .children)) ≡ true
-  unfolding once
-  branches-once = and-right (not (isIn n (numbersIn (x .children)))) _ sub-once
-
-  n-not : (j : ℕ) → isIn j (numbersIn (x .children)) ≡ true → eqb j n ≡ false
-  unfolding once
-  n-not j c = ne-eqb j n (λ q. not-so (ap (λ i. isIn i (numbersIn (x .children))) (sym q) ∙ c) (not-true (isIn n (numbersIn (x .children))) (and-left _ _ sub-once)))
+  abbrev parts-of : Node l s (x .children) (x .messages)
+  parts-of = node-of l s n (x .children) (x .messages) (at .node)
 
   branches-but : But s s′ (leftAt k (x .children)) (numbersIn (x .children))
-  branches-but j c d = rest j (n-not j c) d
+  branches-but j c d = rest j (ne-eqb j n (at .other j c)) d
 
   new-left : treeAt (suc l) s′ (leftAt k (x .children)) ≡ mergedAt k (x .children) (shared (x .low) (x .high)) (x .high)
   new-left =
-      merged-at-reads l s s′ k (x .children) (shared (x .low) (x .high)) (x .high) (parts-of .branches) branches-tall joined branches-once branches-but left
+      merged-at-reads l s s′ k (x .children) (shared (x .low) (x .high)) (x .high) (parts-of .branches) (at .branches-tall) joined (at .branches-once) branches-but left
 
   new-fits : sizeOf (childEntries (joinAt k (x .children) (shared (x .low) (x .high)) (x .high)) ++ messageEntries (x .messages)) ≤ 1016
   unfolding ownBytes entriesFor
@@ -326,18 +218,18 @@ module _ (s s′ : List ℕ) (n : ℕ) (x : Reachable) (l k : ℕ) (e : sound s 
   new-node =
       inner-reads l s′ n (joinAt k (x .children) (shared (x .low) (x .high)) (x .high)) (x .messages) top new-fits
       (join-short k (x .children) (shared (x .low) (x .high)) (x .high) (messageEntries (x .messages)) (parts-of .short))
-      (join-reads l s s′ k (x .children) (shared (x .low) (x .high)) (x .high) (parts-of .branches) joined branches-once branches-but new-left)
+      (join-reads l s s′ k (x .children) (shared (x .low) (x .high)) (x .high) (parts-of .branches) joined (at .branches-once) branches-but new-left)
 
   changed : treeAt (x .level) s′ n ≡ onBranches (joinAt k) (treeAt (x .level) s n) (x .low) (x .high)
   unfolding onBranches
   changed =
       ap (λ m. treeAt m s′ n) level ∙ new-node
-      ∙ sym (ap (λ t. onBranches (joinAt k) t (x .low) (x .high)) node-there)
+      ∙ sym (ap (λ t. onBranches (joinAt k) t (x .low) (x .high)) (at .there))
 
   others : (j : ℕ) → isIn j (numbers (treeOf s)) ≡ true → isIn j (numbers (treeAt (x .level) s n)) ≡ false → nodeBytes s′ j ≡ nodeBytes s j
   unfolding numbers isIn
   others j c d =
-      let out : eqb j n || isIn j (numbersIn (x .children)) ≡ false = ap (λ t. isIn j (numbers t)) (sym node-there) ∙ d in
+      let out : eqb j n || isIn j (numbersIn (x .children)) ≡ false = ap (λ t. isIn j (numbers t)) (sym (at .there)) ∙ d in
       rest j (or-none-left (eqb j n) (isIn j (numbersIn (x .children))) out)
       (ne-eqb j (leftAt k (x .children)) (λ q. not-so
       (ap (λ i. isIn i (numbersIn (x .children))) q ∙ left-in k (x .children) (shared (x .low) (x .high)) (x .high) joined)
@@ -355,7 +247,7 @@ module _ (s s′ : List ℕ) (n : ℕ) (x : Reachable) (l k : ℕ) (e : sound s 
   unfolding onBranches stepped
   step-first first =
       let same : onBranches (joinAt k) (treeAt (x .level) s n) (x .low) (x .high) ≡ onBranches stepped (treeAt (x .level) s n) (x .low) (x .high) =
-      ap (λ t. onBranches (joinAt k) t (x .low) (x .high)) node-there
+      ap (λ t. onBranches (joinAt k) t (x .low) (x .high)) (at .there)
       ∙ ap (λ m. interior n (joinAt m (x .children) (shared (x .low) (x .high)) (x .high)) (x .messages)) first
-      ∙ sym (ap (λ t. onBranches stepped t (x .low) (x .high)) node-there) in
+      ∙ sym (ap (λ t. onBranches stepped t (x .low) (x .high)) (at .there)) in
       image-tree s s′ n x (onBranches stepped) big (changed ∙ same) e z p others

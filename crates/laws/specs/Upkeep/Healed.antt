@@ -1,13 +1,5 @@
 -- Heal, on the tree of an image: what document 01 asks of it.
-use Prim.Native.Nat.{ℕ, zero, suc, _-_}
-use mathlib.Core.Path.{_≡_, refl, sym, ap, ap₂, _∙_}
-use mathlib.Core.List.{List, [], _∷_, _++_}
-use mathlib.Core.Bool.{Bool, true, false, _&&_, cond}
-use mathlib.Core.Option.{Option, none, some, Option·some-injective, Option·none-ne-some}
-use native.Mathlib.Omega.{arith}
-use lib.ListN.{length}
-use lib.Dec.{eqb}
-use borrow.Author.Tests.{eqb-true, le-leb}
+use Rattle.image.specs.Prelude.{ℕ, zero, suc, _-_, _≡_, refl, sym, ap, ap₂, _∙_, List, [], _∷_, _++_, Bool, true, false, _&&_, cond, Option, none, some, Option·some-injective, Option·none-ne-some, arith, length, eqb, eqb-true, le-leb, cases}
 use Rattle.image.specs.Bytes.{shared}
 use Rattle.image.specs.Entry.{Message}
 use Rattle.image.specs.Table.{Row}
@@ -52,12 +44,7 @@ orElse (some x) o = some x
 pub place-append : (n : ℕ) (xs ys : List Reachable) → reachableAt n (xs ++ ys) ≡ orElse (reachableAt n xs) (reachableAt n ys)
 unfolding reachableAt orElse
 place-append n [] ys = refl
-place-append n (x ∷ xs) ys = go (eqb n (x .number)) refl (place-append n xs ys)
-  where
-    go : (b : Bool) → eqb n (x .number) ≡ b → reachableAt n (xs ++ ys) ≡ orElse (reachableAt n xs) (reachableAt n ys)
-        → reachableAt n (x ∷ (xs ++ ys)) ≡ orElse (reachableAt n (x ∷ xs)) (reachableAt n ys)
-    go true e ih = rw e
-    go false e ih = rw e ih
+place-append n (x ∷ xs) ys = cases (eqb n (x .number)) (λ e. rw e) (λ e. rw e (place-append n xs ys))
 
 rechild-else : (c : Forest → List ℕ → List ℕ → Forest) (o p : Option Reachable) → rechild c (orElse o p) ≡ orElse (rechild c o) (rechild c p)
 unfolding rechild orElse
@@ -67,11 +54,7 @@ rechild-else c (some x) p = refl
 place-leaf : (c : Forest → List ℕ → List ℕ → Forest) → ((l h : List ℕ) → c end l h ≡ end) → (i n : ℕ) (rs : List Row) (level : ℕ) (lo hi : List ℕ)
     → reachableAt n (reachable (leaf i rs) level lo hi) ≡ rechild c (reachableAt n (reachable (leaf i rs) level lo hi))
 unfolding reachableAt reachable rechild rechilded
-place-leaf c none-new i n rs level lo hi = go (eqb n i) refl
-  where
-    go : (b : Bool) → eqb n i ≡ b → reachableAt n (reachable (leaf i rs) level lo hi) ≡ rechild c (reachableAt n (reachable (leaf i rs) level lo hi))
-    go true e = rw (e, none-new (shared lo hi) hi)
-    go false e = rw e
+place-leaf c none-new i n rs level lo hi = cases (eqb n i) (λ e. rw (e, none-new (shared lo hi) hi)) (λ e. rw e)
 
 place-choice : (c : Forest → List ℕ → List ℕ → Forest) (b : Bool) (i n : ℕ) (f g : Forest) (ms : List Message) (level : ℕ) (lo hi : List ℕ) → eqb n i ≡ b
     → reachableAt n (reachableIn g (level - 1) (shared lo hi) hi) ≡ rechild c (reachableAt n (reachableIn f (level - 1) (shared lo hi) hi))

@@ -1,10 +1,5 @@
 -- Two neighbouring children merged where they would fit in one node; and that again and again until none do.
-use Prim.Native.Nat.{ℕ, zero, suc}
-use mathlib.Core.Path.{_≡_, refl, ap, _∙_}
-use mathlib.Core.List.{List, [], _∷_, _++_, append-assoc}
-use mathlib.Core.Bool.{Bool, true, false, _&&_, cond}
-use lib.Dec.{eqb}
-use borrow.Author.Tests.{eq-eqb}
+use Rattle.image.specs.Prelude.{ℕ, zero, suc, _≡_, refl, ap, _∙_, List, [], _∷_, _++_, append-assoc, Bool, true, _&&_, cond, eqb, eq-eqb, cases}
 use Rattle.image.specs.Bytes.{before}
 use Rattle.image.specs.Image.{Tree, Forest, end, tree}
 use Rattle.image.specs.Meaning.{highOf, rows, rowsIn}
@@ -125,12 +120,10 @@ pub join-mends : (k : ℕ) (f : Forest) (lifted lo hi : List ℕ) (level : ℕ) 
 unfolding joinAt
 join-mends k end lifted lo hi level e h = mends-in-refl end lifted lo hi level e h
 join-mends k (tree s t end) lifted lo hi level e h = mends-in-refl (tree s t end) lifted lo hi level e h
-join-mends zero (tree s t (tree q u f)) lifted lo hi level e h = go (joins t u (lifted ++ s) (lifted ++ q) (highOf lifted hi f)) refl
-  where
-    go : (x : Bool) → joins t u (lifted ++ s) (lifted ++ q) (highOf lifted hi f) ≡ x
-        → MendsIn (tree s t (tree q u f)) (joinAt zero (tree s t (tree q u f)) lifted hi) lifted lo hi level
-    go true a = rw a (one-mends s q t u f lifted lo hi level e h (join-pair t u (lifted ++ s) (lifted ++ q) (highOf lifted hi f) a))
-    go false a = rw a (mends-in-refl (tree s t (tree q u f)) lifted lo hi level e h)
+join-mends zero (tree s t (tree q u f)) lifted lo hi level e h =
+    cases (joins t u (lifted ++ s) (lifted ++ q) (highOf lifted hi f))
+    (λ a. rw a (one-mends s q t u f lifted lo hi level e h (join-pair t u (lifted ++ s) (lifted ++ q) (highOf lifted hi f) a)))
+    (λ a. rw a (mends-in-refl (tree s t (tree q u f)) lifted lo hi level e h))
 join-mends (suc k) (tree s t (tree q u f)) lifted lo hi level e h =
     mends-tree s t t (tree q u f) (joinAt k (tree q u f) lifted hi) lifted lo hi level e
     (mends-refl t (lifted ++ s) (highOf lifted hi (tree q u f)) level (parts s t (tree q u f) lifted lo hi e .first) (tall-first s t (tree q u f) level h))
@@ -145,14 +138,10 @@ pub join-heads : (k : ℕ) (f : Forest) (lifted hi : List ℕ) → Sub (heads (j
 unfolding joinAt heads
 join-heads k end lifted hi = sub-refl []
 join-heads k (tree s t end) lifted hi = sub-refl (numberOf t ∷ [])
-join-heads zero (tree s t (tree q u f)) lifted hi = go (joins t u (lifted ++ s) (lifted ++ q) (highOf lifted hi f)) refl
-  where
-    go : (x : Bool) → joins t u (lifted ++ s) (lifted ++ q) (highOf lifted hi f) ≡ x
-        → Sub (heads (joinAt zero (tree s t (tree q u f)) lifted hi)) (numberOf t ∷ numberOf u ∷ heads f)
-    go true a =
-        rw (a, merged-number (join-pair t u (lifted ++ s) (lifted ++ q) (highOf lifted hi f) a) (lifted ++ s) (lifted ++ q) (highOf lifted hi f))
-        (Sub.keep (Sub.gone (sub-refl (heads f))))
-    go false a = rw a (sub-refl (numberOf t ∷ numberOf u ∷ heads f))
+join-heads zero (tree s t (tree q u f)) lifted hi =
+    cases (joins t u (lifted ++ s) (lifted ++ q) (highOf lifted hi f)) (λ a. rw (a, merged-number (join-pair t u (lifted ++ s) (lifted ++ q) (highOf lifted hi f) a) (lifted ++ s) (lifted ++ q) (highOf lifted hi f))
+    (Sub.keep (Sub.gone (sub-refl (heads f)))))
+    (λ a. rw a (sub-refl (numberOf t ∷ numberOf u ∷ heads f)))
 join-heads (suc k) (tree s t (tree q u f)) lifted hi = Sub.keep (join-heads k (tree q u f) lifted hi)
 
 -- places: a child that stays, before children that are kept
@@ -168,14 +157,10 @@ pub join-kept : (among : ℕ → Bool) (k : ℕ) (f : Forest) (lifted lo hi : Li
 unfolding joinAt heads isIn
 join-kept among k end lifted lo hi level e h a = kept-refl among (reachableIn end level lifted hi)
 join-kept among k (tree s t end) lifted lo hi level e h a = kept-refl among (reachableIn (tree s t end) level lifted hi)
-join-kept among zero (tree s t (tree q u f)) lifted lo hi level e h a = go (joins t u (lifted ++ s) (lifted ++ q) (highOf lifted hi f)) refl
-  where
-    go : (x : Bool) → joins t u (lifted ++ s) (lifted ++ q) (highOf lifted hi f) ≡ x
-        → Kept among (reachableIn (tree s t (tree q u f)) level lifted hi) (reachableIn (joinAt zero (tree s t (tree q u f)) lifted hi) level lifted hi)
-    go true b =
-        rw b (one-kept s q t u f lifted lo hi level e h (join-pair t u (lifted ++ s) (lifted ++ q) (highOf lifted hi f) b) among
-        (a (numberOf t) (or-left (eqb (numberOf t) (numberOf t)) _ (eq-eqb (numberOf t) (numberOf t) refl))))
-    go false b = rw b (kept-refl among (reachableIn (tree s t (tree q u f)) level lifted hi))
+join-kept among zero (tree s t (tree q u f)) lifted lo hi level e h a =
+    cases (joins t u (lifted ++ s) (lifted ++ q) (highOf lifted hi f)) (λ b. rw b (one-kept s q t u f lifted lo hi level e h (join-pair t u (lifted ++ s) (lifted ++ q) (highOf lifted hi f) b) among
+    (a (numberOf t) (or-left (eqb (numberOf t) (numberOf t)) _ (eq-eqb (numberOf t) (numberOf t) refl)))))
+    (λ b. rw b (kept-refl among (reachableIn (tree s t (tree q u f)) level lifted hi)))
 join-kept among (suc k) (tree s t (tree q u f)) lifted lo hi level e h a =
     later-kept among s t (tree q u f) (joinAt k (tree q u f) lifted hi) lifted hi level
     (join-mends k (tree q u f) lifted lo hi level (parts s t (tree q u f) lifted lo hi e .later) (tall-later s t (tree q u f) level h) .high lifted hi)

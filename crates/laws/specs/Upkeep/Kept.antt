@@ -1,13 +1,6 @@
 -- Reachable nodes after a heal beside those before: some are gone, the others keep number, level, low pivot and messages, and their high
 -- pivot too, but for some that hold no message.
-use Prim.Native.Nat.{ℕ, _-_}
-use mathlib.Core.Path.{_≡_, refl, sym, ap, ap₂, subst, _∙_}
-use mathlib.Core.Logic.{_⊎_, inl, inr}
-use mathlib.Core.List.{List, [], _∷_, _++_}
-use mathlib.Core.Bool.{Bool, true, false, _||_, not, false≢true}
-use mathlib.Core.Option.{some, Option·some-injective}
-use lib.Dec.{eqb}
-use borrow.Author.Tests.{eqb-true, eqb-false, eq-eqb, ne-eqb}
+use Rattle.image.specs.Prelude.{ℕ, _-_, _≡_, refl, sym, ap, ap₂, subst, _∙_, _⊎_, inl, inr, List, [], _∷_, _++_, Bool, true, false, _||_, not, false≢true, some, Option·some-injective, eqb, eqb-true, eqb-false, eq-eqb, ne-eqb}
 use Rattle.image.specs.Bytes.{shared}
 use Rattle.image.specs.Entry.{Message, puts, drops, clears}
 use Rattle.image.specs.Image.{Tree, unread, leaf, interior, Forest, end, tree}

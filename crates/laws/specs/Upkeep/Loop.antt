@@ -1,10 +1,5 @@
 -- Merging again and again until no two neighbouring children would fit in one node.
-use Prim.Native.Nat.{ℕ, zero, suc}
-use mathlib.Core.Path.{_≡_, refl, ap, subst}
-use mathlib.Core.List.{List, _++_}
-use mathlib.Core.Bool.{Bool, true, false, _&&_, not, true≢false}
-use native.Mathlib.Omega.{arith}
-use borrow.Author.Tests.{eqb-true, leb-true}
+use Rattle.image.specs.Prelude.{ℕ, zero, suc, _≡_, refl, ap, subst, List, _++_, Bool, true, false, _&&_, not, true≢false, arith, eqb-true, leb-true}
 use Rattle.image.specs.Image.{Tree, unread, leaf, interior, Forest, end, tree}
 use Rattle.image.specs.Meaning.{highOf}
 use Rattle.image.specs.Sound.{soundForest, isIn}

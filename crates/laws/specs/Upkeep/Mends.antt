@@ -1,10 +1,6 @@
 -- A change of a tree that keeps its table, its soundness and its height, and leaves out nodes at most: carried from a list of children to
 -- its node, from a node to the list that it stands in, and from one change to the next.
-use Prim.Native.Nat.{ℕ, _-_}
-use mathlib.Core.Path.{_≡_, refl, ap, ap₂, _∙_}
-use mathlib.Core.List.{List, _++_}
-use mathlib.Core.Bool.{true}
-use lib.Dec.{leb}
+use Rattle.image.specs.Prelude.{ℕ, _-_, _≡_, refl, ap, ap₂, _∙_, List, _++_, true, leb}
 use Rattle.image.specs.Bytes.{shared}
 use Rattle.image.specs.Entry.{Message}
 use Rattle.image.specs.Image.{Tree, interior, Forest, tree}

@@ -1,10 +1,5 @@
 -- Two neighbouring nodes as one: the left one's number, the entries rewritten for the joined range.
-use Prim.Native.Nat.{ℕ, _-_}
-use mathlib.Core.Path.{_≡_, refl, sym, ap, ap₂, _∙_}
-use mathlib.Core.List.{List, [], _∷_, _++_, append-assoc}
-use mathlib.Core.Bool.{Bool, true, false, _&&_, not, false≢true}
-use lib.ListN.{length, drop}
-use lib.Dec.{leb, eqb}
+use Rattle.image.specs.Prelude.{ℕ, _-_, _≡_, refl, sym, ap, ap₂, _∙_, List, [], _∷_, _++_, append-assoc, Bool, true, false, _&&_, not, false≢true, length, drop, leb, eqb, inr}
 use Rattle.image.specs.Bytes.{before, begins, shared}
 use Rattle.image.specs.Path.{owns, wellFormed, valueFits}
 use Rattle.image.specs.Entry.{Message}
@@ -13,19 +8,17 @@ use Rattle.image.specs.Image.{Tree, unread, leaf, interior, Forest, end, tree}
 use Rattle.image.specs.Meaning.{highOf, applyAll, rows, rowsIn}
 use Rattle.image.specs.Sound.{soundTree, soundForest, soundMessages, firstPivot, valuesFit, numbers, numbersIn}
 use Rattle.image.specs.Upkeep.{reachable, reachableIn, noMessage}
-use Rattle.octets.specs.Order.{and-left, and-right, not-so, not-false, same-eq, before-trans, begins-split}
+use Rattle.octets.specs.Order.{and-left, and-right, not-so, not-false, same-eq, before-trans, begins-split, refuted}
 use Rattle.laws.specs.Rising.{both}
 use Rattle.laws.specs.Page.{numberOf}
 use Rattle.laws.specs.RowsRising.{rising-append, leaf-rises}
 use Rattle.laws.specs.LookupTable.{parts, inner, leaf-owned, not-low, under-high, does-own}
 use Rattle.laws.specs.Shift.{under-append}
-use Rattle.laws.specs.Filter.{owned-begins, rising-under-eq, every-append}
-use Rattle.laws.specs.Filter.{every-imp}
-use mathlib.Core.Logic.{inr}
+use Rattle.laws.specs.Filter.{owned-begins, rising-under-eq, every-append, every-imp}
 use Rattle.laws.specs.Upkeep.Sublists.{Sub, sub-refl, sub-append}
 use Rattle.laws.specs.Upkeep.Kept.{Kept, kept-refl, kept-append}
 use Rattle.laws.specs.Pieces.{messages-none}
-use Rattle.laws.specs.ValuesFit.{fit-append}
+use Rattle.laws.specs.ValuesFit.{fit-append, leaf-values}
 
 -- pairs, and children, of a node that lifted `lifted`, in one that lifts `joined`
 unfoldable pub rewritten : List ℕ → List ℕ → List Row → List Row
@@ -79,11 +72,7 @@ pub owns-left : (lo mid hi p : List ℕ) → before mid hi ≡ true → owns lo 
 owns-left lo mid hi p b o = does-own lo hi p (not-low lo mid p o) (before-trans p mid hi (under-high lo mid p o) b)
 
 pub owns-right : (lo mid hi p : List ℕ) → before lo mid ≡ true → owns mid hi p ≡ true → owns lo hi p ≡ true
-owns-right lo mid hi p b o = does-own lo hi p (go (before p lo) refl) (under-high mid hi p o)
-  where
-    go : (x : Bool) → before p lo ≡ x → before p lo ≡ false
-    go true c = not-so (before-trans p lo mid c b) (not-low mid hi p o)
-    go false c = c
+owns-right lo mid hi p b o = does-own lo hi p (refuted (λ c. not-so (before-trans p lo mid c b) (not-low mid hi p o))) (under-high mid hi p o)
 
 pub under-rewritten : (J L : List ℕ) (rs : List Row) → everyKey (λ k. begins J k) (underPrefix L rs) ≡ true
     → underPrefix J (rewritten J L rs) ≡ underPrefix L rs
@@ -132,11 +121,6 @@ module _ (i j : ℕ) (rs qs : List Row) (lo mid hi : List ℕ) (a : before lo mi
       (every-imp (owns lo mid) (λ q. before q mid) (underPrefix (shared lo mid) rs) (λ k o. under-high lo mid k o) (leaf-owned i rs lo mid e))
       (every-imp (owns mid hi) (λ q. not (before q mid)) (underPrefix (shared mid hi) qs) (λ k o. not-false (before k mid) (not-low mid hi k o)) (leaf-owned j qs mid hi f))
 
-  leaf-fits : (n : ℕ) (ps : List Row) (x y : List ℕ) → soundTree (leaf n ps) x y ≡ true → valuesFit ps ≡ true
-  unfolding soundTree
-  leaf-fits n ps x y g =
-      and-right (everyKey wellFormed (underPrefix (shared x y) ps) && everyKey (owns x y) (underPrefix (shared x y) ps) && rising ps) _ g
-
   pub leaves-sound : soundTree (merged (leaf i rs) (leaf j qs) lo mid hi) lo hi ≡ true
   unfolding soundTree merged
   leaves-sound =
@@ -147,8 +131,8 @@ module _ (i j : ℕ) (rs qs : List Row) (lo mid hi : List ℕ) (a : before lo mi
       let rise : rising new ≡ true = sym (rising-under-eq (shared lo hi) new) ∙ (rw leaves-rows leaves-rise) in
       let fit : valuesFit new ≡ true =
       fit-append (rewritten (shared lo hi) (shared lo mid) rs) (rewritten (shared lo hi) (shared mid hi) qs)
-      (values-rewritten (shared lo hi) (shared lo mid) rs ∙ leaf-fits i rs lo mid e)
-      (values-rewritten (shared lo hi) (shared mid hi) qs ∙ leaf-fits j qs mid hi f) in
+      (values-rewritten (shared lo hi) (shared lo mid) rs ∙ leaf-values i rs lo mid e)
+      (values-rewritten (shared lo hi) (shared mid hi) qs ∙ leaf-values j qs mid hi f) in
       both (both (both formed owned) rise) fit
 
 -- CHILDREN, in a node that lifts J instead of L

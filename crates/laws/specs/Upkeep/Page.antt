@@ -1,10 +1,5 @@
 -- The 1,024 bytes of a node with given entries, and that they read back.
-use Prim.Native.Nat.{ℕ, suc, _≤_}
-use mathlib.Core.Path.{_≡_, refl, ap, ap₂}
-use mathlib.Core.List.{List, _++_}
-use mathlib.Core.Bool.{true}
-use mathlib.Core.Option.{some}
-use lib.ListN.{length}
+use Rattle.image.specs.Prelude.{ℕ, suc, _≤_, _≡_, refl, ap, ap₂, List, _++_, true, some, length}
 use Rattle.image.specs.Entry.{Message, Entry}
 use Rattle.image.specs.Table.{Row}
 use Rattle.image.specs.Image.{Tree, leaf, interior, Forest, end, tree, nodeBytes, nodeEntries, forestOf, leafOf, interiorOf, orNone, treeAt}

@@ -1,14 +1,5 @@
 -- What a node that reads says of its bytes: the entries written again have the same length, their pivots are short, and its tree has them.
-use Prim.Native.Nat.{ℕ, zero, suc, _+_, _-_, _≤_}
-use mathlib.Core.Path.{_≡_, refl, sym, ap, ap₂, subst, _∙_}
-use mathlib.Core.Logic.{_⊎_, inl, inr}
-use mathlib.Core.List.{List, [], _∷_, _++_}
-use mathlib.Core.Bool.{Bool, true, false, _&&_, cond}
-use mathlib.Core.Option.{Option, none, some, Option·some-injective, Option·none-ne-some}
-use native.Mathlib.Omega.{arith}
-use lib.ListN.{length, take, drop, length-append, length-drop, length-take, take-append-drop}
-use lib.Dec.{leb, eqb}
-use borrow.Author.Tests.{leb-true, le-leb}
+use Rattle.image.specs.Prelude.{ℕ, zero, suc, _+_, _-_, _≤_, _≡_, refl, sym, ap, ap₂, subst, _∙_, _⊎_, inl, inr, List, [], _∷_, _++_, Bool, true, false, _&&_, cond, Option, none, some, Option·some-injective, Option·none-ne-some, arith, length, take, drop, length-append, length-drop, length-take, take-append-drop, leb, eqb, leb-true, le-leb}
 use Rattle.image.specs.Bytes.{u16}
 use Rattle.image.specs.Entry.{Message, puts, drops, clears, Entry, pair, child, message, keyed, pointer, entryOf, entryThen, readAll, entriesOf}
 use Rattle.image.specs.Image.{Tree, interior, Forest, Branch, Inside, laidOut, entryBytes, nodeBytes, nodeEntries, messageThen, messagesOf, noBranches, branchThen, insideOf, forestOf, interiorOf, orNone, treeAt}

@@ -1,18 +1,11 @@
--- Sizes: of a node whose children are merged, and of the children of a node that is flushed; so that code can test that all fits before it acts.
-use Prim.Native.Nat.{ℕ, zero, suc, _≤_}
-use mathlib.Core.Path.{_≡_, refl, sym, ap, ap₂, _∙_}
-use mathlib.Core.List.{List, [], _∷_, _++_}
-use mathlib.Core.Bool.{Bool, true, false, _&&_, cond}
-use native.Mathlib.Omega.{arith}
-use lib.Dec.{leb}
-use Rattle.image.specs.Bytes.{shared}
+-- Sizes of a node whose children are merged; and a flush taken child by child instead of message by message, as code does it.
+use Rattle.image.specs.Prelude.{ℕ, zero, suc, _≤_, _≡_, refl, sym, ap, _∙_, List, [], _∷_, _++_, true, arith, cases}
 use Rattle.image.specs.Entry.{Message, child}
-use Rattle.image.specs.Table.{Row}
-use Rattle.image.specs.Image.{Tree, unread, leaf, interior, Forest, end, tree}
-use Rattle.image.specs.Meaning.{highOf, apply}
+use Rattle.image.specs.Image.{Tree, interior, Forest, end, tree}
+use Rattle.image.specs.Meaning.{highOf}
 use Rattle.laws.specs.Encode.{allAllowed}
 use Rattle.octets.specs.Order.{and-right}
-use Rattle.laws.specs.PushDown.{taken, touches, lowered, sent, pushed, raised, high-pushed}
+use Rattle.laws.specs.PushDown.{sent, pushed, raised, high-pushed}
 use Rattle.laws.specs.Page.{numberOf, childEntries}
 use Rattle.laws.specs.Upkeep.Merge.{sameKind, merged, merged-number}
 use Rattle.laws.specs.Upkeep.Size.{messageEntries, entriesFor, sizeOf, ownBytes, size-append, size-cons, Fits, fits, merged-size, merged-allowed}
@@ -36,14 +29,10 @@ join-size : (k : ℕ) (f : Forest) (lifted hi : List ℕ) → sizeOf (childEntri
 unfolding joinAt childEntries
 join-size k end lifted hi = omega arith
 join-size k (tree s t end) lifted hi = omega arith
-join-size zero (tree s t (tree q u f)) lifted hi = go (joins t u (lifted ++ s) (lifted ++ q) (highOf lifted hi f)) refl
-  where
-    go : (x : Bool) → joins t u (lifted ++ s) (lifted ++ q) (highOf lifted hi f) ≡ x
-        → sizeOf (childEntries (joinAt zero (tree s t (tree q u f)) lifted hi)) ≤ sizeOf (child (numberOf t) s ∷ child (numberOf u) q ∷ childEntries f)
-    go true a =
-        rw (a, merged-number (join-pair t u (lifted ++ s) (lifted ++ q) (highOf lifted hi f) a) (lifted ++ s) (lifted ++ q) (highOf lifted hi f))
-        (omega (arith, size-cons (child (numberOf t) s) (childEntries f), size-cons (child (numberOf t) s) (child (numberOf u) q ∷ childEntries f), size-cons (child (numberOf u) q) (childEntries f)))
-    go false a = rw a (omega arith)
+join-size zero (tree s t (tree q u f)) lifted hi =
+    cases (joins t u (lifted ++ s) (lifted ++ q) (highOf lifted hi f)) (λ a. rw (a, merged-number (join-pair t u (lifted ++ s) (lifted ++ q) (highOf lifted hi f) a) (lifted ++ s) (lifted ++ q) (highOf lifted hi f))
+    (omega (arith, size-cons (child (numberOf t) s) (childEntries f), size-cons (child (numberOf t) s) (child (numberOf u) q ∷ childEntries f), size-cons (child (numberOf u) q) (childEntries f))))
+    (λ a. rw a (omega arith))
 join-size (suc k) (tree s t (tree q u f)) lifted hi =
     omega (arith, join-size k (tree q u f) lifted hi, size-cons (child (numberOf t) s) (childEntries (joinAt k (tree q u f) lifted hi)), size-cons (child (numberOf t) s) (childEntries (tree q u f)))
 
@@ -79,49 +68,3 @@ pub pushed-each : (ms : List Message) (f : Forest) (lifted hi : List ℕ) → pu
 unfolding pushedAll
 pushed-each [] f lifted hi = sym (each-none f lifted hi)
 pushed-each (m ∷ ms) f lifted hi = pushed-each ms (pushed (raised lifted m) f lifted hi) lifted hi ∙ each-step m ms f lifted hi
-
--- a leaf: the pairs after, and a bound
-unfoldable pub leafAfter : List ℕ → List Message → List Row → List ℕ → List ℕ → List Row
-leafAfter l [] rs lo hi = rs
-leafAfter l (m ∷ ms) rs lo hi =
-    leafAfter l ms (cond (touches (raised l m) lo hi) (apply [] (lowered (shared lo hi) (raised l m)) rs) rs) lo hi
-
-pub leaf-after : (l : List ℕ) (ms : List Message) (i : ℕ) (rs : List Row) (lo hi : List ℕ) → sentAll l ms (leaf i rs) lo hi ≡ leaf i (leafAfter l ms rs lo hi)
-unfolding sentAll leafAfter sent taken
-leaf-after l [] i rs lo hi = refl
-leaf-after l (m ∷ ms) i rs lo hi = go (touches (raised l m) lo hi) refl (λ qs. leaf-after l ms i qs lo hi)
-  where
-    go : (x : Bool) → touches (raised l m) lo hi ≡ x → ((qs : List Row) → sentAll l ms (leaf i qs) lo hi ≡ leaf i (leafAfter l ms qs lo hi))
-        → sentAll l ms (sent (raised l m) (leaf i rs) lo hi) lo hi
-        ≡ leaf i (leafAfter l ms (cond (touches (raised l m) lo hi) (apply [] (lowered (shared lo hi) (raised l m)) rs) rs) lo hi)
-    go true e ih = rw e (ih (apply [] (lowered (shared lo hi) (raised l m)) rs))
-    go false e ih = rw e (ih rs)
-
-number-taken : (m : Message) (t : Tree) → numberOf (taken m t) ≡ numberOf t
-unfolding taken numberOf
-number-taken m (unread i) = refl
-number-taken m (leaf i rs) = refl
-number-taken m (interior i f ms) = refl
-
-unfoldable pub allFit : Forest → Bool
-allFit end = true
-allFit (tree s t f) = leb (ownBytes t) 1016 && allFit f
-
--- the node's own entries are its children's, as they were
-pub number-sent : (m : Message) (t : Tree) (lo hi : List ℕ) → numberOf (sent m t lo hi) ≡ numberOf t
-unfolding sent
-number-sent m t lo hi = go (touches m lo hi)
-  where
-    go : (b : Bool) → numberOf (cond b (taken (lowered (shared lo hi) m) t) t) ≡ numberOf t
-    go true = number-taken (lowered (shared lo hi) m) t
-    go false = refl
-
-branches-pushed : (m : Message) (f : Forest) (lifted hi : List ℕ) → childEntries (pushed m f lifted hi) ≡ childEntries f
-unfolding childEntries pushed
-branches-pushed m end lifted hi = refl
-branches-pushed m (tree s t f) lifted hi = ap₂ (λ n l. child n s ∷ l) (number-sent m t (lifted ++ s) (highOf lifted hi f)) (branches-pushed m f lifted hi)
-
-pub branches-pushed-all : (ms : List Message) (f : Forest) (lifted hi : List ℕ) → childEntries (pushedAll ms f lifted hi) ≡ childEntries f
-unfolding pushedAll
-branches-pushed-all [] f lifted hi = refl
-branches-pushed-all (m ∷ ms) f lifted hi = branches-pushed-all ms (pushed (raised lifted m) f lifted hi) lifted hi ∙ branches-pushed (raised lifted m) f lifted hi

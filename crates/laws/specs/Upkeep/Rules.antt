@@ -1,12 +1,8 @@
 -- The rules of heal and flush on images, as a loop of code meets them.
-use Prim.Native.Nat.{ℕ, zero, suc}
-use mathlib.Core.Path.{_≡_, refl, sym, ap, ap₂, subst, _∙_}
-use mathlib.Core.List.{List, _++_}
-use mathlib.Core.Bool.{Bool, true, false, _&&_, not, true≢false}
-use mathlib.Core.Option.{some, Option·some-injective}
+use Rattle.image.specs.Prelude.{ℕ, zero, suc, _≡_, refl, sym, ap, ap₂, subst, _∙_, List, _++_, Bool, true, false, _&&_, not, true≢false, some, Option·some-injective}
 use Rattle.image.specs.Image.{Tree, Forest, end, tree, nodeBytes, header, headerOf, treeOf}
 use Rattle.image.specs.Meaning.{highOf}
-use Rattle.image.specs.Sound.{soundTree, sound, numbers, once, lowest, highest}
+use Rattle.image.specs.Sound.{sound, lowest, highest}
 use Rattle.image.specs.Upkeep.{Reachable, reachable, reachableNodes, reachableAt, wouldFit, unmergeable, unmergeableAt, healed, flushed}
 use Rattle.laws.specs.Upkeep.Merge.{sameKind, tallIn}
 use Rattle.laws.specs.Upkeep.Mends.{tall-first, tall-later}
@@ -47,12 +43,6 @@ pub loop-goes : (s r r′ : List ℕ) (n j : ℕ) → treeOf r ≡ altered (tree
 loop-goes s r r′ n j e k = k ∙ ap (λ t. altered t n (onBranches stepped) lowest highest) e ∙ step-tree (treeOf s) n j lowest highest
 
 module _ (s r : List ℕ) (e : sound s ≡ true) (z : nodeBytes r 0 ≡ nodeBytes s 0) where
-  whole-sound : soundTree (treeOf s) lowest highest ≡ true
-  whole-sound = sound-parts s e .tree
-
-  whole-once : once (numbers (treeOf s)) ≡ true
-  whole-once = sound-parts s e .once
-
   places-now : (t : Tree) → treeOf r ≡ t → reachableNodes r ≡ reachable t (headerOf s .levels) lowest highest
   unfolding reachableNodes headerOf
   places-now t q = ap₂ (λ (b : List ℕ) (u : Tree). reachable u (header b .levels) lowest highest) z q
@@ -68,7 +58,7 @@ module _ (s r : List ℕ) (e : sound s ≡ true) (z : nodeBytes r 0 ≡ nodeByte
       sym (ap (rechild (mended j)) p) ∙ sym (place-altered (treeOf s) n (mended j) (mended-end j) (headerOf s .levels) lowest highest) ∙ sym (ap (reachableAt n) now) ∙ w in
       let rest : unmergeableAt (rechilded (mended j) x) ≡ true = ap unmergeableAt (Option·some-injective (rechilded (mended j) x) y is) ∙ g in
       ap (healed x (reachableNodes s)) now
-      ∙ ended (treeOf s) n j lowest highest (headerOf s .levels) x whole-sound (image-tall s whole-sound) whole-once p rest
+      ∙ ended (treeOf s) n j lowest highest (headerOf s .levels) x (sound-parts s e .tree) (image-tall s (sound-parts s e .tree)) (sound-parts s e .once) p rest
 
   -- flush's rule
   pub flush-rule : (n : ℕ) (x : Reachable) → treeOf r ≡ flushedTree (treeOf s) n lowest highest → reachableAt n (reachableNodes s) ≡ some x
@@ -76,4 +66,4 @@ module _ (s r : List ℕ) (e : sound s ≡ true) (z : nodeBytes r 0 ≡ nodeByte
   unfolding reachableNodes
   flush-rule n x q p =
       ap (flushed x (reachableNodes s)) (places-now (flushedTree (treeOf s) n lowest highest) q)
-      ∙ flush-flushed (treeOf s) n lowest highest (headerOf s .levels) x whole-sound (image-tall s whole-sound) whole-once p
+      ∙ flush-flushed (treeOf s) n lowest highest (headerOf s .levels) x (sound-parts s e .tree) (image-tall s (sound-parts s e .tree)) (sound-parts s e .once) p

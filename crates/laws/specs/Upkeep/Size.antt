@@ -1,13 +1,5 @@
 -- The entries of a node as they are written, their length in bytes, and that they read back.
-use Prim.Native.Nat.{ℕ, _+_, _≤_}
-use mathlib.Core.Path.{_≡_, refl, sym, ap, ap₂, _∙_}
-use mathlib.Core.List.{List, [], _∷_, _++_, append-assoc, append-nil}
-use mathlib.Core.Bool.{true, _&&_}
-use mathlib.Core.Option.{some}
-use native.Mathlib.Omega.{arith}
-use lib.ListN.{length, drop, length-append}
-use lib.Dec.{leb}
-use borrow.Author.Tests.{leb-true}
+use Rattle.image.specs.Prelude.{ℕ, _+_, _≤_, _≡_, refl, sym, ap, ap₂, _∙_, List, [], _∷_, _++_, append-assoc, append-nil, true, _&&_, some, arith, length, drop, length-append, leb, leb-true}
 use Rattle.image.specs.Bytes.{shared}
 use Rattle.image.specs.Entry.{Message, puts, drops, clears, Entry, pair, child, message}
 use Rattle.image.specs.Table.{Row}
@@ -109,6 +101,11 @@ pub all-allowed-append : (es fs : List Entry) → allAllowed es ≡ true → all
 unfolding allAllowed
 all-allowed-append [] fs a b = b
 all-allowed-append (e ∷ es) fs a b = both (and-left (allowed e) _ a) (all-allowed-append es fs (and-right (allowed e) _ a) b)
+
+pub allowed-left : (es fs : List Entry) → allAllowed (es ++ fs) ≡ true → allAllowed es ≡ true
+unfolding allAllowed
+allowed-left [] fs e = refl
+allowed-left (x ∷ es) fs e = both (and-left (allowed x) _ e) (allowed-left es fs (and-right (allowed x) _ e))
 
 pub messages-allowed : (ms : List Message) → allAllowed (messageEntries ms) ≡ true
 unfolding allAllowed messageEntries allowed

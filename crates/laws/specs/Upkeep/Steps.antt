@@ -1,12 +1,6 @@
 -- Heal as a loop of code takes it: a step merges the first pair that fits; after each step the tree is the first one with node n's children
 -- mended so often; and where the search finds no pair, heal's rule holds.
-use Prim.Native.Nat.{ℕ, zero, suc, _-_}
-use mathlib.Core.Path.{_≡_, refl, sym, ap, ap₂, fun-ext, _∙_}
-use mathlib.Core.List.{List, _++_}
-use mathlib.Core.Bool.{Bool, true, false, cond}
-use mathlib.Core.Option.{some}
-use lib.Dec.{eqb}
-use borrow.Author.Tests.{eq-eqb}
+use Rattle.image.specs.Prelude.{ℕ, zero, suc, _-_, _≡_, refl, sym, ap, ap₂, fun-ext, _∙_, List, _++_, Bool, true, false, cond, some, eqb, eq-eqb}
 use Rattle.image.specs.Bytes.{shared}
 use Rattle.image.specs.Entry.{Message}
 use Rattle.image.specs.Image.{Tree, unread, leaf, interior, Forest, end, tree}

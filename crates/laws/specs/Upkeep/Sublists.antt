@@ -1,11 +1,7 @@
 -- Numbers left out of a list, the others in their order: so they stay distinct and in range.
-use Prim.Native.Nat.{ℕ}
-use mathlib.Core.Path.{_≡_, refl, subst}
-use mathlib.Core.List.{List, [], _∷_, _++_}
-use mathlib.Core.Bool.{Bool, true, false, _&&_, _||_, not}
-use lib.Dec.{ltb, leb, eqb}
+use Rattle.image.specs.Prelude.{ℕ, _≤_, _<_, _≡_, refl, subst, List, [], _∷_, _++_, Bool, true, false, _&&_, _||_, not, false≢true, arith, ltb, leb, eqb, eqb-true, leb-true, ltb-true}
 use Rattle.image.specs.Sound.{isIn, once, inRange}
-use Rattle.octets.specs.Order.{and-left, and-right, not-so, not-true, not-false}
+use Rattle.octets.specs.Order.{and-left, and-right, not-so, not-true, not-false, refuted}
 use Rattle.laws.specs.Rising.{both}
 use Rattle.laws.specs.Frame.{or-right}
 
@@ -38,11 +34,7 @@ sub-in j (keep {i} {is} {js} s) e = go (eqb j i) refl (λ h. sub-in j s h)
 sub-in j (gone {j = i} {is} {js} s) e = or-right (eqb j i) (isIn j js) (sub-in j s e)
 
 pub sub-not-in : {is js : List ℕ} (j : ℕ) → Sub is js → isIn j js ≡ false → isIn j is ≡ false
-sub-not-in {is} {js} j s e = go (isIn j is) refl
-  where
-    go : (x : Bool) → isIn j is ≡ x → isIn j is ≡ false
-    go true f = not-so (sub-in j s f) e
-    go false f = f
+sub-not-in {is} {js} j s e = refuted (λ f. not-so (sub-in j s f) e)
 
 pub once-sub : {is js : List ℕ} → Sub is js → once js ≡ true → once is ≡ true
 unfolding once
@@ -56,3 +48,17 @@ unfolding inRange
 range-sub n empty e = refl
 range-sub n (keep {i} {is} {js} s) e = both (and-left (leb 1 i && ltb i n) _ e) (range-sub n s (and-right (leb 1 i && ltb i n) _ e))
 range-sub n (gone {j} {is} {js} s) e = range-sub n s (and-right (leb 1 j && ltb j n) _ e)
+
+-- a number of the list is in its range
+pub range-of : (m j : ℕ) (is : List ℕ) → inRange m is ≡ true → isIn j is ≡ true → (1 ≤ j) × (j < m)
+unfolding inRange isIn
+range-of m j [] e c = absurd (false≢true c)
+range-of m j (i ∷ is) e c = go (eqb j i) refl (λ b. range-of m j is (and-right (leb 1 i && ltb i m) _ e) b)
+  where
+    go : (x : Bool) → eqb j i ≡ x → (isIn j is ≡ true → (1 ≤ j) × (j < m)) → (1 ≤ j) × (j < m)
+    go true a ih =
+        let q : j ≡ i = eqb-true j i a in
+        let low : 1 ≤ i = leb-true 1 i (and-left (leb 1 i) _ (and-left _ _ e)) in
+        let high : i < m = ltb-true i m (and-right (leb 1 i) _ (and-left _ _ e)) in
+        (omega arith, omega arith)
+    go false a ih = ih (subst (λ x. x || isIn j is ≡ true) a c)

@@ -1,8 +1,7 @@
 -- `listing::advance` meets its contract: an accepted next moves the place on, a refused one leaves it. Relies on: Moves.
-use mathlib.Core.Path.{refl}
+use Rattle.image.specs.Prelude.{refl, needs}
 use Rattle.image.specs.Listing.{blank}
 use Rattle.listing.specs.Moves.{moves-on, stays-put}
-use borrow.Author.Needs.{needs}
 use Rattle.listing.proofs.advance.Statement.{statement}
 use Rattle.listing.proofs.advance.Tie as tie
 

@@ -1,9 +1,6 @@
 -- `listing::next_after` meets its contract: next is handed the place's path. Relies on: next's contract, and Moves for each way out.
-use native.Mathlib.Omega.{arith}
-use mathlib.Core.Path.{_≡_}
-use lib.ListN.{length}
+use Rattle.image.specs.Prelude.{arith, _≡_, length, needs}
 use Rattle.listing.specs.Moves.{after-over, after-fits}
-use borrow.Author.Needs.{needs}
 use Rattle.listing.proofs.next_after.Statement.{statement}
 use Rattle.listing.proofs.next_after.Tie as tie
 

@@ -1,10 +1,5 @@
 -- `arrive` meets its contract: too far, or what the node above hands down narrowed to the node. Relies on specs/NotedSteps.
-use Prim.Native.Nat.{_-_}
-use mathlib.Core.Path.{_≡_}
-use lib.ListN.{length, take}
-use lib.Seq.{length-take-le}
-use native.Mathlib.Omega.{arith}
-use borrow.Author.Needs.{needs}
+use Rattle.image.specs.Prelude.{_-_, _≡_, length, take, length-take-le, arith, needs}
 use Rattle.live_count.specs.Steps.{trail-wider}
 use Rattle.live_count.specs.NotedSteps.{handed, arrived-at, arrived-far}
 use Rattle.live_count.proofs.arrive.Statement.{statement}

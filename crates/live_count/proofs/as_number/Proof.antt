@@ -1,7 +1,7 @@
 -- `as_number` meets its contract, by the two values of a test.
 -- Relies on specs/Steps.
 use Rattle.live_count.specs.Steps.{one-yes, one-not}
-use native.Mathlib.Omega.{arith}
+use Rattle.image.specs.Prelude.{arith}
 use Rattle.live_count.proofs.as_number.Statement.{statement}
 use Rattle.live_count.proofs.as_number.Tie as tie
 

@@ -5,11 +5,7 @@ use Rattle.node.specs.Entries.{listed, listed-end}
 use Rattle.live_count.specs.PathBuffers.{pathIn}
 use Rattle.live_count.specs.Walk.{countAmong, passing}
 use Rattle.live_count.specs.Steps.{count-end, count-step}
-use borrow.Author.Needs.{needs}
-use Prim.Native.Nat.{_≤_, _-_, _+_}
-use native.Mathlib.Omega.{arith}
-use mathlib.Core.Path.{_≡_, refl, _∙_}
-use lib.ListN.{length}
+use Rattle.image.specs.Prelude.{needs, _≤_, _-_, _+_, arith, _≡_, refl, _∙_, length}
 use Rattle.live_count.proofs.count_entries.Statement.{statement}
 use Rattle.live_count.proofs.count_entries.Tie as tie
 

@@ -1,8 +1,6 @@
 -- `count_leaf` meets its contract: by the notes, or where they have no room, pair by pair. Relies on specs/NotedSteps.
 use Rattle.live_count.specs.NotedSteps.{leaf-counted}
-use borrow.Author.Needs.{needs}
-use native.Mathlib.Omega.{arith}
-use Prim.Native.Nat.{_-_}
+use Rattle.image.specs.Prelude.{needs, arith}
 use Rattle.live_count.proofs.count_leaf.Statement.{statement}
 use Rattle.live_count.proofs.count_leaf.Tie as tie
 

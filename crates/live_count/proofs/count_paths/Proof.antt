@@ -1,10 +1,7 @@
 -- `count_paths` meets its contract: the count from the root, where nothing is lifted and no node stands above. Relies on specs/RootSteps.
 use Rattle.live_count.specs.NotedSteps.{root-sound, root-told}
 use Rattle.live_count.specs.RootSteps.{one-node, root-ready, root-counts, tree-is, empty-prefix}
-use borrow.Author.Needs.{needs}
-use native.Mathlib.Omega.{arith}
-use Prim.Native.Nat.{_-_}
-use mathlib.Core.Path.{refl}
+use Rattle.image.specs.Prelude.{needs, arith, refl}
 use Rattle.live_count.proofs.count_paths.Statement.{statement}
 use Rattle.live_count.proofs.count_paths.Tie as tie
 

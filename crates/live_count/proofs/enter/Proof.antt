@@ -1,6 +1,5 @@
 -- `enter` meets its contract: what the trail and the notes each promise.
-use borrow.Author.Needs.{needs}
-use mathlib.Core.Path.{refl}
+use Rattle.image.specs.Prelude.{needs, refl}
 use Rattle.live_count.proofs.enter.Statement.{statement}
 use Rattle.live_count.proofs.enter.Tie as tie
 
@@ -8,7 +7,7 @@ lengthen-trail-requires : tie.Need-lengthen-trail-requires
 lengthen-trail-requires c κs = (c .before .before .before .before .before .pre .0, c .before .before .before .before .before .pre .1, c .before .before .before .before .before .pre .2)
 
 note-own-requires : tie.Need-note-own-requires
-note-own-requires c κs = (c .before .before .before .before .before .before .before .pre .2 .inside, c .before .before .before .before .before .before .before .pre .2 .fits, c .before .before .before .before .before .before .before .pre .3)
+note-own-requires c κs = ((c .before .before .before .before .before .before .before .pre .2 .inside, c .before .before .before .before .before .before .before .pre .2 .fits), c .before .before .before .before .before .before .before .pre .3)
 
 same-length : tie.Need-same-length
 same-length c = search needs

@@ -2,11 +2,7 @@
 use Rattle.live_count.specs.NotedSteps.{told-narrowed, told-trail}
 use Rattle.live_count.specs.Steps.{trail-wider}
 use Rattle.live_count.specs.PathSteps.{path-length}
-use borrow.Author.Needs.{needs}
-use native.Mathlib.Omega.{arith}
-use Prim.Native.Nat.{_-_}
-use mathlib.Core.Path.{_≡_}
-use lib.ListN.{length}
+use Rattle.image.specs.Prelude.{needs, arith, _≡_, length}
 use Rattle.live_count.proofs.note_above.Statement.{statement}
 use Rattle.live_count.proofs.note_above.Tie as tie
 

@@ -1,26 +1,15 @@
 -- `note_own` meets its contract: a node's own messages after the notes that it was handed. Relies on specs/NotedSteps.
 use Rattle.live_count.specs.NotedSteps.{joined-full, joined-own}
-use borrow.Author.Needs.{needs}
-use native.Mathlib.Omega.{arith}
-use Prim.Native.Nat.{_-_}
-use mathlib.Core.Path.{refl}
+use Rattle.node.specs.Places.{entries-inside}
+use Rattle.image.specs.Prelude.{needs, arith, refl}
 use Rattle.live_count.proofs.note_own.Statement.{statement}
 use Rattle.live_count.proofs.note_own.Tie as tie
 
 returns : tie.Need-returns
 returns c = joined-full _ _ _ _ _ _ (omega arith) _
 
-mul-at : tie.Need-mul-at
-mul-at c = search needs
-
-read-length-requires : tie.Need-read-length-requires
-read-length-requires c κs = search needs
-
-add-from : tie.Need-add-from
-add-from c = search needs
-
-add-end : tie.Need-add-end
-add-end c = search needs
+entries-of-requires : tie.Need-entries-of-requires
+entries-of-requires c κs = c .before .before .before .before .before .pre .0 .0
 
 sub-note-entries : tie.Need-sub-note-entries
 sub-note-entries c = search needs
@@ -32,23 +21,22 @@ part-note-entries-end : tie.Need-part-note-entries-end
 part-note-entries-end c = search needs
 
 note-entries-requires : tie.Need-note-entries-requires
-note-entries-requires c κs = (omega arith, omega arith, c .before .before .before .before .before .before .before .before .pre .2 (omega arith))
+note-entries-requires c κs =
+    let b = entries-inside (c .before .before .before .before .before .before .before .before .args .store .now) (c .before .before .before .before .before .before .before .before .args .num) (c .before .before .entries-of .result) (c .before .before .entries-of .ensures) (c .before .before .before .before .before .before .before .before .pre .0) in
+    (omega arith, omega arith, c .before .before .before .before .before .before .before .before .pre .1 (omega arith))
 
 same-length : tie.Need-same-length
 same-length c = search needs
 
 returns-2 : tie.Need-returns-2
-returns-2 c = joined-own _ _ (c .before .before .before .before .before .before .before .before .before .before .before .args .lo .now) (c .before .before .before .before .before .before .before .before .before .before .before .args .hi .now) _ _ (c .before .before .before .before .before .read-length .result) _ _ _ (omega arith) (c .before .before .before .before .before .read-length .ensures .0) refl (c .before .before .note-entries .ensures)
+returns-2 c = joined-own _ _ (c .before .before .before .before .before .before .before .before .before .before .before .args .lo .now) (c .before .before .before .before .before .before .before .before .before .before .before .args .hi .now) _ _ (c .before .before .before .before .before .entries-of .result) _ _ _ (omega arith) (c .before .before .before .before .before .entries-of .ensures) refl (c .before .before .note-entries .ensures)
 
 pub note-own-spec : {M : Type 1} → statement M
 note-own-spec =
     tie.close
     (tie.spec
     returns
-    mul-at
-    read-length-requires
-    add-from
-    add-end
+    entries-of-requires
     sub-note-entries
     part-note-entries-start
     part-note-entries-end

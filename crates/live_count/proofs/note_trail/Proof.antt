@@ -1,17 +1,10 @@
-use borrow.Author.Needs.{needs}
 -- `note_trail` meets its contract: the nodes of the trail from the last one up, those passed being noted. Relies on specs/NotedSteps.
-use Prim.Native.Nat.{_≤_, _-_}
-use mathlib.Core.Path.{_≡_, refl}
-use native.Mathlib.Omega.{arith}
-use lib.ListN.{length}
+use Rattle.image.specs.Prelude.{needs, _≤_, _-_, _≡_, refl, arith, length}
+use Rattle.node.specs.Places.{entries-inside}
 use Rattle.live_count.specs.PathBuffers.{pathIn}
 use Rattle.live_count.specs.NotedSteps.{Trailing, trailing-start, trailing-end, trailing-full, trailing-on, prefix-rest}
 use Rattle.live_count.proofs.note_trail.Statement.{statement}
 use Rattle.live_count.proofs.note_trail.Tie as tie
-use Rattle.live_count.proofs.note_trail.Reads as reads
-use Rattle.live_count.proofs.note_trail.Lts as lts
-use Rattle.live_count.proofs.notes.note_entries.Reads as note-entries-reads
-use Rattle.node.proofs.header.read_length.Reads as read-length-reads
 
 abbrev Inv-loop : tie.InvT-loop
 Inv-loop store lo hi notes₀ nodes lifts bytes stop d₀ n₀ notes d n = (d ≤ d₀) × (d₀ ≤ 8) × (length notes ≡ length notes₀) × Trailing store lo hi nodes lifts (pathIn (record { bytes = bytes; len = stop })) d₀ notes n d
@@ -37,17 +30,8 @@ mul-k c = search needs
 array-read-k : tie.Need-array-read-k Inv-loop μ-loop
 array-read-k c = search needs
 
-mul-at : tie.Need-mul-at Inv-loop μ-loop
-mul-at c = let a = c .before .before .before .before .before .before .before .before .before .pre .1 .each (c .before .loop .d - 1) (omega arith) in omega arith
-
-read-length-requires : tie.Need-read-length-requires Inv-loop μ-loop
-read-length-requires c κs = let a = c .before .before .before .before .before .before .before .before .before .pre .1 .each (c .before .loop .d - 1) (omega arith) in omega arith
-
-add-from : tie.Need-add-from Inv-loop μ-loop
-add-from c = let a = c .before .before .before .before .before .before .before .before .before .before .pre .1 .each (c .before .before .loop .d - 1) (omega arith) in omega arith
-
-add-end : tie.Need-add-end Inv-loop μ-loop
-add-end c = let a = c .before .before .before .before .before .before .before .before .before .before .pre .1 .each (c .before .before .loop .d - 1) (omega arith) in omega arith
+entries-of-requires : tie.Need-entries-of-requires Inv-loop μ-loop
+entries-of-requires c κs = let a = c .before .before .before .before .before .before .before .before .before .pre .1 .each (c .before .loop .d - 1) (omega arith) in omega arith
 
 sub-note-entries : tie.Need-sub-note-entries Inv-loop μ-loop
 sub-note-entries c = let a = c .before .before .before .before .before .before .before .before .before .before .pre .1 .each (c .before .before .loop .d - 1) (omega arith) in omega arith
@@ -59,7 +43,7 @@ part-note-entries-end : tie.Need-part-note-entries-end Inv-loop μ-loop
 part-note-entries-end c = let l : length (c .before .before .before .before .before .before .before .before .before .before .before .args .prefix .bytes) ≡ 64 = search needs in omega arith
 
 note-entries-requires : tie.Need-note-entries-requires Inv-loop μ-loop
-note-entries-requires c κs = let a = c .before .before .before .before .before .before .before .before .before .before .before .before .before .pre .1 .each (c .before .before .before .before .before .loop .d - 1) (omega arith) in (omega arith, c .before .before .before .before .before .loop .inv .3 .few, c .before .before .before .before .before .loop .inv .3 .fits)
+note-entries-requires c κs = let a = c .before .before .before .before .before .before .before .before .before .before .before .before .before .pre .1 .each (c .before .before .before .before .before .loop .d - 1) (omega arith) in let b = entries-inside (c .before .before .before .before .before .before .before .before .before .before .before .before .before .args .store .now) _ (c .before .before .before .entries-of .result) (c .before .before .before .entries-of .ensures) (a .inside, a .fits) in (omega arith, c .before .before .before .before .before .loop .inv .3 .few, c .before .before .before .before .before .loop .inv .3 .fits)
 
 same-length : tie.Need-same-length Inv-loop μ-loop
 same-length c = search needs
@@ -71,7 +55,7 @@ loop-less : tie.Need-loop-less Inv-loop μ-loop
 loop-less c = search needs
 
 loop-again : tie.Need-loop-again Inv-loop μ-loop
-loop-again c = let a = c .before .before .before .before .before .before .before .before .before .before .before .before .before .before .before .before .before .pre .1 .each (c .before .before .before .before .before .before .before .before .before .loop .d - 1) (omega arith) in (omega arith, omega arith, search needs, trailing-on (c .before .before .before .before .before .before .before .before .before .before .before .before .before .before .before .before .before .args .store .now) (c .before .before .before .before .before .before .before .before .before .before .before .before .before .before .before .before .before .args .lo .now) (c .before .before .before .before .before .before .before .before .before .before .before .before .before .before .before .before .before .args .hi .now) (c .before .before .before .before .before .before .before .before .before .before .before .before .before .before .before .before .before .args .trail .nodes) (c .before .before .before .before .before .before .before .before .before .before .before .before .before .before .before .before .before .args .trail .lifts) (pathIn (c .before .before .before .before .before .before .before .before .before .before .before .before .before .before .before .before .before .args .prefix)) (c .before .before .before .before .before .before .before .before .before .before .before .before .before .before .before .before .before .args .trail .depth) (c .before .before .before .before .before .before .before .before .before .loop .notes) (c .before .before .before .before .before .before .before .before .before .loop .n) (c .before .before .before .before .before .before .before .before .before .loop .d) (c .before .before .before .before .before .before .before .before .before .loop .inv .3) (c .before .before .before .before .before .before .before .read-length .result) _ _ _ (omega arith) (c .before .before .before .before .before .before .before .read-length .ensures .0) (prefix-rest (c .before .before .before .before .before .before .before .before .before .before .before .before .before .before .before .before .before .args .prefix) _ (a .lifted)) (c .before .before .before .note-entries .ensures) (omega arith))
+loop-again c = let a = c .before .before .before .before .before .before .before .before .before .before .before .before .before .before .before .before .before .pre .1 .each (c .before .before .before .before .before .before .before .before .before .loop .d - 1) (omega arith) in (omega arith, omega arith, search needs, trailing-on (c .before .before .before .before .before .before .before .before .before .before .before .before .before .before .before .before .before .args .store .now) (c .before .before .before .before .before .before .before .before .before .before .before .before .before .before .before .before .before .args .lo .now) (c .before .before .before .before .before .before .before .before .before .before .before .before .before .before .before .before .before .args .hi .now) (c .before .before .before .before .before .before .before .before .before .before .before .before .before .before .before .before .before .args .trail .nodes) (c .before .before .before .before .before .before .before .before .before .before .before .before .before .before .before .before .before .args .trail .lifts) (pathIn (c .before .before .before .before .before .before .before .before .before .before .before .before .before .before .before .before .before .args .prefix)) (c .before .before .before .before .before .before .before .before .before .before .before .before .before .before .before .before .before .args .trail .depth) (c .before .before .before .before .before .before .before .before .before .loop .notes) (c .before .before .before .before .before .before .before .before .before .loop .n) (c .before .before .before .before .before .before .before .before .before .loop .d) (c .before .before .before .before .before .before .before .before .before .loop .inv .3) (c .before .before .before .before .before .before .before .entries-of .result) _ _ _ (omega arith) (c .before .before .before .before .before .before .before .entries-of .ensures) (prefix-rest (c .before .before .before .before .before .before .before .before .before .before .before .before .before .before .before .before .before .args .prefix) _ (a .lifted)) (c .before .before .before .note-entries .ensures) (omega arith))
 
 same-length-2 : tie.Need-same-length-2 Inv-loop μ-loop
 same-length-2 c = search needs
@@ -91,10 +75,7 @@ note-trail-spec =
     array-read-num
     mul-k
     array-read-k
-    mul-at
-    read-length-requires
-    add-from
-    add-end
+    entries-of-requires
     sub-note-entries
     part-note-entries-start
     part-note-entries-end

@@ -1,12 +1,5 @@
 -- Step lemmas of the functions on one note: what each exit owes.
-use Prim.Native.Nat.{ℕ, zero, suc, _+_, _-_, _*_, _/_, _%_, _<_, _≤_}
-use mathlib.Core.Path.{_≡_, refl, sym, ap, ap₂, _∙_}
-use mathlib.Core.List.{List, [], _∷_, _++_}
-use mathlib.Core.Bool.{Bool, true, false, _&&_, not, cond, true≢false, false≢true, and-true}
-use native.Mathlib.Omega.{arith}
-use lib.ListN.{length, drop, take, getD}
-use lib.Dec.{eqb}
-use borrow.Author.Tests.{eqb-true, ne-eqb}
+use Rattle.image.specs.Prelude.{ℕ, zero, suc, _+_, _-_, _*_, _/_, _%_, _<_, _≤_, _≡_, refl, sym, ap, ap₂, _∙_, List, [], _∷_, _++_, Bool, true, false, _&&_, not, cond, true≢false, false≢true, and-true, arith, length, drop, take, getD, eqb, eqb-true, ne-eqb}
 use Rattle.image.specs.Bytes.{same, before, begins, shared}
 use Rattle.image.specs.Path.{owns}
 use Rattle.octets.specs.Order.{and-false, not-so, not-true, same-eq, same-false, before-le, before-total, before-asym, between-begins, begins-trans, begins-append, same-append}

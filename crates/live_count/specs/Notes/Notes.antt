@@ -1,10 +1,5 @@
 -- Notes of messages: what a note says of a key, and what it is to note the messages of a node for a leaf. Definitions only.
-use Prim.Native.Nat.{ℕ, zero, suc, _+_, _-_, _/_, _%_, _<_, _≤_}
-use mathlib.Core.Path.{_≡_}
-use mathlib.Core.List.{List, [], _∷_, _++_}
-use mathlib.Core.Bool.{Bool, true, false, _&&_, not}
-use lib.ListN.{length, getD}
-use lib.Dec.{eqb}
+use Rattle.image.specs.Prelude.{ℕ, zero, suc, _+_, _-_, _/_, _%_, _<_, _≤_, _≡_, List, [], _∷_, _++_, Bool, true, false, _&&_, not, length, getD, eqb}
 use Rattle.image.specs.Bytes.{same, before, begins}
 use Rattle.image.specs.Path.{owns}
 use Rattle.image.specs.Entry as defined

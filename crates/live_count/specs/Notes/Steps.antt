@@ -1,15 +1,5 @@
 -- Step lemmas of the functions that note the messages of a node, and count what no note is on.
-use Prim.Native.Nat.{ℕ, zero, suc, _+_, _-_, _/_, _%_, _<_, _≤_}
-use mathlib.Core.Path.{_≡_, refl, sym, ap, ap₂, subst, _∙_}
-use mathlib.Core.List.{List, [], _∷_, _++_}
-use mathlib.Core.Bool.{Bool, true, false, _&&_, not, cond, false≢true, and-true}
-use mathlib.Core.Option.{Option, none, some}
-use native.Mathlib.Omega.{arith}
-use native.Mathlib.Numerals.{add-one}
-use lib.ListN.{length, getD, set}
-use lib.Seq.{getD-set-same, getD-set-other}
-use lib.Dec.{leb, eqb}
-use borrow.Author.Tests.{leb-true, leb-false}
+use Rattle.image.specs.Prelude.{ℕ, zero, suc, _+_, _-_, _/_, _%_, _<_, _≤_, _≡_, refl, sym, ap, ap₂, subst, _∙_, List, [], _∷_, _++_, Bool, true, false, _&&_, not, cond, false≢true, and-true, Option, none, some, arith, length, getD, set, getD-set-same, getD-set-other, leb, eqb, leb-true, leb-false, add-one}
 use Rattle.image.specs.Bytes.{same, begins}
 use Rattle.image.specs.Path.{owns}
 use Rattle.image.specs.Entry as defined

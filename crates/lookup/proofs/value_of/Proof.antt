@@ -1,7 +1,7 @@
+-- `value_of` meets its contract. Relies on specs/Root and specs/Look.
 use Rattle.lookup.specs.Root.{long-enough, root-usable, root-answers}
 use Rattle.lookup.specs.Look.{finds-as}
-use native.Mathlib.Omega.{arith}
-use borrow.Author.Needs.{needs}
+use Rattle.image.specs.Prelude.{arith, needs}
 use Rattle.lookup.proofs.value_of.Statement.{statement}
 use Rattle.lookup.proofs.value_of.Tie as tie
 

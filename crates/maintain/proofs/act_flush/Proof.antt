@@ -1,4 +1,5 @@
-use borrow.Author.Needs.{needs}
+-- `act_flush` meets its contract. Relies on specs/Steps.
+use Rattle.image.specs.Prelude.{needs}
 use Rattle.push.specs.Callers.{done-is, no-room-is}
 use Rattle.maintain.specs.Steps.{pushed-passed, pushed-flushes, unpushed-passed, unpushed-flushes}
 use Rattle.maintain.proofs.act_flush.Statement.{statement}

@@ -1,6 +1,6 @@
 -- `act_heal` meets its contract: the children are joined, then the work area is cleared.
 -- Relies on specs/Steps.
-use borrow.Author.Needs.{needs}
+use Rattle.image.specs.Prelude.{needs}
 use Rattle.maintain.specs.Steps.{healed-passed, healed-upheld}
 use Rattle.maintain.proofs.act_heal.Statement.{statement}
 use Rattle.maintain.proofs.act_heal.Tie as tie

@@ -1,7 +1,6 @@
 -- `maintain::is_interior` meets its contract: each test against the marks and the kind of the node (specs/Interior).
 -- Assumes nothing.
-use native.Mathlib.Omega.{arith}
-use borrow.Author.Needs.{needs}
+use Rattle.image.specs.Prelude.{arith, needs}
 use Rattle.rebuild.specs.RebuildSteps.{node-count}
 use Rattle.maintain.specs.Interior.{past-end, unmarked, marked}
 use Rattle.maintain.proofs.is_interior.Statement.{statement}

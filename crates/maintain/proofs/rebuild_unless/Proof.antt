@@ -1,8 +1,6 @@
 -- `maintain::rebuild_unless` meets its contract: either the work area alone is cleared, or the store is rebuilt (specs/Steps).
 -- Assumes nothing.
-use native.Mathlib.Omega.{arith}
-use mathlib.Core.Path.{refl}
-use borrow.Author.Needs.{needs}
+use Rattle.image.specs.Prelude.{arith, refl, needs}
 use Rattle.rebuild.specs.RebuildSteps.{node-count}
 use Rattle.maintain.specs.Steps.{stayed, rebuilt}
 use Rattle.maintain.proofs.rebuild_unless.Statement.{statement}

@@ -1,6 +1,6 @@
 -- `maintain::settle_fit` meets its contract, by specs/Steps.
 use Rattle.maintain.specs.Steps.{settled-done}
-use borrow.Author.Needs.{needs}
+use Rattle.image.specs.Prelude.{needs}
 use Rattle.maintain.proofs.settle_fit.Statement.{statement}
 use Rattle.maintain.proofs.settle_fit.Tie as tie
 

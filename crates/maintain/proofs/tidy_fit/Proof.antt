@@ -1,6 +1,6 @@
 -- `maintain::tidy_fit` meets its contract, by specs/Steps.
 use Rattle.maintain.specs.Steps.{tidied-done}
-use borrow.Author.Needs.{needs}
+use Rattle.image.specs.Prelude.{needs}
 use Rattle.maintain.proofs.tidy_fit.Statement.{statement}
 use Rattle.maintain.proofs.tidy_fit.Tie as tie
 

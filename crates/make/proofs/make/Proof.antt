@@ -1,5 +1,5 @@
-use borrow.Author.Needs.{needs}
-use borrow.Author.Tests.{not-true, not-false}
+-- `make` meets its contract. Relies on specs/Steps.
+use Rattle.image.specs.Prelude.{needs, not-true, not-false}
 use Rattle.make.specs.Steps.{make-refused, make-done, room}
 use Rattle.make.proofs.make.Statement.{statement}
 use Rattle.make.proofs.make.Tie as tie

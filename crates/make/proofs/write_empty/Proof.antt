@@ -1,6 +1,5 @@
 -- `write_empty` meets its contract: zeros, node 0 and one leaf. Relies on specs/Steps.
-use borrow.Author.Needs.{needs}
-use native.Mathlib.Omega.{arith}
+use Rattle.image.specs.Prelude.{needs, arith}
 use Rattle.make.specs.Steps.{writes-empty}
 use Rattle.make.proofs.write_empty.Statement.{statement}
 use Rattle.make.proofs.write_empty.Tie as tie

@@ -1,8 +1,6 @@
 -- `emit_both` meets its contract.
 -- Relies on specs/EmitSteps.
-use borrow.Author.Needs.{needs}
-use native.Mathlib.Omega.{arith}
-use mathlib.Core.Path.{_∙_}
+use Rattle.image.specs.Prelude.{needs, arith, _∙_}
 use Rattle.merge.specs.EmitSteps.{both-join, left-part, right-part, left-fits, both-fit, both-put}
 use Rattle.merge.proofs.emit_both.Statement.{statement}
 use Rattle.merge.proofs.emit_both.Tie as tie

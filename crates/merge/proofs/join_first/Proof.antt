@@ -1,11 +1,6 @@
 -- `join_first` meets its contract: the two children in hand are joined if one node holds them, or the search goes on.
 -- Relies on specs/JoinSteps and on node's reader of children.
-use borrow.Author.Needs.{needs}
-use native.Mathlib.Omega.{arith}
-use lib.ListN.{length}
-use mathlib.Core.List.{_∷_}
-use mathlib.Core.Path.{_≡_, refl, sym, ap}
-use Prim.Native.Nat.{_≤_, _-_}
+use Rattle.image.specs.Prelude.{needs, arith, length, _∷_, _≡_, refl, sym, ap, _≤_, _-_}
 use Rattle.node.specs.Search.Own.{branch, branchesAmong}
 use Rattle.node.specs.Entries.{listed}
 use Rattle.node.specs.Places.{Within, part}
@@ -25,16 +20,16 @@ abbrev μ-loop : tie.MeasureT-loop
 μ-loop store₀ parent node hi first second c₀ left₀ low₀ right₀ mid₀ store c left low right mid = c .end - c .at
 
 first-next : (c : tie.After-known-told Inv-loop μ-loop) → NextChild (c .before .before .before .before .before .before .before .args .node .now) 8 (c .before .before .before .before .before .before .before .args .parent .stop) (c .before .first .given .0 .0) (c .before .first .given .0 .1 .0) (c .before .first .given .0 .1 .1 .0)
-first-next c = pends-child _ _ _ _ _ _ _ (c .before .before .before .read-child .ensures) (c .before .first .given .1)
+first-next c = pends-child _ _ _ _ _ _ _ (c .before .before .before .first-child .ensures) (c .before .first .given .1)
 
 second-next : (c : tie.After-known-told2 Inv-loop μ-loop) → NextChild (c .before .before .before .before .before .before .before .before .before .before .before .args .node .now) (c .before .before .before .before .before .first .given .0 .1 .1 .0 .at) (c .before .before .before .before .before .first .given .0 .1 .1 .0 .end) (c .before .second .given .0 .0) (c .before .second .given .0 .1 .0) (c .before .second .given .0 .1 .1 .0)
-second-next c = pends-child _ _ _ _ _ _ _ (c .before .before .before .read-child2 .ensures) (c .before .second .given .1)
+second-next c = pends-child _ _ _ _ _ _ _ (c .before .before .before .read-child .ensures) (c .before .second .given .1)
 
 branch-next : (c : tie.After-known-told3 Inv-loop μ-loop) → NextChild (c .before .before .before .before .before .before .before .before .before .before .before .before .before .before .before .before .args .node .now) (c .before .before .before .before .loop .c .at) (c .before .before .before .before .loop .c .end) (c .before .k .given .0 .0) (c .before .k .given .0 .1 .0) (c .before .k .given .0 .1 .1 .0)
-branch-next c = pends-child _ _ _ _ _ _ _ (c .before .before .before .read-child3 .ensures) (c .before .k .given .1)
+branch-next c = pends-child _ _ _ _ _ _ _ (c .before .before .before .read-child2 .ensures) (c .before .k .given .1)
 
-read-child-requires : tie.Need-read-child-requires Inv-loop μ-loop
-read-child-requires c κs = c .before .before .before .pre .ends
+first-child-requires : tie.Need-first-child-requires Inv-loop μ-loop
+first-child-requires c κs = c .before .before .before .pre .ends
 
 enum-known-first : tie.Need-enum-known-first Inv-loop μ-loop
 enum-known-first c = search needs
@@ -43,10 +38,10 @@ enum-told : tie.Need-enum-told Inv-loop μ-loop
 enum-told c = search needs
 
 returns : tie.Need-returns Inv-loop μ-loop
-returns c = first-none (c .before .before .before .before .before .before .args .parent .num) (c .before .before .before .before .before .before .args .parent .level) (listed (c .before .before .before .before .before .before .args .node .now) 8 (c .before .before .before .before .before .before .args .parent .stop)) (c .before .before .before .before .before .before .args .hi .now) (c .before .before .before .before .before .before .args .store .now) _ (pends-end _ _ _ _ (c .before .before .read-child .ensures) (c .enum-told .given .1))
+returns c = first-none (c .before .before .before .before .before .before .args .parent .num) (c .before .before .before .before .before .before .args .parent .level) (listed (c .before .before .before .before .before .before .args .node .now) 8 (c .before .before .before .before .before .before .args .parent .stop)) (c .before .before .before .before .before .before .args .hi .now) (c .before .before .before .before .before .before .args .store .now) _ (pends-end _ _ _ _ (c .before .before .first-child .ensures) (c .enum-told .given .1))
 
-read-child-requires-2 : tie.Need-read-child-requires-2 Inv-loop μ-loop
-read-child-requires-2 c κs = let n = first-next (c) in let e = c .before .before .before .before .before .before .before .pre .ends in omega arith
+read-child-requires : tie.Need-read-child-requires Inv-loop μ-loop
+read-child-requires c κs = let n = first-next (c) in let e = c .before .before .before .before .before .before .before .pre .ends in omega arith
 
 enum-known-second : tie.Need-enum-known-second Inv-loop μ-loop
 enum-known-second c = search needs
@@ -55,13 +50,13 @@ enum-told-2 : tie.Need-enum-told-2 Inv-loop μ-loop
 enum-told-2 c = search needs
 
 returns-2 : tie.Need-returns-2 Inv-loop μ-loop
-returns-2 c = let n = first-next (c .before .before .before) in first-one (c .before .before .before .before .before .before .before .before .before .before .args .parent .num) (c .before .before .before .before .before .before .before .before .before .before .args .parent .level) (listed (c .before .before .before .before .before .before .before .before .before .before .args .node .now) 8 (c .before .before .before .before .before .before .before .before .before .before .args .parent .stop)) (c .before .before .before .before .before .before .before .before .before .before .args .hi .now) (c .before .before .before .before .before .before .before .before .before .before .args .store .now) _ _ _ (n .lists) (pends-end _ _ _ _ (c .before .before .read-child2 .ensures) (c .enum-told2 .given .1))
+returns-2 c = let n = first-next (c .before .before .before) in first-one (c .before .before .before .before .before .before .before .before .before .before .args .parent .num) (c .before .before .before .before .before .before .before .before .before .before .args .parent .level) (listed (c .before .before .before .before .before .before .before .before .before .before .args .node .now) 8 (c .before .before .before .before .before .before .before .before .before .before .args .parent .stop)) (c .before .before .before .before .before .before .before .before .before .before .args .hi .now) (c .before .before .before .before .before .before .before .before .before .before .args .store .now) _ _ _ (n .lists) (pends-end _ _ _ _ (c .before .before .read-child .ensures) (c .enum-told2 .given .1))
 
 loop-holds : tie.Need-loop-holds Inv-loop μ-loop
 loop-holds c = let n = first-next (c .before .before .before .before) in let m = second-next (c) in let e = c .before .before .before .before .before .before .before .before .before .before .before .pre .ends in let z = branches-two _ _ _ _ _ (n .lists) (m .lists) in (omega arith, n .place, m .place, refl, ap (λ l. firstJoined (c .before .before .before .before .before .before .before .before .before .before .before .args .parent .num) (c .before .before .before .before .before .before .before .before .before .before .before .args .parent .level) (listed (c .before .before .before .before .before .before .before .before .before .before .before .args .node .now) 8 (c .before .before .before .before .before .before .before .before .before .before .before .args .parent .stop)) l (c .before .before .before .before .before .before .before .before .before .before .before .args .hi .now) (c .before .before .before .before .before .before .before .before .before .before .before .args .store .now)) (sym z), ap (λ l. anyFits l (c .before .before .before .before .before .before .before .before .before .before .before .args .hi .now) (c .before .before .before .before .before .before .before .before .before .before .before .args .store .now)) (sym z))
 
-read-child-requires-3 : tie.Need-read-child-requires-3 Inv-loop μ-loop
-read-child-requires-3 c κs = c .loop .inv .0
+read-child-requires-2 : tie.Need-read-child-requires-2 Inv-loop μ-loop
+read-child-requires-2 c κs = c .loop .inv .0
 
 enum-known-k : tie.Need-enum-known-k Inv-loop μ-loop
 enum-known-k c = search needs
@@ -94,7 +89,7 @@ same-length : tie.Need-same-length Inv-loop μ-loop
 same-length c = let l = ap length (c .before .before .before .before .before .before .before .before .before .loop .inv .3) in search needs
 
 returns-3 : tie.Need-returns-3 Inv-loop μ-loop
-returns-3 c = let q = c .before .before .before .before .before .before .before .before .before .loop .inv .3 in first-last (c .before .before .before .before .before .before .before .before .before .before .before .before .before .before .before .before .before .before .before .before .before .args .parent .num) (c .before .before .before .before .before .before .before .before .before .before .before .before .before .before .before .before .before .before .before .before .before .args .parent .level) (listed (c .before .before .before .before .before .before .before .before .before .before .before .before .before .before .before .before .before .before .before .before .before .args .node .now) 8 (c .before .before .before .before .before .before .before .before .before .before .before .before .before .before .before .before .before .before .before .before .before .args .parent .stop)) (c .before .before .before .before .before .before .before .before .before .before .before .before .before .before .before .before .before .before .before .before .before .args .hi .now) (c .before .before .before .before .before .before .before .before .before .before .before .before .before .before .before .before .before .before .before .before .before .args .store .now) (c .before .before .before .before .before .before .before .before .before .loop .left) (c .before .before .before .before .before .before .before .before .before .loop .right) (part (c .before .before .before .before .before .before .before .before .before .before .before .before .before .before .before .before .before .before .before .before .before .args .node .now) (c .before .before .before .before .before .before .before .before .before .loop .low)) (part (c .before .before .before .before .before .before .before .before .before .before .before .before .before .before .before .before .before .before .before .before .before .args .node .now) (c .before .before .before .before .before .before .before .before .before .loop .mid)) (branchesAmong (listed (c .before .before .before .before .before .before .before .before .before .before .before .before .before .before .before .before .before .before .before .before .before .args .node .now) (c .before .before .before .before .before .before .before .before .before .loop .c .at) (c .before .before .before .before .before .before .before .before .before .loop .c .end))) _ _ _ _ (c .before .before .before .before .before .before .before .before .before .loop .inv .4) (c .before .before .before .before .before .before .before .before .before .loop .inv .5) (pends-end _ _ _ _ (c .before .before .before .before .before .before .before .before .read-child3 .ensures) (c .before .before .before .before .before .before .enum-told3 .given .1)) (rw q at (c .before .before .join-fitting .ensures .0)) (rw q at (c .before .before .join-fitting .ensures .1))
+returns-3 c = let q = c .before .before .before .before .before .before .before .before .before .loop .inv .3 in first-last (c .before .before .before .before .before .before .before .before .before .before .before .before .before .before .before .before .before .before .before .before .before .args .parent .num) (c .before .before .before .before .before .before .before .before .before .before .before .before .before .before .before .before .before .before .before .before .before .args .parent .level) (listed (c .before .before .before .before .before .before .before .before .before .before .before .before .before .before .before .before .before .before .before .before .before .args .node .now) 8 (c .before .before .before .before .before .before .before .before .before .before .before .before .before .before .before .before .before .before .before .before .before .args .parent .stop)) (c .before .before .before .before .before .before .before .before .before .before .before .before .before .before .before .before .before .before .before .before .before .args .hi .now) (c .before .before .before .before .before .before .before .before .before .before .before .before .before .before .before .before .before .before .before .before .before .args .store .now) (c .before .before .before .before .before .before .before .before .before .loop .left) (c .before .before .before .before .before .before .before .before .before .loop .right) (part (c .before .before .before .before .before .before .before .before .before .before .before .before .before .before .before .before .before .before .before .before .before .args .node .now) (c .before .before .before .before .before .before .before .before .before .loop .low)) (part (c .before .before .before .before .before .before .before .before .before .before .before .before .before .before .before .before .before .before .before .before .before .args .node .now) (c .before .before .before .before .before .before .before .before .before .loop .mid)) (branchesAmong (listed (c .before .before .before .before .before .before .before .before .before .before .before .before .before .before .before .before .before .before .before .before .before .args .node .now) (c .before .before .before .before .before .before .before .before .before .loop .c .at) (c .before .before .before .before .before .before .before .before .before .loop .c .end))) _ _ _ _ (c .before .before .before .before .before .before .before .before .before .loop .inv .4) (c .before .before .before .before .before .before .before .before .before .loop .inv .5) (pends-end _ _ _ _ (c .before .before .before .before .before .before .before .before .read-child2 .ensures) (c .before .before .before .before .before .before .enum-told3 .given .1)) (rw q at (c .before .before .join-fitting .ensures .0)) (rw q at (c .before .before .join-fitting .ensures .1))
 
 sub-join-fitting-3 : tie.Need-sub-join-fitting-3 Inv-loop μ-loop
 sub-join-fitting-3 c = let w = c .before .before .before .before .before .loop .inv .1 in let v = c .before .before .before .before .before .loop .inv .2 in omega arith
@@ -144,16 +139,16 @@ join-first-spec =
     (tie.spec
     Inv-loop
     μ-loop
-    read-child-requires
+    first-child-requires
     enum-known-first
     enum-told
     returns
-    read-child-requires-2
+    read-child-requires
     enum-known-second
     enum-told-2
     returns-2
     loop-holds
-    read-child-requires-3
+    read-child-requires-2
     enum-known-k
     enum-told-3
     sub-join-fitting

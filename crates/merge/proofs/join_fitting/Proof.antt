@@ -1,6 +1,6 @@
 -- `join_fitting` meets its contract.
 -- Relies on specs/JoinSteps.
-use borrow.Author.Needs.{needs}
+use Rattle.image.specs.Prelude.{needs}
 use Rattle.node.specs.Entries.{listed}
 use Rattle.merge.specs.JoinSteps.{not-joined, do-fit, are-joined, room-stays}
 use Rattle.merge.proofs.join_fitting.Statement.{statement}

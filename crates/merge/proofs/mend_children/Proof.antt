@@ -1,6 +1,6 @@
 -- `mend_children` meets its contract: the heal of the node with the high pivot that was found.
 -- Relies on specs/NodeSteps and on push's high.
-use borrow.Author.Needs.{needs}
+use Rattle.image.specs.Prelude.{needs}
 use Rattle.merge.specs.NodeSteps.{not-missing, not-long, mendable}
 use Rattle.merge.proofs.mend_children.Statement.{statement}
 use Rattle.merge.proofs.mend_children.Tie as tie

@@ -1,8 +1,6 @@
 -- `mend_node` meets its contract: after each step the image is the first one with so many pairs merged, and there is a child less.
 -- Relies on specs/NodeSteps and on Laws/Mended.
-use borrow.Author.Needs.{needs}
-use lib.ListN.{length}
-use mathlib.Core.Path.{_≡_, refl}
+use Rattle.image.specs.Prelude.{needs, length, _≡_, refl}
 use Rattle.merge.specs.Laws.Mended.{Mendable, SoFar, branchesLeft, starts}
 use Rattle.merge.specs.NodeSteps.{goes, is-done}
 use Rattle.merge.proofs.mend_node.Statement.{statement}

@@ -1,26 +1,26 @@
 -- `mend_once` meets its contract: the copy of the node lists the node's entries.
 -- Relies on specs/NodeSteps.
-use borrow.Author.Needs.{needs}
-use native.Mathlib.Omega.{arith}
+use Rattle.image.specs.Prelude.{needs, arith}
 use Rattle.laws.specs.Page.{zerosOf}
-use Rattle.merge.specs.NodeSteps.{node-in, room, once-done}
+use Rattle.merge.specs.Laws.Mended.{node-inside}
+use Rattle.merge.specs.NodeSteps.{room, once-done}
 use Rattle.merge.proofs.mend_once.Statement.{statement}
 use Rattle.merge.proofs.mend_once.Tie as tie
 
 mul-at : tie.Need-mul-at
-mul-at c = let i = node-in (c .before .before .args .store .now) (c .before .before .args .num) (c .before .before .args .hi .now) (c .before .before .pre) in omega arith
+mul-at c = let i = node-inside (c .before .before .args .store .now) (c .before .before .args .num) (c .before .before .args .hi .now) (c .before .before .pre) in omega arith
 
 read-length-requires : tie.Need-read-length-requires
-read-length-requires c κs = let i = node-in (c .before .before .before .args .store .now) (c .before .before .before .args .num) (c .before .before .before .args .hi .now) (c .before .before .before .pre) in omega arith
+read-length-requires c κs = let i = node-inside (c .before .before .before .args .store .now) (c .before .before .before .args .num) (c .before .before .before .args .hi .now) (c .before .before .before .pre) in omega arith
 
 read-level-requires : tie.Need-read-level-requires
-read-level-requires c κs = let i = node-in (c .before .before .before .before .before .args .store .now) (c .before .before .before .before .before .args .num) (c .before .before .before .before .before .args .hi .now) (c .before .before .before .before .before .pre) in omega arith
+read-level-requires c κs = let i = node-inside (c .before .before .before .before .before .args .store .now) (c .before .before .before .before .before .args .num) (c .before .before .before .before .before .args .hi .now) (c .before .before .before .before .before .pre) in omega arith
 
 add-stop : tie.Need-add-stop
 add-stop c = search needs
 
 add-end : tie.Need-add-end
-add-end c = let i = node-in (c .before .before .before .before .before .before .args .store .now) (c .before .before .before .before .before .before .args .num) (c .before .before .before .before .before .before .args .hi .now) (c .before .before .before .before .before .before .pre) in omega arith
+add-end c = let i = node-inside (c .before .before .before .before .before .before .args .store .now) (c .before .before .before .before .before .before .args .num) (c .before .before .before .before .before .before .args .hi .now) (c .before .before .before .before .before .before .pre) in omega arith
 
 slice-aggregate-copy-at : tie.Need-slice-aggregate-copy-at
 slice-aggregate-copy-at c = search needs
@@ -32,7 +32,7 @@ part-copy-at-start : tie.Need-part-copy-at-start
 part-copy-at-start c = search needs
 
 part-copy-at-end : tie.Need-part-copy-at-end
-part-copy-at-end c = let i = node-in (c .before .before .before .before .before .before .before .before .args .store .now) (c .before .before .before .before .before .before .before .before .args .num) (c .before .before .before .before .before .before .before .before .args .hi .now) (c .before .before .before .before .before .before .before .before .pre) in omega arith
+part-copy-at-end c = let i = node-inside (c .before .before .before .before .before .before .before .before .args .store .now) (c .before .before .before .before .before .before .before .before .args .num) (c .before .before .before .before .before .before .before .before .args .hi .now) (c .before .before .before .before .before .before .before .before .pre) in omega arith
 
 copy-at-requires : tie.Need-copy-at-requires
 copy-at-requires c κs = search needs

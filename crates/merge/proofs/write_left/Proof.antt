@@ -1,7 +1,6 @@
 -- `write_left` meets its contract.
 -- Relies on specs/EmitSteps.
-use borrow.Author.Needs.{needs}
-use native.Mathlib.Omega.{arith}
+use Rattle.image.specs.Prelude.{needs, arith}
 use Rattle.laws.specs.Page.{zerosOf}
 use Rattle.merge.specs.EmitSteps.{both-join, both-small, left-written}
 use Rattle.merge.proofs.write_left.Statement.{statement}

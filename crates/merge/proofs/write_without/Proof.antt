@@ -1,7 +1,6 @@
 -- `write_without` meets its contract.
 -- Relies on specs/EmitSteps.
-use borrow.Author.Needs.{needs}
-use native.Mathlib.Omega.{arith}
+use Rattle.image.specs.Prelude.{needs, arith}
 use Rattle.laws.specs.Page.{zerosOf}
 use Rattle.node.specs.Entries.{listed}
 use Rattle.merge.specs.Laws.Weights.{without-fits}

@@ -1,13 +1,5 @@
 -- What two neighbouring children weigh is what upkeep's `wouldFit` counts, and what is written for both is the entries of `merged`.
-use Prim.Native.Nat.{ℕ, zero, suc, _+_, _-_, _*_, _≤_, _<_}
-use mathlib.Core.Path.{_≡_, refl, sym, ap, ap₂, subst, _∙_}
-use mathlib.Core.List.{List, [], _∷_, _++_, append-assoc, append-nil}
-use mathlib.Core.Bool.{Bool, true, false, _&&_, cond, false≢true}
-use native.Mathlib.Omega.{arith}
-use lib.ListN.{length, drop, length-append}
-use lib.Seq.{drop-append-add, drop-append-le}
-use lib.Dec.{ltb, leb}
-use borrow.Author.Tests.{leb-true, leb-false, le-leb, lt-leb, ltb-true, lt-ltb}
+use Rattle.image.specs.Prelude.{ℕ, zero, suc, _+_, _-_, _*_, _≤_, _<_, _≡_, refl, sym, ap, ap₂, subst, _∙_, List, [], _∷_, _++_, append-assoc, append-nil, Bool, true, false, _&&_, cond, false≢true, arith, length, drop, length-append, drop-append-add, drop-append-le, ltb, leb, leb-true, leb-false, le-leb, lt-leb, ltb-true, lt-ltb}
 use Rattle.image.specs.Bytes.{before, begins, shared, u16}
 use Rattle.image.specs.Entry.{Message, Entry, pair, child, message}
 use Rattle.image.specs.Table.{Row}
@@ -22,13 +14,11 @@ use Rattle.laws.specs.Encode.{bytesOfAll}
 use Rattle.laws.specs.Page.{numberOf, pairEntries, childEntries, number-read}
 use Rattle.laws.specs.Reading.Relative.{usable, usableIn, number-under}
 use Rattle.laws.specs.Upkeep.Merge.{rewritten, repointed, followed, merged, Pair}
-use Rattle.laws.specs.Upkeep.Size.{messageEntries, entriesFor, bytes-append}
-use Rattle.laws.specs.Upkeep.Reading.{inside-entries}
+use Rattle.laws.specs.Upkeep.Size.{messageEntries, entriesFor, bytes-append, pairs-for-append as pairs-more, branches-for-append as branches-more}
+use Rattle.laws.specs.Upkeep.Reading.{inside-entries, branches-for-forest as branches-for}
 use Rattle.lookup.specs.Look.{listing, LeafAt, leaf-at, InteriorAt, interior-at, node-inside}
 use Rattle.merge.specs.Laws.Joined.{prefixed, prefixedAll, weight, weights, nodeWeight, leftMore, rightMore, pairFits, smallEntry, smallEntries, bothEntries}
 use Rattle.merge.specs.Laws.Weights.{weights-rise}
-use Rattle.laws.specs.Upkeep.Size.{pairs-for-append as pairs-more, branches-for-append as branches-more}
-use Rattle.laws.specs.Upkeep.Reading.{branches-for-forest as branches-for}
 use Rattle.push.specs.Laws.LeafLaws.{pairs-entries}
 
 -- THE SUM OF ALL WEIGHTS

@@ -1,13 +1,5 @@
 -- The high pivot of a node without what it lifts is short: it is the root's, or a pivot that an entry holds.
-use Prim.Native.Nat.{ℕ, zero, suc, _≤_}
-use mathlib.Core.Path.{_≡_, refl, sym, ap, subst, _∙_}
-use mathlib.Core.List.{List, [], _∷_, _++_}
-use mathlib.Core.Bool.{Bool, true, false, _&&_, cond}
-use mathlib.Core.Option.{Option, none, some, Option·some-injective, Option·none-ne-some}
-use native.Mathlib.Omega.{arith}
-use lib.ListN.{length, drop, length-drop}
-use lib.Dec.{leb, eqb}
-use borrow.Author.Tests.{leb-true}
+use Rattle.image.specs.Prelude.{ℕ, zero, suc, _≤_, _≡_, refl, sym, ap, subst, _∙_, List, [], _∷_, _++_, Bool, true, false, _&&_, cond, Option, none, some, Option·some-injective, Option·none-ne-some, arith, length, drop, length-drop, leb, eqb, leb-true}
 use Rattle.image.specs.Entry.{Entry}
 use Rattle.image.specs.Table.{Row}
 use Rattle.image.specs.Image.{Tree, unread, leaf, interior, Forest, end, tree, Branch, Inside, nodeBytes, nodeEntries, pairsOf, insideOf, orNone, forestOf, leafOf, interiorOf, treeAt}

@@ -1,10 +1,6 @@
 -- Two neighbouring children of a node as one, as the code weighs and writes them: pivots and suffixes are without what the node lifts.
 -- Definitions only; the laws that join them to upkeep's `joinAt` stand beside.
-use Prim.Native.Nat.{ℕ, _+_, _*_}
-use mathlib.Core.List.{List, [], _∷_, _++_}
-use mathlib.Core.Bool.{Bool, true, false, _&&_, cond}
-use lib.ListN.{length, drop}
-use lib.Dec.{ltb, leb, eqb}
+use Rattle.image.specs.Prelude.{ℕ, _+_, _*_, List, [], _∷_, _++_, Bool, true, false, _&&_, cond, length, drop, ltb, leb, eqb}
 use Rattle.image.specs.Bytes.{u16, shared}
 use Rattle.image.specs.Entry.{Entry, pair, child, message}
 use Rattle.image.specs.Image.{Branch, nodesOf}

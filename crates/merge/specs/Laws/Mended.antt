@@ -1,13 +1,6 @@
 -- Heal as the code takes it, a step at a time: the first two neighbours that fit are joined, the image stays sound with the same table, and
 -- where there are none upkeep's rule holds. Relies on upkeep's HealWrite and Rules, and on Search for what the code finds and writes.
-use Prim.Native.Nat.{ℕ, zero, suc, _+_, _*_, _-_, _≤_, _<_}
-use mathlib.Core.Path.{_≡_, refl, sym, ap, ap₂, _∙_}
-use mathlib.Core.List.{List, [], _∷_, _++_}
-use mathlib.Core.Bool.{Bool, true, false, not, cond, true≢false}
-use mathlib.Core.Option.{none, some, Option·some-injective, Option·none-ne-some}
-use native.Mathlib.Omega.{arith}
-use lib.ListN.{length}
-use borrow.Author.Tests.{lt-ltb}
+use Rattle.image.specs.Prelude.{ℕ, zero, suc, _+_, _*_, _≤_, _<_, _≡_, refl, sym, ap, ap₂, _∙_, List, [], _∷_, _++_, Bool, true, false, not, cond, true≢false, none, some, Option·some-injective, Option·none-ne-some, arith, length, lt-ltb}
 use Rattle.image.specs.Bytes.{shared, u16}
 use Rattle.image.specs.Entry.{Entry}
 use Rattle.image.specs.Image.{Tree, interior, Forest, end, tree, Branch, nodeBytes, forestOf, treeAt, treeOf, nodesOf, wholeNodes, header, headerOf}
@@ -16,22 +9,21 @@ use Rattle.image.specs.Sound.{sound, soundForest, tableOf, numbersIn, once, low
 use Rattle.image.specs.Upkeep.{Reachable, reachable, reachableAt, reachableNodes, unmergeable, unmergeableAt, healed}
 use Rattle.image.specs.Calls.{heal}
 use Rattle.image.specs.Contract.{hasChildren, isInterior, upkeepRule}
-use Rattle.octets.specs.Order.{and-left, begins-split}
+use Rattle.octets.specs.Order.{begins-split, not-true}
 use Rattle.octets.specs.Beginnings.{shared-right}
 use Rattle.laws.specs.Rising.{both}
 use Rattle.laws.specs.Encode.{bytesOfAll}
 use Rattle.laws.specs.Page.{page, childEntries}
 use Rattle.laws.specs.WriteNode.{writeNode}
-use Rattle.laws.specs.Reading.Relative.{branchHigh, usable, usableIn, sound-usable-in}
+use Rattle.laws.specs.Reading.Relative.{branchHigh, usable, usableIn, sound-usable-in, rest-left as range-later}
 use Rattle.laws.specs.Upkeep.Sublists.{range-sub}
 use Rattle.laws.specs.Upkeep.Merge.{merged, tallIn}
 use Rattle.laws.specs.Upkeep.Size.{messageEntries, entriesFor, sizeOf}
 use Rattle.laws.specs.Upkeep.Join.{joins, joinAt, firstPair, mended, branchCount, heads}
 use Rattle.laws.specs.Upkeep.Loop.{join-less}
 use Rattle.laws.specs.Upkeep.Alter.{altered, onBranches}
-use Rattle.laws.specs.Upkeep.Healed.{goodPlace, place-test, places-good, rechilded, rechild, place-altered}
+use Rattle.laws.specs.Upkeep.Healed.{rechilded, rechild, place-altered}
 use Rattle.laws.specs.Upkeep.Steps.{stepped}
-use Rattle.laws.specs.Upkeep.Bridge.{image-tall}
 use Rattle.laws.specs.Upkeep.Page.{pageOf}
 use Rattle.laws.specs.Upkeep.HealImage.{pageFor, pairAt, leftAt, mergedAt}
 use Rattle.laws.specs.Upkeep.HealWrite.{stepBytes, wrote-length, wrote-zero, wrote-first, wrote-keeps}
@@ -40,12 +32,14 @@ use Rattle.node.specs.Search.Own.{branchesAmong}
 use Rattle.lookup.specs.Look.{listing}
 use Rattle.push.specs.Laws.High.{highHere}
 use Rattle.push.specs.Laws.HighLaws.{ownHigh, some-here}
-use Rattle.push.specs.Laws.PushedDown.{interior-place, few-nodes, at-place, whole-sound, whole-range, branches-high, two-levels, l, level-is, node-there, sub, n-range, inside, short, stored-level, lists, forest-is, heads-are, branches-once, good-entries}
+use Rattle.push.specs.Laws.PushedDown.{interior-place, few-nodes, at-place, l, level-is, at, inside, short, stored-level, lists, forest-is, heads-are, branches-once, good-entries}
 use Rattle.merge.specs.Laws.Joined.{withoutChild, pairFits, pairJoined, firstJoined, anyFits, smallEntries}
 use Rattle.merge.specs.Laws.HighShort.{tree-short, here-short}
 use Rattle.merge.specs.Laws.Fits.{lists-tree, tree-small}
 use Rattle.merge.specs.Laws.Search.{rightAt, entries-join, any-mergeable, first-joined}
-use Rattle.laws.specs.Reading.Relative.{rest-left as range-later}
+use Rattle.laws.specs.Upkeep.Site.{Site}
+use Rattle.laws.specs.ButLive.{sound-parts}
+use Rattle.laws.specs.RowsRising.{is-true}
 
 -- WHAT A STEP RELIES ON: node n is an interior node of a sound image, and h is its high pivot without what it lifts
 pub record Mendable (s : List ℕ) (n : ℕ) (h : List ℕ) : Type 0 where
@@ -102,16 +96,6 @@ stepped-end : (lifted hi : List ℕ) → stepped end lifted hi ≡ end
 unfolding stepped joinAt firstPair
 stepped-end lifted hi = refl
 
-not-flip : (a b : Bool) → a ≡ true → a ≡ not b → b ≡ false
-not-flip true true e f = absurd (true≢false f)
-not-flip true false e f = refl
-not-flip false b e f = absurd (true≢false (sym e))
-
-not-back : (a b : Bool) → a ≡ false → a ≡ not b → b ≡ true
-not-back false true e f = refl
-not-back false false e f = absurd (true≢false (sym f))
-not-back true b e f = absurd (true≢false e)
-
 -- THE NODE
 module _ (s : List ℕ) (n : ℕ) (h : List ℕ) (m : Mendable s n h) where
   abbrev pub found : (x : Reachable) × ((reachableAt n (reachableNodes s) ≡ some x) × (hasChildren (x .children) ≡ true))
@@ -150,31 +134,21 @@ module _ (s : List ℕ) (n : ℕ) (h : List ℕ) (m : Mendable s n h) where
   forest : forestOf (λ j. treeAt (suc d) s j) K ≡ x .children
   forest = forest-is s n x e p c
 
-  branches-sound : soundForest (x .children) prefix (x .low) (x .high) ≡ true
-  unfolding goodPlace
-  branches-sound =
-      and-left (soundForest (x .children) prefix (x .low) (x .high)) _
-      (place-test goodPlace n (reachable (treeOf s) (headerOf s .levels) lowest highest) x
-      (places-good (treeOf s) (headerOf s .levels) lowest highest (whole-sound s n x e p c) (image-tall s (whole-sound s n x e p c))) (at-place s n x e p c))
-
-  branches-tall : tallIn (x .children) (suc d) ≡ true
-  branches-tall =
-      let two = two-levels s n x e p c in
-      let down : x .level - 1 ≡ suc d = omega arith in
-      ap (tallIn (x .children)) (sym down) ∙ branches-high s n x e p c
+  abbrev own-site : Site s n x d
+  own-site = at s n x e p c
 
   branches-usable : usableIn (nodesOf (length s)) (x .children) ≡ true
   branches-usable =
-      sound-usable-in (x .children) (nodesOf (length s)) prefix (x .low) (x .high) branches-sound
-      (range-later (nodesOf (length s)) n (numbersIn (x .children)) (range-sub (nodesOf (length s)) (sub s n x e p c) (whole-range s n x e p c)))
+      sound-usable-in (x .children) (nodesOf (length s)) prefix (x .low) (x .high) (own-site .branches-sound)
+      (range-later (nodesOf (length s)) n (numbersIn (x .children)) (range-sub (nodesOf (length s)) (own-site .sub) (sound-parts s e .range)))
 
   own-usable : usable (nodesOf (length s)) (treeAt (x .level) s n) ≡ true
   unfolding usable
-  own-usable = ap (usable (nodesOf (length s))) (node-there s n x e p c) ∙ both (lt-ltb n (nodesOf (length s)) (n-range s n x e p c .1)) branches-usable
+  own-usable = ap (usable (nodesOf (length s))) (own-site .there) ∙ both (lt-ltb n (nodesOf (length s)) (own-site .range .1)) branches-usable
 
   own-entries : listing s n ≡ childEntries (x .children) ++ messageEntries (x .messages)
   unfolding entriesFor
-  own-entries = lists-tree s n (x .level) own-usable ∙ ap entriesFor (node-there s n x e p c)
+  own-entries = lists-tree s n (x .level) own-usable ∙ ap entriesFor (own-site .there)
 
   -- what the writers rely on
   pub node-inside : n * 1024 + 1024 ≤ length s
@@ -192,13 +166,13 @@ module _ (s : List ℕ) (n : ℕ) (h : List ℕ) (m : Mendable s n h) where
 
   -- the search
   f-sound : soundForest (forestOf (λ j. treeAt (suc d) s j) K) prefix (x .low) (prefix ++ h) ≡ true
-  f-sound = ap₂ (λ f z. soundForest f prefix (x .low) z) forest high-whole ∙ branches-sound
+  f-sound = ap₂ (λ f z. soundForest f prefix (x .low) z) forest high-whole ∙ own-site .branches-sound
 
   f-usable : usableIn (nodesOf (length s)) (forestOf (λ j. treeAt (suc d) s j) K) ≡ true
   f-usable = ap (usableIn (nodesOf (length s))) forest ∙ branches-usable
 
   f-tall : tallIn (forestOf (λ j. treeAt (suc d) s j) K) (suc d) ≡ true
-  f-tall = ap (λ f. tallIn f (suc d)) forest ∙ branches-tall
+  f-tall = ap (λ f. tallIn f (suc d)) forest ∙ own-site .branches-tall
 
   any-is : anyFits K h s ≡ not (unmergeable (x .children) prefix (x .high))
   any-is = any-mergeable s d prefix h (x .low) few K f-sound f-usable ∙ ap₂ (λ f z. not (unmergeable f prefix z)) forest high-whole
@@ -206,7 +180,7 @@ module _ (s : List ℕ) (n : ℕ) (h : List ℕ) (m : Mendable s n h) where
   -- NONE FITS: the rule holds
   pub none-fits : anyFits K h s ≡ false → unmergeableAt x ≡ true
   unfolding unmergeableAt
-  none-fits q = not-back (anyFits K h s) (unmergeable (x .children) prefix (x .high)) q any-is
+  none-fits q = is-true (unmergeable (x .children) prefix (x .high)) (sym any-is ∙ q)
 
   -- TWO FIT: the step
   module _ (q : anyFits K h s ≡ true) (level : ℕ) (lv : level ≡ u16 s (n * 1024 + 4)) where
@@ -214,10 +188,10 @@ module _ (s : List ℕ) (n : ℕ) (h : List ℕ) (m : Mendable s n h) where
     k = firstPair (x .children) prefix (x .high)
 
     some-fit : unmergeable (x .children) prefix (x .high) ≡ false
-    some-fit = not-flip (anyFits K h s) (unmergeable (x .children) prefix (x .high)) q any-is
+    some-fit = not-true (unmergeable (x .children) prefix (x .high)) (sym any-is ∙ q)
 
     joined : pairAt k (x .children) prefix (x .high) ≡ true
-    joined = first-pair (x .children) prefix (x .high) (suc d) branches-tall some-fit
+    joined = first-pair (x .children) prefix (x .high) (suc d) (own-site .branches-tall) some-fit
 
     heads-once : once (heads (x .children)) ≡ true
     heads-once = ap once (heads-are s n x e p c) ∙ branches-once s n x e p c
@@ -300,7 +274,7 @@ module _ (s : List ℕ) (n : ℕ) (h : List ℕ) (m : Mendable s n h) where
           ap branchCount (sym (forest-is s′ n (rechilded stepped x) new-sound place has-some))
           ∙ branch-count (λ j. treeAt (suc (l s′ n (rechilded stepped x) new-sound place has-some)) s′ j) (branchesAmong (listing s′ n)) in
           let b : branchCount (x .children) ≡ branchesLeft s n = ap branchCount (sym forest) ∙ branch-count (λ j. treeAt (suc d) s j) K in
-          let g = join-less (x .children) prefix (x .high) (suc d) branches-tall some-fit in
+          let g = join-less (x .children) prefix (x .high) (suc d) (own-site .branches-tall) some-fit in
           let r = new-branches in
           omega arith
 

@@ -1,13 +1,5 @@
 -- The first two neighbours that one node holds, and the store after they are joined: as upkeep's `firstPair` and `joinAt` tell them.
-use Prim.Native.Nat.{ℕ, zero, suc, _+_, _*_, _≤_}
-use mathlib.Core.Path.{_≡_, refl, sym, ap, ap₂, _∙_}
-use mathlib.Core.List.{List, [], _∷_, _++_}
-use mathlib.Core.Bool.{Bool, true, false, _&&_, not, cond, false≢true, true≢false}
-use mathlib.Core.Option.{Option, none, some}
-use native.Mathlib.Omega.{arith}
-use lib.ListN.{length}
-use lib.Dec.{eqb}
-use borrow.Author.Tests.{eqb-true, eq-eqb}
+use Rattle.image.specs.Prelude.{ℕ, zero, suc, _+_, _*_, _≤_, _≡_, refl, sym, ap, ap₂, _∙_, List, [], _∷_, _++_, Bool, true, false, _&&_, not, cond, false≢true, true≢false, Option, none, some, arith, length, eqb, eqb-true, eq-eqb}
 use Rattle.image.specs.Bytes.{before, u16}
 use Rattle.image.specs.Entry.{Message, Entry, child, message}
 use Rattle.image.specs.Table.{Row}
@@ -15,7 +7,7 @@ use Rattle.image.specs.Image.{Tree, unread, leaf, interior, Forest, end, tree, 
 use Rattle.image.specs.Meaning.{highOf}
 use Rattle.image.specs.Sound.{soundForest, isIn, once}
 use Rattle.image.specs.Upkeep.{wouldFit, unmergeable}
-use Rattle.octets.specs.Order.{and-left, and-right, not-so, not-true, before-append, or-none-right, or-none-left}
+use Rattle.octets.specs.Order.{and-left, and-right, not-so, not-true, before-append, or-none-right, or-none-left, refuted}
 use Rattle.laws.specs.Frame.{or-left, or-right}
 use Rattle.laws.specs.Rising.{both}
 use Rattle.laws.specs.LookupTable.{parts}
@@ -130,11 +122,7 @@ messages-stay b [] = refl
 messages-stay b (m ∷ ms) = ap (λ l. message m ∷ l) (messages-stay b ms)
 
 apart : (i j : ℕ) (js : List ℕ) → isIn i js ≡ false → isIn j js ≡ true → eqb i j ≡ false
-apart i j js a b = go (eqb i j) refl
-  where
-    go : (x : Bool) → eqb i j ≡ x → eqb i j ≡ false
-    go true q = not-so (ap (λ z. isIn z js) (eqb-true i j q) ∙ b) a
-    go false q = q
+apart i j js a b = refuted (λ q. not-so (ap (λ z. isIn z js) (eqb-true i j q) ∙ b) a)
 
 first-apart : (i j : ℕ) (js : List ℕ) → isIn i (j ∷ js) ≡ false → eqb i j ≡ false
 unfolding isIn
@@ -149,11 +137,7 @@ others-stay b (tree s t f) ms e =
     ∙ ap (λ l. child (numberOf t) s ∷ l) (others-stay b f ms (or-none-right (eqb b (numberOf t)) (isIn b (heads f)) e))
   where
     flip : (i j : ℕ) → eqb j i ≡ false → eqb i j ≡ false
-    flip i j q = go (eqb i j) refl
-      where
-        go : (x : Bool) → eqb i j ≡ x → eqb i j ≡ false
-        go true w = not-so (eq-eqb j i (sym (eqb-true i j w))) q
-        go false w = w
+    flip i j q = refuted (λ w. not-so (eq-eqb j i (sym (eqb-true i j w))) q)
 
 -- the node's entries without the right one's are those of the children joined
 pub entries-join : (k : ℕ) (f : Forest) (ms : List Message) (lifted hi : List ℕ) → pairAt k f lifted hi ≡ true → once (heads f) ≡ true

@@ -1,10 +1,7 @@
 -- A child's number and pivot, by the length of its rest (specs/Entries).
 use Rattle.node.specs.Places.{within, got-bad, got-good}
 use Rattle.node.specs.Entries.{pointer-short, pointer-long, pointer-at, kind-child}
-use borrow.Author.Needs.{needs}
-use native.Mathlib.Omega.{arith}
-use mathlib.Core.Path.{refl, _∙_}
-use borrow.Author.Needs.{needs}
+use Rattle.image.specs.Prelude.{needs, arith, refl, _∙_}
 use Rattle.node.proofs.child_at.Statement.{statement}
 use Rattle.node.proofs.child_at.Tie as tie
 

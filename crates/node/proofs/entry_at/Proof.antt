@@ -2,10 +2,7 @@
 use Rattle.image.specs.Entry as defined
 use Rattle.node.specs.Places.{within, split-bad-is, split-at-is, got-bad, got-good, got-as}
 use Rattle.node.specs.Entries.{kind-pair, kind-put, kind-drop, kind-clear, kind-other}
-use borrow.Author.Needs.{needs}
-use native.Mathlib.Omega.{arith}
-use mathlib.Core.Path.{_∙_}
-use borrow.Author.Needs.{needs}
+use Rattle.image.specs.Prelude.{needs, arith, _∙_}
 use Rattle.node.proofs.entry_at.Statement.{statement}
 use Rattle.node.proofs.entry_at.Tie as tie
 

@@ -1,7 +1,7 @@
+-- `parted` meets its contract. Relies on specs/Entries and specs/Places.
 use Rattle.node.specs.Entries.{keyed-short, keyed-long, keyed-at}
 use Rattle.node.specs.Places.{split-bad, split-at}
-use native.Mathlib.Omega.{arith}
-use borrow.Author.Needs.{needs}
+use Rattle.image.specs.Prelude.{arith, needs}
 use Rattle.node.proofs.parted.Statement.{statement}
 use Rattle.node.proofs.parted.Tie as tie
 

@@ -1,4 +1,5 @@
-use borrow.Author.Needs.{needs}
+-- `whole_nodes` meets its contract. Relies on specs/Whole.
+use Rattle.image.specs.Prelude.{needs}
 use Rattle.node.specs.Whole.{ragged, too-few, whole-by}
 use Rattle.node.proofs.whole_nodes.Statement.{statement}
 use Rattle.node.proofs.whole_nodes.Tie as tie

@@ -1,10 +1,6 @@
 -- The child at a cursor: what is read where there is one, and where there is none.
 -- Relies on the cursor's contract (Places) and on the children among entries (Own).
-use Prim.Native.Nat.{ℕ, _+_, _≤_}
-use mathlib.Core.Path.{_≡_, ap, subst, _∙_}
-use mathlib.Core.List.{List, [], _∷_}
-use native.Mathlib.Omega.{arith}
-use lib.ListN.{length}
+use Rattle.image.specs.Prelude.{ℕ, _+_, _≤_, _≡_, ap, subst, _∙_, List, [], _∷_, arith, length}
 use Rattle.node.specs.Places.{part, entryIn, Within, Next}
 use Rattle.node.specs.Entries.{listed}
 use Rattle.node.specs.declared.Place.{Place}

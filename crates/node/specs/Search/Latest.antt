@@ -1,10 +1,5 @@
 -- The newest message of a node on a rest, found entry by entry.
-use Prim.Native.Nat.{ℕ}
-use mathlib.Core.Path.{_≡_, refl, sym, ap, subst, _∙_}
-use mathlib.Core.List.{List, [], _∷_}
-use mathlib.Core.Bool.{Bool, true, false, cond, true≢false}
-use mathlib.Core.Option.{Option, none, some}
-use lib.ListN.{length}
+use Rattle.image.specs.Prelude.{ℕ, _≡_, refl, sym, ap, subst, _∙_, List, [], _∷_, Bool, true, false, cond, true≢false, Option, none, some, length}
 use Rattle.image.specs.Bytes.{same, begins}
 use Rattle.image.specs.Entry as defined
 use Rattle.image.specs.Meaning.{Said, nothing, says, saysOf, newer}

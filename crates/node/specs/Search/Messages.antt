@@ -1,9 +1,5 @@
 -- Whether entries hold a message, how many they hold, and the steps of the two walks, entry by entry.
-use Prim.Native.Nat.{ℕ, _+_}
-use native.Mathlib.Omega.{arith}
-use mathlib.Core.Path.{_≡_, sym, _∙_}
-use mathlib.Core.List.{List, [], _∷_}
-use mathlib.Core.Bool.{Bool, true, false, cond}
+use Rattle.image.specs.Prelude.{ℕ, _+_, arith, _≡_, sym, _∙_, List, [], _∷_, Bool, true, false, cond}
 use Rattle.image.specs.Entry as defined
 use Rattle.node.specs.Places.{entryIn}
 use Rattle.node.specs.declared.Place.{Place}

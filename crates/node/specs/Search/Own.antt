@@ -1,11 +1,5 @@
 -- The child that owns a rest.
-use Prim.Native.Nat.{ℕ}
-use mathlib.Core.Path.{_≡_, refl, sym, ap, subst, _∙_}
-use mathlib.Core.List.{List, [], _∷_}
-use mathlib.Core.Bool.{Bool, true, false, cond}
-use mathlib.Core.Option.{Option, none, some}
-use native.Mathlib.Omega.{arith}
-use lib.ListN.{length}
+use Rattle.image.specs.Prelude.{ℕ, _≡_, refl, sym, ap, subst, _∙_, List, [], _∷_, Bool, true, false, cond, Option, none, some, arith, length}
 use Rattle.image.specs.Path.{owns}
 use Rattle.image.specs.Entry as defined
 use Rattle.image.specs.Image as image

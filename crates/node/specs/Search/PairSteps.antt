@@ -1,11 +1,6 @@
 -- A pair read at a cursor, or that none stands there: what step_pair answers, and the laws of each way out.
 -- Relies on node's Next (an entry in front of the others) and on Pairs.
-use Prim.Native.Nat.{ℕ, _+_, _-_, _<_, _≤_}
-use mathlib.Core.Path.{_≡_, refl, sym, subst, _∙_}
-use mathlib.Core.List.{List, []}
-use mathlib.Core.Option.{none}
-use native.Mathlib.Omega.{arith}
-use lib.ListN.{length}
+use Rattle.image.specs.Prelude.{ℕ, _+_, _-_, _<_, _≤_, _≡_, refl, sym, subst, _∙_, List, [], none, arith, length}
 use Rattle.image.specs.Bytes.{u16}
 use Rattle.image.specs.Entry as defined
 use Rattle.node.specs.Entries.{entriesFrom, listed, entries-step, listed-step, kind-pair}

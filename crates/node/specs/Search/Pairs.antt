@@ -1,11 +1,5 @@
 -- The pair of a leaf on a rest.
-use Prim.Native.Nat.{ℕ}
-use mathlib.Core.Path.{_≡_, refl, sym, ap, subst, _∙_}
-use mathlib.Core.List.{List, [], _∷_}
-use mathlib.Core.Bool.{Bool, true, false, cond}
-use mathlib.Core.Option.{Option, none, some}
-use native.Mathlib.Omega.{arith}
-use lib.ListN.{length}
+use Rattle.image.specs.Prelude.{ℕ, _≡_, refl, sym, ap, subst, _∙_, List, [], _∷_, Bool, true, false, cond, Option, none, some, arith, length}
 use Rattle.image.specs.Bytes.{same}
 use Rattle.image.specs.Entry as defined
 use Rattle.node.specs.Places.{part, entryIn, Within, EntryWithin}

@@ -1,5 +1,6 @@
+-- `begins_with` meets its contract. Relies on specs/Compare.
 use Rattle.octets.specs.Compare.{starts-by}
-use borrow.Author.Needs.{needs}
+use Rattle.image.specs.Prelude.{needs}
 use Rattle.octets.proofs.begins_with.Statement.{statement}
 use Rattle.octets.proofs.begins_with.Tie as tie
 

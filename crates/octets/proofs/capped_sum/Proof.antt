@@ -1,7 +1,5 @@
 -- `capped_sum` is the sum up to 65,535. Relies on specs/Cap.
-use borrow.Author.Needs.{needs}
-use native.Mathlib.Omega.{arith}
-use mathlib.Core.Path.{sym}
+use Rattle.image.specs.Prelude.{needs, arith, sym}
 use Rattle.octets.specs.Cap.{cap-small, cap-large}
 use Rattle.octets.proofs.capped_sum.Statement.{statement}
 use Rattle.octets.proofs.capped_sum.Tie as tie

@@ -1,9 +1,5 @@
-use borrow.Author.Needs.{needs}
-use Prim.Native.Nat.{_≤_, _-_, _+_}
-use native.Mathlib.Omega.{arith}
-use native.Mathlib.Numerals.{add-one}
-use mathlib.Core.Path.{_≡_}
-use lib.ListN.{length, drop}
+-- `common_length` meets its contract: its loop keeps an invariant. Relies on specs/Compare.
+use Rattle.image.specs.Prelude.{needs, _≤_, _-_, _+_, arith, _≡_, length, drop, add-one}
 use Rattle.image.specs.Bytes.{shared}
 use Rattle.octets.specs.Compare.{shared-step, shared-stop, shared-first, shared-second}
 use Rattle.octets.proofs.common_length.Statement.{statement}

@@ -1,4 +1,5 @@
-use borrow.Author.Needs.{needs}
+-- `compare` meets its contract. Relies on specs/Ordering.
+use Rattle.image.specs.Prelude.{needs}
 use Rattle.octets.specs.Ordering.{ordering-equal, ordering-greater, ordering-less, ordering-less-at, ordering-greater-at}
 use Rattle.octets.proofs.compare.Statement.{statement}
 use Rattle.octets.proofs.compare.Tie as tie

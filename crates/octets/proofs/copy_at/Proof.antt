@@ -1,10 +1,6 @@
-use Prim.Native.Nat.{_+_, _-_, _≤_}
-use mathlib.Core.Path.{_≡_, refl, sym, ap, _∙_}
-use lib.ListN.{length, getD, set, take, length-set}
-use lib.Seq.{take-all}
+-- `copy_at` meets its contract: its loop keeps an invariant. Relies on specs/Put.
+use Rattle.image.specs.Prelude.{_+_, _-_, _≤_, _≡_, refl, sym, ap, _∙_, length, getD, set, take, length-set, take-all, arith, needs}
 use Rattle.octets.specs.Put.{put, put-nil, put-more}
-use native.Mathlib.Omega.{arith}
-use borrow.Author.Needs.{needs}
 use Rattle.octets.proofs.copy_at.Statement.{statement}
 use Rattle.octets.proofs.copy_at.Tie as tie
 

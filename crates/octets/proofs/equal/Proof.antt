@@ -1,9 +1,5 @@
-use borrow.Author.Needs.{needs}
-use native.Mathlib.Omega.{arith}
-use Prim.Native.Nat.{_≤_}
-use mathlib.Core.Path.{_≡_}
-use lib.ListN.{length, drop}
-use mathlib.Core.Bool.{true}
+-- `equal` meets its contract: its loop keeps an invariant. Relies on specs/Compare.
+use Rattle.image.specs.Prelude.{needs, arith, _≤_, _≡_, length, drop, true}
 use Rattle.image.specs.Bytes.{same}
 use Rattle.octets.specs.Compare.{not-equal, same-past, same-whole, same-longer, same-differs}
 use Rattle.octets.proofs.equal.Statement.{statement}

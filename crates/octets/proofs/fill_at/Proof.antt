@@ -1,8 +1,5 @@
-use borrow.Author.Needs.{needs}
-use native.Mathlib.Omega.{arith}
-use Prim.Native.Nat.{_-_, _≤_}
-use mathlib.Core.Path.{_≡_, refl, sym}
-use lib.ListN.{length, replicate}
+-- `fill_at` meets its contract: its loop keeps an invariant. Relies on specs/Put.
+use Rattle.image.specs.Prelude.{needs, arith, _-_, _≤_, _≡_, refl, sym, length, replicate}
 use Rattle.octets.specs.Put.{put, put-nil, fill-more, fill-done}
 use Rattle.octets.proofs.fill_at.Statement.{statement}
 use Rattle.octets.proofs.fill_at.Tie as tie

@@ -1,5 +1,6 @@
+-- `owned` meets its contract. Relies on specs/Compare.
 use Rattle.octets.specs.Compare.{owned-low, owned-high}
-use borrow.Author.Needs.{needs}
+use Rattle.image.specs.Prelude.{needs}
 use Rattle.octets.proofs.owned.Statement.{statement}
 use Rattle.octets.proofs.owned.Tie as tie
 

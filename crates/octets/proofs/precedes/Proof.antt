@@ -1,6 +1,6 @@
-use native.Mathlib.Omega.{arith}
+-- `precedes` meets its contract. Relies on specs/Compare.
+use Rattle.image.specs.Prelude.{arith, needs}
 use Rattle.octets.specs.Compare.{no-by, yes-by, at-by}
-use borrow.Author.Needs.{needs}
 use Rattle.octets.proofs.precedes.Statement.{statement}
 use Rattle.octets.proofs.precedes.Tie as tie
 

@@ -1,7 +1,6 @@
-use lib.ListN.{length-set}
+-- `put_u16` meets its contract. Relies on specs/Put.
+use Rattle.image.specs.Prelude.{length-set, arith, needs}
 use Rattle.octets.specs.Put.{put-two}
-use native.Mathlib.Omega.{arith}
-use borrow.Author.Needs.{needs}
 use Rattle.octets.proofs.put_u16.Statement.{statement}
 use Rattle.octets.proofs.put_u16.Tie as tie
 

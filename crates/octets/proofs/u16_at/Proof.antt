@@ -1,6 +1,6 @@
-use native.Mathlib.Omega.{arith}
+-- `u16_at` meets its contract. By the contracts of what it calls alone.
+use Rattle.image.specs.Prelude.{arith, needs}
 use Rattle.image.specs.Bytes.{u16}
-use borrow.Author.Needs.{needs}
 use Rattle.octets.proofs.u16_at.Statement.{statement}
 use Rattle.octets.proofs.u16_at.Tie as tie
 

@@ -1,8 +1,7 @@
 -- What the borrow checker leaves of `build` to prove.
 -- Relies on specs/BuildSteps.
 use Rattle.packed.specs.Build.BuildSteps.{leaves-ready, empty-ready, ascent-first, build-last, build-empty}
-use native.Mathlib.Omega.{arith}
-use borrow.Author.Needs.{needs}
+use Rattle.image.specs.Prelude.{arith, needs}
 use Rattle.packed.proofs.build.Statement.{statement}
 use Rattle.packed.proofs.build.Tie as tie
 

@@ -2,13 +2,7 @@
 -- Relies on specs/RowSteps.
 use Rattle.packed.specs.Build.RowSteps.{clear-first, clear-more}
 use Rattle.laws.specs.Page.{zerosOf}
-use lib.ListN.{drop}
-use mathlib.Core.List.{_++_}
-use borrow.Author.Needs.{needs}
-use native.Mathlib.Omega.{arith}
-use lib.ListN.{length, length-set}
-use mathlib.Core.Path.{_≡_, refl, ap, _∙_}
-use Prim.Native.Nat.{_-_, _≤_}
+use Rattle.image.specs.Prelude.{drop, _++_, arith, length, length-set, _≡_, refl, ap, _∙_, _-_, _≤_, needs}
 use Rattle.packed.proofs.clear_area.Statement.{statement}
 use Rattle.packed.proofs.clear_area.Tie as tie
 

@@ -3,11 +3,7 @@
 use Rattle.packed.specs.Build.CountSteps.{count-first, count-next, count-last}
 use Rattle.packed.specs.Build.Handed.{listed}
 use Rattle.packed.specs.Form.Packed.{numbersFrom}
-use borrow.Author.Needs.{needs}
-use native.Mathlib.Omega.{arith}
-use lib.ListN.{length}
-use mathlib.Core.Path.{_≡_, refl, ap, _∙_}
-use Prim.Native.Nat.{_-_, _/_, _≤_}
+use Rattle.image.specs.Prelude.{needs, arith, length, _≡_, refl, ap, _∙_, _-_, _/_, _≤_}
 use Rattle.packed.proofs.count_numbers.Statement.{statement}
 use Rattle.packed.proofs.count_numbers.Tie as tie
 

@@ -4,11 +4,7 @@ use Rattle.packed.specs.Build.PairLaws.{parts, pair-one}
 use Rattle.octets.specs.Put.{put}
 use Rattle.laws.specs.Encode.{bytesOf, pair-size, pair-entry}
 use Rattle.image.specs.Entry.{pair}
-use native.Mathlib.Omega.{arith}
-use lib.ListN.{length}
-use mathlib.Core.Path.{refl, sym, ap, ap₂, _∙_}
-use Prim.Native.Nat.{_+_, _*_}
-use borrow.Author.Needs.{needs}
+use Rattle.image.specs.Prelude.{arith, length, refl, sym, ap, ap₂, _∙_, _+_, _*_, needs}
 use Rattle.packed.proofs.emit_row.Statement.{statement}
 use Rattle.packed.proofs.emit_row.Tie as tie
 

@@ -1,11 +1,9 @@
 -- What the borrow checker leaves of `emit_rows` to prove.
 -- Relies on specs/Pages/Emitting and on how the bytes of pairs follow each other (specs/Build/PairLaws).
-use borrow.Author.Needs.{needs}
+use Rattle.image.specs.Prelude.{needs, arith, _-_}
 use Rattle.packed.specs.Pages.Emitting.{Emits, emits-first, emits-next, emits-last, emits-room}
 use Rattle.packed.specs.Build.Pairs.{pairBytes}
 use Rattle.packed.specs.Build.PairLaws.{pairs-step, pairs-done}
-use native.Mathlib.Omega.{arith}
-use Prim.Native.Nat.{_-_}
 use Rattle.packed.proofs.emit_rows.Statement.{statement}
 use Rattle.packed.proofs.emit_rows.Tie as tie
 

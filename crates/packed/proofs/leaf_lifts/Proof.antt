@@ -3,10 +3,7 @@
 use Rattle.packed.specs.Build.PairLaws.{high-end, high-low, lifts-are}
 use Rattle.packed.specs.Pages.Entries.{span}
 use Rattle.image.specs.Bytes.{shared}
-use native.Mathlib.Omega.{arith}
-use lib.ListN.{length}
-use mathlib.Core.Path.{sym, ap₂, _∙_}
-use borrow.Author.Needs.{needs}
+use Rattle.image.specs.Prelude.{arith, length, sym, ap₂, _∙_, needs}
 use Rattle.packed.proofs.leaf_lifts.Statement.{statement}
 use Rattle.packed.proofs.leaf_lifts.Tie as tie
 

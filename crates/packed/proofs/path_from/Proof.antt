@@ -1,8 +1,7 @@
 -- What the borrow checker leaves of `path_from` to prove.
 -- Relies on specs/PairLaws.
 use Rattle.packed.specs.Build.PairLaws.{from-short, from-long}
-use native.Mathlib.Omega.{arith}
-use borrow.Author.Needs.{needs}
+use Rattle.image.specs.Prelude.{arith, needs}
 use Rattle.packed.proofs.path_from.Statement.{statement}
 use Rattle.packed.proofs.path_from.Tie as tie
 

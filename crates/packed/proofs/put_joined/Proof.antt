@@ -1,11 +1,7 @@
 -- What the borrow checker leaves of `put_joined` to prove.
 -- Relies on specs/RowSteps.
 use Rattle.packed.specs.Build.RowSteps.{row-joined}
-use native.Mathlib.Omega.{arith}
-use lib.ListN.{length, set, length-set}
-use mathlib.Core.Path.{refl}
-use Prim.Native.Nat.{_+_, _*_}
-use borrow.Author.Needs.{needs}
+use Rattle.image.specs.Prelude.{arith, length, set, length-set, refl, _+_, _*_, needs}
 use Rattle.packed.proofs.put_joined.Statement.{statement}
 use Rattle.packed.proofs.put_joined.Tie as tie
 

@@ -1,12 +1,9 @@
 -- What the borrow checker leaves of `write_above` to prove.
 -- Relies on specs/AboveSteps.
-use Rattle.packed.specs.Build.Passes.{treeAbove, pagesAbove}
-use Rattle.packed.specs.Build.Passes.{Ascends}
+use Rattle.packed.specs.Build.Passes.{treeAbove, pagesAbove, Ascends}
 use Rattle.packed.specs.Build.AboveSteps.{ascent-ready, ascent-next, ascent-last}
 use Rattle.packed.specs.Form.Tidy.{writeAll}
-use borrow.Author.Needs.{needs}
-use native.Mathlib.Omega.{arith}
-use Prim.Native.Nat.{_-_}
+use Rattle.image.specs.Prelude.{needs, arith, _-_}
 use Rattle.packed.proofs.write_above.Statement.{statement}
 use Rattle.packed.proofs.write_above.Tie as tie
 

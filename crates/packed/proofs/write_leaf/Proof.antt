@@ -3,8 +3,7 @@
 use Rattle.packed.specs.Build.PairLaws.{bytes-of}
 use Rattle.packed.specs.Build.PairSteps.{leaf-written}
 use Rattle.laws.specs.Page.{zerosOf}
-use native.Mathlib.Omega.{arith}
-use borrow.Author.Needs.{needs}
+use Rattle.image.specs.Prelude.{arith, needs}
 use Rattle.packed.proofs.write_leaf.Statement.{statement}
 use Rattle.packed.proofs.write_leaf.Tie as tie
 

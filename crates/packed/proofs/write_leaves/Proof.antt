@@ -1,9 +1,7 @@
 -- What the borrow checker leaves of `write_leaves` to prove.
 -- Relies on specs/LeafSteps.
 use Rattle.packed.specs.Build.LeafSteps.{LeafTurns, leaf-first, leaf-ready, leaf-next, leaf-last}
-use borrow.Author.Needs.{needs}
-use native.Mathlib.Omega.{arith}
-use Prim.Native.Nat.{_-_}
+use Rattle.image.specs.Prelude.{needs, arith, _-_}
 use Rattle.packed.proofs.write_leaves.Statement.{statement}
 use Rattle.packed.proofs.write_leaves.Tie as tie
 

@@ -1,9 +1,7 @@
 -- What the borrow checker leaves of `write_level` to prove.
 -- Relies on specs/LevelSteps.
 use Rattle.packed.specs.Build.LevelSteps.{NodeTurns, level-first, node-ready, level-next, level-last}
-use borrow.Author.Needs.{needs}
-use native.Mathlib.Omega.{arith}
-use Prim.Native.Nat.{_-_}
+use Rattle.image.specs.Prelude.{needs, arith, _-_}
 use Rattle.packed.proofs.write_level.Statement.{statement}
 use Rattle.packed.proofs.write_level.Tie as tie
 

@@ -1,11 +1,6 @@
 -- The steps of `build` put together: the leaves start the climb, node 0 ends it, and what is written is the promised image.
 -- Rely on packed/specs/Ordered: pages written level by level give the packed image.
-use Prim.Native.Nat.{ℕ, zero, suc, _+_, _*_, _-_, _/_, _≤_}
-use mathlib.Core.Path.{_≡_, refl, sym, ap, ap₂, subst, _∙_}
-use mathlib.Core.List.{List, [], _++_}
-use mathlib.Core.Bool.{true}
-use native.Mathlib.Omega.{arith}
-use lib.ListN.{length, drop, getD}
+use Rattle.image.specs.Prelude.{ℕ, zero, suc, _+_, _*_, _-_, _/_, _≤_, _≡_, refl, sym, ap, ap₂, subst, _∙_, List, [], _++_, true, arith, length, drop, getD}
 use Rattle.image.specs.Bytes.{u16}
 use Rattle.image.specs.Table.{Row}
 use Rattle.image.specs.Image.{nodesOf}

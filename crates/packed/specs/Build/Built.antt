@@ -1,10 +1,6 @@
 -- What `build` asks of its callers, and what it promises.
 -- The law `built` (BuiltLaws) turns the contract's equation into the record `Built`.
-use Prim.Native.Nat.{ℕ, _*_, _-_, _/_, _≤_}
-use mathlib.Core.Path.{_≡_}
-use mathlib.Core.List.{List}
-use mathlib.Core.Bool.{true, false}
-use lib.ListN.{length}
+use Rattle.image.specs.Prelude.{ℕ, _*_, _-_, _/_, _≤_, _≡_, List, true, false, length}
 use Rattle.image.specs.Table.{Row}
 use Rattle.image.specs.Image.{nodeBytes, nodesOf, treeOf}
 use Rattle.image.specs.Sound.{isIn, numbers, once, inRange, sound, tableOf}

@@ -1,11 +1,7 @@
 -- Laws for the callers of `build`: what its contract gives, and when rows fit their places.
 -- Rely on packed/specs/Tidy: the packed image is sound, means the table, and is tidied.
-use Prim.Native.Nat.{ℕ, zero, suc, _+_, _*_, _-_, _/_, _≤_, _<_}
-use mathlib.Core.Path.{_≡_, sym, ap, _∙_, refl, subst}
-use mathlib.Core.List.{List, [], _∷_}
-use mathlib.Core.Bool.{Bool, true, false}
-use native.Mathlib.Omega.{arith}
-use lib.ListN.{length, take, drop, getD, length-drop}
+use Rattle.image.specs.Prelude.{ℕ, zero, suc, _+_, _*_, _-_, _/_, _≤_, _<_, _≡_, sym, ap, _∙_, refl, subst, List, [], _∷_, Bool, true, false, arith, length, take, drop, getD, length-drop, length-take-le, leb, leb-true, leb-false}
+use Rattle.image.specs.Path.{valueLimit}
 use Rattle.image.specs.Image.{nodesOf}
 use Rattle.image.specs.Sound.{isIn, once, inRange, numbers}
 use Rattle.packed.specs.Form.Packed.{packed, numbersFrom}
@@ -15,9 +11,6 @@ use Rattle.packed.specs.Form.Tidy.{imageOf, built-packs, built-holds, bu
 use Rattle.packed.specs.Rows.Area.{rowsOf, rowAt, RowsFit}
 use Rattle.packed.specs.Rows.Steps.{rows-length}
 use Rattle.packed.specs.Build.Handed.{handed}
-use lib.Seq.{length-take-le}
-use lib.Dec.{leb}
-use borrow.Author.Tests.{leb-true, leb-false}
 use Rattle.packed.specs.Form.Chunk.{All}
 use Rattle.packed.specs.Form.Leaves.{Good, value-length}
 use Rattle.packed.specs.Build.Built.{Asks, builtImage, Built}
@@ -92,7 +85,7 @@ good-fit m area r g = record { room = r; paths = path; values = value }
 
     value : (i : ℕ) → i < m → getD area (i * 128 + 1) 0 ≤ 60
     value i h = unfold rowAt in
-        (let a = byte-bound (getD area (i * 128 + 1) 0) 32 (drop (i * 128 + 68) area)
+        (let a = byte-bound (getD area (i * 128 + 1) 0) valueLimit (drop (i * 128 + 68) area)
         (value-length (take (getD area (i * 128 + 1) 0) (drop (i * 128 + 68) area)) (good-at m area 0 i g (omega arith) (omega arith) .1))
         (rw (length-drop (i * 128 + 68) area) (omega arith)) in omega arith)
 

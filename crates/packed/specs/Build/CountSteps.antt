@@ -1,12 +1,7 @@
 -- Steps of the loop that lists the numbers from a first one up.
 -- Rely on the laws of puts.
-use Prim.Native.Nat.{ℕ, zero, suc, _+_, _*_, _-_, _/_, _≤_, _<_}
-use mathlib.Core.Path.{_≡_, refl, sym, ap, ap₂, _∙_}
-use mathlib.Core.List.{List, [], _∷_, _++_}
-use native.Mathlib.Omega.{arith}
-use lib.ListN.{length, getD}
-use Rattle.image.specs.Bytes.{u16}
-use Rattle.image.specs.Bytes.{u16Bytes}
+use Rattle.image.specs.Prelude.{ℕ, zero, suc, _+_, _*_, _-_, _/_, _≤_, _<_, _≡_, refl, sym, ap, ap₂, _∙_, List, [], _∷_, _++_, arith, length, getD}
+use Rattle.image.specs.Bytes.{u16, u16Bytes}
 use Rattle.packed.specs.Form.Packed.{numbersFrom}
 use Rattle.octets.specs.Put.{put, u16-there}
 use Rattle.packed.specs.Build.Handed.{listed, handedFrom, handed}

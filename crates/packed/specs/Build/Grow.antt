@@ -1,13 +1,6 @@
 -- One turn of a pass over the rows: the marks of the rows behind row i and before row j go, row i gets the mark of its new node.
 -- The same law serves the leaves, whose rows may carry any marks before, and the levels above. Relies on specs/Rows/Remark.
-use Prim.Native.Nat.{ℕ, zero, suc, _+_, _-_, _≤_, _<_}
-use mathlib.Core.Path.{_≡_, refl, ap, ap₂, _∙_}
-use mathlib.Core.Logic.{_⊎_, inl, inr}
-use mathlib.Core.List.{List, [], _∷_, _++_}
-use mathlib.Core.Bool.{Bool, true, false}
-use native.Mathlib.Omega.{arith}
-use lib.Dec.{ltb}
-use borrow.Author.Tests.{ltb-true, ltb-false}
+use Rattle.image.specs.Prelude.{ℕ, zero, suc, _+_, _-_, _≤_, _<_, _≡_, refl, ap, ap₂, _∙_, _⊎_, inl, inr, List, [], _∷_, _++_, Bool, true, false, arith, ltb, ltb-true, ltb-false}
 use Rattle.packed.specs.Rows.Area.{rowsOf, RowsFit}
 use Rattle.packed.specs.Rows.Branches.{markAt, lowOfRow, branchesOf, branches-take}
 use Rattle.packed.specs.Rows.Puts.{putMark, mark-same, mark-other}

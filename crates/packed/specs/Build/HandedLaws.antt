@@ -1,14 +1,6 @@
 -- Laws of the numbers that are handed in: one number and on, how many are left, and that each is in range.
 -- Rely on the definitions of Handed alone.
-use Prim.Native.Nat.{ℕ, zero, suc, _+_, _*_, _-_, _/_, _≤_, _<_}
-use mathlib.Core.Path.{_≡_, refl, ap, ap₂, _∙_}
-use mathlib.Core.List.{List, _∷_}
-use mathlib.Core.Bool.{Bool, true, false, _&&_}
-use native.Mathlib.Omega.{arith}
-use lib.ListN.{length, drop}
-use lib.Dec.{leb, ltb, eqb}
-use borrow.Author.Tests.{leb-true, ltb-true, eqb-true, eqb-false}
-use mathlib.Core.Logic.{_≢_}
+use Rattle.image.specs.Prelude.{ℕ, zero, suc, _+_, _*_, _-_, _/_, _≤_, _<_, _≡_, refl, ap, ap₂, _∙_, List, _∷_, Bool, true, false, _&&_, arith, length, drop, leb, ltb, eqb, leb-true, ltb-true, eqb-true, eqb-false, _≢_}
 use Rattle.image.specs.Bytes.{u16}
 use Rattle.image.specs.Sound.{inRange}
 use Rattle.octets.specs.Order.{and-left, and-right}

@@ -1,27 +1,20 @@
 -- Steps of the pass that writes the leaves and marks the first row of each: what holds before each turn, and one turn.
 -- Rely on specs/Rows/Steps (one leaf, and on) and on the turn of the marks (Grow).
-use Prim.Native.Nat.{ℕ, suc, _+_, _*_, _-_, _/_, _≤_, _<_}
-use mathlib.Core.Path.{_≡_, refl, sym, ap, ap₂, _∙_}
-use mathlib.Core.List.{List, [], _∷_, _++_, append-assoc, append-nil}
-use mathlib.Core.Bool.{Bool, true, false}
-use native.Mathlib.Omega.{arith}
-use lib.ListN.{length, getD}
-use lib.Dec.{ltb}
-use borrow.Author.Tests.{ltb-true, ltb-false}
+use Rattle.image.specs.Prelude.{ℕ, zero, suc, _+_, _*_, _-_, _/_, _≤_, _<_, _≡_, refl, sym, ap, ap₂, _∙_, List, [], _∷_, _++_, append-assoc, append-nil, Bool, true, false, arith, length, getD, ltb, ltb-true, ltb-false}
 use Rattle.image.specs.Bytes.{u16, shared}
 use Rattle.laws.specs.Encode.{bytesOfAll}
 use Rattle.image.specs.Sound.{inRange, highest}
 use Rattle.laws.specs.WriteNode.{writeNode}
-use Rattle.packed.specs.Form.Chunk.{groups, groups-flat, more}
+use Rattle.packed.specs.Form.Chunk.{groups, groups-flat, more, endOf}
 use Rattle.packed.specs.Form.Packed.{pairWeight, leafFrom, leafLevel, first, keyOf, shortRows}
 use Rattle.laws.specs.Page.{page, pairEntries, numberOf}
 use Rattle.packed.specs.Form.Tidy.{Page, writeAll}
 use Rattle.packed.specs.Form.Marks.{mapped}
-use Rattle.packed.specs.Rows.Area.{rowAt, rowsOf, RowsFit, row-weight, leafEnd}
+use Rattle.packed.specs.Rows.Area.{rowAt, rowsOf, RowsFit, row-weight, rowAdds, leafEnd}
 use Rattle.packed.specs.Rows.Branches.{markAt, lowOfRow, branchesOf}
-use Rattle.packed.specs.Rows.Steps.{highAt, leafPage, leafPagesFrom, leaf-pages-step, leaf-pages-done, groups-are, end-in}
+use Rattle.packed.specs.Rows.Steps.{highAt, leafPage, leafPagesFrom, leaf-pages-step, leaf-pages-done, leaf-ends}
 use Rattle.packed.specs.Rows.Puts.{putMark}
-use Rattle.packed.specs.Rows.Remark.{clearMarks, Stays, stays-refl, stays-trans, stays-fit, low-same}
+use Rattle.packed.specs.Rows.Remark.{clearMarks, Stays, stays-refl, stays-sym, stays-trans, stays-fit, low-same}
 use Rattle.packed.specs.Build.Handed.{handedFrom, handed}
 use Rattle.packed.specs.Build.HandedLaws.{handed-step, handed-range}
 use Rattle.packed.specs.Build.Pairs.{leafBytes}
@@ -56,13 +49,13 @@ low-on m area j o f past = go (ltb j m) refl
     go true e = ap f (high-low m area j o (ltb-true j m e))
     go false e = past (ltb-false j m e) (highAt m area j) (lowOfRow area j)
 
-module _ (m : ℕ) (area : List ℕ) (i : ℕ) (h : i < m) (w : ℕ) (e : pairWeight (rowAt area i) ≡ w) (j : ℕ) (f : j ≡ leafEnd m area (i + 1) w) where
+module _ (m : ℕ) (area : List ℕ) (fit : RowsFit m area) (i : ℕ) (h : i < m) (w : ℕ) (e : pairWeight (rowAt area i) ≡ w) (j : ℕ) (f : j ≡ leafEnd m area (i + 1) w) where
   leaves-step : leavesFrom m area i ≡ suc (leavesFrom m area j)
   unfolding leavesFrom
-  leaves-step = ap length (groups-are m area i h w e j f)
+  leaves-step = ap length (leaf-ends m area fit i h w e j f .groups-are)
 
   later : 1 ≤ j
-  later = let a = end-in m area i h w e j f .0 in omega arith
+  later = let a = leaf-ends m area fit i h w e j f .later in omega arith
 
   branches-step : (lo : List ℕ) (num : ℕ) (nums : List ℕ) → leafBranches m area i lo (num ∷ nums) ≡ record { number = num; pivot = lo } ∷ leafBranches m area j (lowOfRow area j) nums
   branches-step lo num nums =
@@ -72,19 +65,24 @@ module _ (m : ℕ) (area : List ℕ) (i : ℕ) (h : i < m) (w : ℕ) (e : pairWe
     where
       opened : leafBranches m area i lo (num ∷ nums) ≡ record { number = num; pivot = lo } ∷ leafBranches m area j (highAt m area j) nums
       opened = unfold leafBranches highAt leafLevel leafFrom mapped numberOf in
-          rw (groups-are m area i h w e j f, groups-flat pairWeight (rowsOf (m - j) area j)) refl
+          rw (leaf-ends m area fit i h w e j f .groups-are, groups-flat pairWeight (rowsOf (m - j) area j)) refl
 
   pages-step : (lo : List ℕ) (num : ℕ) (nums : List ℕ)
       → leafPagesFrom m area i lo (num ∷ nums) ≡ record { number = num; bytes = leafPage m area i lo j } ∷ leafPagesFrom m area j (lowOfRow area j) nums
   pages-step lo num nums =
-      leaf-pages-step m area i h w e j f lo num nums
+      leaf-pages-step m area fit i h w e j f lo num nums
       ∙ ap (λ ps. record { number = num; bytes = leafPage m area i lo j } ∷ ps)
       (low-on m area j later (λ x. leafPagesFrom m area j x nums) (λ p a b. leaf-pages-done m area j a nums p ∙ sym (leaf-pages-done m area j b nums p)))
 
 -- what is read is the same in both areas
-end-same : (m : ℕ) (a b : List ℕ) → Stays m a b → (i used : ℕ) → i ≤ m → leafEnd m b i used ≡ leafEnd m a i used
-unfolding leafEnd
-end-same m a b s i used h = ap (λ rs. i + more pairWeight used rs) (rows-same m a b s (m - i) i (omega arith))
+more-same : (m : ℕ) (a b : List ℕ) → Stays m a b → (k i used : ℕ) → more (rowAdds b) k i used ≡ more (rowAdds a) k i used
+unfolding more
+more-same m a b s zero i used = refl
+more-same m a b s (suc k) i used = rw (s .path-length i, s .value-length i, more-same m a b s k (suc i) (used + rowAdds a i))
+
+end-same : (m : ℕ) (a b : List ℕ) → Stays m a b → (i used : ℕ) → leafEnd m b i used ≡ leafEnd m a i used
+unfolding endOf
+end-same m a b s i used = ap (λ k. i + k) (more-same m a b s (m - i) i used)
 
 page-same : (m : ℕ) (a b : List ℕ) → Stays m a b → (i j : ℕ) → i < j → j ≤ m → leafPage m b i (lowOfRow b i) j ≡ leafPage m a i (lowOfRow a i) j
 page-same m a b s i j h k =
@@ -115,26 +113,29 @@ module _ (m : ℕ) (numbers area₀ area store₀ store : List ℕ) (i made : �
   weight : pairWeight (rowAt area i) ≡ w
   weight = row-weight m area (t .fit) i h ∙ sym e
 
+  fit₀ : RowsFit m area₀
+  fit₀ = stays-fit m area area₀ (stays-sym m area₀ area (t .stays)) (t .fit)
+
   weight₀ : pairWeight (rowAt area₀ i) ≡ w
   weight₀ = ap pairWeight (sym (t .stays .row i h)) ∙ weight
 
   end₀ : j ≡ leafEnd m area₀ (i + 1) w
-  end₀ = f ∙ end-same m area₀ area (t .stays) (i + 1) w (omega arith)
+  end₀ = f ∙ end-same m area₀ area (t .stays) (i + 1) w
 
   more-left : leavesFrom m area₀ i ≡ suc (leavesFrom m area₀ j)
-  more-left = leaves-step m area₀ i h w weight₀ j end₀
+  more-left = leaves-step m area₀ fit₀ i h w weight₀ j end₀
 
   pub leaf-ready : LeafReady m numbers area i j made (length store)
   leaf-ready =
-      let a = end-in m area i h w weight j f in
+      let a = leaf-ends m area (t .fit) i h w weight j f in
       let b = more-left in
       let c = t .counted in
       let s = t .size in
       let l : made < length numbers / 2 = omega arith in
       let g = handed-range (length store₀ / 1024) numbers made r l in
       record {
-        later = a .0;
-        last = a .1;
+        later = a .later;
+        last = a .last;
         left = l;
         fits = leaf-fits m area (t .fit) i h w weight j f;
         positive = g .0;
@@ -163,14 +164,14 @@ module _ (m : ℕ) (numbers area₀ area store₀ store : List ℕ) (i made : �
             (k ∙ ap (λ lo. branchesOf i area 0 ++ (record { number = num; pivot = lo } ∷ [])) low)
             ∙ append-assoc (branchesOf i area 0) (record { number = num; pivot = lowOfRow area₀ i } ∷ []) (leafBranches m area₀ j (lowOfRow area₀ j) (handedFrom numbers (made + 1)))
             ∙ ap (λ ks. branchesOf i area 0 ++ ks)
-            (sym (ap (leafBranches m area₀ i (lowOfRow area₀ i)) nums ∙ branches-step m area₀ i h w weight₀ j end₀ (lowOfRow area₀ i) num (handedFrom numbers (made + 1))))
+            (sym (ap (leafBranches m area₀ i (lowOfRow area₀ i)) nums ∙ branches-step m area₀ fit₀ i h w weight₀ j end₀ (lowOfRow area₀ i) num (handedFrom numbers (made + 1))))
             ∙ t .marks;
         pages =
             ap (writeAll (leafPagesFrom m area₀ j (lowOfRow area₀ j) (handedFrom numbers (made + 1))))
             (x ∙ ap (writeNode store num) (page-same m area₀ area (t .stays) i j (y .later) (y .last)))
             ∙ written (leafPage m area₀ i (lowOfRow area₀ i) j) (leafPagesFrom m area₀ j (lowOfRow area₀ j) (handedFrom numbers (made + 1)))
             ∙ ap (λ ps. writeAll ps store)
-            (sym (ap (leafPagesFrom m area₀ i (lowOfRow area₀ i)) nums ∙ pages-step m area₀ i h w weight₀ j end₀ (lowOfRow area₀ i) num (handedFrom numbers (made + 1))))
+            (sym (ap (leafPagesFrom m area₀ i (lowOfRow area₀ i)) nums ∙ pages-step m area₀ fit₀ i h w weight₀ j end₀ (lowOfRow area₀ i) num (handedFrom numbers (made + 1))))
             ∙ t .pages;
       }
     where

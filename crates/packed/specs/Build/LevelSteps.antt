@@ -1,11 +1,6 @@
 -- Steps of the pass that writes one level of interior nodes and makes its marks, with numbers from the list.
 -- Rely on specs/Rows/Branches (one node, and on) and on the turn of the marks (Grow).
-use Prim.Native.Nat.{ℕ, suc, _+_, _*_, _-_, _/_, _≤_, _<_}
-use mathlib.Core.Path.{_≡_, refl, sym, ap, ap₂, _∙_}
-use mathlib.Core.List.{List, [], _∷_, _++_, append-assoc, append-nil}
-use mathlib.Core.Bool.{true}
-use native.Mathlib.Omega.{arith}
-use lib.ListN.{length}
+use Rattle.image.specs.Prelude.{ℕ, suc, _+_, _*_, _-_, _/_, _≤_, _<_, _≡_, refl, sym, ap, ap₂, _∙_, List, [], _∷_, _++_, append-assoc, append-nil, true, arith, length}
 use Rattle.image.specs.Bytes.{u16}
 use Rattle.image.specs.Sound.{inRange}
 use Rattle.laws.specs.WriteNode.{writeNode}
@@ -13,7 +8,7 @@ use Rattle.packed.specs.Form.Chunk.{groups}
 use Rattle.packed.specs.Form.Tidy.{Page, writeAll}
 use Rattle.packed.specs.Form.Marks.{pivotOf, branchWeight, firstBranches, nodePages}
 use Rattle.packed.specs.Rows.Area.{RowsFit}
-use Rattle.packed.specs.Rows.Branches.{markAt, lowOfRow, branchesOf, nodeEnd, node-in, node-next, nodePage, nodePagesFrom, aboveFrom, node-pages-step, above-step, node-pages-done, above-done}
+use Rattle.packed.specs.Rows.Branches.{markAt, lowOfRow, branchesOf, nodeEnd, node-ends, nodePage, nodePagesFrom, aboveFrom, node-pages-step, above-step, node-pages-done, above-done}
 use Rattle.packed.specs.Rows.Puts.{putMark}
 use Rattle.packed.specs.Rows.Remark.{clearMarks, startWeight, Stays, stays-refl, stays-trans, stays-fit}
 use Rattle.packed.specs.Pages.Nodes.{nodeBytesOf}
@@ -72,17 +67,17 @@ module _ (l m : ℕ) (numbers : List ℕ) (from : ℕ) (area₀ area store₀ st
 
   pub node-ready : NodeReady m numbers area i j made (length store)
   node-ready =
-      let a = node-in m area i h (t .marked h) w weight j f in
+      let a = node-ends m area (t .fit) i h (t .marked h) w weight j f in
       let b = more-left in
       let c = t .counted in
       let s = t .size in
       let k : made < length numbers / 2 = omega arith in
       let g = handed-range (length store₀ / 1024) numbers made r k in
       record {
-        later = a .0;
-        last = a .1;
+        later = a .later;
+        last = a .last;
         left = k;
-        next = node-next m area i h (t .marked h) w weight j f;
+        next = a .next;
         fits = node-fits m area (t .fit) i h (t .marked h) w weight j f;
         positive = g .0;
         room = let z = g .1 in omega arith;
@@ -111,13 +106,13 @@ module _ (l m : ℕ) (numbers : List ℕ) (from : ℕ) (area₀ area store₀ st
             ap₂ (λ a b. a ++ b) k (above-by j after (handedFrom numbers (made + 1)) g)
             ∙ append-assoc (branchesOf i area 0) (record { number = num; pivot = lowOfRow area i } ∷ []) (aboveFrom m area j (handedFrom numbers (made + 1)))
             ∙ ap (λ ks. branchesOf i area 0 ++ ks)
-            (sym (ap (aboveFrom m area i) nums ∙ above-step m area i h (t .marked h) w weight j f num (handedFrom numbers (made + 1))))
+            (sym (ap (aboveFrom m area i) nums ∙ above-step m area (t .fit) i h (t .marked h) w weight j f num (handedFrom numbers (made + 1))))
             ∙ t .marks;
         pages =
             ap₂ (λ ps z. writeAll ps z) (pages-by j after (handedFrom numbers (made + 1)) g) x
             ∙ written (nodePage l m area i j) (nodePagesFrom l m area j (handedFrom numbers (made + 1)))
             ∙ ap (λ ps. writeAll ps store)
-            (sym (ap (nodePagesFrom l m area i) nums ∙ node-pages-step m area i h (t .marked h) w weight j f l num (handedFrom numbers (made + 1))))
+            (sym (ap (nodePagesFrom l m area i) nums ∙ node-pages-step m area (t .fit) i h (t .marked h) w weight j f l num (handedFrom numbers (made + 1))))
             ∙ t .pages;
       }
     where

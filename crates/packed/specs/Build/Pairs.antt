@@ -1,10 +1,6 @@
 -- The pairs of the rows from i up to j, as the bytes of a leaf, without the first k bytes of each path.
 -- These name what the leaf writer's contracts cite; the page itself is `leafPage` of specs/Rows/Steps.
-use Prim.Native.Nat.{ℕ, _+_, _*_, _-_}
-use mathlib.Core.List.{List}
-use mathlib.Core.Bool.{cond}
-use lib.ListN.{length, getD}
-use lib.Dec.{ltb}
+use Rattle.image.specs.Prelude.{ℕ, _+_, _*_, _-_, List, cond, length, getD, ltb}
 use Rattle.image.specs.Bytes.{shared}
 use Rattle.laws.specs.Encode.{bytesOfAll}
 use Rattle.packed.specs.Form.Packed.{shortRows}

@@ -1,9 +1,6 @@
 -- What the passes of `build` promise: the leaves, one level above, all levels above.
 -- The code knows a level by its marks alone; the definitions of packed/specs say which level that is.
-use Prim.Native.Nat.{ℕ, _+_, _*_, _-_, _≤_}
-use mathlib.Core.Path.{_≡_}
-use mathlib.Core.List.{List, []}
-use lib.ListN.{length}
+use Rattle.image.specs.Prelude.{ℕ, _+_, _*_, _-_, _≤_, _≡_, List, [], length}
 use Rattle.image.specs.Image.{Branch}
 use Rattle.packed.specs.Form.Chunk.{groups}
 use Rattle.packed.specs.Form.Packed.{pairWeight, leafLevel, leaves, Item, Built, climb}

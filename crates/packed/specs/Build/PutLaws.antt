@@ -1,11 +1,6 @@
 -- What a put leaves of the bytes before it and behind it, and that its own bytes are there.
 -- Relies on octets/specs/Put.
-use Prim.Native.Nat.{ℕ, _+_, _-_, _≤_, _<_}
-use mathlib.Core.Path.{_≡_, sym, ap, _∙_}
-use mathlib.Core.List.{List, _++_, append-assoc}
-use native.Mathlib.Omega.{arith}
-use lib.ListN.{length, take, drop, getD, length-append, length-drop, take-append-drop}
-use lib.Seq.{length-take-le, drop-drop, drop-append-le, take-append-le, drop-append-add, drop-at, take-append-seam, getD-take, getD-drop}
+use Rattle.image.specs.Prelude.{ℕ, _+_, _-_, _≤_, _<_, _≡_, sym, ap, _∙_, List, _++_, append-assoc, arith, length, take, drop, getD, length-append, length-drop, take-append-drop, length-take-le, drop-drop, drop-append-le, take-append-le, drop-append-add, drop-at, take-append-seam, getD-take, getD-drop}
 use Rattle.octets.specs.Put.{put}
 
 -- a part before a seam

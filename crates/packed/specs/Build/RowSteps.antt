@@ -1,14 +1,6 @@
 -- Steps of the row writer and of the loop that clears the area.
 -- Rely on the laws of puts.
-use Prim.Native.Nat.{ℕ, zero, suc, _+_, _*_, _≤_, _<_}
-use mathlib.Core.Path.{_≡_, refl, sym, ap, ap₂, subst, _∙_}
-use mathlib.Core.List.{List, [], _∷_, _++_, append-assoc}
-use mathlib.Core.Bool.{Bool, true, false}
-use native.Mathlib.Omega.{arith}
-use lib.ListN.{length, take, drop, getD, set, length-append, length-drop, length-replicate, length-set}
-use lib.Seq.{drop-drop, drop-append-add, take-at, set-split}
-use lib.Dec.{ltb}
-use borrow.Author.Tests.{ltb-true, ltb-false}
+use Rattle.image.specs.Prelude.{ℕ, zero, suc, _+_, _*_, _≤_, _<_, _≡_, refl, sym, ap, ap₂, subst, _∙_, List, [], _∷_, _++_, append-assoc, Bool, true, false, arith, length, take, drop, getD, set, length-append, length-drop, length-replicate, length-set, drop-drop, drop-append-add, take-at, set-split, ltb, ltb-true, ltb-false}
 use Rattle.laws.specs.Page.{zerosOf}
 use Rattle.packed.specs.Rows.Area.{rowAt, rowsOf, RowsFit}
 use Rattle.octets.specs.Put.{put, put-one, put-put, put-size}

@@ -1,9 +1,6 @@
 -- What a caller is told who puts the rows into the area.
 -- A row is path length, value length, u16 mark, 64 bytes for the path, 60 for the value (specs/Rows/Area).
-use Prim.Native.Nat.{ℕ, _+_, _*_}
-use mathlib.Core.Path.{_≡_}
-use mathlib.Core.List.{List, [], _∷_, _++_}
-use lib.ListN.{drop}
+use Rattle.image.specs.Prelude.{ℕ, _+_, _*_, _≡_, List, [], _∷_, _++_, drop}
 use Rattle.packed.specs.Rows.Area.{rowsOf, RowsFit}
 
 -- row i is (path, value), the rows before it and the bytes behind it are as before

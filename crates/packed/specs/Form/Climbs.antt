@@ -1,23 +1,11 @@
 -- Lists whose low pivots (or keys) strictly rise, up to a high one.
-use Prim.Native.Nat.{ℕ}
-use mathlib.Core.Path.{_≡_, refl, subst}
-use mathlib.Core.List.{List, [], _∷_, _++_}
-use mathlib.Core.Bool.{Bool, true, false}
-use lib.ListN.{length, drop}
+use Rattle.image.specs.Prelude.{ℕ, _≡_, refl, subst, List, [], _∷_, _++_, true, false, length, drop}
 use Rattle.image.specs.Bytes.{before, shared}
 use Rattle.image.specs.Path.{owns}
-use Rattle.octets.specs.Order.{not-so, before-trans, before-le, before-asym}
+use Rattle.octets.specs.Order.{before-trans, before-asym, le-before}
 use Rattle.laws.specs.LookupTable.{does-own, split}
 use Rattle.packed.specs.Form.Chunk.{All, all-map, Group, members, flat}
 use Rattle.packed.specs.Form.Packed.{first}
-
--- lo up to a, and a before b
-pub le-before : (lo a b : List ℕ) → before a lo ≡ false → before a b ≡ true → before lo b ≡ true
-le-before lo a b n e = go (before lo b) refl
-  where
-    go : (x : Bool) → before lo b ≡ x → before lo b ≡ true
-    go true q = q
-    go false q = not-so (before-le a b lo e q) n
 
 module _ {A : Type 0} (low : A → List ℕ) where
   abbrev pub Climbs : List ℕ → List A → Type 0

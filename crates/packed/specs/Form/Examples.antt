@@ -1,8 +1,5 @@
 -- The definitions compute.
-use Prim.Native.Nat.{ℕ, zero, suc}
-use mathlib.Core.Path.{_≡_, refl}
-use mathlib.Core.List.{List, [], _∷_}
-use lib.ListN.{length, replicate}
+use Rattle.image.specs.Prelude.{ℕ, zero, suc, _≡_, refl, List, [], _∷_, length, replicate}
 use Rattle.image.specs.Bytes.{shared}
 use Rattle.image.specs.Table.{Row}
 use Rattle.image.specs.Image.{Tree, unread, leaf, interior, Forest, end, tree}

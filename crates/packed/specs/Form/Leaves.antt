@@ -1,23 +1,16 @@
 -- The leaf level: its nodes are sound, and hold the rows of the table in order.
-use Prim.Native.Nat.{ℕ, _≤_}
-use mathlib.Core.Path.{_≡_, refl, sym, ap₂, subst, _∙_}
-use mathlib.Core.List.{List, [], _∷_, _++_}
-use mathlib.Core.Bool.{Bool, true, false, _&&_, cond}
-use native.Mathlib.Omega.{arith}
-use lib.ListN.{length, drop, getD}
-use lib.Dec.{leb, eqb}
-use borrow.Author.Tests.{leb-true, lt-ltb, eqb-true}
+use Rattle.image.specs.Prelude.{ℕ, _≤_, _≡_, refl, sym, ap₂, subst, _∙_, List, [], _∷_, _++_, Bool, true, false, _&&_, cond, arith, length, drop, getD, leb, eqb, leb-true, lt-ltb, eqb-true}
 use Rattle.image.specs.Bytes.{before, shared}
 use Rattle.image.specs.Path.{owns, wellFormed, readsOn, letter, pathLimit, valueFits, valueLimit}
 use Rattle.image.specs.Table.{Row, everyKey, underPrefix, leads, rising}
 use Rattle.image.specs.Image.{leaf}
 use Rattle.image.specs.Meaning.{rows}
 use Rattle.image.specs.Sound.{soundTree, valuesFit, highest}
-use Rattle.octets.specs.Order.{and-left, and-right, before-append, before-irrefl}
+use Rattle.octets.specs.Order.{and-left, and-right, before-append, before-irrefl, le-before}
 use Rattle.laws.specs.Rising.{both}
 use Rattle.packed.specs.Form.Chunk.{All, all-left, all-right, all-map, Group, members, flat, groups, groups-flat}
 use Rattle.packed.specs.Form.Packed.{Item, keyOf, lowOf, pairWeight, first, shortRows, leafFrom, leafLevel, leaves}
-use Rattle.packed.specs.Form.Climbs.{le-before, Climbs, climbs-under, Between, climbs-between, Splits, between-splits, climbs-group, climbs-later}
+use Rattle.packed.specs.Form.Climbs.{Climbs, climbs-under, Between, climbs-between, Splits, between-splits, climbs-group, climbs-later}
 
 -- a row that a store may hold
 abbrev pub Good : Row → Type 0
@@ -110,7 +103,7 @@ leafLevel-rows nums lo (x ∷ gs) c n =
     (leafLevel-rows (drop 1 nums) hi gs (climbs-later keyOf highest x gs c) (before-irrefl hi)))
 
 -- nothing comes before the empty string
-not-before-nil : (p : List ℕ) → before p [] ≡ false
+pub not-before-nil : (p : List ℕ) → before p [] ≡ false
 unfolding before
 not-before-nil [] = refl
 not-before-nil (a ∷ p) = refl
@@ -153,9 +146,9 @@ formed-under (b ∷ p) h = go (eqb b 0) refl
         let m : b ≤ 0x7E = leb-true b 0x7E (and-right (leb 0x21 b) _ (and-left _ _ (and-left _ _ l))) in
         rw (lt-ltb b 255 (omega arith))
 
-pub value-length : (v : List ℕ) → valueFits v ≡ true → length v ≤ 32
-unfolding valueFits valueLimit
-value-length v h = leb-true (length v) 32 h
+pub value-length : (v : List ℕ) → valueFits v ≡ true → length v ≤ valueLimit
+unfolding valueFits
+value-length v h = leb-true (length v) valueLimit h
 
 -- what a table must keep, as the tests of the paper
 rising-climbs : (t : List Row) → rising t ≡ true → All (λ r. wellFormed (r .key) ≡ true) t → Climbs keyOf highest t

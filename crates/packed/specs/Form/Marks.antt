@@ -1,12 +1,6 @@
 -- The way of the code: rows with a mark "a node starts here, numbered x" (0: none), one sweep over them for each level. A level is known by its
 -- marks alone: the numbers and the low pivots of its nodes. No tree is looked at.
-use Prim.Native.Nat.{ℕ, suc, _+_}
-use mathlib.Core.Path.{_≡_, refl, sym, ap, ap₂, _∙_}
-use mathlib.Core.List.{List, [], _∷_}
-use mathlib.Core.Bool.{Bool, true, false}
-use native.Mathlib.Omega.{arith}
-use lib.ListN.{length, drop, getD}
-use lib.Dec.{leb}
+use Rattle.image.specs.Prelude.{ℕ, suc, _+_, _≡_, refl, sym, ap, ap₂, _∙_, List, [], _∷_, Bool, true, false, arith, length, drop, getD, leb}
 use Rattle.image.specs.Bytes.{shared}
 use Rattle.image.specs.Entry.{Entry, child}
 use Rattle.image.specs.Image.{Branch}

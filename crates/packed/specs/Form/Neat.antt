@@ -1,10 +1,5 @@
 -- Neat: all leaves at the same depth, no message, every node's entries at most 1,016 bytes, every stored pivot at most 65.
-use Prim.Native.Nat.{ℕ, zero, suc, _+_, _-_, _≤_}
-use mathlib.Core.Path.{_≡_, refl}
-use mathlib.Core.List.{List, [], _∷_, _++_}
-use mathlib.Core.Bool.{true}
-use native.Mathlib.Omega.{arith}
-use lib.ListN.{length, drop, getD, length-drop}
+use Rattle.image.specs.Prelude.{ℕ, zero, suc, _+_, _-_, _≤_, _≡_, refl, List, [], _∷_, _++_, true, arith, length, drop, getD, length-drop}
 use Rattle.image.specs.Bytes.{shared}
 use Rattle.image.specs.Entry.{Message}
 use Rattle.image.specs.Table.{Row}
@@ -14,7 +9,7 @@ use Rattle.image.specs.Sound.{highest}
 use Rattle.image.specs.Upkeep.{reachable, reachableIn, holdsNoMessage, every}
 use Rattle.laws.specs.Rising.{both}
 use Rattle.packed.specs.Form.Chunk.{All, all-left, all-right, all-map, Group, members, flat, groups, groups-flat, total, Fits, groups-fit}
-use Rattle.packed.specs.Form.Packed.{Item, keyOf, lowOf, pairWeight, childWeight, first, shortRows, branches, leafFrom, nodeFrom, leafLevel, nodeLevel, leaves, raised}
+use Rattle.packed.specs.Form.Packed.{Item, keyOf, lowOf, pairWeight, childWeight, first, shortRows, branches, leafFrom, nodeFrom, leafLevel, nodeLevel, leaves, raised, pairLimit}
 use Rattle.packed.specs.Form.Leaves.{Good, value-length}
 use Rattle.laws.specs.LiveCount.{every-both as every-append}
 use Rattle.laws.specs.Follow.{formed-length}
@@ -92,11 +87,11 @@ nodeLevel-trim nums l (g ∷ gs) o s f =
       nodeLevel-trim (drop 1 nums) l gs o (all-right (Trim l) (members g) (flat gs) s) (f .1),
     )
 
-good-weight : (r : Row) → Good r → pairWeight r ≤ 102
+good-weight : (r : Row) → Good r → pairWeight r ≤ pairLimit
 good-weight r g = let a = formed-length (r .key) (g .0) in let b = value-length (r .value) (g .1) in omega arith
 
-pub pair-weights : (t : List Row) → All Good t → All (λ r. pairWeight r ≤ 102) t
-pair-weights t g = all-map Good (λ r. pairWeight r ≤ 102) good-weight t g
+pub pair-weights : (t : List Row) → All Good t → All (λ r. pairWeight r ≤ pairLimit) t
+pair-weights t g = all-map Good (λ r. pairWeight r ≤ pairLimit) good-weight t g
 
 pub child-weights : (l : ℕ) (xs : List Item) → All (Trim l) xs → All (λ x. childWeight x ≤ 70) xs
 child-weights l xs h = all-map (Trim l) (λ x. childWeight x ≤ 70) (λ x t. let b = t .1 in omega arith) xs h
@@ -107,7 +102,7 @@ leaves-trim nums [] g = ((unfold Neat total in (refl, omega arith), omega arith)
 leaves-trim nums (r ∷ t) g =
     leafLevel-trim nums [] (groups pairWeight (r ∷ t)) (omega arith)
     (rw (groups-flat pairWeight (r ∷ t)) (all-map Good (λ q. length (q .key) ≤ 64) (λ q x. formed-length (q .key) (x .0)) (r ∷ t) g))
-    (groups-fit pairWeight (r ∷ t) (all-map (λ q. pairWeight q ≤ 102) (λ q. pairWeight q ≤ 1016) (λ q x. omega arith) (r ∷ t) (pair-weights (r ∷ t) g)))
+    (groups-fit pairWeight (r ∷ t) (all-map (λ q. pairWeight q ≤ pairLimit) (λ q. pairWeight q ≤ 1016) (λ q x. omega arith) (r ∷ t) (pair-weights (r ∷ t) g)))
 
 pub raised-trim : (nums : List ℕ) (l : ℕ) (xs : List Item) → 1 ≤ l → All (Trim l) xs → All (Trim (suc l)) (raised nums xs)
 unfolding raised

@@ -1,12 +1,5 @@
 -- The numbers of the nodes: each number that is handed in is used once.
-use Prim.Native.Nat.{ℕ, zero, suc, _+_, _≤_, _<_}
-use mathlib.Core.Path.{_≡_, refl, sym, ap, ap₂, _∙_}
-use mathlib.Core.List.{List, [], _∷_, _++_, append-assoc}
-use mathlib.Core.Bool.{Bool, true, false, _&&_, _||_, not, cond, true≢false}
-use native.Mathlib.Omega.{arith}
-use lib.ListN.{length, take, drop, getD, length-append}
-use lib.Dec.{ltb, leb, eqb}
-use borrow.Author.Tests.{le-leb, lt-ltb, leb-true, ltb-true, eq-eqb, eqb-true}
+use Rattle.image.specs.Prelude.{ℕ, zero, suc, _+_, _≤_, _<_, _≡_, refl, sym, ap, ap₂, _∙_, List, [], _∷_, _++_, append-assoc, Bool, true, false, _&&_, _||_, not, cond, true≢false, arith, length, take, drop, getD, length-append, ltb, leb, eqb, le-leb, lt-ltb, leb-true, ltb-true, eq-eqb, eqb-true}
 use Rattle.image.specs.Bytes.{shared}
 use Rattle.image.specs.Table.{Row}
 use Rattle.image.specs.Image.{leaf}

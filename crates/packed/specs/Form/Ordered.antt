@@ -1,11 +1,5 @@
 -- The image written level by level is the packed image; and a battery pulled while it is written loses nothing (request S-12).
-use mathlib.Core.Logic.{_⊎_, inl, inr}
-use Prim.Native.Nat.{ℕ, zero, suc, _+_, _*_, _/_, _≤_, _<_}
-use mathlib.Core.Path.{_≡_, refl, sym, _∙_}
-use mathlib.Core.List.{List}
-use mathlib.Core.Bool.{Bool, true, false}
-use native.Mathlib.Omega.{arith}
-use lib.ListN.{length}
+use Rattle.image.specs.Prelude.{_⊎_, inl, inr, ℕ, _+_, _*_, _/_, _≤_, _≡_, sym, _∙_, List, true, false, arith, length}
 use Rattle.image.specs.Table.{Row}
 use Rattle.image.specs.Image.{nodeBytes, headerOf, header, treeOf}
 use Rattle.image.specs.Sound.{numbers, isIn, once, inRange, sound, tableOf}
@@ -15,28 +9,12 @@ use Rattle.laws.specs.WriteNode.{writeNode, write-length, write-same, write-oth
 use Rattle.packed.specs.Form.Chunk.{All}
 use Rattle.packed.specs.Form.Packed.{Built, packed}
 use Rattle.packed.specs.Form.Leaves.{tabled}
-use Rattle.packed.specs.Form.Neat.{Neat}
 use Rattle.packed.specs.Form.Numbered.{times, times-in, in-times, times-once, once-times, range-times, times-range}
 use Rattle.laws.specs.Page.{numberOf, headPage, head-length}
 use Rattle.packed.specs.Form.Pages.{Written}
 use Rattle.packed.specs.Form.Stored.{written-stays, HoldsTree}
-use Rattle.packed.specs.Form.Tidy.{Page, pageNumbers, writeAll, PageFits, In, all-length, all-other, all-same, range-ready, zero-out, same-in, nodes-ext, pages, pages-numbers, written-pages, imageOf, Table, built-holds, built-other, built-packs, root-parts}
+use Rattle.packed.specs.Form.Tidy.{Page, pageNumbers, writeAll, PageFits, In, all-length, all-other, all-same, range-ready, zero-out, pages, imageOf, Table, built-holds, built-other, built-packs, root-parts, one-over}
 use Rattle.packed.specs.Form.Sweep.{orderPages, Ordered, ordered}
-
--- images that hold one tree, and agree elsewhere
-pub one-over : (s s′ : List ℕ) (n live : ℕ) (b : Built) → Neat (b .root) (b .levels) → HoldsTree s n live b → HoldsTree s′ n live b
-    → ((j : ℕ) → 1 ≤ j → isIn j (numbers (b .root)) ≡ false → nodeBytes s j ≡ nodeBytes s′ j) → s ≡ s′
-one-over s s′ n live b h c d rest = nodes-ext n s s′ (c .size) (d .size) each
-  where
-    other : (j : ℕ) → 1 ≤ j → (x : Bool) → isIn j (numbers (b .root)) ≡ x → nodeBytes s j ≡ nodeBytes s′ j
-    other j o true e =
-        same-in s s′ (pages (b .root) (b .levels)) (written-pages (b .root) (b .levels) s (c .pages))
-        (written-pages (b .root) (b .levels) s′ (d .pages)) j (rw (pages-numbers (b .root) (b .levels) h) e)
-    other j o false e = rest j o e
-
-    each : (j : ℕ) → j < n → nodeBytes s j ≡ nodeBytes s′ j
-    each zero k = c .head ∙ sym (d .head)
-    each (suc j) k = other (suc j) (omega arith) (isIn (suc j) (numbers (b .root))) refl
 
 -- any list of pages that makes up a tree, written in any order, and node 0 last
 module _ (base : List ℕ) (n live : ℕ) (b : Built) (ps : List Page) (size : length base ≡ 1024 * n) (some-nodes : 1 ≤ n)
@@ -118,7 +96,7 @@ module _ (base nums : List ℕ) (n : ℕ) (t : List Row) (size : length base ≡
   order-image =
       one-over (orderImage base nums n t) (imageOf base n (length t) (packed nums t)) n (length t) (packed nums t)
       (built-packs base nums n t size least most enough o r tab .neat) order-holds (built-holds base nums n t size least most enough o r tab)
-      (λ j k e. order-other j k e ∙ sym (built-other base nums n t size least most enough o r tab j k e))
+      (λ j k i e. order-other j k e ∙ sym (built-other base nums n t size least most enough o r tab j k e))
 
 -- S-12: pages go to free nodes only. Any mix of the old nodes and the new ones, with the old node 0, is the old tree.
 pub cut-tree : (old new mix : List ℕ) → ((j : ℕ) → isIn j (numbers (treeOf old)) ≡ true → nodeBytes new j ≡ nodeBytes old j)

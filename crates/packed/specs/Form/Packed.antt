@@ -1,8 +1,7 @@
 -- The packed form of a table (request S-10): a tree that a rising table decides, given the numbers of the nodes in the order in which they are used.
-use Prim.Native.Nat.{ℕ, zero, suc, _+_}
-use mathlib.Core.List.{List, [], _∷_}
-use lib.ListN.{length, getD, drop}
+use Rattle.image.specs.Prelude.{ℕ, zero, suc, _+_, List, [], _∷_, length, getD, drop}
 use Rattle.image.specs.Bytes.{shared}
+use Rattle.image.specs.Path.{pathLimit, valueLimit}
 use Rattle.image.specs.Table.{Row}
 use Rattle.image.specs.Image.{Tree, unread, leaf, interior, Forest, end, tree}
 use Rattle.image.specs.Sound.{lowest, highest}
@@ -22,6 +21,13 @@ lowOf x = x .low
 -- a pair counted with its full path, and a child with its full pivot
 abbrev pub pairWeight : Row → ℕ
 pairWeight r = 6 + length (r .key) + length (r .value)
+
+-- how many bytes a pair takes at most; as many pairs as this fit in a leaf, whatever they are
+abbrev pub pairLimit : ℕ
+pairLimit = 6 + pathLimit + valueLimit
+
+abbrev pub leastPairs : ℕ
+leastPairs = 8
 
 abbrev pub childWeight : Item → ℕ
 childWeight x = 6 + length (x .low)

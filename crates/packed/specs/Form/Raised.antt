@@ -1,9 +1,5 @@
 -- A level above: its nodes are sound, and hold the same rows.
-use Prim.Native.Nat.{ℕ}
-use mathlib.Core.Path.{_≡_, refl, sym, ap, ap₂, subst, _∙_}
-use mathlib.Core.List.{List, [], _∷_, _++_, append-assoc}
-use mathlib.Core.Bool.{true}
-use lib.ListN.{length, drop, getD}
+use Rattle.image.specs.Prelude.{ℕ, _≡_, refl, sym, ap, ap₂, subst, _∙_, List, [], _∷_, _++_, append-assoc, true, length, drop, getD}
 use Rattle.image.specs.Bytes.{before, shared}
 use Rattle.image.specs.Image.{interior}
 use Rattle.image.specs.Meaning.{highOf, rows, rowsIn, applyAll}

@@ -1,11 +1,5 @@
 -- An image that holds the packed tree is sound, means the table, and is tidied.
-use Prim.Native.Nat.{ℕ, zero, suc, _*_, _/_, _≤_, _<_}
-use mathlib.Core.Path.{_≡_, refl, _∙_}
-use mathlib.Core.List.{List, []}
-use mathlib.Core.Bool.{true}
-use native.Mathlib.Omega.{arith}
-use lib.ListN.{length}
-use borrow.Author.Tests.{le-leb, lt-ltb, eq-eqb}
+use Rattle.image.specs.Prelude.{ℕ, zero, suc, _*_, _/_, _≤_, _<_, _≡_, refl, _∙_, List, [], true, arith, length, le-leb, lt-ltb, eq-eqb}
 use Rattle.image.specs.Table.{Row}
 use Rattle.image.specs.Image.{Tree, unread, leaf, interior, Forest, end, tree, nodeBytes, nodesOf, headerOf, treeOf}
 use Rattle.image.specs.Sound.{numbers, numbersIn, once, inRange, soundHeader, sound, tableOf}

@@ -1,10 +1,5 @@
 -- The same image written level by level, in the order of the numbers: the way of the code.
-use Prim.Native.Nat.{ℕ, zero, suc, _+_, _*_, _/_, _≤_}
-use mathlib.Core.Path.{_≡_, refl, sym, ap, ap₂, _∙_}
-use mathlib.Core.List.{List, [], _∷_, _++_, append-nil}
-use native.Mathlib.Omega.{arith}
-use lib.ListN.{length, take, drop, length-append, length-drop}
-use lib.Seq.{take-add}
+use Rattle.image.specs.Prelude.{ℕ, zero, suc, _+_, _*_, _/_, _≤_, _≡_, refl, sym, ap, ap₂, _∙_, List, [], _∷_, _++_, append-nil, arith, length, take, drop, length-append, length-drop, take-add}
 use Rattle.image.specs.Bytes.{shared}
 use Rattle.image.specs.Table.{Row}
 use Rattle.image.specs.Image.{Tree, unread, leaf, interior, nodeBytes}

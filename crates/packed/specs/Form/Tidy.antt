@@ -1,14 +1,5 @@
 -- The image of request S-10: node 0, the pages of the packed tree, zeros elsewhere. It is one image for one map.
-use Prim.Native.Nat.{ℕ, zero, suc, _+_, _*_, _-_, _/_, _≤_, _<_}
-use mathlib.Core.Logic.{_↔_}
-use mathlib.Core.Path.{_≡_, refl, sym, ap, ap₂, _∙_}
-use mathlib.Core.List.{List, [], _∷_, _++_}
-use mathlib.Core.Bool.{Bool, true, false, _&&_, _||_, not, false≢true, true≢false}
-use native.Mathlib.Omega.{arith}
-use lib.ListN.{length, take, drop, length-replicate, length-drop, take-append-drop}
-use lib.Seq.{drop-drop}
-use lib.Dec.{ltb, leb, eqb}
-use borrow.Author.Tests.{leb-true, ltb-true, eq-eqb, ne-eqb, eqb-true}
+use Rattle.image.specs.Prelude.{ℕ, zero, suc, _+_, _*_, _-_, _/_, _≤_, _<_, _↔_, _≡_, refl, sym, ap, ap₂, _∙_, List, [], _∷_, _++_, Bool, true, false, _&&_, _||_, not, false≢true, true≢false, arith, length, take, drop, length-replicate, length-drop, take-append-drop, drop-drop, ltb, leb, eqb, leb-true, ltb-true, eq-eqb, ne-eqb, eqb-true}
 use Rattle.image.specs.Path.{wellFormed}
 use Rattle.image.specs.Table.{Row, rising, everyKey}
 use Rattle.image.specs.Image.{Tree, unread, leaf, interior, Forest, end, tree, nodeBytes, treeOf}
@@ -232,6 +223,21 @@ same-in s s′ (p ∷ ps) a b j h = go (eqb j (p .number)) refl (same-in s s′ 
     go true e ih = rw (eqb-true j (p .number) e) (a .0 ∙ sym (b .0))
     go false e ih = ih (rw e at h)
 
+-- images that hold one tree, and agree elsewhere
+pub one-over : (s s′ : List ℕ) (n live : ℕ) (b : Built) → Neat (b .root) (b .levels) → HoldsTree s n live b → HoldsTree s′ n live b
+    → ((j : ℕ) → 1 ≤ j → j < n → isIn j (numbers (b .root)) ≡ false → nodeBytes s j ≡ nodeBytes s′ j) → s ≡ s′
+one-over s s′ n live b h c d rest = nodes-ext n s s′ (c .size) (d .size) each
+  where
+    other : (j : ℕ) → 1 ≤ j → j < n → (x : Bool) → isIn j (numbers (b .root)) ≡ x → nodeBytes s j ≡ nodeBytes s′ j
+    other j o k true e =
+        same-in s s′ (pages (b .root) (b .levels)) (written-pages (b .root) (b .levels) s (c .pages))
+        (written-pages (b .root) (b .levels) s′ (d .pages)) j (rw (pages-numbers (b .root) (b .levels) h) e)
+    other j o k false e = rest j o k e
+
+    each : (j : ℕ) → j < n → nodeBytes s j ≡ nodeBytes s′ j
+    each zero k = c .head ∙ sym (d .head)
+    each (suc j) k = other (suc j) (omega arith) k (isIn (suc j) (numbers (b .root))) refl
+
 -- an image that holds a tree, and zeros in its free nodes
 pub record Clean (image : List ℕ) (n live : ℕ) (b : Built) : Type 0 where
   pub holds : HoldsTree image n live b
@@ -239,17 +245,7 @@ pub record Clean (image : List ℕ) (n live : ℕ) (b : Built) : Type 0 where
 
 -- there is one such image
 pub one-image : (s s′ : List ℕ) (n live : ℕ) (b : Built) → Neat (b .root) (b .levels) → Clean s n live b → Clean s′ n live b → s ≡ s′
-one-image s s′ n live b h c d = nodes-ext n s s′ (c .holds .size) (d .holds .size) each
-  where
-    other : (j : ℕ) → 1 ≤ j → j < n → (x : Bool) → isIn j (numbers (b .root)) ≡ x → nodeBytes s j ≡ nodeBytes s′ j
-    other j o k true e =
-        same-in s s′ (pages (b .root) (b .levels)) (written-pages (b .root) (b .levels) s (c .holds .pages))
-        (written-pages (b .root) (b .levels) s′ (d .holds .pages)) j (rw (pages-numbers (b .root) (b .levels) h) e)
-    other j o k false e = c .zeroed j o k e ∙ sym (d .zeroed j o k e)
-
-    each : (j : ℕ) → j < n → nodeBytes s j ≡ nodeBytes s′ j
-    each zero k = c .holds .head ∙ sym (d .holds .head)
-    each (suc j) k = other (suc j) (omega arith) k (isIn (suc j) (numbers (b .root))) refl
+one-image s s′ n live b h c d = one-over s s′ n live b h (c .holds) (d .holds) (λ j o k e. c .zeroed j o k e ∙ sym (d .zeroed j o k e))
 
 -- what is written holds the tree; the other nodes keep their bytes
 module _ (base : List ℕ) (n live : ℕ) (b : Built) (size : length base ≡ 1024 * n) (some-nodes : 1 ≤ n) (h : Neat (b .root) (b .levels))

@@ -1,13 +1,5 @@
 -- Level by level: what the whole packed tree keeps.
-use Prim.Native.Nat.{ℕ, zero, suc, _+_, _*_, _-_, _/_, _≤_, _<_}
-use mathlib.Core.Path.{_≡_, refl, sym, ap, subst, _∙_}
-use mathlib.Core.List.{List, [], _∷_, append-nil}
-use mathlib.Core.Bool.{Bool, true, false}
-use native.Mathlib.Omega.{arith}
-use lib.ListN.{length, take, drop, length-drop}
-use lib.Seq.{take-add, length-take-le}
-use lib.Dec.{leb}
-use borrow.Author.Tests.{le-leb, leb-true, leb-false, lt-ltb, eq-eqb, ne-eqb}
+use Rattle.image.specs.Prelude.{ℕ, zero, suc, _+_, _*_, _-_, _/_, _≤_, _<_, _≡_, refl, sym, ap, subst, _∙_, List, [], _∷_, append-nil, Bool, true, false, arith, length, take, drop, length-drop, take-add, length-take-le, leb, le-leb, leb-true, leb-false, lt-ltb, eq-eqb, ne-eqb}
 use Rattle.image.specs.Table.{Row}
 use Rattle.image.specs.Meaning.{rows}
 use Rattle.image.specs.Sound.{soundTree, numbers, isIn, once, inRange, lowest, highest, soundRoot}
@@ -15,7 +7,7 @@ use Rattle.image.specs.Upkeep.{reachable, holdsNoMessage, every}
 use Rattle.octets.specs.Order.{not-false}
 use Rattle.laws.specs.Rising.{both}
 use Rattle.packed.specs.Form.Chunk.{All, groups, groups-count, groups-some}
-use Rattle.packed.specs.Form.Packed.{Item, lowOf, pairWeight, childWeight, first, leafLevel, leafFrom, leaves, raised, Built, topOf, climb, packed, numbersFrom}
+use Rattle.packed.specs.Form.Packed.{Item, lowOf, pairWeight, childWeight, first, leafLevel, leafFrom, leaves, raised, Built, topOf, climb, packed, numbersFrom, pairLimit, leastPairs}
 use Rattle.packed.specs.Form.Leaves.{Tabled, Stands, levelRows, leaves-stand, leaves-rows}
 use Rattle.packed.specs.Form.Raised.{raised-stand, raised-rows, raised-first}
 use Rattle.packed.specs.Form.Neat.{Neat, Trim, leaves-trim, raised-trim, child-weights, pair-weights, neat-quiet}
@@ -53,7 +45,7 @@ level-above nums l xs h =
     }
 
 -- what comes of a climb
-pub record Climbed (f l : ℕ) (nums : List ℕ) (xs : List Item) (b : Built) : Type 0 where
+pub record Climbed (l : ℕ) (nums : List ℕ) (xs : List Item) (b : Built) : Type 0 where
   pub extra : ℕ
   pub few : extra + 1 ≤ length xs
   pub half : 2 * extra ≤ length xs
@@ -62,13 +54,12 @@ pub record Climbed (f l : ℕ) (nums : List ℕ) (xs : List Item) (b : Built) : 
   pub neat : Neat (b .root) (b .levels)
   pub is-sound : soundTree (b .root) lowest highest ≡ true
   pub same-rows : rows (b .root) lowest highest ≡ levelRows highest xs
-  pub low-enough : b .levels ≤ l + f
   pub lower : (g : ℕ) → length xs ≤ room g → b .levels ≤ l + g
   pub high-enough : l ≤ b .levels
 
-one-left : (f l : ℕ) (nums : List ℕ) (x : Item) → Level l (x ∷ []) → Climbed f l nums (x ∷ []) (record { root = x .node; levels = l })
+one-left : (l : ℕ) (nums : List ℕ) (x : Item) → Level l (x ∷ []) → Climbed l nums (x ∷ []) (record { root = x .node; levels = l })
 unfolding levelNumbers levelRows first times
-one-left f l nums x h =
+one-left l nums x h =
     record {
       extra = 0;
       few = omega arith;
@@ -78,15 +69,14 @@ one-left f l nums x h =
       neat = h .trim .0 .0;
       is-sound = subst (λ z. soundTree (x .node) z highest ≡ true) (h .starts) (h .stands .1);
       same-rows = ap (λ z. rows (x .node) z highest) (sym (h .starts)) ∙ sym (append-nil (rows (x .node) (x .low) highest));
-      low-enough = omega arith;
       lower = λ g q. omega arith;
       high-enough = omega arith;
     }
 
-on-top : (f l : ℕ) (nums : List ℕ) (xs : List Item) (b : Built) → Level l xs → 2 ≤ length xs → length xs ≤ 2 * length nums + 1
-    → Climbed f (suc l) (drop (length (raised nums xs)) nums) (raised nums xs) b → Climbed (suc f) l nums xs b
+on-top : (l : ℕ) (nums : List ℕ) (xs : List Item) (b : Built) → Level l xs → 2 ≤ length xs → length xs ≤ 2 * length nums + 1
+    → Climbed (suc l) (drop (length (raised nums xs)) nums) (raised nums xs) b → Climbed l nums xs b
 unfolding room
-on-top f l nums xs b h two k c =
+on-top l nums xs b h two k c =
     let m : ℕ = length (raised nums xs) in
     let few : 14 * (m - 1) + 1 ≤ length xs = few-raised nums l xs h in
     let some-node : 1 ≤ m = some-raised nums xs (h .some-node) in
@@ -103,7 +93,6 @@ on-top f l nums xs b h two k c =
       neat = c .neat;
       is-sound = c .is-sound;
       same-rows = c .same-rows ∙ raised-rows nums xs (h .stands);
-      low-enough = let q = c .low-enough in omega arith;
       lower = by-room;
       high-enough = let q = c .high-enough in omega arith;
     }
@@ -117,28 +106,28 @@ on-top f l nums xs b h two k c =
         omega arith
 
 pub climbed : (f l : ℕ) (nums : List ℕ) (xs : List Item) → Level l xs → length xs ≤ room f → length xs ≤ 2 * length nums + 1
-    → Climbed f l nums xs (climb f l nums xs)
+    → Climbed l nums xs (climb f l nums xs)
 unfolding climb room topOf
 climbed zero l nums [] h r k = absurd (let q = h .some-node in omega arith)
-climbed zero l nums (x ∷ []) h r k = one-left 0 l nums x h
+climbed zero l nums (x ∷ []) h r k = one-left l nums x h
 climbed zero l nums (x ∷ y ∷ zs) h r k = absurd (omega arith)
 climbed (suc f) l nums [] h r k = absurd (let q = h .some-node in omega arith)
-climbed (suc f) l nums (x ∷ []) h r k = one-left (suc f) l nums x h
+climbed (suc f) l nums (x ∷ []) h r k = one-left l nums x h
 climbed (suc f) l nums (x ∷ y ∷ zs) h r k =
     let ys : List Item = raised nums (x ∷ y ∷ zs) in
     let m : ℕ = length ys in
     let few = few-raised nums l (x ∷ y ∷ zs) h in
     let some-node = some-raised nums (x ∷ y ∷ zs) (h .some-node) in
-    on-top f l nums (x ∷ y ∷ zs) (climb f (suc l) (drop m nums) ys) h (omega arith) k
+    on-top l nums (x ∷ y ∷ zs) (climb f (suc l) (drop m nums) ys) h (omega arith) k
     (climbed f (suc l) (drop m nums) ys (level-above nums l (x ∷ y ∷ zs) h) (omega arith) (rw (length-drop m nums) (omega arith)))
 
 -- the leaf level
-pub few-leaves : (nums : List ℕ) (t : List Row) → Tabled t → (1 ≤ length (leaves nums t)) × (9 * (length (leaves nums t) - 1) ≤ length t - 1)
+pub few-leaves : (nums : List ℕ) (t : List Row) → Tabled t → (1 ≤ length (leaves nums t)) × (leastPairs * (length (leaves nums t) - 1) ≤ length t - 1)
 unfolding leaves
 few-leaves nums [] h = (omega arith, omega arith)
 few-leaves nums (r ∷ t) h =
     let a = leafLevel-length nums [] (groups pairWeight (r ∷ t)) in
-    let b = groups-count pairWeight 9 102 (omega arith) (r ∷ t) (omega arith) (pair-weights (r ∷ t) (h .good)) in
+    let b = groups-count pairWeight leastPairs pairLimit (omega arith) (r ∷ t) (omega arith) (pair-weights (r ∷ t) (h .good)) in
     let c = groups-some pairWeight (r ∷ t) (omega arith) in
     (omega arith, omega arith)
 
@@ -177,7 +166,7 @@ unfolding room
 room-1 = omega arith
 
 -- Three levels only with 15 leaves or more: then, and else, the nodes that a packed tree leaves free are enough for a move.
-levels-room : (n leaves levels rows : ℕ) → 32 ≤ n → rows ≤ n → 9 * (leaves - 1) ≤ rows - 1 → levels ≤ 3 → (leaves ≤ 14 → levels ≤ 2) → 10 * levels + 1 ≤ n - n / 4
+levels-room : (n leaves levels rows : ℕ) → 32 ≤ n → rows ≤ n → leastPairs * (leaves - 1) ≤ rows - 1 → levels ≤ 3 → (leaves ≤ 14 → levels ≤ 2) → 10 * levels + 1 ≤ n - n / 4
 levels-room n leaves levels rows a b c most lower = go (leb leaves 14) refl
   where
     go : (x : Bool) → leb leaves 14 ≡ x → 10 * levels + 1 ≤ n - n / 4
@@ -195,7 +184,7 @@ packs nums t n a b k e h =
     let p = few-leaves nums t h in
     let r = room-7 in
     let d = length-drop l nums in
-    let c : Climbed 7 1 (drop l nums) (leaves nums t) (climb 7 1 (drop l nums) (leaves nums t)) =
+    let c : Climbed 1 (drop l nums) (leaves nums t) (climb 7 1 (drop l nums) (leaves nums t)) =
     climbed 7 1 (drop l nums) (leaves nums t) (leaf-level nums t h) (omega arith) (omega arith) in
     let g : levelNumbers (leaves nums t) ≡ take l nums = leaves-numbers nums t (omega arith) in
     record {
@@ -260,7 +249,3 @@ pub from-once : (i k : ℕ) → once (numbersFrom i k) ≡ true
 unfolding once numbersFrom
 from-once i zero = refl
 from-once i (suc k) = both (not-false (isIn i (numbersFrom (suc i) k)) (not-later i (suc i) k (omega arith))) (from-once (suc i) k)
-
--- the same bounds where values may have 48 bytes (request S-2): a pair is at most 118 bytes, so a full leaf has at least 8
-wide-quarter : (n l e k t : ℕ) → 32 ≤ n → t ≤ n → n / 4 ≤ k + 1 → 1 ≤ l → 8 * (l - 1) ≤ t - 1 → 2 * e ≤ l → (l + e + 1 ≤ n / 4) × (l ≤ k) × (l ≤ 2 * (k - l) + 1)
-wide-quarter n l e k t a b c d f g = (omega arith, omega arith, omega arith)

@@ -1,10 +1,6 @@
 -- The loop that writes the entries of the rows from one to another into a page, one row after the other: what holds before each turn.
 -- Said of any entries; `bytes n t` are those of the n rows from row t on, and `step` and `done` say that they follow each other.
-use Prim.Native.Nat.{ℕ, _+_, _-_, _<_, _≤_}
-use mathlib.Core.Path.{_≡_, refl, sym, ap, _∙_}
-use mathlib.Core.List.{List, [], _++_}
-use native.Mathlib.Omega.{arith}
-use lib.ListN.{length, length-append}
+use Rattle.image.specs.Prelude.{ℕ, _+_, _-_, _<_, _≤_, _≡_, refl, sym, ap, _∙_, List, [], _++_, arith, length, length-append}
 use Rattle.octets.specs.Put.{put, put-put, put-nil, put-size}
 
 module _ (bytes : ℕ → ℕ → List ℕ) where

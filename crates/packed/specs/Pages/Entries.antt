@@ -1,20 +1,11 @@
--- Child entries put into a page.
-use Prim.Native.Nat.{ℕ, zero, suc, _+_, _*_, _-_, _≤_, _<_}
-use mathlib.Core.Path.{_≡_, refl, sym, ap, ap₂, _∙_}
-use mathlib.Core.List.{List, [], _∷_, _++_, append-assoc, append-nil}
-use mathlib.Core.Bool.{Bool, true, false, cond}
-use native.Mathlib.Omega.{arith}
-use mathlib.Core.Logic.{_≢_}
-use lib.Dec.{eqb, ltb}
-use borrow.Author.Tests.{eq-eqb, ne-eqb, eqb-true, eqb-false, lt-ltb, le-ltb, ltb-true, ltb-false}
-use lib.ListN.{length, take, drop, getD, length-drop, drop-of-length-le}
-use lib.Seq.{length-take-le, drop-drop, take-nil}
+-- Child entries put into a page, and where a row's path stands in the area without its first bytes.
+use Rattle.image.specs.Prelude.{ℕ, zero, suc, _+_, _*_, _-_, _≤_, _<_, _≡_, refl, sym, ap, ap₂, _∙_, List, [], _∷_, _++_, append-assoc, append-nil, Bool, true, false, cond, arith, _≢_, eqb, ltb, eq-eqb, ne-eqb, eqb-true, eqb-false, lt-ltb, le-ltb, ltb-true, ltb-false, length, take, drop, getD, drop-of-length-le, drop-drop, take-nil}
 use Rattle.image.specs.Entry.{child}
 use Rattle.image.specs.Image.{Branch}
 use Rattle.laws.specs.Encode.{bytesOf, bytesOfAll}
 use Rattle.packed.specs.Form.Marks.{branchEntries}
-use Rattle.packed.specs.Rows.Area.{rowAt, RowsFit}
-use Rattle.packed.specs.Rows.Branches.{markAt, lowOfRow, branchesOf, branches-take, branches-pass}
+use Rattle.packed.specs.Rows.Area.{rowAt, RowsFit, key-length}
+use Rattle.packed.specs.Rows.Branches.{markAt, lowOfRow, branchesOf, branches-take, branches-pass, low-later}
 use Rattle.packed.specs.Rows.Remark.{branches-split}
 
 -- the bytes of the marked ones of n rows from row i
@@ -67,30 +58,31 @@ unfolding lowOfRow
 suffix-first k area zero e = drop-of-length-le [] {i = k} (omega arith)
 suffix-first k area (suc i) e = absurd (omega arith)
 
-module _ (m : ℕ) (area : List ℕ) (f : RowsFit m area) (k i : ℕ) (h : i < m) (n : i ≡ 0 → ⊥) where
-  low-is : lowOfRow area i ≡ take (getD area (i * 128) 0) (drop (i * 128 + 4) area)
-  low-is = go i n
-    where
-      go : (j : ℕ) → (j ≡ 0 → ⊥) → lowOfRow area j ≡ take (getD area (j * 128) 0) (drop (j * 128 + 4) area)
-      go zero q = absurd (q refl)
-      go (suc j) q = unfold lowOfRow rowAt in refl
+-- from s up to e is the path of row i without its first k bytes
+pub path-part : (m : ℕ) (area : List ℕ) → RowsFit m area → (k i : ℕ) → i < m → (s e : ℕ) → e ≡ i * 128 + 4 + getD area (i * 128) 0
+    → (getD area (i * 128) 0 < k → s ≡ e) → (k ≤ getD area (i * 128) 0 → s ≡ i * 128 + 4 + k) → (s ≤ e) × (take (e - s) (drop s area) ≡ drop k (rowAt area i .key))
+path-part m area f k i h s e b short long = go (ltb (getD area (i * 128) 0) k) refl
+  where
+    key-is : rowAt area i .key ≡ take (getD area (i * 128) 0) (drop (i * 128 + 4) area)
+    key-is = unfold rowAt in refl
 
-  pub suffix-short : (len : ℕ) → len ≡ getD area (i * 128) 0 → len < k → drop k (lowOfRow area i) ≡ []
-  suffix-short len e l =
-      let r = f .room in
-      let p = f .paths i h in
-      let s = ap length low-is ∙ length-take-le (getD area (i * 128) 0) (drop (i * 128 + 4) area) (rw (length-drop (i * 128 + 4) area) (omega arith)) in
-      drop-of-length-le (lowOfRow area i) {i = k} (omega arith)
-
-  pub suffix-is : (len : ℕ) → len ≡ getD area (i * 128) 0 → k ≤ len
-      → take (i * 128 + 4 + len - (i * 128 + 4 + k)) (drop (i * 128 + 4 + k) area) ≡ drop k (lowOfRow area i)
-  suffix-is len e l =
-      let z : i * 128 + 4 + len - (i * 128 + 4 + k) ≡ len - k = omega arith in
-      ap (λ q. take q (drop (i * 128 + 4 + k) area)) z
-      ∙ ap (take (len - k)) (sym (drop-drop k (i * 128 + 4) area))
-      ∙ sym (drop-take k len (drop (i * 128 + 4) area) l)
-      ∙ ap (λ q. drop k (take q (drop (i * 128 + 4) area))) e
-      ∙ ap (drop k) (sym low-is)
+    go : (y : Bool) → ltb (getD area (i * 128) 0) k ≡ y → (s ≤ e) × (take (e - s) (drop s area) ≡ drop k (rowAt area i .key))
+    go true q =
+        let l : getD area (i * 128) 0 < k = ltb-true (getD area (i * 128) 0) k q in
+        let c = short l in
+        let n = key-length m area f i h in
+        let z : e - s ≡ 0 = omega arith in
+        (omega arith, ap (λ x. take x (drop s area)) z ∙ sym (drop-of-length-le (rowAt area i .key) {i = k} (omega arith)))
+    go false q =
+        let l : k ≤ getD area (i * 128) 0 = ltb-false (getD area (i * 128) 0) k q in
+        let c : s ≡ i * 128 + 4 + k = long l in
+        let z : e - s ≡ getD area (i * 128) 0 - k = omega arith in (
+          omega arith,
+          ap₂ (λ x y. take x (drop y area)) z c
+              ∙ ap (take (getD area (i * 128) 0 - k)) (sym (drop-drop k (i * 128 + 4) area))
+              ∙ sym (drop-take k (getD area (i * 128) 0) (drop (i * 128 + 4) area) l)
+              ∙ ap (drop k) (sym key-is),
+        )
 
 -- where the suffix of row i stands
 unfoldable pub endAt : List ℕ → ℕ → ℕ
@@ -125,35 +117,20 @@ pub record Span (k : ℕ) (area : List ℕ) (i s e : ℕ) : Type 0 where
   pub bytes : take (e - s) (drop s area) ≡ drop k (lowOfRow area i)
 
 pub span : (m : ℕ) (area : List ℕ) → RowsFit m area → (k i : ℕ) → i < m → (s e : ℕ) → s ≡ startAt k area i → e ≡ endAt area i → Span k area i s e
-span m area f k i h s e a b = go (eqb i 0) refl (ltb (getD area (i * 128) 0) k) refl
+span m area f k i h s e a b = go (eqb i 0) refl
   where
-    none-of : (x y : ℕ) → x ≡ y → take (y - x) (drop x area) ≡ []
-    none-of x y q = let z : y - x ≡ 0 = omega arith in ap (λ n. take n (drop x area)) z
-
-    go : (x : Bool) → eqb i 0 ≡ x → (y : Bool) → ltb (getD area (i * 128) 0) k ≡ y → Span k area i s e
-    go true p y q =
+    go : (x : Bool) → eqb i 0 ≡ x → Span k area i s e
+    go true p =
         let z : i ≡ 0 = eqb-true i 0 p in
         let c = start-zero k area i z in
         let d = end-first area i z in
         let r = f .room in
-        record { ordered = omega arith; inside = omega arith; bytes = none-of s e (omega arith) ∙ sym (suffix-first k area i z) }
-    go false p true q =
+        let n : e - s ≡ 0 = omega arith in
+        record { ordered = omega arith; inside = omega arith; bytes = ap (λ x. take x (drop s area)) n ∙ sym (suffix-first k area i z) }
+    go false p =
         let z : i ≢ 0 = eqb-false i 0 p in
-        let l : getD area (i * 128) 0 < k = ltb-true (getD area (i * 128) 0) k q in
-        let c = start-short k area i z l in
-        let d = end-later area i z in
-        let r = f .room in
-        let t = f .paths i h in
-        record { ordered = omega arith; inside = omega arith; bytes = none-of s e (omega arith) ∙ sym (suffix-short m area f k i h z (getD area (i * 128) 0) refl l) }
-    go false p false q =
-        let z : i ≢ 0 = eqb-false i 0 p in
-        let l : k ≤ getD area (i * 128) 0 = ltb-false (getD area (i * 128) 0) k q in
-        let c : s ≡ i * 128 + 4 + k = a ∙ start-long k area i z l in
         let d : e ≡ i * 128 + 4 + getD area (i * 128) 0 = b ∙ end-later area i z in
         let r = f .room in
         let t = f .paths i h in
-        record {
-          ordered = omega arith;
-          inside = omega arith;
-          bytes = ap₂ (λ x y. take (x - y) (drop y area)) d c ∙ suffix-is m area f k i h z (getD area (i * 128) 0) refl l;
-        }
+        let g = path-part m area f k i h s e d (λ l. a ∙ start-short k area i z l ∙ sym d) (λ l. a ∙ start-long k area i z l) in
+        record { ordered = g .0; inside = omega arith; bytes = g .1 ∙ ap (drop k) (sym (low-later area i z)) }

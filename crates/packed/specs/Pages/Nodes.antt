@@ -1,12 +1,7 @@
 -- The lifted prefix, and a whole interior page.
-use Prim.Native.Nat.{ℕ, suc, _+_, _*_, _-_, _≤_, _<_}
-use mathlib.Core.Path.{_≡_, refl, sym, ap, _∙_}
-use mathlib.Core.List.{List}
-use native.Mathlib.Omega.{arith}
-use lib.ListN.{length}
-use Rattle.image.specs.Bytes.{shared}
+use Rattle.image.specs.Prelude.{ℕ, suc, _+_, _*_, _-_, _≤_, _<_, _≡_, refl, sym, ap, _∙_, List, arith, length}
+use Rattle.image.specs.Bytes.{shared, u16Bytes}
 use Rattle.image.specs.Sound.{highest}
-use Rattle.image.specs.Bytes.{u16Bytes}
 use Rattle.laws.specs.Encode.{bytesOfAll}
 use Rattle.laws.specs.WriteNode.{writeNode}
 use Rattle.packed.specs.Form.Packed.{first}

@@ -1,14 +1,5 @@
 -- A mark written: the rows stay, the other marks stay.
-use Prim.Native.Nat.{ℕ, _+_, _*_, _-_, _/_, _%_, _≤_, _<_}
-use mathlib.Core.Path.{_≡_, refl, ap, ap₂, _∙_}
-use mathlib.Core.Logic.{_⊎_, inl, inr}
-use mathlib.Core.List.{List}
-use mathlib.Core.Bool.{Bool, true, false}
-use native.Mathlib.Omega.{arith}
-use lib.ListN.{length, take, drop, getD, set, length-set}
-use lib.Seq.{getD-set-same, getD-set-other, drop-set-lt, drop-set-add, take-set-le}
-use lib.Dec.{ltb}
-use borrow.Author.Tests.{ltb-true, ltb-false}
+use Rattle.image.specs.Prelude.{ℕ, _+_, _*_, _-_, _/_, _%_, _≤_, _<_, _≡_, refl, ap, ap₂, _∙_, _⊎_, inl, inr, List, Bool, true, false, arith, length, take, drop, getD, set, length-set, getD-set-same, getD-set-other, drop-set-lt, drop-set-add, take-set-le, ltb, ltb-true, ltb-false}
 use Rattle.image.specs.Bytes.{u16}
 use Rattle.packed.specs.Rows.Area.{rowAt}
 use Rattle.packed.specs.Rows.Branches.{markAt}

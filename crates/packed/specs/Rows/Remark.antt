@@ -1,13 +1,5 @@
 -- One turn of the loop that makes the marks of the level above: the marks of a group go, its first row gets the new node's number.
-use Prim.Native.Nat.{ℕ, zero, suc, _+_, _*_, _-_, _≤_, _<_}
-use mathlib.Core.Path.{_≡_, refl, sym, ap, ap₂, _∙_}
-use mathlib.Core.Logic.{_≢_}
-use mathlib.Core.List.{List, [], _∷_, _++_}
-use mathlib.Core.Bool.{Bool, true, false}
-use native.Mathlib.Omega.{arith}
-use lib.ListN.{length, getD}
-use lib.Dec.{eqb}
-use borrow.Author.Tests.{eqb-true, eqb-false}
+use Rattle.image.specs.Prelude.{ℕ, zero, suc, _+_, _*_, _-_, _≤_, _<_, _≡_, refl, sym, ap, ap₂, _∙_, _≢_, List, [], _∷_, _++_, Bool, true, false, arith, length, getD, eqb, eqb-true, eqb-false}
 use Rattle.packed.specs.Rows.Area.{rowAt, RowsFit}
 use Rattle.packed.specs.Rows.Branches.{markAt, lowOfRow, branchAt, branchesOf, branches-take, branches-pass, low-length}
 use Rattle.packed.specs.Rows.Puts.{putMark, put-length, put-byte, mark-same, mark-other, row-stays}
@@ -25,6 +17,9 @@ pub record Stays (m : ℕ) (area area′ : List ℕ) : Type 0 where
 
 pub stays-refl : (m : ℕ) (area : List ℕ) → Stays m area area
 stays-refl m area = record { size = refl; path-length = λ t. refl; value-length = λ t. refl; row = λ t h. refl }
+
+pub stays-sym : (m : ℕ) (a b : List ℕ) → Stays m a b → Stays m b a
+stays-sym m a b x = record { size = sym (x .size); path-length = λ t. sym (x .path-length t); value-length = λ t. sym (x .value-length t); row = λ t h. sym (x .row t h) }
 
 pub stays-trans : (m : ℕ) (a b c : List ℕ) → Stays m a b → Stays m b c → Stays m a c
 stays-trans m a b c x y =
@@ -84,16 +79,17 @@ clear-in (suc k) area i t r a b = go (eqb t i) refl (clear-in k (putMark area i 
     go false e ih = let n : t ≢ i = eqb-false t i e in ih (omega arith) (omega arith)
 
 -- marked rows of two areas that agree
+pub low-same : (a b : List ℕ) (t : ℕ) → rowAt b t ≡ rowAt a t → lowOfRow b t ≡ lowOfRow a t
+unfolding lowOfRow
+low-same a b zero e = refl
+low-same a b (suc t) e = ap (λ r. r .key) e
+
 pub branches-agree : (k : ℕ) (a b : List ℕ) (i : ℕ) → ((t : ℕ) → i ≤ t → t < i + k → (markAt b t ≡ markAt a t) × (rowAt b t ≡ rowAt a t)) → branchesOf k b i ≡ branchesOf k a i
 unfolding branchesOf
 branches-agree zero a b i h = refl
 branches-agree (suc k) a b i h =
     let x = h i (omega arith) (omega arith) in
-    rw (x .0, low-agree i (x .1), branches-agree k a b (suc i) (λ t p q. h t (omega arith) (omega arith)))
-  where
-    low-agree : (t : ℕ) → rowAt b t ≡ rowAt a t → lowOfRow b t ≡ lowOfRow a t
-    low-agree zero e = unfold lowOfRow in refl
-    low-agree (suc t) e = unfold lowOfRow in ap (λ r. r .key) e
+    rw (x .0, low-same a b i (x .1), branches-agree k a b (suc i) (λ t p q. h t (omega arith) (omega arith)))
 
 pub branches-none : (k : ℕ) (a : List ℕ) (i : ℕ) → ((t : ℕ) → i ≤ t → t < i + k → markAt a t ≡ 0) → branchesOf k a i ≡ []
 branches-none zero a i h = unfold branchesOf in refl
@@ -115,11 +111,6 @@ branches-split (suc k) n a i =
     by (suc v) e ih =
         branches-take (k + n) a i (omega arith) ∙ ap (λ l. branchAt a i ∷ l) ih ∙ ap (λ l. l ++ branchesOf n a (i + suc k)) (sym (branches-take k a i (omega arith)))
 
-pub low-same : (a b : List ℕ) (t : ℕ) → rowAt b t ≡ rowAt a t → lowOfRow b t ≡ lowOfRow a t
-unfolding lowOfRow
-low-same a b zero e = refl
-low-same a b (suc t) e = ap (λ r. r .key) e
-
 -- the loop that clears
 pub clear-step : (area : List ℕ) (i to : ℕ) → i < to → clearMarks (to - i) area i ≡ clearMarks (to - (i + 1)) (putMark area i 0) (i + 1)
 unfolding clearMarks
@@ -140,8 +131,4 @@ start-first area (suc i) e = absurd (omega arith)
 
 pub start-later : (m : ℕ) (area : List ℕ) → RowsFit m area → (i : ℕ) → i < m → (i ≡ 0 → ⊥) → startWeight area i ≡ 6 + getD area (i * 128) 0
 unfolding startWeight
-start-later m area f i h n = ap (λ x. 6 + x) (low-length m area f i (pos i n) h)
-  where
-    pos : (k : ℕ) → (k ≡ 0 → ⊥) → 1 ≤ k
-    pos zero q = absurd (q refl)
-    pos (suc k) q = omega arith
+start-later m area f i h n = ap (λ x. 6 + x) (low-length m area f i n h)

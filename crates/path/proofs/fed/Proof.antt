@@ -1,6 +1,6 @@
+-- `fed` meets its contract. Relies on specs/Fed.
 use Rattle.path.specs.Fed.{dead-fed, fed-long, fed-empty, fed-wide, fed-many, fed-end, fed-low, fed-high, fed-slash, fed-full, fed-on}
-use native.Mathlib.Omega.{arith}
-use borrow.Author.Needs.{needs}
+use Rattle.image.specs.Prelude.{arith, needs}
 use Rattle.path.proofs.fed.Statement.{statement}
 use Rattle.path.proofs.fed.Tie as tie
 

@@ -1,10 +1,7 @@
+-- `feed` meets its contract: its loop keeps an invariant. Relies on specs/Fed and specs/Shape.
 use Rattle.path.specs.Fed.{shapeIs, feed-step, feed-end}
 use Rattle.path.specs.Shape as defined
-use lib.ListN.{length, drop}
-use mathlib.Core.Path.{_≡_, refl}
-use Prim.Native.Nat.{_≤_, _-_}
-use native.Mathlib.Omega.{arith}
-use borrow.Author.Needs.{needs}
+use Rattle.image.specs.Prelude.{length, drop, _≡_, refl, _≤_, _-_, arith, needs}
 use Rattle.path.proofs.feed.Statement.{statement}
 use Rattle.path.proofs.feed.Tie as tie
 

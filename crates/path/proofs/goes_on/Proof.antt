@@ -1,8 +1,6 @@
 -- `goes_on` meets its contract: a length, and then the loop over the bytes. Relies on specs/Reads.
 use Rattle.path.specs.Reads.{goes-dead, goes-past, goes-long, goes-many, goes-wide, goes-reads}
-use borrow.Author.Needs.{needs}
-use native.Mathlib.Omega.{arith}
-use Prim.Native.Nat.{_-_}
+use Rattle.image.specs.Prelude.{needs, arith}
 use Rattle.path.proofs.goes_on.Statement.{statement}
 use Rattle.path.proofs.goes_on.Tie as tie
 

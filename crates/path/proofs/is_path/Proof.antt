@@ -1,4 +1,5 @@
-use borrow.Author.Needs.{needs}
+-- `is_path` meets its contract. Relies on specs/Fed.
+use Rattle.image.specs.Prelude.{needs}
 use Rattle.path.specs.Fed.{path-is}
 use Rattle.path.proofs.is_path.Statement.{statement}
 use Rattle.path.proofs.is_path.Tie as tie

@@ -1,8 +1,6 @@
 -- `read_byte` meets its contract: a letter past `/`, or what `read_sign` says of the byte. Relies on specs/Reads.
 use Rattle.path.specs.Reads.{byte-letter, no-letter}
-use borrow.Author.Needs.{needs}
-use native.Mathlib.Omega.{arith}
-use mathlib.Core.Logic.{inl, inr, ⊎-elim}
+use Rattle.image.specs.Prelude.{needs, arith, inl, inr, ⊎-elim}
 use Rattle.path.proofs.read_byte.Statement.{statement}
 use Rattle.path.proofs.read_byte.Tie as tie
 

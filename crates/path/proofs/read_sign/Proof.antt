@@ -1,7 +1,6 @@
 -- `read_sign` meets its contract, by the class of the byte. Relies on specs/Reads.
 use Rattle.path.specs.Reads.{byte-empty, byte-wide, byte-end, byte-low, byte-over, byte-sign}
-use borrow.Author.Needs.{needs}
-use native.Mathlib.Omega.{arith}
+use Rattle.image.specs.Prelude.{needs, arith}
 use Rattle.path.proofs.read_sign.Statement.{statement}
 use Rattle.path.proofs.read_sign.Tie as tie
 

@@ -1,11 +1,7 @@
 -- `reads_on` meets its contract: what is left reads on as the whole does. Relies on specs/Reads.
 use Rattle.image.specs.Path.{readsOn}
 use Rattle.path.specs.Reads.{reads-bad, reads-on, reads-none, reads-many, reads-end}
-use borrow.Author.Needs.{needs}
-use native.Mathlib.Omega.{arith}
-use Prim.Native.Nat.{_+_, _-_, _≤_}
-use mathlib.Core.Path.{_≡_, refl}
-use lib.ListN.{length, drop}
+use Rattle.image.specs.Prelude.{needs, arith, _+_, _-_, _≤_, _≡_, refl, length, drop}
 use Rattle.path.proofs.reads_on.Statement.{statement}
 use Rattle.path.proofs.reads_on.Tie as tie
 

@@ -2,7 +2,7 @@
 -- Relies on specs/NodeSteps.
 use Rattle.laws.specs.Page.{zerosOf}
 use Rattle.push.specs.NodeSteps.{node-emptied}
-use borrow.Author.Needs.{needs}
+use Rattle.image.specs.Prelude.{needs}
 use Rattle.push.proofs.clear_messages.Statement.{statement}
 use Rattle.push.proofs.clear_messages.Tie as tie
 

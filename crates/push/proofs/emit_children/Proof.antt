@@ -1,11 +1,6 @@
 -- `emit_children` meets its contract: the child entries left, written behind what is written, are all child entries.
 -- Relies on specs/WriteSteps and on node's reader of children.
-use borrow.Author.Needs.{needs}
-use native.Mathlib.Omega.{arith}
-use lib.ListN.{length}
-use mathlib.Core.Bool.{true}
-use mathlib.Core.Path.{_≡_, refl}
-use Prim.Native.Nat.{_≤_, _-_, _+_}
+use Rattle.image.specs.Prelude.{needs, arith, length, true, _≡_, refl, _≤_, _-_, _+_}
 use Rattle.node.specs.Search.Own.{branchesAmong}
 use Rattle.node.specs.Entries.{listed}
 use Rattle.node.specs.Places.{part}

@@ -1,10 +1,9 @@
 -- `push_child` meets its contract, by the kind of the child.
 -- Relies on specs/LeafSteps.
-use native.Mathlib.Omega.{arith}
+use Rattle.image.specs.Prelude.{arith, needs}
 use Rattle.node.specs.Entries.{listed}
 use Rattle.push.specs.Laws.Only.{room-inside}
 use Rattle.push.specs.LeafSteps.{leaf-child, interior-child}
-use borrow.Author.Needs.{needs}
 use Rattle.push.proofs.push_child.Statement.{statement}
 use Rattle.push.proofs.push_child.Tie as tie
 

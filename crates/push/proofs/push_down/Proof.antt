@@ -1,8 +1,7 @@
 -- `push_down` meets its contract: the flush of the node with the high pivot that was found.
 -- Relies on specs/NodeSteps and on high.
-use native.Mathlib.Omega.{arith}
+use Rattle.image.specs.Prelude.{arith, needs}
 use Rattle.push.specs.NodeSteps.{no-room, pushable}
-use borrow.Author.Needs.{needs}
 use Rattle.push.proofs.push_down.Statement.{statement}
 use Rattle.push.proofs.push_down.Tie as tie
 

@@ -1,9 +1,8 @@
 -- `push_node` meets its contract: nothing to push, no room, or every child written and then the node.
 -- Relies on specs/NodeSteps.
-use native.Mathlib.Omega.{arith}
+use Rattle.image.specs.Prelude.{arith, needs}
 use Rattle.laws.specs.Page.{zerosOf}
 use Rattle.push.specs.NodeSteps.{node-in, node-short, apart, children-short, uncovered, rooms, small, stays-long, all-done, no-room}
-use borrow.Author.Needs.{needs}
 use Rattle.push.proofs.push_node.Statement.{statement}
 use Rattle.push.proofs.push_node.Tie as tie
 

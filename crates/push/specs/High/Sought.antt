@@ -1,10 +1,5 @@
 -- What the search for a node's high pivot promises, and what it relies on at the children of a node. Definitions only.
-use Prim.Native.Nat.{ℕ, _≤_}
-use mathlib.Core.Path.{_≡_}
-use mathlib.Core.List.{List, _∷_}
-use mathlib.Core.Bool.{true}
-use mathlib.Core.Option.{Option, none, some}
-use lib.ListN.{length, take}
+use Rattle.image.specs.Prelude.{ℕ, _≤_, _≡_, List, _∷_, true, Option, none, some, length, take}
 use Rattle.image.specs.Image.{nodesOf, forestOf, treeAt}
 use Rattle.laws.specs.Reading.Relative.{usableIn}
 use Rattle.node.specs.Places.{part, Within}

@@ -1,15 +1,6 @@
 -- Step lemmas of the search for a node's high pivot: a leaf, the node itself, a node above it, and children one after another.
 -- Relies on Laws/High and on what a usable node is (lookup: Look).
-use Prim.Native.Nat.{ℕ, zero, suc, _+_, _-_, _*_, _<_, _≤_}
-use mathlib.Core.Path.{_≡_, refl, sym, ap, ap₂, subst, _∙_}
-use mathlib.Core.List.{List, [], _∷_}
-use mathlib.Core.Bool.{Bool, true, false, cond}
-use mathlib.Core.Option.{Option, none, some}
-use native.Mathlib.Omega.{arith}
-use lib.ListN.{length, take, drop}
-use lib.Seq.{take-append-seam}
-use lib.Dec.{eqb}
-use borrow.Author.Tests.{eq-eqb, ne-eqb}
+use Rattle.image.specs.Prelude.{ℕ, zero, suc, _+_, _-_, _<_, _≤_, _≡_, refl, sym, ap, ap₂, subst, _∙_, List, [], _∷_, Bool, true, false, cond, Option, none, some, arith, length, take, drop, take-append-seam, eqb, eq-eqb, ne-eqb}
 use Rattle.image.specs.Bytes.{u16, shared}
 use Rattle.image.specs.Entry.{Message}
 use Rattle.image.specs.Table.{Row}
@@ -18,7 +9,7 @@ use Rattle.image.specs.Sound.{sound, highest}
 use Rattle.image.specs.Meaning.{highOf}
 use Rattle.octets.specs.Put.{put}
 use Rattle.laws.specs.Reading.Relative.{lifts, usable, usableIn}
-use Rattle.node.specs.Places.{part}
+use Rattle.node.specs.Places.{part, cursorOf}
 use Rattle.node.specs.Entries.{listed}
 use Rattle.node.specs.declared.Place.{Place}
 use Rattle.node.specs.declared.Cursor.{Cursor}
@@ -96,9 +87,9 @@ module _ (n level : ℕ) (s : List ℕ) (i : ℕ) (u : usable (nodesOf (length s
       seen-found (highHere n (treeAt level s i) lo hi) (take (length hi - k) (drop k hi)) r out
       (by-node true (eq-eqb n i (sym e)) ∙ ap some (sym (part-rest k hi))) h
 
-  module _ (e : i ≡ n → ⊥) (len : ℕ) (el : len ≡ u16 s (i * 1024)) where
-    branches-are : (ks : List Branch) → branchesAmong (listed s (i * 1024 + 8) (i * 1024 + 8 + len)) ≡ ks → branchesAmong (listing s i) ≡ ks
-    branches-are ks q = ap (λ m. branchesAmong (listed s (i * 1024 + 8) (i * 1024 + 8 + m))) (sym el) ∙ q
+  module _ (e : i ≡ n → ⊥) (entries : Cursor) (ee : entries ≡ cursorOf s i) where
+    branches-are : (ks : List Branch) → branchesAmong (listed s (entries .at) (entries .end)) ≡ ks → branchesAmong (listing s i) ≡ ks
+    branches-are ks q = ap (λ x. branchesAmong (listed s (x .at) (x .end))) (sym ee) ∙ q
 
     no-branches : (under : ℕ → Tree) (h : List ℕ) → highIn n (forestOf under []) h ≡ none
     unfolding highIn forestOf
@@ -107,12 +98,12 @@ module _ (n level : ℕ) (s : List ℕ) (i : ℕ) (u : usable (nodesOf (length s
     below : highHere n (treeAt level s i) lo hi ≡ highIn n (forestOf (λ j. treeAt (level - 1) s j) (branchesAmong (listing s i))) (drop k hi)
     below = by-node false (ne-eqb n i (λ q. e (sym q)))
 
-    pub node-bare : (out : List ℕ) → branchesAmong (listed s (i * 1024 + 8) (i * 1024 + 8 + len)) ≡ [] → Seen (highHere n (treeAt level s i) lo hi) Sought.Missing out
+    pub node-bare : (out : List ℕ) → branchesAmong (listed s (entries .at) (entries .end)) ≡ [] → Seen (highHere n (treeAt level s i) lo hi) Sought.Missing out
     node-bare out q =
         seen-missing _ out
         (below ∙ ap (λ ks. highIn n (forestOf (λ j. treeAt (level - 1) s j) ks) (drop k hi)) (branches-are [] q) ∙ no-branches (λ j. treeAt (level - 1) s j) (drop k hi))
 
-    module _ (first : ℕ) (pivot : Place) (next : Cursor) (nc : NextChild s (i * 1024 + 8) (i * 1024 + 8 + len) first pivot next) where
+    module _ (first : ℕ) (pivot : Place) (next : Cursor) (nc : NextChild s (entries .at) (entries .end) first pivot next) where
       abbrev branches : List Branch
       branches = branch first (part s pivot) ∷ branchesAmong (listed s (next .at) (next .end))
 

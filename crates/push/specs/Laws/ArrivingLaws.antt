@@ -1,47 +1,35 @@
 -- What arrives at the children, told from inside the node, is what upkeep's flush sends them: `each-under`.
 -- Relies on Flush and Room of upkeep, where pivots and messages are full; here the node's lifted prefix is left away.
-use Prim.Native.Nat.{ℕ}
-use mathlib.Core.Path.{_≡_, refl, sym, ap, ap₂, _∙_}
-use mathlib.Core.List.{List, [], _∷_, _++_, append-assoc, append-nil}
-use mathlib.Core.Bool.{Bool, true, false, _||_, cond}
-use lib.ListN.{length, drop, length-append}
-use lib.Seq.{drop-append-add}
+use Rattle.image.specs.Prelude.{ℕ, _≡_, refl, sym, ap, ap₂, _∙_, List, [], _∷_, _++_, append-assoc, append-nil, Bool, true, false, _||_, cond, length, drop}
 use Rattle.image.specs.Bytes.{begins, shared}
-use Rattle.image.specs.Path.{owns}
 use Rattle.image.specs.Entry.{Message, puts, drops, clears, Entry, pair, child, message}
 use Rattle.image.specs.Table.{Row}
 use Rattle.image.specs.Image.{Tree, leaf, interior, Forest, end, tree, Branch, forestOf}
 use Rattle.image.specs.Meaning.{apply, applyAll}
-use Rattle.octets.specs.Order.{before-append, begins-append, shared-append}
+use Rattle.octets.specs.Order.{begins-append, shared-append}
 use Rattle.laws.specs.Encode.{bytesOf, bytesOfAll}
 use Rattle.laws.specs.PushDown.{taken, touches, lowered, sent, raised}
 use Rattle.laws.specs.Upkeep.Size.{messageEntries}
 use Rattle.laws.specs.Upkeep.Room.{sentAll, sentEach}
 use Rattle.laws.specs.Reading.Relative.{branchHigh, high-joined}
+use Rattle.laws.specs.Shift.{drop-shift, owns-shift}
 use Rattle.push.specs.Laws.Arriving.{waiting, loweredBy, arriving, brought, broughtAll}
 
 -- WITH THE LIFTED PREFIX IN FRONT OF EVERYTHING
 module _ (l a b : List ℕ) where
-  owns-under : (q : List ℕ) → owns (l ++ a) (l ++ b) (l ++ q) ≡ owns a b q
-  unfolding owns
-  owns-under q = rw (before-append l q a, before-append l q b)
-
-  drop-under : (c q : List ℕ) → drop (length (l ++ c)) (l ++ q) ≡ drop (length c) q
-  drop-under c q = ap (λ n. drop n (l ++ q)) (length-append l c) ∙ drop-append-add l q (length c)
-
   touches-under : (m : Message) → touches (raised l m) (l ++ a) (l ++ b) ≡ touches m a b
   unfolding touches raised
-  touches-under (puts p v) = owns-under p
-  touches-under (drops p) = owns-under p
+  touches-under (puts p v) = owns-shift l a b p
+  touches-under (drops p) = owns-shift l a b p
   touches-under (clears p) =
       ap (λ c. begins (l ++ p) c || begins c (l ++ p)) (shared-append l a b)
       ∙ ap₂ (λ x y. x || y) (begins-append l p (shared a b)) (begins-append l (shared a b) p)
 
   lowered-under : (m : Message) → lowered (shared (l ++ a) (l ++ b)) (raised l m) ≡ loweredBy (length (shared a b)) m
   unfolding lowered raised loweredBy
-  lowered-under (puts p v) = ap (λ c. puts (drop (length c) (l ++ p)) v) (shared-append l a b) ∙ ap (λ q. puts q v) (drop-under (shared a b) p)
-  lowered-under (drops p) = ap (λ c. drops (drop (length c) (l ++ p))) (shared-append l a b) ∙ ap drops (drop-under (shared a b) p)
-  lowered-under (clears p) = ap (λ c. clears (drop (length c) (l ++ p))) (shared-append l a b) ∙ ap clears (drop-under (shared a b) p)
+  lowered-under (puts p v) = ap (λ c. puts (drop (length c) (l ++ p)) v) (shared-append l a b) ∙ ap (λ q. puts q v) (drop-shift l (shared a b) p)
+  lowered-under (drops p) = ap (λ c. drops (drop (length c) (l ++ p))) (shared-append l a b) ∙ ap drops (drop-shift l (shared a b) p)
+  lowered-under (clears p) = ap (λ c. clears (drop (length c) (l ++ p))) (shared-append l a b) ∙ ap clears (drop-shift l (shared a b) p)
 
   sent-under : (m : Message) (t : Tree) → sent (raised l m) t (l ++ a) (l ++ b) ≡ cond (touches m a b) (taken (loweredBy (length (shared a b)) m) t) t
   unfolding sent

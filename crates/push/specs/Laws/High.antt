@@ -1,10 +1,5 @@
 -- The high pivot of a node without what the node lifts, found from the root down. Definitions only; HighLaws joins it to `reachableAt`.
-use Prim.Native.Nat.{ℕ}
-use mathlib.Core.List.{List, []}
-use mathlib.Core.Bool.{cond}
-use mathlib.Core.Option.{Option, none, some}
-use lib.ListN.{drop}
-use lib.Dec.{eqb}
+use Rattle.image.specs.Prelude.{ℕ, List, [], cond, Option, none, some, drop, eqb}
 use Rattle.image.specs.Image.{Tree, unread, leaf, interior, Forest, end, tree}
 use Rattle.image.specs.Meaning.{highOf}
 use Rattle.laws.specs.Reading.Relative.{lifts}

@@ -1,13 +1,6 @@
 -- The high pivot that is found from the root down is that of the reachable node of this number, without what the node lifts.
 -- Relies on `place-append` (laws/Upkeep/Healed).
-use Prim.Native.Nat.{ℕ, _-_}
-use mathlib.Core.Path.{_≡_, refl, sym, ap, ap₂, _∙_}
-use mathlib.Core.List.{List, [], _++_, append-assoc}
-use mathlib.Core.Bool.{Bool, true, false, cond, false≢true}
-use mathlib.Core.Option.{Option, none, some, Option·some-injective, Option·none-ne-some}
-use lib.ListN.{length, drop, length-append}
-use lib.Seq.{drop-append-add}
-use lib.Dec.{eqb}
+use Rattle.image.specs.Prelude.{ℕ, _-_, _≡_, refl, sym, ap, ap₂, _∙_, List, [], _++_, append-assoc, Bool, true, false, cond, false≢true, Option, none, some, Option·some-injective, Option·none-ne-some, length, drop, length-append, drop-append-add, eqb}
 use Rattle.image.specs.Bytes.{shared}
 use Rattle.image.specs.Table.{Row}
 use Rattle.image.specs.Image.{Tree, unread, leaf, interior, Forest, end, tree}

@@ -1,12 +1,6 @@
 -- A leaf that took messages reads as the leaf whose pairs are those after the messages: `leaf-takes`.
 -- Relies on LeafRoom for sizes and on ReadBack for pages.
-use Prim.Native.Nat.{ℕ, _+_, _*_, _≤_}
-use mathlib.Core.Path.{_≡_, refl, sym, ap, subst, _∙_}
-use mathlib.Core.List.{List, [], _∷_, _++_}
-use mathlib.Core.Bool.{Bool, true, false, not, cond, false≢true}
-use mathlib.Core.Option.{Option, none, some, Option·some-injective, Option·none-ne-some}
-use native.Mathlib.Omega.{arith}
-use lib.ListN.{length}
+use Rattle.image.specs.Prelude.{ℕ, _+_, _*_, _≤_, _≡_, refl, sym, ap, subst, _∙_, List, [], _∷_, _++_, Bool, true, false, not, cond, false≢true, Option, none, some, Option·some-injective, Option·none-ne-some, arith, length}
 use Rattle.image.specs.Bytes.{u16, same, before, begins, shared}
 use Rattle.image.specs.Path.{below}
 use Rattle.image.specs.Entry.{Message, puts, drops, clears, Entry, pair, child, message, entriesOf}

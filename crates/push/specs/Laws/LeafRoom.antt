@@ -1,14 +1,6 @@
 -- The room of a leaf that takes messages, and that nothing but the child that takes them is written.
 -- Relies on Only; TakesLaws and the code's loop over the children use `child-only` and `rooms-on`.
-use Prim.Native.Nat.{ℕ, zero, suc, _+_, _*_, _-_, _≤_}
-use mathlib.Core.Path.{_≡_, refl, sym, ap, subst, _∙_}
-use mathlib.Core.List.{List, [], _∷_, _++_}
-use mathlib.Core.Bool.{Bool, true, false, _&&_, not, cond}
-use mathlib.Core.Option.{Option, none, some}
-use native.Mathlib.Omega.{arith}
-use lib.ListN.{length, take, drop, length-append, length-drop, take-append-drop}
-use lib.Dec.{ltb, leb, eqb}
-use borrow.Author.Tests.{leb-true, le-leb}
+use Rattle.image.specs.Prelude.{ℕ, zero, suc, _+_, _*_, _-_, _≤_, _≡_, refl, sym, ap, subst, _∙_, List, [], _∷_, _++_, Bool, true, false, _&&_, not, cond, Option, none, some, arith, length, take, drop, length-append, length-drop, take-append-drop, ltb, leb, eqb, leb-true, le-leb}
 use Rattle.image.specs.Bytes.{u16, same, before, begins, shared}
 use Rattle.image.specs.Entry.{Message, puts, drops, clears, Entry, pair, child, message, entryOf}
 use Rattle.image.specs.Image.{Branch, nodeBytes, nodesOf}

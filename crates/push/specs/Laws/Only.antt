@@ -1,13 +1,6 @@
 -- A store in which one node is written anew, and the room of the other nodes in it.
 -- Relies on WriteNode's laws; the code's loop over the children and Flushed use it.
-use Prim.Native.Nat.{ℕ, _+_, _*_, _-_, _≤_}
-use mathlib.Core.Path.{_≡_, refl, sym, ap, ap₂, _∙_}
-use mathlib.Core.List.{List, [], _∷_, _++_}
-use mathlib.Core.Bool.{true, false, _&&_, not}
-use native.Mathlib.Omega.{arith}
-use lib.ListN.{length, drop, length-append, length-take}
-use lib.Dec.{ltb, leb, eqb}
-use borrow.Author.Tests.{leb-true, eqb-false}
+use Rattle.image.specs.Prelude.{ℕ, _+_, _*_, _-_, _≤_, _≡_, refl, sym, ap, ap₂, _∙_, List, [], _∷_, _++_, true, false, _&&_, not, arith, length, drop, length-append, length-take, ltb, leb, eqb, leb-true, eqb-false}
 use Rattle.image.specs.Bytes.{u16}
 use Rattle.image.specs.Entry.{Entry}
 use Rattle.image.specs.Image.{Branch, nodeBytes, nodesOf}

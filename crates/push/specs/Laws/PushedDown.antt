@@ -1,42 +1,33 @@
 -- A flush by one level as the code writes it keeps the image sound and its table, and meets upkeep's rule: `pushed-down`.
--- Relies on upkeep's bridge from one node's tree to the image, on TakesLaws for the children, and on HighLaws for the high pivot.
-use Prim.Native.Nat.{ℕ, suc, _+_, _*_, _-_, _≤_, _<_}
-use mathlib.Core.Path.{_≡_, refl, sym, ap, ap₂, subst, _∙_}
-use mathlib.Core.List.{List, [], _∷_, _++_, append-nil}
-use mathlib.Core.Bool.{Bool, true, false, _&&_, _||_, not, false≢true, true≢false}
-use mathlib.Core.Option.{Option, none, some, Option·some-injective}
-use native.Mathlib.Omega.{arith}
-use lib.ListN.{length}
-use lib.Dec.{leb, eqb}
-use borrow.Author.Tests.{eqb-false, eq-eqb, ne-eqb, leb-true, leb-false, ltb-true, lt-ltb}
+-- Relies on upkeep's site of a node and its bridge to the image, on TakesLaws for the children, and on HighLaws for the high pivot.
+use Rattle.image.specs.Prelude.{ℕ, suc, _+_, _*_, _-_, _≤_, _<_, _≡_, refl, sym, ap, ap₂, subst, _∙_, List, [], _∷_, _++_, append-nil, Bool, true, false, _&&_, _||_, false≢true, Option, none, some, Option·some-injective, arith, length, leb, eqb, eqb-false, ne-eqb, leb-true, leb-false, ltb-true, lt-ltb}
 use Rattle.image.specs.Bytes.{u16, shared}
 use Rattle.image.specs.Entry.{Message, Entry, entriesOf}
 use Rattle.image.specs.Image.{unread, leaf, interior, Forest, end, tree, Branch, Inside, entryBytes, nodeBytes, nodeEntries, insideOf, orNone, forestOf, interiorOf, treeAt, treeOf, nodesOf, wholeNodes, headerOf}
-use Rattle.image.specs.Sound.{sound, soundTree, soundForest, tableOf, numbers, numbersIn, isIn, once, inRange, lowest, highest}
+use Rattle.image.specs.Sound.{sound, soundForest, tableOf, numbers, numbersIn, isIn, once, lowest, highest}
 use Rattle.image.specs.Upkeep.{Reachable, reachable, reachableAt, reachableNodes}
 use Rattle.image.specs.Calls.{flush}
 use Rattle.image.specs.Contract.{hasChildren, isInterior, upkeepRule}
-use Rattle.octets.specs.Order.{and-left, and-right, not-true, begins-split, or-none-right, or-none-left}
+use Rattle.octets.specs.Order.{and-left, and-right, begins-split, or-none-right, or-none-left, refuted, not-so}
 use Rattle.laws.specs.Encode.{bytesOfAll, allAllowed, all-back}
 use Rattle.laws.specs.Rising.{both}
-use Rattle.laws.specs.Frame.{Keeps, or-left, or-right}
+use Rattle.laws.specs.Frame.{Keeps}
 use Rattle.laws.specs.WriteNode.{write-length, write-same, write-other}
 use Rattle.laws.specs.Page.{page, page-length, number-read}
 use Rattle.octets.specs.Beginnings.{shared-right}
 use Rattle.laws.specs.Reading.Relative.{branchHigh}
-use Rattle.laws.specs.Upkeep.Sublists.{Sub, once-sub, sub-in}
+use Rattle.laws.specs.Upkeep.Sublists.{once-sub}
 use Rattle.laws.specs.Upkeep.Merge.{tall, tallIn}
-use Rattle.laws.specs.Upkeep.Size.{messageEntries, sizeOf, size-append}
+use Rattle.laws.specs.Upkeep.Size.{messageEntries, sizeOf, size-append, allowed-left}
 use Rattle.laws.specs.Upkeep.Join.{heads}
-use Rattle.laws.specs.Upkeep.Healed.{place-test, goodPlace, places-good}
+use Rattle.laws.specs.Upkeep.Healed.{goodPlace}
 use Rattle.laws.specs.Upkeep.Flush.{pushedAll, flushedNode, flush-sane, flushedTree}
 use Rattle.laws.specs.Upkeep.Room.{sentEach, pushed-each}
 use Rattle.laws.specs.Upkeep.Reading.{branchEntries, inside-entries, node-good}
-use Rattle.laws.specs.Upkeep.Bridge.{place-sub, image-tall, image-tree, image-mends}
-use Rattle.laws.specs.Upkeep.HealImage.{place-tree}
-use Rattle.laws.specs.Upkeep.HealWrite.{range-of, whole-fits}
-use Rattle.laws.specs.Upkeep.FlushImage.{deepIn, heads-in, deep-in, deep-apart, allowed-left}
-use Rattle.laws.specs.Upkeep.FlushWrite.{heads-sub}
+use Rattle.laws.specs.Upkeep.Bridge.{image-tree, image-mends}
+use Rattle.laws.specs.Upkeep.Site.{place-good, Site, site}
+use Rattle.laws.specs.Upkeep.HealWrite.{whole-fits}
+use Rattle.laws.specs.Upkeep.Children.{deepIn, heads-in, deep-in, deep-apart, heads-sub}
 use Rattle.laws.specs.Upkeep.Rules.{flush-rule}
 use Rattle.node.specs.Entries.{listed, listOf, all-listed}
 use Rattle.node.specs.Search.Own.{branchesAmong}
@@ -48,7 +39,6 @@ use Rattle.push.specs.Laws.HighLaws.{ownHigh, some-here}
 use Rattle.push.specs.Laws.Written.{childTakes, eachTakes, hasRoom, allHaveRoom, branchNumbers, smallNumbers, childBytes, emptied}
 use Rattle.push.specs.Laws.ReadBack.{page-reads, Laid, laid, inside-back, child-bytes}
 use Rattle.push.specs.Laws.TakesLaws.{Arrived, each-size, each-other, each-arrives, arrived-on, sortedIn, sound-sorted, branches-take, level-at}
-use Rattle.laws.specs.ButLive.{sound-parts}
 
 -- WHAT A FLUSH LEAVES
 pub record PushedDown (s : List ℕ) (n : ℕ) (s′ : List ℕ) : Type 0 where
@@ -137,30 +127,6 @@ module _ (s : List ℕ) (n : ℕ) (x : Reachable) (e : sound s ≡ true) (p : re
   unfolding reachableNodes
   at-place = p
 
-  pub whole-sound : soundTree (treeOf s) lowest highest ≡ true
-  whole-sound = sound-parts s e .tree
-
-  pub whole-once : once (numbers (treeOf s)) ≡ true
-  whole-once = sound-parts s e .once
-
-  pub whole-range : inRange (nodesOf (length s)) (numbers (treeOf s)) ≡ true
-  whole-range = sound-parts s e .range
-
-  pub branches-high : tallIn (x .children) (x .level - 1) ≡ true
-  unfolding goodPlace
-  branches-high =
-      and-right (soundForest (x .children) (shared (x .low) (x .high)) (x .low) (x .high)) _
-      (place-test goodPlace n (reachable (treeOf s) (headerOf s .levels) lowest highest) x
-      (places-good (treeOf s) (headerOf s .levels) lowest highest whole-sound (image-tall s whole-sound)) at-place)
-
-  branches-sorted : sortedIn (x .children) ≡ true
-  unfolding goodPlace
-  branches-sorted =
-      sound-sorted (x .children) (shared (x .low) (x .high)) (x .low) (x .high)
-      (and-left (soundForest (x .children) (shared (x .low) (x .high)) (x .low) (x .high)) _
-      (place-test goodPlace n (reachable (treeOf s) (headerOf s .levels) lowest highest) x
-      (places-good (treeOf s) (headerOf s .levels) lowest highest whole-sound (image-tall s whole-sound)) at-place))
-
   pub two-levels : 2 ≤ x .level
   two-levels = go (leb 2 (x .level)) refl
     where
@@ -169,7 +135,7 @@ module _ (s : List ℕ) (n : ℕ) (x : Reachable) (e : sound s ≡ true) (p : re
       go false q =
           let low : x .level < 2 = under-two (x .level) q in
           let z : x .level - 1 ≡ 0 = omega arith in
-          absurd (tall-zero (x .children) c (ap (tallIn (x .children)) (sym z) ∙ branches-high))
+          absurd (tall-zero (x .children) c (ap (tallIn (x .children)) (sym z) ∙ unfold goodPlace in and-right (soundForest (x .children) (shared (x .low) (x .high)) (x .low) (x .high)) _ (place-good s n x e at-place)))
 
   abbrev pub l : ℕ
   l = x .level - 2
@@ -177,37 +143,14 @@ module _ (s : List ℕ) (n : ℕ) (x : Reachable) (e : sound s ≡ true) (p : re
   pub level-is : x .level ≡ suc (suc l)
   level-is = omega (arith, two-levels)
 
-  pub node-there : treeAt (x .level) s n ≡ interior n (x .children) (x .messages)
-  unfolding treeOf
-  node-there = place-tree s n x (headerOf s .levels) (headerOf s .root) lowest highest at-place two-levels
+  abbrev pub at : Site s n x l
+  at = site s n x l e at-place level-is
 
   abbrev pub node : NodeIs l s n (x .children) (x .messages)
-  node = node-is l s n (x .children) (x .messages) (ap (λ m. treeAt m s n) (sym level-is) ∙ node-there)
-
-  pub sub : Sub (n ∷ numbersIn (x .children)) (numbers (treeOf s))
-  unfolding treeOf numbers
-  sub = subst (λ t. Sub (numbers t) (numbers (treeOf s))) node-there (place-sub s n x (headerOf s .levels) (headerOf s .root) lowest highest at-place)
-
-  pub sub-once : once (n ∷ numbersIn (x .children)) ≡ true
-  sub-once = once-sub sub whole-once
-
-  pub branches-apart : once (numbersIn (x .children)) ≡ true
-  unfolding once
-  branches-apart = and-right (not (isIn n (numbersIn (x .children)))) _ sub-once
-
-  pub n-away : isIn n (numbersIn (x .children)) ≡ false
-  unfolding once
-  n-away = not-true (isIn n (numbersIn (x .children))) (and-left _ _ sub-once)
-
-  pub range-of-all : (j : ℕ) → isIn j (n ∷ numbersIn (x .children)) ≡ true → (1 ≤ j) × (j < nodesOf (length s))
-  range-of-all j q = range-of (nodesOf (length s)) j (numbers (treeOf s)) whole-range (sub-in j sub q)
-
-  pub n-range : (1 ≤ n) × (n < nodesOf (length s))
-  unfolding isIn
-  n-range = range-of-all n (or-left (eqb n n) (isIn n (numbersIn (x .children))) (eq-eqb n n refl))
+  node = node-is l s n (x .children) (x .messages) (at .node)
 
   pub inside : n * 1024 + 1024 ≤ length s
-  inside = omega (arith, whole-fits (length s) n (n-range .1))
+  inside = omega (arith, whole-fits (length s) n (at .range .1))
 
   abbrev pub laid-n : Laid 0x0002 (suc (suc l)) (nodeBytes s n) (node .es)
   laid-n = laid 0x0002 (suc (suc l)) (nodeBytes s n) (node .es) (node .entries)
@@ -235,7 +178,7 @@ module _ (s : List ℕ) (n : ℕ) (x : Reachable) (e : sound s ≡ true) (p : re
   heads-are = ap heads (sym forest-is) ∙ branch-heads (suc l) s (branchesAmong (listing s n))
 
   pub branches-once : once (branchNumbers (branchesAmong (listing s n))) ≡ true
-  branches-once = ap once (sym heads-are) ∙ once-sub (heads-sub (x .children)) branches-apart
+  branches-once = ap once (sym heads-are) ∙ once-sub (heads-sub (x .children)) (at .branches-once)
 
   pub own-entries : node .es ≡ branchEntries (branchesAmong (listing s n)) ++ messageEntries (node .y .messages)
   own-entries = inside-entries (node .es) (node .y) (node .splits) ∙ ap (λ ks. branchEntries ks ++ messageEntries (node .y .messages)) (sym branches-are)
@@ -280,7 +223,7 @@ module _ (s : List ℕ) (n : ℕ) (x : Reachable) (e : sound s ≡ true) (p : re
   no-message : x .messages ≡ [] → treeAt (x .level) s n ≡ flushedNode (treeAt (x .level) s n) (x .low) (x .high)
   unfolding flushedNode pushedAll
   no-message q =
-      node-there ∙ ap (λ ms. interior n (x .children) ms) q ∙ sym (ap (λ t. flushedNode t (x .low) (x .high)) (node-there ∙ ap (λ ms. interior n (x .children) ms) q))
+      at .there ∙ ap (λ ms. interior n (x .children) ms) q ∙ sym (ap (λ t. flushedNode t (x .low) (x .high)) (at .there ∙ ap (λ ms. interior n (x .children) ms) q))
 
   pub nothing-waits : waiting (listing s n) ≡ [] → PushedDown s n s
   nothing-waits q = flush-meets s refl refl (no-message (sym waiting-is ∙ q)) (λ j a b. refl)
@@ -323,18 +266,11 @@ module _ (s : List ℕ) (n : ℕ) (x : Reachable) (e : sound s ≡ true) (p : re
     unfolding emptied
     beside j q = write-other s₁ n (page 2 (suc (suc l)) (childBytes K)) fits-n full-n j q
 
-    true-false : (b : Bool) → b ≡ true → b ≡ false → ⊥
-    true-false b a d = true≢false (sym a ∙ d)
-
-    no-true : (b : Bool) → (b ≡ true → ⊥) → b ≡ false
-    no-true true f = absurd (f refl)
-    no-true false f = refl
-
     branch-in : (j : ℕ) → isIn j (branchNumbers K) ≡ true → isIn j (numbersIn (x .children)) ≡ true
     branch-in j q = heads-in j (x .children) (ap (isIn j) heads-are ∙ q)
 
     branch-not-n : (j : ℕ) → isIn j (branchNumbers K) ≡ true → j ≡ n → ⊥
-    branch-not-n j q r = true-false (isIn n (numbersIn (x .children))) (ap (λ i. isIn i (numbersIn (x .children))) (sym r) ∙ branch-in j q) n-away
+    branch-not-n j q = at .other j (branch-in j q)
 
     rest : (j : ℕ) → eqb j n ≡ false → isIn j (branchNumbers K) ≡ false → nodeBytes s₂ j ≡ nodeBytes s j
     rest j a b = beside j (eqb-false j n a) ∙ each-other (listing s n) K h s branches-once rooms j b
@@ -346,15 +282,12 @@ module _ (s : List ℕ) (n : ℕ) (x : Reachable) (e : sound s ≡ true) (p : re
     deep-keeps : Keeps s s₂ (deepIn (x .children))
     unfolding Keeps
     deep-keeps = λ j q.
-        rest j (ne-eqb j n (λ r. true-false (isIn n (numbersIn (x .children))) (ap (λ i. isIn i (numbersIn (x .children))) (sym r) ∙ deep-in j (x .children) q) n-away))
-        (ap (isIn j) (sym heads-are) ∙ deep-apart j (x .children) branches-apart q)
-
-    branches-tall : tallIn (x .children) (suc l) ≡ true
-    branches-tall = let down : x .level - 1 ≡ suc l = omega (arith, two-levels) in ap (tallIn (x .children)) (sym down) ∙ branches-high
+        rest j (ne-eqb j n (at .other j (deep-in j (x .children) q)))
+        (ap (isIn j) (sym heads-are) ∙ deep-apart j (x .children) (at .branches-once) q)
 
     new-branches : forestOf (λ j. treeAt (suc l) s₂ j) K ≡ pushedAll (x .messages) (x .children) (shared (x .low) (x .high)) (x .high)
     new-branches =
-        branches-take l (listing s n) s s₂ h arrived (ap (λ f. tallIn f (suc l)) forest-is ∙ branches-tall) (ap sortedIn forest-is ∙ branches-sorted) (subst (λ f. Keeps s s₂ (deepIn f)) (sym forest-is) deep-keeps)
+        branches-take l (listing s n) s s₂ h arrived (ap (λ f. tallIn f (suc l)) forest-is ∙ at .branches-tall) (ap sortedIn forest-is ∙ sound-sorted (x .children) (shared (x .low) (x .high)) (x .low) (x .high) (at .branches-sound)) (subst (λ f. Keeps s s₂ (deepIn f)) (sym forest-is) deep-keeps)
         ∙ ap (λ ms. takenEach ms (λ j. treeAt (suc l) s j) K h) waiting-is
         ∙ sym (each-under (x .messages) (λ j. treeAt (suc l) s j) K (shared (x .low) (x .high)) h)
         ∙ ap₂ (λ f q. sentEach (x .messages) f (shared (x .low) (x .high)) q) forest-is high-splits
@@ -371,20 +304,19 @@ module _ (s : List ℕ) (n : ℕ) (x : Reachable) (e : sound s ≡ true) (p : re
     unfolding flushedNode
     changed-node =
         ap (λ m. treeAt m s₂ n) level-is ∙ new-node ∙ ap (λ f. interior n f []) new-branches
-        ∙ sym (ap (λ t. flushedNode t (x .low) (x .high)) node-there)
+        ∙ sym (ap (λ t. flushedNode t (x .low) (x .high)) (at .there))
 
     other-nodes : (j : ℕ) → isIn j (numbers (treeOf s)) ≡ true → isIn j (numbers (treeAt (x .level) s n)) ≡ false → nodeBytes s₂ j ≡ nodeBytes s j
     unfolding numbers isIn
     other-nodes j a b =
-        let out : eqb j n || isIn j (numbersIn (x .children)) ≡ false = ap (λ t. isIn j (numbers t)) (sym node-there) ∙ b in
+        let out : eqb j n || isIn j (numbersIn (x .children)) ≡ false = ap (λ t. isIn j (numbers t)) (sym (at .there)) ∙ b in
         rest j (or-none-left (eqb j n) (isIn j (numbersIn (x .children))) out)
-        (no-true (isIn j (branchNumbers K)) (λ q. true-false (isIn j (numbersIn (x .children))) (branch-in j q) (or-none-right (eqb j n) (isIn j (numbersIn (x .children))) out)))
+        (refuted (λ q. not-so (branch-in j q) (or-none-right (eqb j n) (isIn j (numbersIn (x .children))) out)))
 
     node-zero : nodeBytes s₂ 0 ≡ nodeBytes s 0
-    unfolding isIn
     node-zero =
-        rest 0 (ne-eqb 0 n (λ q. omega (arith, n-range .0)))
-        (no-true (isIn 0 (branchNumbers K)) (λ q. absurd (omega (arith, range-of-all 0 (or-right (eqb 0 n) (isIn 0 (numbersIn (x .children))) (branch-in 0 q)) .0))))
+        rest 0 (ne-eqb 0 n (λ q. omega (arith, at .range .0)))
+        (refuted (λ q. omega (arith, at .branch-range 0 (branch-in 0 q) .0)))
 
     pub pushed-down : PushedDown s n s₂
     pushed-down = flush-meets s₂ size-two node-zero changed-node other-nodes

@@ -1,14 +1,6 @@
 -- Pages that are written read back: bytes of entries after bytes of entries, a node with its children alone, an interior node with more
 -- messages. Relies on Encode and on laws' `page`.
-use Prim.Native.Nat.{ℕ, _≤_}
-use mathlib.Core.Path.{_≡_, refl, sym, ap, _∙_}
-use mathlib.Core.List.{List, [], _∷_, _++_, append-assoc}
-use mathlib.Core.Bool.{Bool, true, false, _&&_}
-use mathlib.Core.Option.{none, some, Option·none-ne-some}
-use native.Mathlib.Omega.{arith}
-use lib.ListN.{length}
-use lib.Dec.{leb, eqb}
-use borrow.Author.Tests.{leb-true, eqb-true}
+use Rattle.image.specs.Prelude.{ℕ, _≤_, _≡_, refl, sym, ap, _∙_, List, [], _∷_, _++_, append-assoc, Bool, true, false, _&&_, none, some, Option·none-ne-some, arith, length, leb, eqb, leb-true, eqb-true}
 use Rattle.image.specs.Bytes.{u16}
 use Rattle.image.specs.Entry.{Message, Entry, child, message, entriesOf}
 use Rattle.image.specs.Image.{Branch, Inside, laidOut, entryBytes, nodeEntries, messagesOf, noBranches, branchThen, insideOf}

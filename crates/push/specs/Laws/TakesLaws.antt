@@ -1,14 +1,6 @@
 -- The children after each took what its parent brings: their trees are those that took what arrives.
 -- Relies on Only for the bytes of the others, and on ReadBack for those of the child that is written.
-use Prim.Native.Nat.{ℕ, zero, suc, _+_, _*_, _≤_}
-use mathlib.Core.Path.{_≡_, refl, sym, ap, ap₂, subst, _∙_}
-use mathlib.Core.List.{List, [], _∷_, _++_}
-use mathlib.Core.Bool.{Bool, true, false, _&&_, _||_, cond, false≢true}
-use mathlib.Core.Option.{Option, none, some}
-use native.Mathlib.Omega.{arith}
-use lib.ListN.{length}
-use lib.Dec.{eqb}
-use borrow.Author.Tests.{eq-eqb, ne-eqb}
+use Rattle.image.specs.Prelude.{ℕ, zero, suc, _+_, _*_, _≤_, _≡_, refl, sym, ap, ap₂, subst, _∙_, List, [], _∷_, _++_, Bool, true, false, _&&_, _||_, cond, false≢true, Option, none, some, arith, length, eqb, eq-eqb, ne-eqb}
 use Rattle.image.specs.Bytes.{u16}
 use Rattle.image.specs.Entry.{Entry, entriesOf}
 use Rattle.image.specs.Image.{Tree, unread, leaf, interior, Forest, end, tree, Branch, Inside, entryBytes, nodeBytes, nodeEntries, pairsOf, insideOf, orNone, forestOf, leafOf, interiorOf, treeAt}
@@ -25,7 +17,7 @@ use Rattle.laws.specs.Reading.Relative.{branchHigh}
 use Rattle.laws.specs.Upkeep.Merge.{tall, tallIn}
 use Rattle.laws.specs.Upkeep.Mends.{tall-first, tall-later}
 use Rattle.laws.specs.Upkeep.Size.{messageEntries, messages-allowed}
-use Rattle.laws.specs.Upkeep.FlushImage.{numbersUnder, deepIn}
+use Rattle.laws.specs.Upkeep.Children.{numbersUnder, deepIn}
 use Rattle.node.specs.Cut.{cut-u16}
 use Rattle.lookup.specs.Look.{node-is, count-is, bytes-is}
 use Rattle.push.specs.Laws.Arriving.{waiting, arriving, broughtAll}
@@ -167,6 +159,14 @@ same-branch es i lo hi s s₀ r r₀ e =
     go true = leaf-same es i lo hi s s₀ r r₀ e
     go false = interior-both es i lo hi s s₀ r r₀ e
 
+in-later : (j : ℕ) (k : Branch) (ks : List Branch) → isIn j (branchNumbers ks) ≡ true → isIn j (branchNumbers (k ∷ ks)) ≡ true
+unfolding branchNumbers isIn
+in-later j k ks c = or-right (eqb j (k .number)) (isIn j (branchNumbers ks)) c
+
+in-first : (k : Branch) (ks : List Branch) → isIn (k .number) (branchNumbers (k ∷ ks)) ≡ true
+unfolding branchNumbers isIn
+in-first k ks = or-left (eqb (k .number) (k .number)) (isIn (k .number) (branchNumbers ks)) (eq-eqb (k .number) (k .number) refl)
+
 pub each-arrives : (es : List Entry) (ks : List Branch) (h s s₀ : List ℕ) → once (branchNumbers ks) ≡ true → allHaveRoom es ks h s ≡ true → allHaveRoom es ks h s₀ ≡ true
     → ((j : ℕ) → isIn j (branchNumbers ks) ≡ true → nodeBytes s j ≡ nodeBytes s₀ j) → Arrived es s₀ (eachTakes (childTakes es) ks h s) h ks
 unfolding eachTakes
@@ -174,7 +174,7 @@ each-arrives es [] h s s₀ o e e₀ same = no-more
 each-arrives es (k ∷ ks) h s s₀ o e e₀ same =
     one-more own (room-first es k ks h s₀ e₀)
     (each-arrives es ks h mid s₀ (once-first k ks o .1) (rooms-on es k ks h s o e) (room-later es k ks h s₀ e₀)
-    (λ j c. only .other j (λ q. apart j q c) ∙ same j (later j c)))
+    (λ j c. only .other j (λ q. apart j q c) ∙ same j (in-later j k ks c)))
   where
     mid : List ℕ
     mid = childTakes es (k .number) (k .pivot) (branchHigh h ks) s
@@ -185,27 +185,15 @@ each-arrives es (k ∷ ks) h s s₀ o e e₀ same =
     apart : (j : ℕ) → j ≡ k .number → isIn j (branchNumbers ks) ≡ true → ⊥
     apart j q c = false≢true (sym (once-first k ks o .0) ∙ ap (λ i. isIn i (branchNumbers ks)) (sym q) ∙ c)
 
-    later : (j : ℕ) → isIn j (branchNumbers ks) ≡ true → isIn j (branchNumbers (k ∷ ks)) ≡ true
-    later j c = unfold branchNumbers isIn in or-right (eqb j (k .number)) (isIn j (branchNumbers ks)) c
-
-    first : isIn (k .number) (branchNumbers (k ∷ ks)) ≡ true
-    first = unfold branchNumbers isIn in or-left (eqb (k .number) (k .number)) (isIn (k .number) (branchNumbers ks)) (eq-eqb (k .number) (k .number) refl)
-
     own : nodeBytes (eachTakes (childTakes es) ks h mid) (k .number) ≡ nodeBytes (childTakes es (k .number) (k .pivot) (branchHigh h ks) s₀) (k .number)
     own =
         each-other es ks h mid (once-first k ks o .1) (rooms-on es k ks h s o e) (k .number) (once-first k ks o .0)
-        ∙ same-branch es (k .number) (k .pivot) (branchHigh h ks) s s₀ (room-first es k ks h s e) (room-first es k ks h s₀ e₀) (same (k .number) first)
+        ∙ same-branch es (k .number) (k .pivot) (branchHigh h ks) s s₀ (room-first es k ks h s e) (room-first es k ks h s₀ e₀) (same (k .number) (in-first k ks))
 
 pub arrived-on : (es : List Entry) (s s′ s″ h : List ℕ) (ks : List Branch) → Arrived es s s′ h ks → ((j : ℕ) → isIn j (branchNumbers ks) ≡ true → nodeBytes s″ j ≡ nodeBytes s′ j)
     → Arrived es s s″ h ks
 arrived-on es s s′ s″ h [] no-more same = no-more
-arrived-on es s s′ s″ h (k ∷ ks) (one-more e r w) same = one-more (same (k .number) first ∙ e) r (arrived-on es s s′ s″ h ks w (λ j c. same j (later j c)))
-  where
-    later : (j : ℕ) → isIn j (branchNumbers ks) ≡ true → isIn j (branchNumbers (k ∷ ks)) ≡ true
-    later j c = unfold branchNumbers isIn in or-right (eqb j (k .number)) (isIn j (branchNumbers ks)) c
-
-    first : isIn (k .number) (branchNumbers (k ∷ ks)) ≡ true
-    first = unfold branchNumbers isIn in or-left (eqb (k .number) (k .number)) (isIn (k .number) (branchNumbers ks)) (eq-eqb (k .number) (k .number) refl)
+arrived-on es s s′ s″ h (k ∷ ks) (one-more e r w) same = one-more (same (k .number) (in-first k ks) ∙ e) r (arrived-on es s s′ s″ h ks w (λ j c. same j (in-later j k ks c)))
 
 -- THE CHILD, OF EITHER KIND: l is the level of the node less two
 pub child-takes : (l : ℕ) (es : List Entry) (i : ℕ) (lo hi s s′ : List ℕ) → hasRoom es i lo hi s ≡ true

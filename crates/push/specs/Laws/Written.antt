@@ -1,9 +1,5 @@
 -- The store after a flush by one level, as the code writes it: each child in turn, then the node with its children alone. Definitions only.
-use Prim.Native.Nat.{ℕ, _+_, _*_}
-use mathlib.Core.List.{List, [], _∷_, _++_}
-use mathlib.Core.Bool.{Bool, true, _&&_, cond}
-use lib.ListN.{length}
-use lib.Dec.{ltb, leb, eqb}
+use Rattle.image.specs.Prelude.{ℕ, _+_, _*_, List, [], _∷_, _++_, Bool, true, _&&_, cond, length, ltb, leb, eqb}
 use Rattle.image.specs.Bytes.{u16}
 use Rattle.image.specs.Entry.{Entry, child}
 use Rattle.image.specs.Image.{Branch, nodesOf}

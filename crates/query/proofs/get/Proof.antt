@@ -1,7 +1,5 @@
-use native.Mathlib.Omega.{arith}
-use mathlib.Core.Path.{sym, _∙_}
-use borrow.Author.Needs.{needs}
-use borrow.Author.Tests.{not-true, not-false}
+-- `get` meets its contract. Relies on specs/Asked.
+use Rattle.image.specs.Prelude.{sym, _∙_, not-true, not-false, needs}
 use Rattle.image.specs.Calls.{get}
 use Rattle.query.specs.Asked.{ragged-store, unsound-store, refused-short}
 use Rattle.query.proofs.get.Statement.{statement}

@@ -1,7 +1,5 @@
-use native.Mathlib.Omega.{arith}
-use mathlib.Core.Path.{refl, sym, _∙_}
-use borrow.Author.Needs.{needs}
-use borrow.Author.Tests.{not-true, not-false}
+-- `get_fit` meets its contract. Relies on specs/Asked and specs/Steps.
+use Rattle.image.specs.Prelude.{arith, refl, sym, not-true, not-false, needs}
 use Rattle.image.specs.Calls.{get}
 use Rattle.query.specs.Asked.{malformed-path, short-buffer, nothing-there, something-there, refused-short, found-short}
 use Rattle.query.specs.Steps.{get-path, get-short, get-room, value-there, value-absent}

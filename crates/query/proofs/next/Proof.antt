@@ -1,8 +1,5 @@
-use native.Mathlib.Omega.{arith}
-use mathlib.Core.Path.{_≡_, sym, _∙_}
-use lib.ListN.{length}
-use borrow.Author.Needs.{needs}
-use borrow.Author.Tests.{not-true, not-false}
+-- `next` meets its contract. Relies on specs/Asked.
+use Rattle.image.specs.Prelude.{sym, _∙_, not-true, not-false, needs}
 use Rattle.image.specs.Calls.{next}
 use Rattle.query.specs.Asked.{ragged-store, unsound-store, refused-short}
 use Rattle.query.proofs.next.Statement.{statement}

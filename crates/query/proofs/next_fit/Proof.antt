@@ -1,8 +1,5 @@
-use native.Mathlib.Omega.{arith}
-use mathlib.Core.Path.{refl, _≡_, sym, _∙_}
-use lib.ListN.{length}
-use borrow.Author.Needs.{needs}
-use borrow.Author.Tests.{not-true, not-false}
+-- `next_fit` meets its contract. Relies on specs/Asked and specs/Steps.
+use Rattle.image.specs.Prelude.{arith, refl, _≡_, sym, length, not-true, not-false, needs}
 use Rattle.image.specs.Calls.{next}
 use Rattle.query.specs.Asked.{malformed-path, short-buffer, nothing-there, something-there, refused-short, found-short}
 use Rattle.query.specs.Steps.{next-short, next-room, path-absent, path-there}

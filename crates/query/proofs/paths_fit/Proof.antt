@@ -1,6 +1,5 @@
-use native.Mathlib.Omega.{arith}
-use borrow.Author.Needs.{needs}
-use borrow.Author.Tests.{not-true, not-false}
+-- `paths_fit` meets its contract. Relies on specs/Steps.
+use Rattle.image.specs.Prelude.{arith, not-true, not-false, needs}
 use Rattle.query.specs.Steps.{next-bad, next-first, next-second}
 use Rattle.query.proofs.paths_fit.Statement.{statement}
 use Rattle.query.proofs.paths_fit.Tie as tie

@@ -1,8 +1,6 @@
 -- `query::same` meets its contract: the questions in order, each of both stores, then the walk (specs/SameSteps).
 -- Assumes nothing.
-use borrow.Author.Needs.{needs}
-use mathlib.Core.Path.{sym, _∙_}
-use borrow.Author.Tests.{not-true, not-false}
+use Rattle.image.specs.Prelude.{needs, sym, _∙_, not-true, not-false}
 use Rattle.query.specs.SameSteps.{first-ragged, second-ragged, first-unsound, second-unsound, paths-same, paths-differ}
 use Rattle.query.proofs.same.Statement.{statement}
 use Rattle.query.proofs.same.Tie as tie

@@ -1,6 +1,5 @@
 -- `query::same_paths` meets its contract: the counts differ, or inclusion decides (specs/SameSteps). Assumes nothing.
-use borrow.Author.Needs.{needs}
-use native.Mathlib.Omega.{arith}
+use Rattle.image.specs.Prelude.{needs, arith}
 use Rattle.lookup.specs.Root.{long-enough}
 use Rattle.query.specs.SameSteps.{counts-differ, counts-agree}
 use Rattle.query.proofs.same_paths.Statement.{statement}

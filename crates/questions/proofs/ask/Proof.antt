@@ -1,9 +1,6 @@
 -- `questions::ask` meets its contract: one law of specs/Steps for each way out.
 -- Assumes nothing.
-use native.Mathlib.Omega.{arith}
-use mathlib.Core.Path.{sym, _∙_}
-use borrow.Author.Needs.{needs}
-use borrow.Author.Tests.{not-true, not-false}
+use Rattle.image.specs.Prelude.{arith, sym, _∙_, not-true, not-false, needs}
 use Rattle.questions.specs.Steps.{ragged-store, short-work, unsound-store, sound-store}
 use Rattle.questions.proofs.ask.Statement.{statement}
 use Rattle.questions.proofs.ask.Tie as tie

@@ -1,7 +1,6 @@
 -- `questions::zero_area` meets its contract, by the answer. Relies on specs/Acted.
 use Rattle.questions.specs.Acted.{zeroed-done, zeroed-not}
-use borrow.Author.Needs.{needs}
-use mathlib.Core.Path.{refl}
+use Rattle.image.specs.Prelude.{needs, refl}
 use Rattle.questions.proofs.zero_area.Statement.{statement}
 use Rattle.questions.proofs.zero_area.Tie as tie
 

@@ -2,8 +2,7 @@
 -- Assumes nothing.
 use Rattle.node.specs.Whole.{whole-parts}
 use Rattle.rebuild.specs.RebuildSteps.{pack-asks, pack-done}
-use borrow.Author.Needs.{needs}
-use native.Mathlib.Omega.{arith}
+use Rattle.image.specs.Prelude.{needs, arith}
 use Rattle.rebuild.proofs.pack.Statement.{statement}
 use Rattle.rebuild.proofs.pack.Tie as tie
 

@@ -1,9 +1,7 @@
 -- `rebuild::rebuild` meets its contract: the part of the work area that was lent comes back as zeros (specs/RebuildSteps).
 -- Assumes nothing.
 use Rattle.rebuild.specs.RebuildSteps.{node-count, work-room, rebuilt}
-use borrow.Author.Needs.{needs}
-use native.Mathlib.Omega.{arith}
-use mathlib.Core.Path.{refl}
+use Rattle.image.specs.Prelude.{needs, arith, refl}
 use Rattle.rebuild.proofs.rebuild.Statement.{statement}
 use Rattle.rebuild.proofs.rebuild.Tie as tie
 

@@ -2,11 +2,7 @@
 -- Assumes nothing.
 use Rattle.image.specs.Image.{nodesOf}
 use Rattle.rebuild.specs.RebuildSteps.{node-count, dumped-packable, numbers-room, repacked-table, all-zeros}
-use borrow.Author.Needs.{needs}
-use native.Mathlib.Omega.{arith}
-use Prim.Native.Nat.{_*_}
-use mathlib.Core.Path.{refl}
-use lib.ListN.{length}
+use Rattle.image.specs.Prelude.{needs, arith, _*_, refl, length}
 use Rattle.rebuild.proofs.rebuild_in.Statement.{statement}
 use Rattle.rebuild.proofs.rebuild_in.Tie as tie
 

@@ -1,7 +1,6 @@
 -- `apply_move` meets its contract: made ready, swung, finished. Relies on specs/Apply.
 use Rattle.rename.specs.Apply.{numbers-end, swing-asked, finish-asked, applied}
-use native.Mathlib.Omega.{arith}
-use borrow.Author.Needs.{needs}
+use Rattle.image.specs.Prelude.{arith, needs}
 use Rattle.rename.proofs.apply_move.Statement.{statement}
 use Rattle.rename.proofs.apply_move.Tie as tie
 

@@ -1,8 +1,7 @@
 -- `rename::move_fit` meets its contract, by the answer of its questions. Relies on specs/Apply and going's GoingSteps.
 use Rattle.rename.specs.Going.GoingSteps.{is-fit}
 use Rattle.rename.specs.Apply.{refused, area-long, stays, goes}
-use borrow.Author.Needs.{needs}
-use mathlib.Core.Path.{refl}
+use Rattle.image.specs.Prelude.{needs, refl}
 use Rattle.rename.proofs.move_fit.Statement.{statement}
 use Rattle.rename.proofs.move_fit.Tie as tie
 

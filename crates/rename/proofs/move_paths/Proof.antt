@@ -3,7 +3,7 @@ use Rattle.questions.specs.Callers.{to-act}
 use Rattle.questions.specs.Asked.{asked-fit, refused-meets}
 use Rattle.questions.specs.Acted.{passed}
 use Rattle.tree_check.specs.Callers.{messages-settled}
-use borrow.Author.Needs.{needs}
+use Rattle.image.specs.Prelude.{needs}
 use Rattle.rename.proofs.move_paths.Statement.{statement}
 use Rattle.rename.proofs.move_paths.Tie as tie
 

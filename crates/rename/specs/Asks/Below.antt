@@ -1,11 +1,6 @@
 -- The rows below a path, as next tells of them: whether there are any, and whether all pass a test.
 -- Relies on laws/specs/Follow (what follows a path in a rising table).
-use Prim.Native.Nat.{ℕ}
-use mathlib.Core.Path.{_≡_, refl, sym, ap, _∙_}
-use mathlib.Core.List.{List, [], _∷_}
-use mathlib.Core.Bool.{Bool, true, false, not}
-use mathlib.Core.Option.{none, some}
-use native.Mathlib.Omega.{arith}
+use Rattle.image.specs.Prelude.{ℕ, _≡_, refl, sym, ap, _∙_, List, [], _∷_, Bool, true, false, not, none, some, arith, cases}
 use Rattle.image.specs.Bytes.{begins}
 use Rattle.image.specs.Path.{below, wellFormed}
 use Rattle.image.specs.Table.{Row, everyKey, rowsBelow, rowsAfter, firstKey, leastAfter, leads, rising}
@@ -54,11 +49,6 @@ some-below p k t e f h = full (rowsBelow p t) (ap firstKey (sym (all-follow p t 
 pub none-fails : (test : List ℕ → Bool) (p : List ℕ) (t : List Row) → isEmpty (rowsBelow p (keep (λ k. not (test k)) t)) ≡ everyKey test (rowsBelow p t)
 unfolding rowsBelow keep everyKey isEmpty
 none-fails test p [] = refl
-none-fails test p (r ∷ t) = go (test (r .key)) refl (below (r .key) p) refl (none-fails test p t)
-  where
-    go : (x : Bool) → test (r .key) ≡ x → (y : Bool) → below (r .key) p ≡ y → isEmpty (rowsBelow p (keep (λ k. not (test k)) t)) ≡ everyKey test (rowsBelow p t)
-        → isEmpty (rowsBelow p (keep (λ k. not (test k)) (r ∷ t))) ≡ everyKey test (rowsBelow p (r ∷ t))
-    go true e true f ih = rw (e, f, e) ih
-    go true e false f ih = rw (e, f) ih
-    go false e true f ih = rw (e, f, e)
-    go false e false f ih = rw (e, f) ih
+none-fails test p (r ∷ t) =
+    cases (test (r .key)) (λ e. cases (below (r .key) p) (λ f. rw (e, f, e) (none-fails test p t)) (λ f. rw (e, f) (none-fails test p t)))
+    (λ e. cases (below (r .key) p) (λ f. rw (e, f, e)) (λ f. rw (e, f) (none-fails test p t)))

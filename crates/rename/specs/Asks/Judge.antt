@@ -1,11 +1,7 @@
 -- Question 9 of the rows below `from` alone: the rows that stay are well formed already, and of a row that moves only the rest after `from`
 -- is judged, after `to` was fed to the shape of a path.
 -- Relies on path/specs/Shape (feeding in pieces) and slice/specs/Moving/MovedRows (rows below a path, as a test).
-use Prim.Native.Nat.{ℕ}
-use mathlib.Core.Path.{_≡_, refl, sym, ap₂, _∙_}
-use mathlib.Core.List.{List, [], _∷_}
-use mathlib.Core.Bool.{Bool, true, _&&_, not}
-use lib.ListN.{length, drop}
+use Rattle.image.specs.Prelude.{ℕ, _≡_, refl, sym, ap₂, _∙_, List, [], _∷_, Bool, true, _&&_, not, length, drop}
 use Rattle.image.specs.Bytes.{begins}
 use Rattle.image.specs.Path.{wellFormed}
 use Rattle.image.specs.Table.{Row, everyKey, rowsBelow, withoutBelow, renamed, putAll, moved}

@@ -1,13 +1,6 @@
 -- The quick yes of question 9: where `to` has no more components and no more bytes than `from`, every rest that follows `from` follows `to`.
 -- Relies on path/specs/Shape.
-use Prim.Native.Nat.{ℕ, suc, _≤_, _<_}
-use mathlib.Core.Path.{_≡_, refl, sym, ap, _∙_}
-use mathlib.Core.List.{List, [], _∷_, append-nil}
-use mathlib.Core.Bool.{Bool, true, false, _&&_, false≢true}
-use native.Mathlib.Omega.{arith}
-use lib.ListN.{length, drop}
-use lib.Dec.{leb, ltb, eqb}
-use borrow.Author.Tests.{le-leb, leb-true, lt-ltb, ltb-true, eqb-true}
+use Rattle.image.specs.Prelude.{ℕ, suc, _≤_, _<_, _≡_, refl, sym, ap, _∙_, List, [], _∷_, append-nil, Bool, true, false, _&&_, false≢true, arith, length, drop, leb, ltb, eqb, le-leb, leb-true, lt-ltb, ltb-true, eqb-true}
 use Rattle.image.specs.Bytes.{begins}
 use Rattle.image.specs.Path.{letter, pathLimit, wellFormed}
 use Rattle.image.specs.Table.{Row, everyKey}
@@ -64,16 +57,14 @@ fewer done here len count size (x ∷ p) a b c e =
         let s : ltb size pathLimit ≡ true = lt-ltb size pathLimit (let m : len < pathLimit = ltb-true len pathLimit h in omega arith) in
         rw (s, q, k) (v (unfold fed in rw (h, q, k) at e))
 
+dead-shut : closed dead ≡ true → ⊥
+unfolding closed
+dead-shut e = false≢true e
+
 -- from a whole path on
 shorter : (a b : Shape) (p : List ℕ) → closed a ≡ true → closed b ≡ true → noWider a b ≡ true → closed (feed a p) ≡ true → closed (feed b p) ≡ true
 shorter dead b p e f h g = absurd (dead-shut e)
-  where
-    dead-shut : closed dead ≡ true → ⊥
-    dead-shut z = unfold closed in false≢true z
 shorter (partway done here len) dead p e f h g = absurd (dead-shut f)
-  where
-    dead-shut : closed dead ≡ true → ⊥
-    dead-shut z = unfold closed in false≢true z
 shorter (partway done here len) (partway count tail size) p e f h g =
     let x : here ≡ 0 = whole done here len e .1 in
     let y : (1 ≤ count) × (tail ≡ 0) = whole count tail size f in

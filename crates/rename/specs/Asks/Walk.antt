@@ -1,12 +1,6 @@
 -- The steps of the questions as code.
 -- Relies on successor/specs/BufferSteps (what next hands back) and on Below, Judge and Shorter.
-use Prim.Native.Nat.{ℕ, _<_, _≤_}
-use mathlib.Core.Path.{_≡_, refl, sym, ap, ap₂, _∙_}
-use mathlib.Core.List.{List, []}
-use mathlib.Core.Bool.{Bool, true, false, not}
-use lib.ListN.{length, drop}
-use lib.Dec.{leb, ltb}
-use borrow.Author.Tests.{le-leb, lt-leb, le-ltb, lt-ltb, leb-true, leb-false}
+use Rattle.image.specs.Prelude.{ℕ, _<_, _≤_, _≡_, refl, sym, ap, ap₂, _∙_, List, [], Bool, true, false, not, length, drop, leb, ltb, le-leb, lt-leb, le-ltb, lt-ltb, leb-true, leb-false, cases}
 use Rattle.image.specs.Bytes.{same, begins}
 use Rattle.image.specs.Path.{wellFormed, properBeginning, mayMove}
 use Rattle.image.specs.Table.{Row, rowsBelow, leastAfter, moved, everyKey, rising}
@@ -22,7 +16,6 @@ use Rattle.successor.specs.Buffer.{bufferIs}
 use Rattle.rebuild.specs.StoreTable.{table-formed}
 use Rattle.rename.specs.Asks.Judge.{restFits, restsFit, nine-is}
 use Rattle.rename.specs.Asks.Shorter.{noWider, quick-yes}
-use Rattle.rename.specs.Asks.Below as below
 use Rattle.successor.specs.BufferSteps.{held, empty-handed}
 use Rattle.successor.specs.Walk.{unfit}
 use Rattle.rename.specs.Asks.Below.{none-below, some-below, none-fails}
@@ -47,11 +40,9 @@ second-says from to x y e f g = rw (sym e ∙ f) (ap not g)
 -- QUESTION 8: a path is handed back where a row is below p
 handed-back : (p : List ℕ) (t : List Row) (b : PathBuffer) → everyKey wellFormed t ≡ true → rising t ≡ true → bufferIs b ≡ leastAfter p [] t
     → leb (b .len) 64 ≡ not (isEmpty (rowsBelow p t))
-handed-back p t b e f h = go (leb (b .len) 64) refl
-  where
-    go : (x : Bool) → leb (b .len) 64 ≡ x → x ≡ not (isEmpty (rowsBelow p t))
-    go true q = ap not (sym (some-below p _ t e f (sym h ∙ held b (leb-true (b .len) 64 q))))
-    go false q = ap not (sym (none-below p t e f (sym h ∙ empty-handed b (leb-false (b .len) 64 q))))
+handed-back p t b e f h =
+    cases (leb (b .len) 64) (λ q. q ∙ ap not (sym (some-below p _ t e f (sym h ∙ held b (leb-true (b .len) 64 q)))))
+    (λ q. q ∙ ap not (sym (none-below p t e f (sym h ∙ empty-handed b (leb-false (b .len) 64 q)))))
 
 pub eight-is : (s from : List ℕ) (p : PathBuffer) → sound s ≡ true → bufferIs p ≡ leastAfter from [] (tableOf s)
     → leb (p .len) 64 ≡ not (isEmpty (rowsBelow from (tableOf s)))
@@ -90,11 +81,7 @@ rests-are s from sh p ok e =
     ∙ none-fails (λ k. defined.goesOn (shapeIs sh) (drop (length from) k)) from (tableOf s)
   where
     over : (n : ℕ) → ltb 64 n ≡ not (leb n 64)
-    over n = go (leb n 64) refl
-      where
-        go : (x : Bool) → leb n 64 ≡ x → ltb 64 n ≡ not x
-        go true q = le-ltb 64 n (leb-true n 64 q)
-        go false q = lt-ltb 64 n (leb-false n 64 q)
+    over n = cases (leb n 64) (λ q. rw q (le-ltb 64 n (leb-true n 64 q))) (λ q. rw q (lt-ltb 64 n (leb-false n 64 q)))
 
     twice : (x : Bool) → not (not x) ≡ x
     twice true = refl

@@ -1,9 +1,6 @@
 -- What the questions of a move decide, as a function of both paths and the table; and what a caller of ask_move is told.
 -- Relies on questions' Passed and on the paper's definitions.
-use Prim.Native.Nat.{ℕ}
-use mathlib.Core.Path.{_≡_}
-use mathlib.Core.List.{List}
-use mathlib.Core.Bool.{true, false, not, cond}
+use Rattle.image.specs.Prelude.{ℕ, _≡_, List, true, false, not, cond}
 use Rattle.image.specs.Bytes.{same}
 use Rattle.image.specs.Path.{wellFormed, mayMove}
 use Rattle.image.specs.Table.{Row, rowsBelow, moved, everyKey}

@@ -1,9 +1,6 @@
 -- The steps of the questions of a move.
 -- Relies on specs/Prepare/Moved (each refusal's contract).
-use Prim.Native.Nat.{ℕ}
-use mathlib.Core.Path.{_≡_, refl, sym, subst, _∙_}
-use mathlib.Core.List.{List}
-use mathlib.Core.Bool.{Bool, true, false, not, cond}
+use Rattle.image.specs.Prelude.{ℕ, _≡_, refl, sym, subst, _∙_, List, Bool, true, false, not, cond}
 use Rattle.image.specs.Bytes.{same}
 use Rattle.image.specs.Path.{wellFormed, mayMove}
 use Rattle.image.specs.Table.{Row, rowsBelow, moved, everyKey}

@@ -1,12 +1,6 @@
 -- The call move from its steps: the questions in order, the path that stays, and the swing with the live count made right.
 -- Relies on slice/Moving's swung (what the swing leaves), on Prepared, and on finish's Finished.
-use Prim.Native.Nat.{ℕ, zero, suc, _+_, _*_, _-_, _/_, _≤_}
-use mathlib.Core.Path.{_≡_, refl, sym, ap, ap₂, subst, _∙_}
-use mathlib.Core.List.{List}
-use mathlib.Core.Bool.{Bool, true, false, _&&_, not, false≢true}
-use native.Mathlib.Omega.{arith}
-use lib.ListN.{length, take, drop}
-use lib.Seq.{length-take-le}
+use Rattle.image.specs.Prelude.{ℕ, zero, suc, _+_, _*_, _-_, _/_, _≤_, _≡_, refl, sym, ap, ap₂, subst, _∙_, List, Bool, true, false, _&&_, not, false≢true, arith, length, take, drop, length-take-le}
 use Rattle.image.specs.Bytes.{same, begins}
 use Rattle.image.specs.Path.{wellFormed, properBeginning, mayMove}
 use Rattle.image.specs.Table.{rowsBelow, moved, everyKey}
@@ -28,9 +22,10 @@ use Rattle.finish.specs.Finished.{Finished, cleared-again}
 use Rattle.slice.specs.Moving.MoveImage.{Free, Roots, roots, moved-length}
 use Rattle.slice.specs.Moving.MoveDone.{movedStore}
 use Rattle.packed.specs.Build.Handed.{listed, handedFrom, handed}
-use Rattle.slice.specs.Moving.MoveBound.{Swung, swung-by}
+use Rattle.slice.specs.Moving.MoveBound.{Swung}
 use Rattle.swing.specs.Head.{swungWith, swung-right, swung-back}
 use Rattle.swing.specs.Plan.{SwingAsks}
+use Rattle.swing.specs.Asked.{whole-swing}
 use Rattle.questions.specs.Acted.{Passed}
 use Rattle.rename.specs.Prepare.Prepared.{Prepared}
 use Rattle.rename.specs.Prepare.Steps.{listed-take}
@@ -140,23 +135,19 @@ swing-asks s s₁ w w₁ numbers free from to r whole p e long a b c d q9 =
     }
 
 module _ (s free from to : List ℕ) (k : SwingAsks s free from to) where
-  done : Swung s (movedStore s (handed free) from to) from to
-  done =
-      swung-by s from to (k .whole) (k .is-sound) (k .is-settled) (k .low) (k .formed-from) (k .formed-to) (k .apart-from) (k .apart-to) (k .nine) (handed free) (k .supply)
-
   but-live : soundButLive (movedStore s (handed free) from to) ≡ true
-  but-live = sound-but-live (movedStore s (handed free) from to) (done .isSound)
+  but-live = sound-but-live (movedStore s (handed free) from to) (whole-swing s free from to k .isSound)
 
   module _ (s₂ : List ℕ) (live : ℕ) (live-few : live ≤ nodesOf (length s)) (e : s₂ ≡ swungWith live s (handed free) from to) where
     with-live : s₂ ≡ withLive (movedStore s (handed free) from to) live
     with-live = e ∙ swung-back s (handed free) from to live
 
     same-nodes : nodesOf (length (movedStore s (handed free) from to)) ≡ nodesOf (length s)
-    same-nodes = ap nodesOf (done .size)
+    same-nodes = ap nodesOf (whole-swing s free from to k .size)
 
     -- what the end of the call asks
     pub size-2 : length s₂ ≡ length s
-    size-2 = ap length with-live ∙ live-length (movedStore s (handed free) from to) live but-live ∙ done .size
+    size-2 = ap length with-live ∙ live-length (movedStore s (handed free) from to) live but-live ∙ whole-swing s free from to k .size
 
     pub whole-2 : wholeNodes (length s₂) ≡ true
     whole-2 = ap wholeNodes size-2 ∙ k .whole
@@ -165,7 +156,7 @@ module _ (s free from to : List ℕ) (k : SwingAsks s free from to) where
     but-live-2 = ap soundButLive with-live ∙ live-but (movedStore s (handed free) from to) live but-live (omega (arith, same-nodes))
 
     pub table-2 : tableOf s₂ ≡ moved from to (tableOf s)
-    table-2 = ap tableOf with-live ∙ live-table (movedStore s (handed free) from to) live but-live ∙ done .table
+    table-2 = ap tableOf with-live ∙ live-table (movedStore s (handed free) from to) live but-live ∙ whole-swing s free from to k .table
 
     pub few-2 : length (tableOf s₂) ≤ nodesOf (length s₂)
     few-2 =
@@ -191,7 +182,7 @@ pub moved-meets : (s s₁ s₂ s₃ w w₁ w₂ numbers free from to : List ℕ)
 unfolding tableAfter actTable Besides
 moved-meets s s₁ s₂ s₃ w w₁ w₂ numbers free from to r whole go differ p k e z =
     let l : headerOf s₁ .live ≤ nodesOf (length s₁) = live-few s₁ (p .is-sound) in
-    let d : Swung s₁ (movedStore s₁ (handed free) from to) from to = done s₁ free from to k in
+    let d : Swung s₁ (movedStore s₁ (handed free) from to) from to = whole-swing s₁ free from to k in
     let x : s₃ ≡ movedStore s₁ (handed free) from to = exact-3 s₁ free from to k s₂ (headerOf s₁ .live) l e s₃ w₁ w₂ z in
     let size : length s₂ ≡ length s = size-2 s₁ free from to k s₂ (headerOf s₁ .live) l e ∙ p .size in
     let n : nodesOf (length s₂) ≡ nodesOf (length s) = ap nodesOf size in

@@ -1,11 +1,6 @@
 -- A store that is ready for the swing, and how it came from the store before.
 -- Relies on slice/Moving's Free (what the swing asks of the free nodes) and on the paper's definitions.
-use Prim.Native.Nat.{ℕ, _+_, _*_, _≤_}
-use mathlib.Core.Path.{_≡_}
-use mathlib.Core.List.{List}
-use mathlib.Core.Bool.{Bool, true, _&&_}
-use lib.ListN.{length, drop}
-use lib.Dec.{leb}
+use Rattle.image.specs.Prelude.{ℕ, _+_, _*_, _≤_, _≡_, List, Bool, true, _&&_, length, drop, leb}
 use Rattle.image.specs.Image.{nodesOf, headerOf}
 use Rattle.image.specs.Sound.{sound, tableOf}
 use Rattle.image.specs.Upkeep.{settled}

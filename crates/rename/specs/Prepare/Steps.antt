@@ -1,14 +1,6 @@
 -- The steps of make_ready.
 -- Relies on spare (the marks show the free nodes) and rebuild's Rebuilt.
-use Prim.Native.Nat.{ℕ, zero, suc, _+_, _*_, _-_, _/_, _<_, _≤_}
-use mathlib.Core.Path.{_≡_, refl, sym, ap, ap₂, subst, _∙_}
-use mathlib.Core.List.{List, _∷_, _++_}
-use mathlib.Core.Bool.{Bool, true, false, _&&_, cond, false≢true}
-use native.Mathlib.Omega.{arith}
-use lib.ListN.{length, take, drop}
-use lib.Seq.{getD-take, length-take-le, take-append-seam}
-use lib.Dec.{eqb, leb}
-use borrow.Author.Tests.{le-leb, lt-leb, leb-true, eqb-true}
+use Rattle.image.specs.Prelude.{ℕ, zero, suc, _+_, _*_, _-_, _/_, _<_, _≤_, _≡_, refl, sym, ap, ap₂, subst, _∙_, List, _∷_, _++_, Bool, true, false, _&&_, false≢true, arith, length, take, drop, getD-take, length-take-le, take-append-seam, eqb, leb, le-leb, lt-leb, leb-true, eqb-true, cases}
 use Rattle.image.specs.Bytes.{u16}
 use Rattle.image.specs.Image.{nodesOf, wholeNodes, headerOf, treeOf}
 use Rattle.image.specs.Sound.{isIn, numbers as nodes}
@@ -52,11 +44,8 @@ node-few s e = let p : Whole (length s) = whole-parts (length s) e in (omega (ar
 free-length : (c i : ℕ) (is : List ℕ) → length (freeFrom c i is) ≤ c
 unfolding freeFrom
 free-length zero i is = omega arith
-free-length (suc c) i is = go (isIn i is) (free-length c (suc i) is)
-  where
-    go : (b : Bool) → length (freeFrom c (suc i) is) ≤ c → length (cond b (freeFrom c (suc i) is) (i ∷ freeFrom c (suc i) is)) ≤ suc c
-    go true h = omega arith
-    go false h = omega arith
+free-length (suc c) i is =
+    cases (isIn i is) (λ q. rw q (omega (arith, free-length c (suc i) is))) (λ q. rw q (omega (arith, free-length c (suc i) is)))
 
 u16-take : (m : ℕ) (xs : List ℕ) (j : ℕ) → j + 1 < m → u16 (take m xs) j ≡ u16 xs j
 unfolding u16
@@ -89,11 +78,9 @@ listed-upper n r e numbers part q d room long h =
 upper-in : (j i k : ℕ) → isIn j (numbersFrom i k) ≡ true → i ≤ j
 unfolding isIn numbersFrom
 upper-in j i zero e = absurd (false≢true e)
-upper-in j i (suc k) e = go (eqb j i) refl (upper-in j (suc i) k)
-  where
-    go : (b : Bool) → eqb j i ≡ b → (isIn j (numbersFrom (suc i) k) ≡ true → suc i ≤ j) → i ≤ j
-    go true q ih = let z : j ≡ i = eqb-true j i q in omega arith
-    go false q ih = let f : isIn j (numbersFrom (suc i) k) ≡ true = rw q at e in let g = ih f in omega arith
+upper-in j i (suc k) e =
+    cases (eqb j i) (λ q. let z : j ≡ i = eqb-true j i q in omega arith)
+    (λ q. let f : isIn j (numbersFrom (suc i) k) ≡ true = rw q at e in let g = upper-in j (suc i) k f in omega arith)
 
 upper-supply : (s s′ w w′ : List ℕ) → wholeNodes (length s) ≡ true → Rebuilt s s′ w w′ → Free s′ (numbersFrom (nodesOf (length s) / 4) (nodesOf (length s) - nodesOf (length s) / 4))
 upper-supply s s′ w w′ whole b =

@@ -1,32 +1,22 @@
 -- A move of a path to itself leaves the table: the rows below it are set aside and come back.
 -- Relies on the order's laws (octets) and on laws' rising tables.
-use Prim.Native.Nat.{ℕ}
-use mathlib.Core.Path.{_≡_, refl, sym, ap, ap₂, _∙_}
-use mathlib.Core.List.{List, [], _∷_}
-use mathlib.Core.Bool.{Bool, true, false, cond, false≢true}
+use Rattle.image.specs.Prelude.{ℕ, _≡_, refl, sym, ap, ap₂, _∙_, List, [], _∷_, Bool, true, false, cond, false≢true, cases}
 use Rattle.image.specs.Bytes.{same, before, begins}
 use Rattle.image.specs.Path.{below}
 use Rattle.image.specs.Table.{Row, withRow, rowsBelow, withoutBelow, renamed, putAll, moved, everyKey, leads, rising}
 use Rattle.octets.specs.Order.{and-left, and-right, same-eq, before-irrefl, before-trans, before-asym, begins-split}
 
 renamed-same : (p : List ℕ) (t : List Row) → renamed p p (rowsBelow p t) ≡ rowsBelow p t
-unfolding rowsBelow below
-renamed-same p [] = unfold renamed in refl
-renamed-same p (r ∷ t) = go (begins p (r .key)) refl (renamed-same p t)
-  where
-    go : (x : Bool) → begins p (r .key) ≡ x → renamed p p (rowsBelow p t) ≡ rowsBelow p t → renamed p p (cond x (r ∷ rowsBelow p t) (rowsBelow p t)) ≡ cond x (r ∷ rowsBelow p t) (rowsBelow p t)
-    go true e ih = unfold renamed in ap₂ (λ k l. record { key = k; value = r .value } ∷ l) (begins-split p (r .key) e) ih
-    go false e ih = ih
+unfolding rowsBelow below renamed
+renamed-same p [] = refl
+renamed-same p (r ∷ t) =
+    cases (begins p (r .key)) (λ e. rw e (ap₂ (λ k l. record { key = k; value = r .value } ∷ l) (begins-split p (r .key) e) (renamed-same p t)))
+    (λ e. rw e (renamed-same p t))
 
 without-twice : (p : List ℕ) (t : List Row) → withoutBelow p (withoutBelow p t) ≡ withoutBelow p t
 unfolding withoutBelow below
 without-twice p [] = refl
-without-twice p (r ∷ t) = go (begins p (r .key)) refl (without-twice p t)
-  where
-    go : (x : Bool) → begins p (r .key) ≡ x → withoutBelow p (withoutBelow p t) ≡ withoutBelow p t
-        → withoutBelow p (cond x (withoutBelow p t) (r ∷ withoutBelow p t)) ≡ cond x (withoutBelow p t) (r ∷ withoutBelow p t)
-    go true e ih = ih
-    go false e ih = rw e (ap (λ l. r ∷ l) ih)
+without-twice p (r ∷ t) = cases (begins p (r .key)) (λ e. rw e (without-twice p t)) (λ e. rw (e, e) (ap (λ l. r ∷ l) (without-twice p t)))
 
 -- a row in front of all others is put in front
 with-first : (r : Row) (t : List Row) → leads (r .key) t ≡ true → withRow (r .key) (r .value) t ≡ r ∷ t
@@ -35,11 +25,9 @@ with-first r [] e = refl
 with-first r (q ∷ t) e = rw (before-asym (r .key) (q .key) e, before-turn) refl
   where
     before-turn : same (r .key) (q .key) ≡ false
-    before-turn = go (same (r .key) (q .key)) refl
-      where
-        go : (x : Bool) → same (r .key) (q .key) ≡ x → x ≡ false
-        go true h = absurd (false≢true (sym (before-irrefl (q .key)) ∙ ap (λ k. before k (q .key)) (sym (same-eq (r .key) (q .key) h)) ∙ e))
-        go false h = refl
+    before-turn =
+        cases (same (r .key) (q .key)) (λ h. absurd (false≢true (sym (before-irrefl (q .key)) ∙ ap (λ k. before k (q .key)) (sym (same-eq (r .key) (q .key) h)) ∙ e)))
+        (λ h. h)
 
 -- rows that all follow the first one are put behind it
 put-behind : (r : Row) (rs t : List Row) → everyKey (λ k. before (r .key) k) rs ≡ true → putAll rs (r ∷ t) ≡ r ∷ putAll rs t

@@ -1,5 +1,6 @@
+-- `most_bytes` meets its contract. Relies on specs/Steps.
 use Rattle.requests.specs.Steps.{most-get, most-next}
-use borrow.Author.Needs.{needs}
+use Rattle.image.specs.Prelude.{needs}
 use Rattle.requests.proofs.most_bytes.Statement.{statement}
 use Rattle.requests.proofs.most_bytes.Tie as tie
 

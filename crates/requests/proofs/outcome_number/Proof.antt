@@ -1,5 +1,5 @@
 -- `outcome_number` meets its contract: one law of specs/ for each way out.
-use borrow.Author.Needs.{needs}
+use Rattle.image.specs.Prelude.{needs}
 use Rattle.requests.specs.Steps.{done-number, refused-number}
 use Rattle.requests.proofs.outcome_number.Statement.{statement}
 use Rattle.requests.proofs.outcome_number.Tie as tie

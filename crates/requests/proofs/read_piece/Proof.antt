@@ -1,5 +1,6 @@
+-- `read_piece` meets its contract. Relies on specs/Steps.
 use Rattle.requests.specs.Steps.{too-short, cut-off, reads-on}
-use borrow.Author.Needs.{needs}
+use Rattle.image.specs.Prelude.{needs}
 use Rattle.requests.proofs.read_piece.Statement.{statement}
 use Rattle.requests.proofs.read_piece.Tie as tie
 

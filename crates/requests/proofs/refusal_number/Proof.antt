@@ -1,6 +1,5 @@
 -- `refusal_number` meets its contract: one law of specs/ for each way out.
-use borrow.Author.Needs.{needs}
-use mathlib.Core.Path.{refl}
+use Rattle.image.specs.Prelude.{needs, refl}
 use Rattle.image.specs.Answers.{refusalNumber}
 use Rattle.requests.specs.Steps.{numbered}
 use Rattle.requests.proofs.refusal_number.Statement.{statement}

@@ -1,5 +1,6 @@
+-- `request_at` meets its contract. Relies on specs/Steps.
 use Rattle.requests.specs.Steps.{drop-at, clear-at, get-at, upkeep-at, no-split, put-at, move-at, next-at, none-at}
-use borrow.Author.Needs.{needs}
+use Rattle.image.specs.Prelude.{needs}
 use Rattle.requests.proofs.request_at.Statement.{statement}
 use Rattle.requests.proofs.request_at.Tie as tie
 

@@ -1,5 +1,6 @@
+-- `upkeep_at` meets its contract. Relies on specs/Steps.
 use Rattle.requests.specs.Steps.{settle-at, tidy-at, none-empty, none-odd, flush-at, heal-at, none-two}
-use borrow.Author.Needs.{needs}
+use Rattle.image.specs.Prelude.{needs}
 use Rattle.requests.proofs.upkeep_at.Statement.{statement}
 use Rattle.requests.proofs.upkeep_at.Tie as tie
 

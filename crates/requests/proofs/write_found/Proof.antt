@@ -1,6 +1,6 @@
+-- `write_found` meets its contract. Relies on specs/Steps.
 use Rattle.requests.specs.Steps.{found-written, refusal-written, found-room, copy-room}
-use borrow.Author.Needs.{needs}
-use native.Mathlib.Omega.{arith}
+use Rattle.image.specs.Prelude.{needs, arith}
 use Rattle.requests.proofs.write_found.Statement.{statement}
 use Rattle.requests.proofs.write_found.Tie as tie
 

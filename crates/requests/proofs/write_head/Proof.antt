@@ -1,5 +1,6 @@
+-- `write_head` meets its contract. Relies on specs/Steps.
 use Rattle.requests.specs.Steps.{head-written}
-use borrow.Author.Needs.{needs}
+use Rattle.image.specs.Prelude.{needs}
 use Rattle.requests.proofs.write_head.Statement.{statement}
 use Rattle.requests.proofs.write_head.Tie as tie
 

@@ -1,5 +1,6 @@
+-- `write_outcome` meets its contract. Relies on specs/Steps.
 use Rattle.requests.specs.Steps.{outcome-written}
-use borrow.Author.Needs.{needs}
+use Rattle.image.specs.Prelude.{needs}
 use Rattle.requests.proofs.write_outcome.Statement.{statement}
 use Rattle.requests.proofs.write_outcome.Tie as tie
 

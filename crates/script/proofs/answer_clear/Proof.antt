@@ -1,5 +1,5 @@
 -- `script::answer_clear` meets its contract: the call's contract, as the text of a line (specs/Answered). Assumes nothing.
-use borrow.Author.Needs.{needs}
+use Rattle.image.specs.Prelude.{needs}
 use Rattle.script.specs.Steps.{clear-answered}
 use Rattle.script.proofs.answer_clear.Statement.{statement}
 use Rattle.script.proofs.answer_clear.Tie as tie

@@ -1,6 +1,5 @@
 -- `script::answer_drop` meets its contract: the call's contract, as the text of a line (specs/Answered). Assumes nothing.
-use borrow.Author.Needs.{needs}
-use lib.ListN.{drop}
+use Rattle.image.specs.Prelude.{needs, drop}
 use Rattle.script.specs.Steps.{drop-answered}
 use Rattle.script.proofs.answer_drop.Statement.{statement}
 use Rattle.script.proofs.answer_drop.Tie as tie

@@ -1,10 +1,8 @@
 -- `script::answer_get` meets its contract: the call's contract, as the text of a line (specs/Answered). Assumes nothing.
-use borrow.Author.Needs.{needs}
-use native.Mathlib.Omega.{arith}
+use Rattle.image.specs.Prelude.{needs, arith}
 use Rattle.script.specs.Steps.{get-found}
 use Rattle.script.specs.Answered.{get-short}
 use Rattle.image.specs.Program.{valueBuffer}
-use Rattle.image.specs.Path.{valueLimit}
 use Rattle.script.proofs.answer_get.Statement.{statement}
 use Rattle.script.proofs.answer_get.Tie as tie
 
@@ -39,7 +37,7 @@ same-length : tie.Need-same-length
 same-length c = search needs
 
 returns : tie.Need-returns
-unfolding valueBuffer valueLimit
+unfolding valueBuffer
 returns c = get-found _ _ (c .before .before .before .before .before .before .before .before .before .before .before .before .before .before .before .before .pre .0) _ _ _ (c .before .before .before .before .before .before .before .before .before .before .before .read-path .ensures) _ _ (c .before .before .before .before .before .before .get .ensures .0) _ _ _ (c .before .before .put-found .ensures)
 
 pub answer-get-spec : {M : Type 1} → statement M

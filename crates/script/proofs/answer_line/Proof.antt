@@ -1,7 +1,5 @@
 -- `script::answer_line` meets its contract: by the length and the first space (specs/Line). Assumes nothing.
-use borrow.Author.Needs.{needs}
-use Prim.Native.Nat.{_+_}
-use mathlib.Core.Path.{refl}
+use Rattle.image.specs.Prelude.{needs, _+_, refl}
 use Rattle.script.specs.Line.{line-long, line-word, line-rest}
 use Rattle.script.specs.Answered.{says, bad-answered}
 use Rattle.script.proofs.answer_line.Statement.{statement}

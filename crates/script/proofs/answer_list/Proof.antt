@@ -1,5 +1,5 @@
 -- `script::answer_list` meets its contract: by whether the path is well formed (specs/Steps). Assumes nothing.
-use borrow.Author.Needs.{needs}
+use Rattle.image.specs.Prelude.{needs}
 use Rattle.script.specs.Steps.{list-bad-path, list-rows, list-formed}
 use Rattle.script.proofs.answer_list.Statement.{statement}
 use Rattle.script.proofs.answer_list.Tie as tie

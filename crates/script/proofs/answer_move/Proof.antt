@@ -1,5 +1,5 @@
 -- `script::answer_move` meets its contract: the call's contract, as the text of a line (specs/Answered). Assumes nothing.
-use borrow.Author.Needs.{needs}
+use Rattle.image.specs.Prelude.{needs}
 use Rattle.script.specs.Steps.{move-answered}
 use Rattle.script.proofs.answer_move.Statement.{statement}
 use Rattle.script.proofs.answer_move.Tie as tie

@@ -1,6 +1,5 @@
 -- `script::answer_path` meets its contract: one law for each word (specs/Steps). Assumes nothing.
-use borrow.Author.Needs.{needs}
-use mathlib.Core.List.{[]}
+use Rattle.image.specs.Prelude.{needs, []}
 use Rattle.script.specs.Steps.{path-empty, path-drop, path-clear, path-get, path-list, path-bad}
 use Rattle.script.proofs.answer_path.Statement.{statement}
 use Rattle.script.proofs.answer_path.Tie as tie

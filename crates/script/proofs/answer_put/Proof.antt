@@ -1,6 +1,5 @@
 -- `script::answer_put` meets its contract: the call's contract, as the text of a line (specs/Answered). Assumes nothing.
-use borrow.Author.Needs.{needs}
-use native.Mathlib.Omega.{arith}
+use Rattle.image.specs.Prelude.{needs, arith}
 use Rattle.script.specs.Steps.{put-bad, put-answered, value-length}
 use Rattle.script.proofs.answer_put.Statement.{statement}
 use Rattle.script.proofs.answer_put.Tie as tie

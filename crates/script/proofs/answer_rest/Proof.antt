@@ -1,7 +1,5 @@
 -- `script::answer_rest` meets its contract: by the number of fields (specs/Line). Assumes nothing.
-use borrow.Author.Needs.{needs}
-use Prim.Native.Nat.{_+_}
-use mathlib.Core.Path.{refl}
+use Rattle.image.specs.Prelude.{needs, _+_, refl}
 use Rattle.script.specs.Line.{rest-path, rest-many, rest-two}
 use Rattle.script.specs.Answered.{answered-as, bad-answered}
 use Rattle.script.proofs.answer_rest.Statement.{statement}

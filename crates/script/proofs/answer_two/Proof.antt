@@ -1,6 +1,5 @@
 -- `script::answer_two` meets its contract: one law for each word (specs/Steps). Assumes nothing.
-use borrow.Author.Needs.{needs}
-use mathlib.Core.List.{[]}
+use Rattle.image.specs.Prelude.{needs, []}
 use Rattle.script.specs.Steps.{two-first-empty, two-second-empty, two-put, two-move, two-bad}
 use Rattle.script.proofs.answer_two.Statement.{statement}
 use Rattle.script.proofs.answer_two.Tie as tie

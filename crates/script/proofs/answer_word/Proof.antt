@@ -1,6 +1,5 @@
 -- `script::answer_word` meets its contract: one law for each word (specs/Steps). Assumes nothing.
-use borrow.Author.Needs.{needs}
-use mathlib.Core.List.{[]}
+use Rattle.image.specs.Prelude.{needs, []}
 use Rattle.script.specs.Steps.{word-settle, word-tidy, word-bad}
 use Rattle.script.specs.Answered.{act-answered}
 use Rattle.script.proofs.answer_word.Statement.{statement}

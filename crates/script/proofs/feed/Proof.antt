@@ -1,5 +1,5 @@
 -- `script::feed` meets its contract: one law for each way out (specs/Input). Assumes nothing.
-use borrow.Author.Needs.{needs}
+use Rattle.image.specs.Prelude.{needs}
 use Rattle.script.specs.Input.{fed-line, fed-kept, fed-lost}
 use Rattle.script.proofs.feed.Statement.{statement}
 use Rattle.script.proofs.feed.Tie as tie

@@ -1,5 +1,5 @@
 -- `script::finish` meets its contract: one law for each way out (specs/Input). Assumes nothing.
-use borrow.Author.Needs.{needs}
+use Rattle.image.specs.Prelude.{needs}
 use Rattle.script.specs.Input.{nothing-left, line-left}
 use Rattle.script.proofs.finish.Statement.{statement}
 use Rattle.script.proofs.finish.Tie as tie

@@ -1,12 +1,9 @@
 -- `script::put_row` meets its contract: the path, the space, the value and the line feed, one after another; get finds the path, since it is there (specs/Steps). Assumes nothing.
-use borrow.Author.Needs.{needs}
-use native.Mathlib.Omega.{arith}
-use Prim.Native.Nat.{_-_}
-use mathlib.Core.Path.{refl}
-use lib.ListN.{length}
+use Rattle.image.specs.Prelude.{needs, arith, _-_, refl, length}
 use Rattle.script.specs.Steps.{part-short, value-ends, gap-ends, start-ends, row-absent, row-fits, row-wrote}
 use Rattle.script.proofs.put_row.Statement.{statement}
 use Rattle.script.proofs.put_row.Tie as tie
+use Rattle.image.specs.Path.{valueLimit}
 
 sub-last : tie.Need-sub-last
 sub-last c = search needs
@@ -54,10 +51,10 @@ part-put-value-end : tie.Need-part-put-value-end
 part-put-value-end c = let l = row-fits _ _ _ _ (c .before .before .before .before .before .before .before .before .before .before .before .before .before .before .before .before .before .before .before .pre .0) (c .before .before .before .before .before .before .before .before .before .before .before .before .before .before .before .before .before .before .before .pre .1) (length (c .before .before .before .before .before .before .before .before .before .before .before .before .before .before .before .before .before .before .before .args .path .now) - 1) refl _ _ (c .before .before .before .before .before .before .before .before .before .before .before .before .before .put-exchanged .ensures) _ _ (c .before .before .before .before .before .before .before .before .before .put-byte .ensures) _ _ _ (c .before .before .before .before .before .get .ensures .0) refl _ (c .before .before .found .given .1) in omega arith
 
 put-value-requires : tie.Need-put-value-requires
-put-value-requires c κs = (part-short _ _ 32 (row-fits _ _ _ _ (c .before .before .before .before .before .before .before .before .before .before .before .before .before .before .before .before .before .before .before .before .before .pre .0) (c .before .before .before .before .before .before .before .before .before .before .before .before .before .before .before .before .before .before .before .before .before .pre .1) (length (c .before .before .before .before .before .before .before .before .before .before .before .before .before .before .before .before .before .before .before .before .before .args .path .now) - 1) refl _ _ (c .before .before .before .before .before .before .before .before .before .before .before .before .before .before .before .put-exchanged .ensures) _ _ (c .before .before .before .before .before .before .before .before .before .before .before .put-byte .ensures) _ _ _ (c .before .before .before .before .before .before .before .get .ensures .0) refl _ (c .before .before .before .before .found .given .1)), omega (arith, start-ends _ _ _ _ (c .before .before .before .before .before .before .before .before .before .before .before .before .before .before .before .before .before .before .before .before .before .pre .0) (c .before .before .before .before .before .before .before .before .before .before .before .before .before .before .before .before .before .before .before .before .before .pre .1) (length (c .before .before .before .before .before .before .before .before .before .before .before .before .before .before .before .before .before .before .before .before .before .args .path .now) - 1) refl _ _ (c .before .before .before .before .before .before .before .before .before .before .before .before .before .before .before .put-exchanged .ensures) _ _ (c .before .before .before .before .before .before .before .before .before .before .before .put-byte .ensures)))
+put-value-requires c κs = (part-short _ _ valueLimit (row-fits _ _ _ _ (c .before .before .before .before .before .before .before .before .before .before .before .before .before .before .before .before .before .before .before .before .before .pre .0) (c .before .before .before .before .before .before .before .before .before .before .before .before .before .before .before .before .before .before .before .before .before .pre .1) (length (c .before .before .before .before .before .before .before .before .before .before .before .before .before .before .before .before .before .before .before .before .before .args .path .now) - 1) refl _ _ (c .before .before .before .before .before .before .before .before .before .before .before .before .before .before .before .put-exchanged .ensures) _ _ (c .before .before .before .before .before .before .before .before .before .before .before .put-byte .ensures) _ _ _ (c .before .before .before .before .before .before .before .get .ensures .0) refl _ (c .before .before .before .before .found .given .1)), omega (arith, start-ends _ _ _ _ (c .before .before .before .before .before .before .before .before .before .before .before .before .before .before .before .before .before .before .before .before .before .pre .0) (c .before .before .before .before .before .before .before .before .before .before .before .before .before .before .before .before .before .before .before .before .before .pre .1) (length (c .before .before .before .before .before .before .before .before .before .before .before .before .before .before .before .before .before .before .before .before .before .args .path .now) - 1) refl _ _ (c .before .before .before .before .before .before .before .before .before .before .before .before .before .before .before .put-exchanged .ensures) _ _ (c .before .before .before .before .before .before .before .before .before .before .before .put-byte .ensures)))
 
 put-byte-requires-2 : tie.Need-put-byte-requires-2
-put-byte-requires-2 c κs = let e = value-ends _ _ _ _ _ (c .before .before .before .put-value .ensures) (part-short _ _ 32 (row-fits _ _ _ _ (c .before .before .before .before .before .before .before .before .before .before .before .before .before .before .before .before .before .before .before .before .before .before .before .before .before .pre .0) (c .before .before .before .before .before .before .before .before .before .before .before .before .before .before .before .before .before .before .before .before .before .before .before .before .before .pre .1) (length (c .before .before .before .before .before .before .before .before .before .before .before .before .before .before .before .before .before .before .before .before .before .before .before .before .before .args .path .now) - 1) refl _ _ (c .before .before .before .before .before .before .before .before .before .before .before .before .before .before .before .before .before .before .before .put-exchanged .ensures) _ _ (c .before .before .before .before .before .before .before .before .before .before .before .before .before .before .before .put-byte .ensures) _ _ _ (c .before .before .before .before .before .before .before .before .before .before .before .get .ensures .0) refl _ (c .before .before .before .before .before .before .before .before .found .given .1))) in let f = start-ends _ _ _ _ (c .before .before .before .before .before .before .before .before .before .before .before .before .before .before .before .before .before .before .before .before .before .before .before .before .before .pre .0) (c .before .before .before .before .before .before .before .before .before .before .before .before .before .before .before .before .before .before .before .before .before .before .before .before .before .pre .1) (length (c .before .before .before .before .before .before .before .before .before .before .before .before .before .before .before .before .before .before .before .before .before .before .before .before .before .args .path .now) - 1) refl _ _ (c .before .before .before .before .before .before .before .before .before .before .before .before .before .before .before .before .before .before .before .put-exchanged .ensures) _ _ (c .before .before .before .before .before .before .before .before .before .before .before .before .before .before .before .put-byte .ensures) in omega arith
+put-byte-requires-2 c κs = let e = value-ends _ _ _ _ _ (c .before .before .before .put-value .ensures) (part-short _ _ valueLimit (row-fits _ _ _ _ (c .before .before .before .before .before .before .before .before .before .before .before .before .before .before .before .before .before .before .before .before .before .before .before .before .before .pre .0) (c .before .before .before .before .before .before .before .before .before .before .before .before .before .before .before .before .before .before .before .before .before .before .before .before .before .pre .1) (length (c .before .before .before .before .before .before .before .before .before .before .before .before .before .before .before .before .before .before .before .before .before .before .before .before .before .args .path .now) - 1) refl _ _ (c .before .before .before .before .before .before .before .before .before .before .before .before .before .before .before .before .before .before .before .put-exchanged .ensures) _ _ (c .before .before .before .before .before .before .before .before .before .before .before .before .before .before .before .put-byte .ensures) _ _ _ (c .before .before .before .before .before .before .before .before .before .before .before .get .ensures .0) refl _ (c .before .before .before .before .before .before .before .before .found .given .1))) in let f = start-ends _ _ _ _ (c .before .before .before .before .before .before .before .before .before .before .before .before .before .before .before .before .before .before .before .before .before .before .before .before .before .pre .0) (c .before .before .before .before .before .before .before .before .before .before .before .before .before .before .before .before .before .before .before .before .before .before .before .before .before .pre .1) (length (c .before .before .before .before .before .before .before .before .before .before .before .before .before .before .before .before .before .before .before .before .before .before .before .before .before .args .path .now) - 1) refl _ _ (c .before .before .before .before .before .before .before .before .before .before .before .before .before .before .before .before .before .before .before .put-exchanged .ensures) _ _ (c .before .before .before .before .before .before .before .before .before .before .before .before .before .before .before .put-byte .ensures) in omega arith
 
 same-length-2 : tie.Need-same-length-2
 same-length-2 c = search needs

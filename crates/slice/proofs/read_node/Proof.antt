@@ -1,7 +1,7 @@
 -- `read_node` meets its contract: the bytes of a node in place of all that the buffer held.
 -- Relies on specs/LeftSteps.
 use Rattle.slice.specs.LeftSteps.{node-copied}
-use borrow.Author.Needs.{needs}
+use Rattle.image.specs.Prelude.{needs}
 use Rattle.slice.proofs.read_node.Statement.{statement}
 use Rattle.slice.proofs.read_node.Tie as tie
 

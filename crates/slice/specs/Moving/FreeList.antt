@@ -1,12 +1,5 @@
 -- The free nodes, rising: a supply that a move may use.
-use Prim.Native.Nat.{ℕ, zero, suc, _+_, _*_, _-_, _≤_, _<_}
-use mathlib.Core.Path.{_≡_, refl, ap, _∙_}
-use mathlib.Core.List.{List, [], _∷_}
-use mathlib.Core.Bool.{Bool, true, false, _||_, cond, false≢true}
-use native.Mathlib.Omega.{arith}
-use lib.ListN.{length}
-use lib.Dec.{eqb}
-use borrow.Author.Tests.{eqb-true, ne-eqb, le-leb, lt-ltb}
+use Rattle.image.specs.Prelude.{ℕ, zero, suc, _+_, _*_, _-_, _≤_, _<_, _≡_, refl, ap, _∙_, List, [], _∷_, true, false, cond, false≢true, arith, length, eqb, eqb-true, ne-eqb, le-leb, lt-ltb, cases}
 use Rattle.image.specs.Image.{nodesOf, headerOf, treeOf}
 use Rattle.image.specs.Sound.{numbers, isIn, once, inRange}
 use Rattle.image.specs.Upkeep.{used, freeNodes}
@@ -28,42 +21,30 @@ freeList s = freeFrom (nodesOf (length s) - 1) 1 (numbers (treeOf s))
 lower-not : (j c i : ℕ) (is : List ℕ) → j < i → isIn j (freeFrom c i is) ≡ false
 unfolding freeFrom isIn
 lower-not j zero i is h = refl
-lower-not j (suc c) i is h = go (isIn i is) (lower-not j c (suc i) is (omega arith))
-  where
-    go : (x : Bool) → isIn j (freeFrom c (suc i) is) ≡ false → isIn j (cond x (freeFrom c (suc i) is) (i ∷ freeFrom c (suc i) is)) ≡ false
-    go true ih = ih
-    go false ih = rw (ne-eqb j i (λ q. omega arith)) ih
+lower-not j (suc c) i is h =
+    cases (isIn i is) (λ q. rw q (lower-not j c (suc i) is (omega arith)))
+    (λ q. rw (q, ne-eqb j i (λ z. omega arith)) (lower-not j c (suc i) is (omega arith)))
 
 free-once : (c i : ℕ) (is : List ℕ) → once (freeFrom c i is) ≡ true
 unfolding freeFrom once
 free-once zero i is = refl
-free-once (suc c) i is = go (isIn i is) (free-once c (suc i) is)
-  where
-    go : (x : Bool) → once (freeFrom c (suc i) is) ≡ true → once (cond x (freeFrom c (suc i) is) (i ∷ freeFrom c (suc i) is)) ≡ true
-    go true ih = ih
-    go false ih = both (not-false (isIn i (freeFrom c (suc i) is)) (lower-not i c (suc i) is (omega arith))) ih
+free-once (suc c) i is =
+    cases (isIn i is) (λ q. rw q (free-once c (suc i) is))
+    (λ q. rw q (both (not-false (isIn i (freeFrom c (suc i) is)) (lower-not i c (suc i) is (omega arith))) (free-once c (suc i) is)))
 
 free-range : (n c i : ℕ) (is : List ℕ) → 1 ≤ i → i + c ≤ n → inRange n (freeFrom c i is) ≡ true
 unfolding freeFrom inRange
 free-range n zero i is h g = refl
-free-range n (suc c) i is h g = go (isIn i is) (free-range n c (suc i) is (omega arith) (omega arith))
-  where
-    go : (x : Bool) → inRange n (freeFrom c (suc i) is) ≡ true → inRange n (cond x (freeFrom c (suc i) is) (i ∷ freeFrom c (suc i) is)) ≡ true
-    go true ih = ih
-    go false ih = both (both (le-leb 1 i h) (lt-ltb i n (omega arith))) ih
+free-range n (suc c) i is h g =
+    cases (isIn i is) (λ q. rw q (free-range n c (suc i) is (omega arith) (omega arith)))
+    (λ q. rw q (both (both (le-leb 1 i h) (lt-ltb i n (omega arith))) (free-range n c (suc i) is (omega arith) (omega arith))))
 
 free-unused : (j c i : ℕ) (is : List ℕ) → isIn j (freeFrom c i is) ≡ true → isIn j is ≡ false
 unfolding freeFrom isIn
 free-unused j zero i is e = absurd (false≢true e)
-free-unused j (suc c) i is e = go (isIn i is) refl (free-unused j c (suc i) is)
-  where
-    go : (x : Bool) → isIn i is ≡ x → (isIn j (freeFrom c (suc i) is) ≡ true → isIn j is ≡ false) → isIn j is ≡ false
-    go true q ih = ih (rw q at e)
-    go false q ih = here (eqb j i) refl (rw q at e)
-      where
-        here : (y : Bool) → eqb j i ≡ y → eqb j i || isIn j (freeFrom c (suc i) is) ≡ true → isIn j is ≡ false
-        here true z w = ap (λ x. isIn x is) (eqb-true j i z) ∙ q
-        here false z w = ih (rw z at w)
+free-unused j (suc c) i is e =
+    cases (isIn i is) (λ q. free-unused j c (suc i) is (rw q at e))
+    (λ q. cases (eqb j i) (λ z. ap (λ x. isIn x is) (eqb-true j i z) ∙ q) (λ z. free-unused j c (suc i) is (rw (q, z) at e)))
 
 -- how many there are
 unfoldable near : ℕ → ℕ → List ℕ → ℕ
@@ -92,11 +73,9 @@ spot-past (suc c) i x h = rw (ne-eqb i x (λ q. omega arith)) (omega (arith, spo
 spot-one : (c i x : ℕ) → spot c i x ≤ 1
 unfolding spot one
 spot-one zero i x = omega arith
-spot-one (suc c) i x = go (eqb i x) refl (spot-one c (suc i) x)
-  where
-    go : (b : Bool) → eqb i x ≡ b → spot c (suc i) x ≤ 1 → cond (eqb i x) 1 0 + spot c (suc i) x ≤ 1
-    go true q ih = rw q (let z : i ≡ x = eqb-true i x q in omega (arith, spot-past c (suc i) x (omega arith)))
-    go false q ih = rw q (omega arith)
+spot-one (suc c) i x =
+    cases (eqb i x) (λ q. rw q (let z : i ≡ x = eqb-true i x q in omega (arith, spot-past c (suc i) x (omega arith))))
+    (λ q. rw q (omega (arith, spot-one c (suc i) x)))
 
 near-length : (c i : ℕ) (is : List ℕ) → near c i is ≤ length is
 near-length c i [] = omega (arith, near-none c i)
@@ -105,12 +84,9 @@ near-length c i (x ∷ is) = omega (arith, near-cons c i x is, spot-one c i x, n
 free-near : (c i : ℕ) (is : List ℕ) → c ≤ length (freeFrom c i is) + near c i is
 unfolding freeFrom near
 free-near zero i is = omega arith
-free-near (suc c) i is = go (isIn i is) refl (free-near c (suc i) is)
-  where
-    go : (x : Bool) → isIn i is ≡ x → c ≤ length (freeFrom c (suc i) is) + near c (suc i) is
-        → suc c ≤ length (cond (isIn i is) (freeFrom c (suc i) is) (i ∷ freeFrom c (suc i) is)) + (hits i is + near c (suc i) is)
-    go true q ih = rw q (omega (arith, in-hits i is q))
-    go false q ih = rw q (omega arith)
+free-near (suc c) i is =
+    cases (isIn i is) (λ q. rw q (omega (arith, free-near c (suc i) is, in-hits i is q)))
+    (λ q. rw q (omega (arith, free-near c (suc i) is)))
 
 pub free-many : (c i : ℕ) (is : List ℕ) → c ≤ length (freeFrom c i is) + length is
 free-many c i is = omega (arith, free-near c i is, near-length c i is)

@@ -1,11 +1,6 @@
 -- The numbers that the slices of a move take, and the chain of empty nodes that stands where a range was cut out, written into an image.
 -- Relies on the laws of slices (slicing) and of the move (MoveLaws).
-use Prim.Native.Nat.{ℕ, zero, suc, _+_, _*_, _-_, _≤_}
-use mathlib.Core.Path.{_≡_, refl, sym, ap, subst, _∙_}
-use mathlib.Core.List.{List, []}
-use mathlib.Core.Bool.{Bool, true, false, false≢true}
-use native.Mathlib.Omega.{arith}
-use lib.ListN.{length}
+use Rattle.image.specs.Prelude.{ℕ, zero, suc, _+_, _*_, _-_, _≤_, _≡_, refl, sym, ap, subst, _∙_, List, [], Bool, true, false, false≢true, arith, length}
 use Rattle.image.specs.Entry.{pivotLimit}
 use Rattle.image.specs.Bytes.{before}
 use Rattle.image.specs.Image.{Tree, leaf, Forest, end, tree, treeAt}

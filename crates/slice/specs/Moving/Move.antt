@@ -1,7 +1,5 @@
 -- The move: a settled tree cut at the ends of two ranges, and a new root over the parts. Cuts go from the right to the left, each on what lies left of the one before.
-use Prim.Native.Nat.{ℕ, _*_}
-use mathlib.Core.List.{List, []}
-use mathlib.Core.Bool.{true, cond}
+use Rattle.image.specs.Prelude.{ℕ, _*_, List, [], true, cond}
 use Rattle.image.specs.Bytes.{before}
 use Rattle.image.specs.Image.{Tree, Forest, tree}
 use Rattle.image.specs.Sound.{highest}

@@ -1,10 +1,5 @@
 -- The swing as one theorem: on a settled store of at most 7 levels with the free nodes that it takes. Demand 3's bound leaves more.
-use Prim.Native.Nat.{ℕ, _+_, _*_, _≤_}
-use mathlib.Core.Path.{_≡_}
-use mathlib.Core.List.{List}
-use mathlib.Core.Bool.{true, false}
-use native.Mathlib.Omega.{arith}
-use lib.ListN.{length}
+use Rattle.image.specs.Prelude.{ℕ, _+_, _*_, _≤_, _≡_, List, true, false, arith, length}
 use Rattle.image.specs.Bytes.{begins}
 use Rattle.image.specs.Path.{wellFormed}
 use Rattle.image.specs.Table.{everyKey, moved}

@@ -1,29 +1,23 @@
 -- The move on a store: the image that movedImage gives, with node 0 written last.
-use Prim.Native.Nat.{ℕ, zero, suc, _+_, _*_, _≤_, _<_}
-use mathlib.Core.Path.{_≡_, refl, sym, ap, _∙_}
-use mathlib.Core.List.{List, [], _∷_}
-use mathlib.Core.Bool.{Bool, true, false, _&&_, false≢true}
-use native.Mathlib.Omega.{arith}
-use lib.ListN.{length, getD}
-use lib.Dec.{eqb, leb, ltb}
-use borrow.Author.Tests.{eqb-true, ne-eqb, leb-true, ltb-true}
+use Rattle.image.specs.Prelude.{ℕ, zero, suc, _+_, _*_, _≤_, _<_, _≡_, refl, sym, ap, _∙_, List, [], _∷_, true, false, _&&_, arith, length, getD, leb, ltb, ne-eqb, ltb-true}
 use Rattle.image.specs.Bytes.{begins}
 use Rattle.image.specs.Path.{wellFormed}
 use Rattle.image.specs.Table.{everyKey, moved}
-use Rattle.image.specs.Image.{Tree, unread, leaf, interior, header, nodeBytes, nodesOf, wholeNodes, headerOf, headerLaidOut, treeAt, treeOf}
+use Rattle.image.specs.Image.{Tree, header, nodeBytes, nodesOf, wholeNodes, headerOf, headerLaidOut, treeAt, treeOf}
 use Rattle.image.specs.Sound.{sound, tableOf, highest, numbers, isIn, inRange}
 use Rattle.image.specs.Upkeep.{settled, changed}
 use Rattle.octets.specs.Order.{and-left, and-right}
 use Rattle.laws.specs.WriteNode.{writeNode, write-length, write-same, write-other}
-use Rattle.laws.specs.Pieces.{levelled, Good}
-use Rattle.slice.specs.Slicing.SliceNumbers.{one, hits, hits-met, met, spent}
+use Rattle.laws.specs.Pieces.{Good}
+use Rattle.node.specs.Whole.{Whole, whole-parts}
+use Rattle.slice.specs.Slicing.SliceNumbers.{one, hits, met, spent}
 use Rattle.slice.specs.Slicing.SliceFits.{fits}
 use Rattle.slice.specs.Slicing.SliceWrite.{in-hits, one-other, stays}
 use Rattle.laws.specs.Page.{numberOf, number-read, head-length, head-laid, head-header, headPage}
 use Rattle.slice.specs.Moving.Move.{movedTree}
-use Rattle.slice.specs.Moving.MoveLaws.{Well, move-well}
+use Rattle.slice.specs.Moving.MoveLaws.{Well, some-level, move-well}
 use Rattle.slice.specs.Moving.MoveWrite.{movedImage, HoldsMoved, image-holds}
-use Rattle.slice.specs.Moving.MoveImage.{from-list, Free, Written, roots, hit-in, hits-once, range-hit, spent-list, move-sound, move-table, move-changed, move-settled}
+use Rattle.slice.specs.Moving.MoveImage.{from-list, Free, Written, roots, supply, supply-range, supply-spent, range-hit, spent-list, move-sound, move-table, move-changed, move-settled}
 use Rattle.slice.specs.Slicing.FromImage.{image-good, image-fits}
 
 -- the image after the move, its free nodes listed
@@ -47,110 +41,76 @@ not-zero : (j : ℕ) → 1 ≤ j → one j 0 ≡ 0
 unfolding one
 not-zero j h = rw (ne-eqb j 0 (λ e. omega arith))
 
-level-suc : (t : Tree) (h : ℕ) → levelled t h ≡ true → (k : ℕ) × (h ≡ suc k)
-unfolding levelled
-level-suc t (suc k) e = (k, refl)
-level-suc (unread i) zero e = absurd (false≢true e)
-level-suc (leaf i rs) zero e = absurd (false≢true e)
-level-suc (interior i f ms) zero e = absurd (false≢true e)
-
 module _ (s free from to : List ℕ) (whole : wholeNodes (length s) ≡ true) (ok : sound s ≡ true) (noMessage : settled s ≡ true) (low : headerOf s .levels ≤ 7)
     (formed-from : wellFormed from ≡ true) (formed-to : wellFormed to ≡ true) (apart : begins from to ≡ false) (apart′ : begins to from ≡ false)
     (q9 : everyKey wellFormed (moved from to (tableOf s)) ≡ true) (f : Free s free) where
-  h : ℕ
+  abbrev h : ℕ
   h = headerOf s .levels
 
-  t : Tree
+  abbrev t : Tree
   t = treeOf s
 
-  fresh : ℕ → ℕ
+  abbrev fresh : ℕ → ℕ
   fresh = from-list free
 
-  n : ℕ
+  abbrev n : ℕ
   n = nodesOf (length s)
 
-  bytes : 1024 * nodesOf (length s) ≡ length s
-  unfolding wholeNodes
-  bytes = eqb-true (1024 * nodesOf (length s)) (length s) (and-left _ _ (and-left _ _ whole))
-
-  some-nodes : 32 ≤ nodesOf (length s)
-  unfolding wholeNodes
-  some-nodes = leb-true 32 (nodesOf (length s)) (and-right (eqb (1024 * nodesOf (length s)) (length s)) _ (and-left _ _ whole))
+  nodes : Whole (length s)
+  nodes = whole-parts (length s) whole
 
   room : (x : ℕ) → 1024 * fresh x + 1024 ≤ length s
-  unfolding fresh
-  room x = omega (arith, bytes, get-range (nodesOf (length s)) free x (omega (arith, some-nodes)) (f .within))
-
-  supply : (j : ℕ) → hits j (numbers (treeOf s)) + hits j free ≤ 1
-  supply j = go (isIn j free) refl
-    where
-      go : (x : Bool) → isIn j free ≡ x → hits j (numbers (treeOf s)) + hits j free ≤ 1
-      go true q = omega (arith, hits-once j free (f .distinct), hit-in j (numbers (treeOf s)) (f .unused j q))
-      go false q = omega (arith, hits-once j (numbers (treeOf s)) (roots s ok .alone), hit-in j free q)
+  room x = omega (arith, nodes .filled, get-range (nodesOf (length s)) free x (omega (arith, nodes .enough)) (f .within))
 
   D : (j : ℕ) → met j t + spent fresh j (suc (10 * h)) 0 ≤ 1
-  unfolding t fresh h
-  D j = omega (arith, supply j, hits-met j (treeOf s), spent-list j free (suc (10 * headerOf s .levels)) 0 (omega (arith, f .enough)))
+  D j = omega (arith, supply s free ok f j, supply-spent s free ok f j (suc (10 * headerOf s .levels)) (omega arith))
 
   good : Good h t [] highest
-  unfolding h t
   good = image-good s ok noMessage
 
   well : Well fresh h from to t (movedTree fresh h t from to)
-  unfolding h t tableOf
+  unfolding tableOf
   well = move-well fresh (headerOf s .levels) (treeOf s) from to (image-good s ok noMessage) (image-fits s) formed-from formed-to apart apart′ q9
 
   reads-old : treeAt h s (numberOf t) ≡ t
-  unfolding h t treeOf
+  unfolding treeOf
   reads-old = ap (treeAt (headerOf s .levels) s) (number-read (headerOf s .levels) s (headerOf s .root))
 
   fits-old : fits t ≡ true
-  unfolding t
   fits-old = image-fits s
 
   done : HoldsMoved fresh h (movedTree fresh h t from to) s (movedImage fresh h t from to s)
   done =
-      image-holds fresh h (level-suc t h (good .level) .0) (level-suc t h (good .level) .1) t from to good fits-old formed-from formed-to apart apart′ well s room reads-old D
+      image-holds fresh h (some-level t h (good .level) .0) (some-level t h (good .level) .1) t from to good fits-old formed-from formed-to apart apart′ well s room reads-old D
 
-  image : List ℕ
+  abbrev image : List ℕ
   image = movedImage fresh h t from to s
 
-  pg : List ℕ
+  abbrev pg : List ℕ
   pg = headPage n (fresh (10 * h)) (suc h) (length (moved from to (tableOf s)))
 
   size-image : length image ≡ length s
-  unfolding image
   size-image = done .onlyNew .size
 
   room-0 : 1024 * 0 + 1024 ≤ length image
-  room-0 = omega (arith, size-image, bytes, some-nodes)
+  room-0 = omega (arith, size-image, nodes .filled, nodes .enough)
 
   full : length pg ≡ 1024
-  unfolding pg
   full = head-length n (fresh (10 * h)) (suc h) (length (moved from to (tableOf s)))
 
   root-is : numberOf (movedTree fresh h t from to) ≡ fresh (10 * h)
   root-is = ap numberOf (sym (done .isThere)) ∙ number-read (suc h) (movedImage fresh h t from to s) (fresh (10 * h))
 
   none-zero : met 0 (movedTree fresh h t from to) ≡ 0
-  unfolding t fresh h
-  none-zero = go (hits 0 (numbers (treeOf s))) refl (hits 0 free) refl
+  none-zero = go (met 0 (movedTree (from-list free) (headerOf s .levels) (treeOf s) from to)) refl
     where
-      old : 1 ≤ hits 0 (numbers (treeOf s)) → ⊥
-      old q = let z : (1 ≤ 0) × (0 < nodesOf (length s)) = range-hit (nodesOf (length s)) 0 (numbers (treeOf s)) (roots s ok .within) q in omega (arith, z .0)
-
-      new : 1 ≤ hits 0 free → ⊥
-      new q = let z : (1 ≤ 0) × (0 < nodesOf (length s)) = range-hit (nodesOf (length s)) 0 free (f .within) q in omega (arith, z .0)
-
-      go : (a : ℕ) → hits 0 (numbers (treeOf s)) ≡ a → (b : ℕ) → hits 0 free ≡ b
-          → met 0 (movedTree (from-list free) (headerOf s .levels) (treeOf s) from to) ≡ 0
-      go (suc a) x b y = absurd (old (omega arith))
-      go zero x (suc b) y = absurd (new (omega arith))
-      go zero x zero y =
-          omega (arith, well .newNumbers 0, hits-met 0 (treeOf s), spent-list 0 free (suc (10 * headerOf s .levels)) 0 (omega (arith, f .enough)))
+      go : (m : ℕ) → met 0 (movedTree (from-list free) (headerOf s .levels) (treeOf s) from to) ≡ m → m ≡ 0
+      go zero q = refl
+      go (suc m) q =
+          let a = supply-spent s free ok f 0 (suc (10 * headerOf s .levels)) (omega arith) in
+          absurd (omega (arith, supply-range s free ok f 0 (omega (arith, well .newNumbers 0)) .0))
 
   still-there : treeAt (suc h) (writeNode image 0 pg) (fresh (10 * h)) ≡ movedTree fresh h t from to
-  unfolding image
   still-there =
       ap (treeAt (suc h) (writeNode (movedImage fresh h t from to s) 0 pg)) (sym root-is)
       ∙ stays (suc h) (movedImage fresh h t from to s) (writeNode (movedImage fresh h t from to s) 0 pg) (movedTree fresh h t from to)
@@ -164,7 +124,7 @@ module _ (s free from to : List ℕ) (whole : wholeNodes (length s) ≡ true) (o
   node-0 = write-same image 0 pg room-0 full
 
   written : Written s (writeNode image 0 pg) free from to
-  unfolding headerOf h t fresh n image pg
+  unfolding headerOf
   written =
       record {
         size = write-length image 0 pg room-0 full ∙ size-image;
@@ -176,30 +136,30 @@ module _ (s free from to : List ℕ) (whole : wholeNodes (length s) ≡ true) (o
 
   -- THE MOVE, on stores: sound, the moved map, and few nodes changed.
   pub store-sound : sound (movedStore s free from to) ≡ true
-  unfolding movedStore h t fresh n image pg
+  unfolding movedStore
   store-sound = move-sound s (writeNode image 0 pg) free from to ok noMessage low formed-from formed-to apart apart′ q9 f written
 
   pub store-table : tableOf (movedStore s free from to) ≡ moved from to (tableOf s)
-  unfolding movedStore h t fresh n image pg
+  unfolding movedStore
   store-table = move-table s (writeNode image 0 pg) free from to ok noMessage low formed-from formed-to apart apart′ q9 f written
 
   pub store-changed : changed (nodesOf (length s)) s (movedStore s free from to) ≤ 10 * headerOf s .levels + 2
-  unfolding movedStore h t fresh n image pg
+  unfolding movedStore
   store-changed = move-changed s (writeNode image 0 pg) free from to ok noMessage low formed-from formed-to apart apart′ q9 f written
 
   pub store-settled : settled (movedStore s free from to) ≡ true
-  unfolding movedStore h t fresh n image pg
+  unfolding movedStore
   store-settled = move-settled s (writeNode image 0 pg) free from to ok noMessage low formed-from formed-to apart apart′ q9 f written
 
   pub store-size : length (movedStore s free from to) ≡ length s
-  unfolding movedStore h t fresh n image pg
+  unfolding movedStore
   store-size = written .size
 
   -- no node that was reachable is written
   pub store-spares : (j : ℕ) → isIn j (numbers (treeOf s)) ≡ true → nodeBytes (movedStore s free from to) j ≡ nodeBytes s j
-  unfolding movedStore h t fresh n image pg
+  unfolding movedStore
   store-spares j e =
       let a : 1 ≤ hits j (numbers (treeOf s)) = in-hits j (numbers (treeOf s)) e in
       let b : (1 ≤ j) × (j < nodesOf (length s)) = range-hit (nodesOf (length s)) j (numbers (treeOf s)) (roots s ok .within) a in
       let c : one j 0 ≡ 0 = not-zero j (b .0) in
-      written .others j (omega (arith, supply j, spent-list j free (suc (10 * headerOf s .levels)) 0 (omega (arith, f .enough))))
+      written .others j (omega (arith, supply s free ok f j, spent-list j free (suc (10 * headerOf s .levels)) 0 (omega (arith, f .enough))))

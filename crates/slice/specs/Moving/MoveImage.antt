@@ -1,13 +1,5 @@
 -- The move on images: an image that holds the moved tree in free nodes is sound, means the moved table, and differs in at most 10 × L + 2 nodes.
-use Prim.Native.Nat.{ℕ, zero, suc, _+_, _*_, _≤_, _<_}
-use mathlib.Core.Path.{_≡_, refl, sym, ap, _∙_}
-use mathlib.Core.List.{List, [], _∷_}
-use mathlib.Core.Bool.{Bool, true, false, _&&_, not, cond, false≢true}
-use native.Mathlib.Omega.{arith}
-use lib.ListN.{length, drop, getD}
-use lib.Seq.{drop-cons}
-use lib.Dec.{eqb, leb, ltb}
-use borrow.Author.Tests.{eqb-true, ne-eqb, eq-eqb, le-leb, leb-true, lt-ltb, ltb-true}
+use Rattle.image.specs.Prelude.{ℕ, zero, suc, _+_, _*_, _≤_, _<_, _≡_, refl, sym, ap, _∙_, List, [], _∷_, Bool, true, false, _&&_, not, cond, true≢false, arith, length, drop, getD, drop-cons, eqb, leb, ltb, eqb-true, ne-eqb, eq-eqb, le-leb, leb-true, lt-ltb, ltb-true, cases}
 use Rattle.image.specs.Bytes.{same, begins}
 use Rattle.image.specs.Path.{wellFormed, below}
 use Rattle.image.specs.Table.{Row, everyKey, rowsBelow, withoutBelow, renamed, moved}
@@ -18,7 +10,8 @@ use Rattle.image.specs.Upkeep.{settled, reachableNodes, changed}
 use Rattle.laws.specs.LiveCount.{still-quiet}
 use Rattle.octets.specs.Order.{and-left, and-right, not-true, same-refl}
 use Rattle.laws.specs.Rising.{both}
-use Rattle.slice.specs.Slicing.SliceNumbers.{one, hits, hits-met, spent, once-of}
+use Rattle.slice.specs.Slicing.SliceNumbers.{one, hits, hits-met, met, spent, once-of}
+use Rattle.slice.specs.Slicing.SliceWrite.{one-same}
 use Rattle.slice.specs.Moving.Move.{movedTree}
 use Rattle.slice.specs.Moving.MoveLaws.{Well, move-well}
 use Rattle.slice.specs.Slicing.FromImage.{image-good, image-fits}
@@ -26,20 +19,13 @@ use Rattle.laws.specs.Tables.{put-length}
 use Rattle.laws.specs.ButLive.{sound-parts, live-is}
 
 -- numbers in a list
-one-same : (j : ℕ) → one j j ≡ 1
-unfolding one
-one-same j = rw (eq-eqb j j refl)
-
 pub hit-in : (j : ℕ) (is : List ℕ) → isIn j is ≡ false → hits j is ≡ 0
 unfolding isIn hits one
 hit-in j [] e = refl
 hit-in j (i ∷ is) e = go (eqb j i) refl (hit-in j is)
   where
     go : (x : Bool) → eqb j i ≡ x → (isIn j is ≡ false → hits j is ≡ 0) → cond (eqb j i) 1 0 + hits j is ≡ 0
-    go true q ih = absurd (true-not (rw q at e))
-      where
-        true-not : true ≡ false → ⊥
-        true-not z = false≢true (sym z)
+    go true q ih = absurd (true≢false (rw q at e))
     go false q ih = rw q (omega (arith, ih (rw q at e)))
 
 pub hits-once : (j : ℕ) (is : List ℕ) → once is ≡ true → hits j is ≤ 1
@@ -109,11 +95,9 @@ sum-before x (suc k) h = rw (ne-eqb k x (λ q. omega arith)) (omega (arith, sum-
 sum-one : (x k : ℕ) → sum (λ i. one i x) k ≤ 1
 unfolding sum one
 sum-one x zero = omega arith
-sum-one x (suc k) = go (eqb k x) refl (sum-one x k)
-  where
-    go : (b : Bool) → eqb k x ≡ b → sum (λ i. one i x) k ≤ 1 → cond (eqb k x) 1 0 + sum (λ i. one i x) k ≤ 1
-    go true q ih = rw q (let z : k ≡ x = eqb-true k x q in omega (arith, sum-before x k (omega arith)))
-    go false q ih = rw q (omega arith)
+sum-one x (suc k) =
+    cases (eqb k x) (λ q. rw q (let z : k ≡ x = eqb-true k x q in omega (arith, sum-before x k (omega arith))))
+    (λ q. rw q (omega (arith, sum-one x k)))
 
 sum-spent : (fresh : ℕ → ℕ) (c at k : ℕ) → sum (λ i. spent fresh i c at) k ≤ c
 unfolding spent
@@ -149,12 +133,8 @@ renamed-length from to (r ∷ t) = ap suc (renamed-length from to t)
 parted-length : (p : List ℕ) (t : List Row) → length (rowsBelow p t) + length (withoutBelow p t) ≡ length t
 unfolding rowsBelow withoutBelow
 parted-length p [] = refl
-parted-length p (r ∷ t) = go (below (r .key) p) (parted-length p t)
-  where
-    go : (x : Bool) → length (rowsBelow p t) + length (withoutBelow p t) ≡ length t
-        → length (cond x (r ∷ rowsBelow p t) (rowsBelow p t)) + length (cond x (withoutBelow p t) (r ∷ withoutBelow p t)) ≡ suc (length t)
-    go true ih = omega arith
-    go false ih = omega arith
+parted-length p (r ∷ t) =
+    cases (below (r .key) p) (λ e. rw e (omega (arith, parted-length p t))) (λ e. rw e (omega (arith, parted-length p t)))
 
 pub moved-length : (from to : List ℕ) (t : List Row) → length (moved from to t) ≤ length t
 unfolding moved
@@ -198,6 +178,23 @@ roots s e =
     let w = sound-parts s e in
     record { alone = w .once; within = w .range; lives = live-is s e; few = w .liveHigh }
 
+-- the tree of a sound store and a list of free nodes: each number at most once, and from 1 up
+module _ (s free : List ℕ) (ok : sound s ≡ true) (f : Free s free) where
+  pub supply : (j : ℕ) → hits j (numbers (treeOf s)) + hits j free ≤ 1
+  supply j =
+      cases (isIn j free) (λ q. omega (arith, hits-once j free (f .distinct), hit-in j (numbers (treeOf s)) (f .unused j q)))
+      (λ q. omega (arith, hits-once j (numbers (treeOf s)) (roots s ok .alone), hit-in j free q))
+
+  pub supply-range : (j : ℕ) → 1 ≤ hits j (numbers (treeOf s)) + hits j free → (1 ≤ j) × (j < nodesOf (length s))
+  supply-range j h = go (hits j free) refl
+    where
+      go : (m : ℕ) → hits j free ≡ m → (1 ≤ j) × (j < nodesOf (length s))
+      go zero q = range-hit (nodesOf (length s)) j (numbers (treeOf s)) (roots s ok .within) (omega arith)
+      go (suc m) q = range-hit (nodesOf (length s)) j free (f .within) (omega arith)
+
+  pub supply-spent : (j c : ℕ) → c ≤ suc (10 * headerOf s .levels) → met j (treeOf s) + spent (from-list free) j c 0 ≤ hits j (numbers (treeOf s)) + hits j free
+  supply-spent j c h = omega (arith, hits-met j (treeOf s), spent-list j free c 0 (omega (arith, f .enough)))
+
 module _ (s s′ free from to : List ℕ) (ok : sound s ≡ true) (noMessage : settled s ≡ true) (low : headerOf s .levels ≤ 7)
     (formed-from : wellFormed from ≡ true) (formed-to : wellFormed to ≡ true) (apart : begins from to ≡ false) (apart′ : begins to from ≡ false)
     (q9 : everyKey wellFormed (moved from to (tableOf s)) ≡ true) (f : Free s free) (w : Written s s′ free from to) where
@@ -210,26 +207,14 @@ module _ (s s′ free from to : List ℕ) (ok : sound s ≡ true) (noMessage : s
       move-well (from-list free) (headerOf s .levels) (treeOf s) from to (image-good s ok noMessage) (image-fits s) formed-from formed-to apart apart′ q9
 
   -- each number at most once, and from 1 up
-  supply : (j : ℕ) → hits j (numbers (treeOf s)) + hits j free ≤ 1
-  supply j = go (isIn j free) refl
-    where
-      go : (x : Bool) → isIn j free ≡ x → hits j (numbers (treeOf s)) + hits j free ≤ 1
-      go true q = omega (arith, hits-once j free (f .distinct), hit-in j (numbers (treeOf s)) (f .unused j q))
-      go false q = omega (arith, hits-once j (numbers (treeOf s)) (roots s ok .alone), hit-in j free q)
-
   new-hits : (j : ℕ) → hits j (numbers new) ≤ hits j (numbers (treeOf s)) + hits j free
-  new-hits j =
-      omega (arith, hits-met j new, hits-met j (treeOf s), well .newNumbers j, spent-list j free (suc (10 * headerOf s .levels)) 0 (omega (arith, f .enough)))
+  new-hits j = omega (arith, hits-met j new, well .newNumbers j, supply-spent s free ok f j (suc (10 * headerOf s .levels)) (omega arith))
 
   new-once : once (numbers new) ≡ true
-  new-once = once-of (numbers new) (λ j. omega (arith, new-hits j, supply j))
+  new-once = once-of (numbers new) (λ j. omega (arith, new-hits j, supply s free ok f j))
 
   new-range : inRange (nodesOf (length s)) (numbers new) ≡ true
-  new-range = range-of (nodesOf (length s)) (numbers new) (λ j h. go j (hits j (numbers (treeOf s))) refl (omega (arith, new-hits j)))
-    where
-      go : (j m : ℕ) → hits j (numbers (treeOf s)) ≡ m → 1 ≤ hits j (numbers (treeOf s)) + hits j free → (1 ≤ j) × (j < nodesOf (length s))
-      go j zero q h = range-hit (nodesOf (length s)) j free (f .within) (omega arith)
-      go j (suc m) q h = range-hit (nodesOf (length s)) j (numbers (treeOf s)) (roots s ok .within) (omega arith)
+  new-range = range-of (nodesOf (length s)) (numbers new) (λ j h. supply-range s free ok f j (omega (arith, new-hits j)))
 
   root-range : (1 ≤ from-list free (10 * headerOf s .levels)) × (from-list free (10 * headerOf s .levels) < nodesOf (length s))
   root-range =

@@ -1,11 +1,5 @@
 -- The move is right: a sound root of one level more, whose table is the moved table; every node fits; and no number stands in it oftener than in the old tree and among 10 × h + 1 new ones.
-use Prim.Native.Nat.{ℕ, zero, suc, _+_, _*_, _-_, _≤_}
-use mathlib.Core.Path.{_≡_, refl, sym, ap, ap₂, subst, _∙_}
-use mathlib.Core.List.{List, [], _++_, append-nil}
-use mathlib.Core.Bool.{Bool, true, false, false≢true}
-use native.Mathlib.Omega.{arith}
-use lib.ListN.{length, length-append}
-use borrow.Author.Tests.{le-leb}
+use Rattle.image.specs.Prelude.{ℕ, zero, suc, _+_, _*_, _-_, _≤_, _≡_, refl, sym, ap, ap₂, subst, _∙_, List, [], _++_, append-nil, true, false, false≢true, arith, length, length-append, le-leb, cases}
 use Rattle.image.specs.Bytes.{same, before, begins, shared}
 use Rattle.image.specs.Path.{owns, wellFormed}
 use Rattle.image.specs.Entry.{pivotLimit}
@@ -22,14 +16,13 @@ use Rattle.slice.specs.Slicing.Slice.{leftOf, rightOf, after}
 use Rattle.slice.specs.Slicing.SliceLaws.{Cut, cut-tree}
 use Rattle.laws.specs.PushDown.{keys-owned}
 use Rattle.slice.specs.Slicing.SliceNumbers.{one, met, metIn, met-node, met-joined, spent, taken, cut-numbers, left-numbers}
-use Rattle.octets.specs.Beginnings.{begins-refl}
+use Rattle.octets.specs.Beginnings.{begins-refl, begins-append as begins-past}
 use Rattle.slice.specs.Slicing.SliceFits.{fits, fitsIn, sizeAt, shortAt, count, short-size, node-fits, cut-fits, right-count, right-short, count-joined, short-joined, fits-joined}
 use Rattle.slice.specs.Slicing.Swing.{swing-rows, swing-good, rows-formed}
 use Rattle.slice.specs.Slicing.Tail.{tailOf, gapOf, tail-good, tail-rows, tail-met, tail-fits, gap-good, gap-rows, gap-fits, gap-met}
 use Rattle.slice.specs.Slicing.Range.{past, before-past, before-aside, formed-inside, formed-length}
-use Rattle.slice.specs.Moving.MovedRows.{partA, partP, partB, partR, partC, set-aside-p, set-aside-r, moved-up, moved-down, renamed-formed}
+use Rattle.slice.specs.Moving.MovedRows.{partA, partP, partB, partR, partC, below-p, below-r, moved-up, moved-down, renamed-formed}
 use Rattle.slice.specs.Moving.Move.{leftPastR, rightPastR, leftR, midR, leftPastP, rightPastP, leftP, midP, pieces, rootOver, movedTree}
-use Rattle.octets.specs.Beginnings.{begins-append as begins-past}
 
 -- the swing of a path's range
 pub range-rows : (source target : List ℕ) (t : Tree) → rows t target (past target) ≡ renamed source target (rows t source (past source))
@@ -353,7 +346,7 @@ module _ (fresh : ℕ → ℕ) (k : ℕ) (t : Tree) (from to : List ℕ) (good :
       let m : Tree = midP fresh (suc k) t from to in
       let gm : Good (suc k) m from (past from) = good-P fresh (suc k) t from to good b0 lt b1 in
       let rm : rows m from (past from) ≡ partP from to W = rows-P fresh (suc k) t from to good b0 lt b1 in
-      let asd : rowsBelow from W ≡ partP from to W = set-aside-p from to W lt rise formed in
+      let asd : rowsBelow from W ≡ partP from to W = below-p from to W lt rise formed in
       let gm′ : Good (suc k) m to (past to) = mid-good m (partP from to W) gm rm asd in
       record {
         newGood = root-good fresh (suc k) t from to good b0 lt b1 gap m good-gap gm′;
@@ -377,7 +370,7 @@ module _ (fresh : ℕ → ℕ) (k : ℕ) (t : Tree) (from to : List ℕ) (good :
       let m : Tree = midR fresh (suc k) t to from in
       let gm : Good (suc k) m from (past from) = good-R fresh (suc k) t to from good b0 lt b1 in
       let rm : rows m from (past from) ≡ partR to from W = rows-R fresh (suc k) t to from good b0 lt b1 in
-      let asd : rowsBelow from W ≡ partR to from W = set-aside-r to from W lt rise formed in
+      let asd : rowsBelow from W ≡ partR to from W = below-r to from W lt rise formed in
       let gm′ : Good (suc k) m to (past to) = mid-good m (partR to from W) gm rm asd in
       record {
         newGood = root-good fresh (suc k) t to from good b0 lt b1 m gap gm′ good-gap;
@@ -393,21 +386,18 @@ module _ (fresh : ℕ → ℕ) (k : ℕ) (t : Tree) (from to : List ℕ) (good :
 
   well-moved : Well fresh (suc k) from to t (movedTree fresh (suc k) t from to)
   unfolding movedTree gap
-  well-moved = go (before from to) refl
-    where
-      go : (x : Bool) → before from to ≡ x → Well fresh (suc k) from to t (movedTree fresh (suc k) t from to)
-      go true b = rw b (well-up b)
-      go false b = rw b (well-down b)
+  well-moved = cases (before from to) (λ b. rw b (well-up b)) (λ b. rw b (well-down b))
 
-no-level : (t : Tree) → levelled t zero ≡ true → ⊥
+pub some-level : (t : Tree) (h : ℕ) → levelled t h ≡ true → (k : ℕ) × (h ≡ suc k)
 unfolding levelled
-no-level (unread i) e = false≢true e
-no-level (leaf i rs) e = false≢true e
-no-level (interior i f ms) e = false≢true e
+some-level t (suc k) e = (k, refl)
+some-level (unread i) zero e = absurd (false≢true e)
+some-level (leaf i rs) zero e = absurd (false≢true e)
+some-level (interior i f ms) zero e = absurd (false≢true e)
 
 -- THE MOVE, on trees.
 pub move-well : (fresh : ℕ → ℕ) (h : ℕ) (t : Tree) (from to : List ℕ) → Good h t [] highest → fits t ≡ true → wellFormed from ≡ true → wellFormed to ≡ true
     → begins from to ≡ false → begins to from ≡ false → everyKey wellFormed (moved from to (rows t [] highest)) ≡ true
     → Well fresh h from to t (movedTree fresh h t from to)
-move-well fresh zero t from to g f a b c d e = absurd (no-level t (g .level))
+move-well fresh zero t from to g f a b c d e = absurd (let l = some-level t zero (g .level) .1 in omega arith)
 move-well fresh (suc k) t from to g f a b c d e = well-moved fresh k t from to g f a b c d e

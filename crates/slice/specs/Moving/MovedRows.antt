@@ -1,17 +1,13 @@
 -- A move on a table, part by part: the parts that two ranges leave, with the moved rows in their new place.
-use Prim.Native.Nat.{ℕ}
-use mathlib.Core.Path.{_≡_, refl, sym, ap, ap₂, _∙_}
-use mathlib.Core.List.{List, [], _∷_, _++_, append-nil, append-assoc}
-use mathlib.Core.Bool.{Bool, true, false, _&&_, not, cond}
+use Rattle.image.specs.Prelude.{ℕ, _≡_, refl, sym, ap, ap₂, _∙_, List, [], _∷_, _++_, append-nil, append-assoc, Bool, true, false, _&&_, not, cases}
 use Rattle.image.specs.Bytes.{same, before, begins}
 use Rattle.image.specs.Path.{below, owns, wellFormed}
 use Rattle.image.specs.Table.{Row, everyKey, leads, rising, withRow, rowsBelow, withoutBelow, renamed, putAll, moved}
 use Rattle.octets.specs.Order.{and-left, and-right, not-so, not-true, not-false, same-eq, before-trans, before-le, before-asym, before-not-same, same-turn}
 use Rattle.laws.specs.Rising.{both}
 use Rattle.laws.specs.LookupTable.{not-low, under-high, does-own}
-use Rattle.laws.specs.Filter.{keep, upTo, since, keep-append, keep-all, keep-none, keep-passes, keep-rises, cut-whole, every-imp, rises-all, every-append}
+use Rattle.laws.specs.Filter.{keep, upTo, since, keep-append, keep-all, keep-none, keep-passes, keep-rises, cut-whole, every-imp, rises-all, every-append, not-not, keep-below}
 use Rattle.slice.specs.Slicing.Range.{past, before-past, begins-under, formed-low, range-below}
-use Rattle.laws.specs.Filter.{not-not, keep-below}
 use Rattle.laws.specs.PushDown.{with-second}
 use Rattle.octets.specs.Beginnings.{begins-not-before}
 
@@ -19,11 +15,7 @@ use Rattle.octets.specs.Beginnings.{begins-not-before}
 pub keep-other : (p : List ℕ) (t : List Row) → withoutBelow p t ≡ keep (λ q. not (begins p q)) t
 unfolding withoutBelow keep below
 keep-other p [] = refl
-keep-other p (r ∷ t) = rw (keep-other p t) (go (begins p (r .key)))
-  where
-    go : (x : Bool) → cond x (keep (λ q. not (begins p q)) t) (r ∷ keep (λ q. not (begins p q)) t) ≡ cond (not x) (r ∷ keep (λ q. not (begins p q)) t) (keep (λ q. not (begins p q)) t)
-    go true = refl
-    go false = refl
+keep-other p (r ∷ t) = rw (keep-other p t) (cases (begins p (r .key)) (λ e. rw e) (λ e. rw e))
 
 with-front : (r : Row) (u : List Row) → everyKey (λ k. before (r .key) k) u ≡ true → withRow (r .key) (r .value) u ≡ r ∷ u
 unfolding withRow everyKey
@@ -175,23 +167,22 @@ five-path : {a a′ b b′ c c′ d d′ e e′ : List Row} → a ≡ a′ → b
 five-path p q r s t = λ i. five (p i) (q i) (r i) (s i) (t i)
 
 module _ (p r : List ℕ) (W : List Row) (lt : before (past p) r ≡ true) (rises : rising W ≡ true) (formed : everyKey wellFormed W ≡ true) where
-  A : List Row
+  abbrev A : List Row
   A = partA p r W
 
-  rows-p : List Row
+  abbrev rows-p : List Row
   rows-p = partP p r W
 
-  B : List Row
+  abbrev B : List Row
   B = partB p r W
 
-  R : List Row
+  abbrev R : List Row
   R = partR p r W
 
-  C : List Row
+  abbrev C : List Row
   C = partC p r W
 
   whole : five A rows-p B R C ≡ W
-  unfolding A rows-p B R C
   whole =
       let w1 : List Row = keep (upTo (past r)) W in
       let w2 : List Row = keep (upTo r) w1 in
@@ -208,53 +199,42 @@ module _ (p r : List ℕ) (W : List Row) (lt : before (past p) r ≡ true) (rise
   p-r = before-trans p (past p) r (before-past p) lt
 
   formed-B : everyKey wellFormed B ≡ true
-  unfolding B
   formed-B = kept wellFormed (since (past p)) _ (kept wellFormed (upTo r) _ (kept wellFormed (upTo (past r)) W formed))
 
   formed-R : everyKey wellFormed R ≡ true
-  unfolding R
   formed-R = kept wellFormed (since r) _ (kept wellFormed (upTo (past r)) W formed)
 
   formed-C : everyKey wellFormed C ≡ true
-  unfolding C
   formed-C = kept wellFormed (since (past r)) W formed
 
   up-A : everyKey (upTo p) A ≡ true
-  unfolding A
   up-A = passed (upTo p) _
 
   since-P : everyKey (since p) rows-p ≡ true
-  unfolding rows-p
   since-P = passed (since p) _
 
   up-P : everyKey (upTo (past p)) rows-p ≡ true
-  unfolding rows-p
   up-P = kept (upTo (past p)) (since p) _ (passed (upTo (past p)) _)
 
   since-B : everyKey (since (past p)) B ≡ true
-  unfolding B
   since-B = passed (since (past p)) _
 
   up-B : everyKey (upTo r) B ≡ true
-  unfolding B
   up-B = kept (upTo r) (since (past p)) _ (passed (upTo r) _)
 
   since-R : everyKey (since r) R ≡ true
-  unfolding R
   since-R = passed (since r) _
 
   up-R : everyKey (upTo (past r)) R ≡ true
-  unfolding R
   up-R = kept (upTo (past r)) (since r) _ (passed (upTo (past r)) _)
 
   since-C : everyKey (since (past r)) C ≡ true
-  unfolding C
   since-C = passed (since (past r)) W
 
   since-C-p : everyKey (since (past p)) C ≡ true
   since-C-p = since-back (past p) (past r) C (before-trans (past p) r (past r) lt (before-past r)) since-C
 
-  below-p : rowsBelow p W ≡ rows-p
+  pub below-p : rowsBelow p W ≡ rows-p
   below-p =
       keep-below p W ∙ ap (keep (λ q. begins p q)) (sym whole) ∙ keep-five (λ q. begins p q) A rows-p B R C
       ∙ five-path (keep-none (λ q. begins p q) A (aside-left p A up-A)) (keep-all (λ q. begins p q) rows-p (under-range p rows-p since-P up-P))
@@ -262,7 +242,7 @@ module _ (p r : List ℕ) (W : List Row) (lt : before (past p) r ≡ true) (rise
       (keep-none (λ q. begins p q) C (aside-right p C formed-C since-C-p))
       ∙ append-nil _ ∙ append-nil _ ∙ append-nil _
 
-  below-r : rowsBelow r W ≡ R
+  pub below-r : rowsBelow r W ≡ R
   below-r =
       keep-below r W ∙ ap (keep (λ q. begins r q)) (sym whole) ∙ keep-five (λ q. begins r q) A rows-p B R C
       ∙ five-path (keep-none (λ q. begins r q) A (aside-left r A (up-on p r A p-r up-A))) (keep-none (λ q. begins r q) rows-p (aside-left r rows-p (up-on (past p) r rows-p lt up-P)))
@@ -286,36 +266,25 @@ module _ (p r : List ℕ) (W : List Row) (lt : before (past p) r ≡ true) (rise
   unfolding everyKey
   nil-aside x = refl
 
+  none-between : five A [] B [] C ≡ A ++ (B ++ C)
+  none-between = rw (append-nil A, append-nil (A ++ B)) (append-assoc A B C)
+
   left-p-r : withoutBelow r (withoutBelow p W) ≡ A ++ (B ++ C)
   left-p-r =
       ap (λ x. withoutBelow r (withoutBelow p x)) (sym whole)
       ∙ ap (withoutBelow r) (left-p R (aside-right p R formed-R (since-back (past p) r R lt since-R)))
-      ∙ left-r [] (nil-aside r) ∙ close
-    where
-      close : five A [] B [] C ≡ A ++ (B ++ C)
-      close = rw (append-nil A, append-nil (A ++ B)) (append-assoc A B C)
+      ∙ left-r [] (nil-aside r) ∙ none-between
 
   left-r-p : withoutBelow p (withoutBelow r W) ≡ A ++ (B ++ C)
   left-r-p =
       ap (λ x. withoutBelow p (withoutBelow r x)) (sym whole)
       ∙ ap (withoutBelow p) (left-r rows-p (aside-left r rows-p (up-on (past p) r rows-p lt up-P)))
-      ∙ left-p [] (nil-aside p) ∙ close
-    where
-      close : five A [] B [] C ≡ A ++ (B ++ C)
-      close = rw (append-nil A, append-nil (A ++ B)) (append-assoc A B C)
+      ∙ left-p [] (nil-aside p) ∙ none-between
 
   -- a move to the right, and one to the left
-  pub set-aside-p : rowsBelow p W ≡ partP p r W
-  unfolding rows-p
-  set-aside-p = below-p
-
-  pub set-aside-r : rowsBelow r W ≡ partR p r W
-  unfolding R
-  set-aside-r = below-r
-
   pub moved-up : rising (renamed p r (partP p r W)) ≡ true → everyKey (owns r (past r)) (renamed p r (partP p r W)) ≡ true
       → moved p r W ≡ partA p r W ++ (partB p r W ++ (renamed p r (partP p r W) ++ partC p r W))
-  unfolding moved A rows-p B C
+  unfolding moved
   moved-up e o =
       ap₂ (λ x y. putAll (renamed p r x) y) below-p (left-p-r ∙ sym (append-assoc A B C))
       ∙ put-between r (past r) (renamed p r rows-p) (A ++ B) C e o (every-append (upTo r) A B (up-on p r A p-r up-A) up-B) since-C
@@ -323,7 +292,7 @@ module _ (p r : List ℕ) (W : List Row) (lt : before (past p) r ≡ true) (rise
 
   pub moved-down : rising (renamed r p (partR p r W)) ≡ true → everyKey (owns p (past p)) (renamed r p (partR p r W)) ≡ true
       → moved r p W ≡ partA p r W ++ (renamed r p (partR p r W) ++ (partB p r W ++ partC p r W))
-  unfolding moved A R B C
+  unfolding moved
   moved-down e o =
       ap₂ (λ x y. putAll (renamed r p x) y) below-r left-r-p
       ∙ put-between p (past p) (renamed r p R) A (B ++ C) e o up-A (every-append (since (past p)) B C since-B since-C-p)

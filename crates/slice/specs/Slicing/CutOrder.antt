@@ -1,9 +1,5 @@
 -- Why cuts go from the right to the left: a right part cut once more can leave a pivot of more than 65 bytes, where a left part cannot.
-use Prim.Native.Nat.{ℕ, _+_}
-use mathlib.Core.Path.{_≡_, refl}
-use mathlib.Core.List.{List, [], _∷_, _++_}
-use mathlib.Core.Bool.{true, false, _&&_}
-use lib.ListN.{replicate}
+use Rattle.image.specs.Prelude.{ℕ, _+_, _≡_, refl, List, [], _∷_, _++_, true, false, _&&_, replicate}
 use Rattle.image.specs.Bytes.{same, before, shared}
 use Rattle.image.specs.Path.{owns}
 use Rattle.image.specs.Table.{everyKey, underPrefix, rising}

@@ -1,13 +1,5 @@
 -- The tree of a sound, settled image is of the level that node 0 gives, holds no message, and each of its nodes fits.
-use Prim.Native.Nat.{ℕ, zero, suc, _+_, _-_, _≤_}
-use mathlib.Core.Path.{_≡_, refl, sym, ap, _∙_}
-use mathlib.Core.List.{List, [], _∷_, _++_}
-use mathlib.Core.Bool.{Bool, true, false, _&&_, cond, false≢true}
-use mathlib.Core.Option.{Option, none, some, Option·some-injective, Option·none-ne-some}
-use native.Mathlib.Omega.{arith}
-use lib.ListN.{length, take, drop, length-append, length-drop, length-take}
-use lib.Dec.{leb, eqb}
-use borrow.Author.Tests.{le-leb, leb-true}
+use Rattle.image.specs.Prelude.{ℕ, zero, suc, _+_, _-_, _≤_, _≡_, refl, sym, ap, _∙_, List, [], _∷_, _++_, Bool, true, false, _&&_, cond, false≢true, Option, none, some, Option·some-injective, Option·none-ne-some, arith, length, take, drop, length-append, length-drop, length-take, leb, eqb, le-leb, leb-true, cases}
 use Rattle.image.specs.Bytes.{u16, shared}
 use Rattle.octets.specs.Order.{and-left, and-right}
 use Rattle.laws.specs.Rising.{both}
@@ -143,15 +135,11 @@ all-sized zero [] es h = rw (← Option·some-injective [] es h) (refl, refl)
 all-sized zero (b ∷ s) es h = absurd (Option·none-ne-some es h)
 all-sized (suc more) [] es h = rw (← Option·some-injective [] es h) (refl, refl)
 all-sized (suc more) (b ∷ s) es h =
-    go (leb 4 (length (b ∷ s)) && leb (u16 (b ∷ s) 0) (length (b ∷ s) - 4)) refl (λ t q. all-sized more (drop (u16 (b ∷ s) 0) (drop 4 (b ∷ s))) t q)
-  where
-    go : (x : Bool) → leb 4 (length (b ∷ s)) && leb (u16 (b ∷ s) 0) (length (b ∷ s) - 4) ≡ x
-        → ((t : List Entry) → readAll more (drop (u16 (b ∷ s) 0) (drop 4 (b ∷ s))) ≡ some t
-        → (sizes t ≡ length (drop (u16 (b ∷ s) 0) (drop 4 (b ∷ s)))) × (allAllowed t ≡ true)) → (sizes es ≡ length (b ∷ s)) × (allAllowed es ≡ true)
-    go true q ih =
-        step-sized (b ∷ s) (u16 (b ∷ s) 0) (u16 (b ∷ s) 2) (readAll more (drop (u16 (b ∷ s) 0) (drop 4 (b ∷ s)))) es
-        (leb-true 4 (length (b ∷ s)) (and-left _ _ q)) (leb-true (u16 (b ∷ s) 0) (length (b ∷ s) - 4) (and-right (leb 4 (length (b ∷ s))) _ q)) ih (rw q at h)
-    go false q ih = absurd (Option·none-ne-some es (rw q at h))
+    cases (leb 4 (length (b ∷ s)) && leb (u16 (b ∷ s) 0) (length (b ∷ s) - 4))
+    (λ q. step-sized (b ∷ s) (u16 (b ∷ s) 0) (u16 (b ∷ s) 2) (readAll more (drop (u16 (b ∷ s) 0) (drop 4 (b ∷ s)))) es
+    (leb-true 4 (length (b ∷ s)) (and-left _ _ q)) (leb-true (u16 (b ∷ s) 0) (length (b ∷ s) - 4) (and-right (leb 4 (length (b ∷ s))) _ q))
+    (λ t. all-sized more (drop (u16 (b ∷ s) 0) (drop 4 (b ∷ s))) t) (rw q at h))
+    (λ q. absurd (Option·none-ne-some es (rw q at h)))
 
 -- the entries of a node that is laid out
 node-sized : (kind level : ℕ) (node : List ℕ) (es : List Entry) → nodeEntries kind level node ≡ some es → (sizes es ≤ 1016) × (allAllowed es ≡ true)

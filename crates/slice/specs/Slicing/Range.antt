@@ -1,12 +1,5 @@
 -- The range of a path: from it up to it followed by FF.
-use Prim.Native.Nat.{ℕ, suc, _≤_}
-use mathlib.Core.Path.{_≡_, refl, sym, ap, _∙_}
-use mathlib.Core.List.{List, [], _∷_, _++_, append-nil}
-use mathlib.Core.Bool.{Bool, true, false, _&&_, _||_, false≢true, true≢false}
-use native.Mathlib.Omega.{arith}
-use lib.ListN.{length, length-append}
-use lib.Dec.{eqb, leb, ltb}
-use borrow.Author.Tests.{eqb-true, leb-true, lt-ltb, eq-eqb, le-ltb}
+use Rattle.image.specs.Prelude.{ℕ, suc, _≤_, _≡_, refl, sym, ap, _∙_, List, [], _∷_, _++_, append-nil, Bool, true, false, _&&_, _||_, false≢true, true≢false, arith, length, length-append, eqb, leb, ltb, eqb-true, leb-true, lt-ltb, eq-eqb, le-ltb, cases}
 use Rattle.image.specs.Bytes.{before, begins, shared}
 use Rattle.image.specs.Path.{letter, readsOn, pathLimit, wellFormed, owns}
 use Rattle.image.specs.Sound.{highest}
@@ -48,13 +41,9 @@ letter-low b e = lt-ltb b 0xFF (let h : b ≤ 0x7E = leb-true b 0x7E (and-right 
 reads-low : (d h : ℕ) (p : List ℕ) → readsOn d h p ≡ true → lowBytes p ≡ true
 unfolding readsOn lowBytes
 reads-low d h [] e = refl
-reads-low d h (b ∷ p) e = go (eqb b 0) refl (reads-low (suc d) 0 p) (reads-low d (suc h) p)
-  where
-    go : (x : Bool) → eqb b 0 ≡ x → (readsOn (suc d) 0 p ≡ true → lowBytes p ≡ true) → (readsOn d (suc h) p ≡ true → lowBytes p ≡ true)
-        → ltb b 0xFF && lowBytes p ≡ true
-    go true c i j =
-        both (lt-ltb b 0xFF (let z : b ≡ 0 = eqb-true b 0 c in omega arith)) (i (and-right (leb 1 h && leb h 16) _ (rw c at e)))
-    go false c i j = both (letter-low b (and-left _ _ (rw c at e))) (j (and-right (letter b) _ (rw c at e)))
+reads-low d h (b ∷ p) e =
+    cases (eqb b 0) (λ c. both (lt-ltb b 0xFF (let z : b ≡ 0 = eqb-true b 0 c in omega arith)) (reads-low (suc d) 0 p (and-right (leb 1 h && leb h 16) _ (rw c at e))))
+    (λ c. both (letter-low b (and-left _ _ (rw c at e))) (reads-low d (suc h) p (and-right (letter b) _ (rw c at e))))
 
 pub formed-low : (p : List ℕ) → wellFormed p ≡ true → lowBytes p ≡ true
 unfolding wellFormed
@@ -84,5 +73,5 @@ formed-inside [] e = absurd (false≢true (and-right (leb 0 pathLimit) _ e))
 formed-inside (a ∷ p) e = (refl, rw (and-left (ltb a 0xFF) _ (formed-low (a ∷ p) e)))
 
 pub formed-length : (p : List ℕ) → wellFormed p ≡ true → length (past p) ≤ 65
-unfolding wellFormed pathLimit
+unfolding wellFormed
 formed-length p e = rw (length-append p highest) (let h : length p ≤ 64 = leb-true (length p) 64 (and-left _ _ e) in omega arith)

@@ -1,11 +1,5 @@
 -- A node's page, and that it reads back: what joins a written image to the trees of the slices.
-use Prim.Native.Nat.{ℕ, suc, _≤_}
-use mathlib.Core.Path.{_≡_, refl, ap, ap₂}
-use mathlib.Core.List.{List, [], _∷_, _++_}
-use mathlib.Core.Bool.{true}
-use native.Mathlib.Omega.{arith}
-use lib.ListN.{length, length-append}
-use lib.Dec.{leb}
+use Rattle.image.specs.Prelude.{ℕ, suc, _≤_, _≡_, refl, ap, ap₂, List, [], _∷_, _++_, true, arith, length, length-append, leb}
 use Rattle.octets.specs.Order.{and-left, and-right}
 use Rattle.laws.specs.Rising.{both}
 use Rattle.image.specs.Table.{Row}

@@ -1,12 +1,5 @@
 -- The right parts and tails written into an image.
-use Prim.Native.Nat.{ℕ, zero, suc, _+_, _*_, _≤_}
-use mathlib.Core.Path.{_≡_, refl, sym, ap, subst, _∙_}
-use mathlib.Core.List.{List, [], _∷_, _++_}
-use mathlib.Core.Bool.{Bool, true, false, _&&_, _||_, cond, false≢true}
-use native.Mathlib.Omega.{arith}
-use lib.ListN.{length}
-use lib.Dec.{leb}
-use borrow.Author.Tests.{eqb-true}
+use Rattle.image.specs.Prelude.{ℕ, zero, suc, _+_, _*_, _≤_, _≡_, refl, sym, ap, subst, _∙_, List, [], _∷_, _++_, Bool, true, false, _&&_, _||_, cond, false≢true, arith, length, leb, eqb-true, cases}
 use Rattle.image.specs.Bytes.{before, begins, shared}
 use Rattle.image.specs.Entry.{Message, pivotLimit}
 use Rattle.image.specs.Table.{Row, underPrefix}
@@ -23,7 +16,7 @@ use Rattle.slice.specs.Slicing.SliceNumbers.{one, met, metIn, met-joined
 use Rattle.slice.specs.Slicing.SliceFits.{branchesSize, shortIn, fits, fitsIn, cut-fits, narrow-high}
 use Rattle.laws.specs.Page.{numberOf}
 use Rattle.slice.specs.Slicing.ReadBack.{ReadsIn}
-use Rattle.slice.specs.Slicing.SliceWrite.{pageOf, pageOf-full, stays-in, branches-read, node-done, leaf-done, no-inner, one-other, one-same, Only, only-none, only-more, first-met, later-met}
+use Rattle.slice.specs.Slicing.SliceWrite.{pageOf, pageOf-full, stays-in, branches-read, node-done, leaf-done, no-inner, one-other, one-same, Only, only-none, only-more}
 
 reads-raise : (under : ℕ → Tree) (l : List ℕ) (f : Forest) → ReadsIn under f → ReadsIn under (raise l f)
 unfolding ReadsIn raise
@@ -38,13 +31,11 @@ reads-joined under (tree s t f) g a b = (a .0, reads-joined under f g (a .1) b)
 reads-rest : (under : ℕ → Tree) (f : Forest) (lifted hi k : List ℕ) → ReadsIn under f → ReadsIn under (restIn f lifted hi k)
 unfolding ReadsIn restIn
 reads-rest under end lifted hi k e = tt
-reads-rest under (tree s t f) lifted hi k e = go (before k (highOf lifted hi f)) refl (before (lifted ++ s) k) refl (reads-rest under f lifted hi k (e .1))
-  where
-    go : (x : Bool) → before k (highOf lifted hi f) ≡ x → (y : Bool) → before (lifted ++ s) k ≡ y → ReadsIn under (restIn f lifted hi k)
-        → ReadsIn under (restIn (tree s t f) lifted hi k)
-    go true a true b ih = rw (a, b) (reads-raise under lifted f (e .1))
-    go true a false b ih = rw (a, b) (e .0, reads-raise under lifted f (e .1))
-    go false a y b ih = rw a ih
+reads-rest under (tree s t f) lifted hi k e =
+    cases (before k (highOf lifted hi f))
+    (λ a. cases (before (lifted ++ s) k) (λ b. rw (a, b) (reads-raise under lifted f (e .1)))
+    (λ b. rw (a, b) (e .0, reads-raise under lifted f (e .1))))
+    (λ a. rw a (reads-rest under f lifted hi k (e .1)))
 
 pub fits-parts : (f g : Forest) → fitsIn (joined f g) ≡ true → (fitsIn f ≡ true) × (fitsIn g ≡ true)
 unfolding fitsIn joined
@@ -170,20 +161,6 @@ module _ (fresh : ℕ → ℕ) where
       more-taken true j = unfold spent taken after in (omega arith)
       more-taken false j = unfold spent taken after in (omega arith)
 
-  right-step : (w : Bool) (q : List ℕ) (t : Tree) (f : Forest) (h : ℕ) (lifted hi k : List ℕ) (at : ℕ) (s : List ℕ)
-      → (before (lifted ++ q) k ≡ true → before k (highOf lifted hi f) ≡ true
-      → RightDone s (rightWrite w t h (lifted ++ q) (highOf lifted hi f) k at s) h (taken w h) at (rightOf fresh w t (lifted ++ q) (highOf lifted hi f) k at))
-      → RightDone s (edgeWrite w f h lifted hi k at s) h (taken w h) at (edgeIn fresh w f lifted hi k at)
-      → RightDone s (edgeWrite w (tree q t f) h lifted hi k at s) h (taken w h) at (edgeIn fresh w (tree q t f) lifted hi k at)
-  unfolding edgeWrite edgeIn ReadsIn
-  right-step w q t f h lifted hi k at s here on = go (before k (highOf lifted hi f)) refl (before (lifted ++ q) k) refl
-    where
-      go : (x : Bool) → before k (highOf lifted hi f) ≡ x → (y : Bool) → before (lifted ++ q) k ≡ y
-          → RightDone s (edgeWrite w (tree q t f) h lifted hi k at s) h (taken w h) at (edgeIn fresh w (tree q t f) lifted hi k at)
-      go true a true b = rw (a, b) (here b a)
-      go true a false b = rw (a, b) (record { only = only-none fresh s (taken w h) at; reads = tt })
-      go false a y b = rw a on
-
   deeper : (w : Bool) (i : ℕ) (f : Forest) (ms : List Message) (h at j : ℕ) → met j (interior i f ms) + spent fresh j (taken w (suc h)) at ≤ 1
       → (metIn j f + spent fresh j (after w (taken w h)) at ≤ 1) × (metIn j f + spent fresh j (taken w h) (after w at) ≤ 1)
   unfolding met taken
@@ -212,7 +189,7 @@ module _ (fresh : ℕ → ℕ) where
 
   module _ (w : Bool) where
     mutual
-      unfolding soundTree still levelled fitsIn edgeWrite edgeIn ReadsIn
+      unfolding soundTree still levelled fitsIn edgeWrite edgeIn ReadsIn metIn
 
       pub right-written : (t : Tree) (h : ℕ) (lo hi k : List ℕ) (at : ℕ) (s : List ℕ) → ((x : ℕ) → 1024 * fresh x + 1024 ≤ length s) → Good h t lo hi → fits t ≡ true
           → before lo k ≡ true → before k hi ≡ true → length k ≤ pivotLimit → w || begins k hi ≡ true → treeAt h s (numberOf t) ≡ t
@@ -237,9 +214,11 @@ module _ (fresh : ℕ → ℕ) where
           → RightDone s (edgeWrite w f h lifted hi k at s) h (taken w h) at (edgeIn fresh w f lifted hi k at)
       right-written-in end h lifted lo hi k at s room g e short v r d = record { only = only-none fresh s (taken w h) at; reads = tt }
       right-written-in (tree q t f) h lifted lo hi k at s room g e short v r d =
-          right-step w q t f h lifted hi k at s
-          (λ x y. right-written t h (lifted ++ q) (highOf lifted hi f) k at s room (branch-first q t f lifted lo hi g) (and-left (fits t) _ e) x y short
-          (narrow-high fresh w f lifted lo hi k (branch-later q t f lifted lo hi g) v y) (r .0)
-          (λ j. first-met fresh q t f j (spent fresh j (taken w h) at) (d j)))
-          (right-written-in f h lifted lo hi k at s room (branch-later q t f lifted lo hi g) (and-right (fits t) _ e) short v (r .1)
-          (λ j. later-met fresh q t f j (spent fresh j (taken w h) at) (d j)))
+          cases (before k (highOf lifted hi f))
+          (λ a. cases (before (lifted ++ q) k)
+          (λ b. rw (a, b)
+          (right-written t h (lifted ++ q) (highOf lifted hi f) k at s room (branch-first q t f lifted lo hi g) (and-left (fits t) _ e) b a short
+          (narrow-high fresh w f lifted lo hi k (branch-later q t f lifted lo hi g) v a) (r .0) (λ j. omega (arith, d j))))
+          (λ b. rw (a, b) (record { only = only-none fresh s (taken w h) at; reads = tt })))
+          (λ a. rw a
+          (right-written-in f h lifted lo hi k at s room (branch-later q t f lifted lo hi g) (and-right (fits t) _ e) short v (r .1) (λ j. omega (arith, d j))))

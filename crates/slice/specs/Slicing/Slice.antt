@@ -1,7 +1,5 @@
 -- The slices of a settled tree at a cut k strictly inside its range. New nodes take their numbers from `fresh`, the list of free nodes, from place `at` on.
-use Prim.Native.Nat.{ℕ, suc}
-use mathlib.Core.List.{List, [], _++_}
-use mathlib.Core.Bool.{Bool, true, false, cond}
+use Rattle.image.specs.Prelude.{ℕ, suc, List, [], _++_, Bool, true, false, cond}
 use Rattle.image.specs.Bytes.{before, shared}
 use Rattle.image.specs.Table.{underPrefix}
 use Rattle.image.specs.Image.{Tree, unread, leaf, interior, Forest, end, tree}

@@ -1,12 +1,5 @@
 -- The nodes of the two parts of a cut fit, where those of the whole do.
-use Prim.Native.Nat.{ℕ, zero, suc, _+_, _*_, _-_, _≤_}
-use mathlib.Core.Path.{_≡_, refl, _∙_}
-use mathlib.Core.List.{List, [], _∷_, _++_}
-use mathlib.Core.Bool.{Bool, true, false, _&&_, _||_, false≢true}
-use native.Mathlib.Omega.{arith}
-use lib.ListN.{length, length-append, length-drop}
-use lib.Dec.{leb}
-use borrow.Author.Tests.{leb-true, le-leb}
+use Rattle.image.specs.Prelude.{ℕ, zero, suc, _+_, _*_, _-_, _≤_, _≡_, refl, _∙_, List, [], _∷_, _++_, Bool, true, false, _&&_, _||_, false≢true, arith, length, length-append, length-drop, leb, leb-true, le-leb, cases}
 use Rattle.image.specs.Bytes.{before, begins, shared}
 use Rattle.image.specs.Entry.{pivotLimit}
 use Rattle.image.specs.Table.{Row, underPrefix}
@@ -74,12 +67,9 @@ leaf-size : (l l′ : List ℕ) (test : List ℕ → Bool) (rs : List Row) → l
     → pairsSize (lowerRows l′ (keep test (underPrefix l rs))) ≤ pairsSize rs
 unfolding pairsSize lowerRows keep underPrefix
 leaf-size l l′ test [] h = omega arith
-leaf-size l l′ test (r ∷ rs) h = go (test (l ++ r .key)) refl (leaf-size l l′ test rs h)
-  where
-    go : (x : Bool) → test (l ++ r .key) ≡ x → pairsSize (lowerRows l′ (keep test (underPrefix l rs))) ≤ pairsSize rs
-        → pairsSize (lowerRows l′ (keep test (underPrefix l (r ∷ rs)))) ≤ pairsSize (r ∷ rs)
-    go true e ih = rw (e, length-drop (length l′) (l ++ r .key), length-append l (r .key)) (omega arith)
-    go false e ih = rw e (omega arith)
+leaf-size l l′ test (r ∷ rs) h =
+    cases (test (l ++ r .key)) (λ e. rw (e, length-drop (length l′) (l ++ r .key), length-append l (r .key)) (omega (arith, leaf-size l l′ test rs h)))
+    (λ e. rw e (omega (arith, leaf-size l l′ test rs h)))
 
 leaf-fits : (i n : ℕ) (l l′ : List ℕ) (test : List ℕ → Bool) (rs : List Row) → length l ≤ length l′ → fits (leaf i rs) ≡ true
     → fits (leaf n (lowerRows l′ (keep test (underPrefix l rs)))) ≡ true
@@ -188,38 +178,29 @@ short-raise d l (tree s t f) h e =
 rest-size : (d : ℕ) (f : Forest) (lifted hi k : List ℕ) → length lifted ≤ d → sizeAt d (restIn f lifted hi k) ≤ branchesSize f
 unfolding restIn sizeAt branchesSize
 rest-size d end lifted hi k h = omega arith
-rest-size d (tree s t f) lifted hi k h = go (before k (highOf lifted hi f)) refl (before (lifted ++ s) k) refl (rest-size d f lifted hi k h)
-  where
-    go : (x : Bool) → before k (highOf lifted hi f) ≡ x → (y : Bool) → before (lifted ++ s) k ≡ y → sizeAt d (restIn f lifted hi k) ≤ branchesSize f
-        → sizeAt d (restIn (tree s t f) lifted hi k) ≤ branchesSize (tree s t f)
-    go true a true b ih = rw (a, b) (omega (arith, size-raise d lifted f h))
-    go true a false b ih = rw (a, b, length-append lifted s) (omega (arith, size-raise d lifted f h))
-    go false a y b ih = rw a (omega arith)
+rest-size d (tree s t f) lifted hi k h =
+    cases (before k (highOf lifted hi f))
+    (λ a. cases (before (lifted ++ s) k) (λ b. rw (a, b) (omega (arith, size-raise d lifted f h)))
+    (λ b. rw (a, b, length-append lifted s) (omega (arith, size-raise d lifted f h))))
+    (λ a. rw a (omega (arith, rest-size d f lifted hi k h)))
 
 rest-short : (d : ℕ) (f : Forest) (lifted hi k : List ℕ) → length lifted ≤ d → shortIn f ≡ true → shortAt d (restIn f lifted hi k) ≡ true
 unfolding restIn shortAt shortIn
 rest-short d end lifted hi k h e = refl
 rest-short d (tree s t f) lifted hi k h e =
-    go (before k (highOf lifted hi f)) refl (before (lifted ++ s) k) refl (rest-short d f lifted hi k h (and-right (leb (length s) pivotLimit) _ e))
-  where
-    go : (x : Bool) → before k (highOf lifted hi f) ≡ x → (y : Bool) → before (lifted ++ s) k ≡ y → shortAt d (restIn f lifted hi k) ≡ true
-        → shortAt d (restIn (tree s t f) lifted hi k) ≡ true
-    go true a true b ih = rw (a, b) (short-raise d lifted f h (and-right (leb (length s) pivotLimit) _ e))
-    go true a false b ih =
-        rw (a, b) (both (short-pivot d lifted s h (and-left _ _ e)) (short-raise d lifted f h (and-right (leb (length s) pivotLimit) _ e)))
-    go false a y b ih = rw a ih
+    cases (before k (highOf lifted hi f))
+    (λ a. cases (before (lifted ++ s) k) (λ b. rw (a, b) (short-raise d lifted f h (and-right (leb (length s) pivotLimit) _ e)))
+    (λ b. rw (a, b) (both (short-pivot d lifted s h (and-left _ _ e)) (short-raise d lifted f h (and-right (leb (length s) pivotLimit) _ e)))))
+    (λ a. rw a (rest-short d f lifted hi k h (and-right (leb (length s) pivotLimit) _ e)))
 
 rest-fits : (f : Forest) (lifted hi k : List ℕ) → fitsIn f ≡ true → fitsIn (restIn f lifted hi k) ≡ true
 unfolding restIn fitsIn
 rest-fits end lifted hi k e = refl
 rest-fits (tree s t f) lifted hi k e =
-    go (before k (highOf lifted hi f)) refl (before (lifted ++ s) k) refl (rest-fits f lifted hi k (and-right (fits t) _ e))
-  where
-    go : (x : Bool) → before k (highOf lifted hi f) ≡ x → (y : Bool) → before (lifted ++ s) k ≡ y → fitsIn (restIn f lifted hi k) ≡ true
-        → fitsIn (restIn (tree s t f) lifted hi k) ≡ true
-    go true a true b ih = rw (a, b) (fits-raise lifted f ∙ and-right (fits t) _ e)
-    go true a false b ih = rw (a, b) (both (and-left (fits t) _ e) (fits-raise lifted f ∙ and-right (fits t) _ e))
-    go false a y b ih = rw a ih
+    cases (before k (highOf lifted hi f))
+    (λ a. cases (before (lifted ++ s) k) (λ b. rw (a, b) (fits-raise lifted f ∙ and-right (fits t) _ e))
+    (λ b. rw (a, b) (both (and-left (fits t) _ e) (fits-raise lifted f ∙ and-right (fits t) _ e))))
+    (λ a. rw a (rest-fits f lifted hi k (and-right (fits t) _ e)))
 
 enough : (m : ℕ) → m ≤ 142 → m ≤ entriesLimit
 enough m h = omega arith
@@ -228,25 +209,18 @@ module _ (fresh : ℕ → ℕ) where
   left-size : (d : ℕ) (f : Forest) (lifted hi k : List ℕ) (at : ℕ) → length lifted ≤ d → sizeAt d (leftIn fresh f lifted hi k at) ≤ branchesSize f
   unfolding leftIn sizeAt branchesSize
   left-size d end lifted hi k at h = omega arith
-  left-size d (tree s t f) lifted hi k at h = go (before k (highOf lifted hi f)) refl (before (lifted ++ s) k) refl (left-size d f lifted hi k at h)
-    where
-      go : (x : Bool) → before k (highOf lifted hi f) ≡ x → (y : Bool) → before (lifted ++ s) k ≡ y → sizeAt d (leftIn fresh f lifted hi k at) ≤ branchesSize f
-          → sizeAt d (leftIn fresh (tree s t f) lifted hi k at) ≤ branchesSize (tree s t f)
-      go true a true b ih = rw (a, b, length-append lifted s) (omega arith)
-      go true a false b ih = rw (a, b) (omega arith)
-      go false a y b ih = rw (a, length-append lifted s) (omega arith)
+  left-size d (tree s t f) lifted hi k at h =
+      cases (before k (highOf lifted hi f))
+      (λ a. cases (before (lifted ++ s) k) (λ b. rw (a, b, length-append lifted s) (omega arith)) (λ b. rw (a, b) (omega arith)))
+      (λ a. rw (a, length-append lifted s) (omega (arith, left-size d f lifted hi k at h)))
 
   left-short : (d : ℕ) (f : Forest) (lifted hi k : List ℕ) (at : ℕ) → length lifted ≤ d → shortIn f ≡ true → shortAt d (leftIn fresh f lifted hi k at) ≡ true
   unfolding leftIn shortAt shortIn
   left-short d end lifted hi k at h e = refl
   left-short d (tree s t f) lifted hi k at h e =
-      go (before k (highOf lifted hi f)) refl (before (lifted ++ s) k) refl (left-short d f lifted hi k at h (and-right (leb (length s) pivotLimit) _ e))
-    where
-      go : (x : Bool) → before k (highOf lifted hi f) ≡ x → (y : Bool) → before (lifted ++ s) k ≡ y → shortAt d (leftIn fresh f lifted hi k at) ≡ true
-          → shortAt d (leftIn fresh (tree s t f) lifted hi k at) ≡ true
-      go true a true b ih = rw (a, b) (both (short-pivot d lifted s h (and-left _ _ e)) refl)
-      go true a false b ih = rw (a, b)
-      go false a y b ih = rw a (both (short-pivot d lifted s h (and-left _ _ e)) ih)
+      cases (before k (highOf lifted hi f))
+      (λ a. cases (before (lifted ++ s) k) (λ b. rw (a, b) (both (short-pivot d lifted s h (and-left _ _ e)) refl)) (λ b. rw (a, b)))
+      (λ a. rw a (both (short-pivot d lifted s h (and-left _ _ e)) (left-short d f lifted hi k at h (and-right (leb (length s) pivotLimit) _ e))))
 
   -- the pieces of a right part: at most two, and their pivots are short where the whole's are and the cut is
   pub right-count : (w : Bool) (t : Tree) (lo hi k : List ℕ) (at : ℕ) → count (rightOf fresh w t lo hi k at) ≤ 2
@@ -307,27 +281,21 @@ module _ (fresh : ℕ → ℕ) where
   edge-count : (w : Bool) (f : Forest) (lifted hi k : List ℕ) (at : ℕ) → count (edgeIn fresh w f lifted hi k at) ≤ 2
   unfolding edgeIn count
   edge-count w end lifted hi k at = omega arith
-  edge-count w (tree s t f) lifted hi k at = go (before k (highOf lifted hi f)) refl (before (lifted ++ s) k) refl (edge-count w f lifted hi k at)
-    where
-      go : (x : Bool) → before k (highOf lifted hi f) ≡ x → (y : Bool) → before (lifted ++ s) k ≡ y → count (edgeIn fresh w f lifted hi k at) ≤ 2
-          → count (edgeIn fresh w (tree s t f) lifted hi k at) ≤ 2
-      go true a true b ih = rw (a, b) (right-count w t (lifted ++ s) (highOf lifted hi f) k at)
-      go true a false b ih = rw (a, b) (omega arith)
-      go false a y b ih = rw a ih
+  edge-count w (tree s t f) lifted hi k at =
+      cases (before k (highOf lifted hi f))
+      (λ a. cases (before (lifted ++ s) k) (λ b. rw (a, b) (right-count w t (lifted ++ s) (highOf lifted hi f) k at)) (λ b. rw (a, b) (omega arith)))
+      (λ a. rw a (edge-count w f lifted hi k at))
 
   -- one node: the cut's suffix is empty, so the node is no larger
   narrow-both : (d : ℕ) (f : Forest) (lifted hi k : List ℕ) (at : ℕ) → length lifted ≤ d → length k ≤ d
       → sizeAt d (edgeIn fresh false f lifted hi k at) + sizeAt d (restIn f lifted hi k) ≤ branchesSize f
   unfolding edgeIn restIn sizeAt branchesSize
   narrow-both d end lifted hi k at h g = omega arith
-  narrow-both d (tree s t f) lifted hi k at h g = go (before k (highOf lifted hi f)) refl (before (lifted ++ s) k) refl (narrow-both d f lifted hi k at h g)
-    where
-      go : (x : Bool) → before k (highOf lifted hi f) ≡ x → (y : Bool) → before (lifted ++ s) k ≡ y
-          → sizeAt d (edgeIn fresh false f lifted hi k at) + sizeAt d (restIn f lifted hi k) ≤ branchesSize f
-          → sizeAt d (edgeIn fresh false (tree s t f) lifted hi k at) + sizeAt d (restIn (tree s t f) lifted hi k) ≤ branchesSize (tree s t f)
-      go true a true b ih = rw (a, b) (omega (arith, narrow-size d t (lifted ++ s) (highOf lifted hi f) k at, size-raise d lifted f h))
-      go true a false b ih = rw (a, b, length-append lifted s) (omega (arith, size-raise d lifted f h))
-      go false a y b ih = rw a (omega arith)
+  narrow-both d (tree s t f) lifted hi k at h g =
+      cases (before k (highOf lifted hi f))
+      (λ a. cases (before (lifted ++ s) k) (λ b. rw (a, b) (omega (arith, narrow-size d t (lifted ++ s) (highOf lifted hi f) k at, size-raise d lifted f h)))
+      (λ b. rw (a, b, length-append lifted s) (omega (arith, size-raise d lifted f h))))
+      (λ a. rw a (omega (arith, narrow-both d f lifted hi k at h g)))
 
   narrow-one : (d : ℕ) (t : Tree) (lo hi k : List ℕ) (at : ℕ) → length k - d ≤ pivotLimit → shortAt d (rightOf fresh false t lo hi k at) ≡ true
   unfolding rightOf packed shortAt
@@ -339,13 +307,10 @@ module _ (fresh : ℕ → ℕ) where
   narrow-short : (d : ℕ) (f : Forest) (lifted hi k : List ℕ) (at : ℕ) → length k - d ≤ pivotLimit → shortAt d (edgeIn fresh false f lifted hi k at) ≡ true
   unfolding edgeIn shortAt
   narrow-short d end lifted hi k at g = refl
-  narrow-short d (tree s t f) lifted hi k at g = go (before k (highOf lifted hi f)) refl (before (lifted ++ s) k) refl (narrow-short d f lifted hi k at g)
-    where
-      go : (x : Bool) → before k (highOf lifted hi f) ≡ x → (y : Bool) → before (lifted ++ s) k ≡ y
-          → shortAt d (edgeIn fresh false f lifted hi k at) ≡ true → shortAt d (edgeIn fresh false (tree s t f) lifted hi k at) ≡ true
-      go true a true b ih = rw (a, b) (narrow-one d t (lifted ++ s) (highOf lifted hi f) k at g)
-      go true a false b ih = rw (a, b)
-      go false a y b ih = rw a ih
+  narrow-short d (tree s t f) lifted hi k at g =
+      cases (before k (highOf lifted hi f))
+      (λ a. cases (before (lifted ++ s) k) (λ b. rw (a, b) (narrow-one d t (lifted ++ s) (highOf lifted hi f) k at g)) (λ b. rw (a, b)))
+      (λ a. rw a (narrow-short d f lifted hi k at g))
 
   rest-node : {h : ℕ} {r : Forest} {x hi : List ℕ} (n : ℕ) (lo : List ℕ) → Run h r x hi → before x lo ≡ false
       → ((d : ℕ) → length (shared lo hi) ≤ d → (sizeAt d r ≤ entriesLimit) × (shortAt d r ≡ true)) → fitsIn r ≡ true → fitsIn (over n x hi r) ≡ true
@@ -423,20 +388,6 @@ module _ (fresh : ℕ → ℕ) where
       both (leaf-fits i (fresh at′) (shared lo hi) (shared k hi) (since k) rs (lifts-high lo k hi (before-asym lo k a) b) e) refl,
     )
 
-    step-fits : (s : List ℕ) (t : Tree) (f : Forest) (lifted hi k : List ℕ) (at at′ : ℕ) → fitsIn (tree s t f) ≡ true
-        → (before (lifted ++ s) k ≡ true → before k (highOf lifted hi f) ≡ true
-        → (fits (leftOf fresh t (lifted ++ s) (highOf lifted hi f) k at) ≡ true) × (fitsIn (rightOf fresh w t (lifted ++ s) (highOf lifted hi f) k at′) ≡ true))
-        → (fitsIn (leftIn fresh f lifted hi k at) ≡ true) × (fitsIn (edgeIn fresh w f lifted hi k at′) ≡ true)
-        → (fitsIn (leftIn fresh (tree s t f) lifted hi k at) ≡ true) × (fitsIn (edgeIn fresh w (tree s t f) lifted hi k at′) ≡ true)
-    unfolding leftIn edgeIn fitsIn
-    step-fits s t f lifted hi k at at′ e here on = go (before k (highOf lifted hi f)) refl (before (lifted ++ s) k) refl
-      where
-        go : (x : Bool) → before k (highOf lifted hi f) ≡ x → (y : Bool) → before (lifted ++ s) k ≡ y
-            → (fitsIn (leftIn fresh (tree s t f) lifted hi k at) ≡ true) × (fitsIn (edgeIn fresh w (tree s t f) lifted hi k at′) ≡ true)
-        go true a true b = rw (a, b) (both (here b a .0) refl, here b a .1)
-        go true a false b = rw (a, b) (refl, refl)
-        go false a y b = rw a (both (and-left (fits t) _ e) (on .0), on .1)
-
     mutual
       unfolding soundTree still levelled fitsIn leftIn edgeIn
 
@@ -457,7 +408,11 @@ module _ (fresh : ℕ → ℕ) where
           → (fitsIn (leftIn fresh f lifted hi k at) ≡ true) × (fitsIn (edgeIn fresh w f lifted hi k at′) ≡ true)
       cut-fits-in end h lifted lo hi k at at′ g n v e = (refl, refl)
       cut-fits-in (tree s t f) h lifted lo hi k at at′ g n v e =
-          step-fits s t f lifted hi k at at′ e
-          (λ x y. cut-fits t h (lifted ++ s) (highOf lifted hi f) k at at′ (branch-first s t f lifted lo hi g) x y n
-          (narrow-high f lifted lo hi k (branch-later s t f lifted lo hi g) v y) (and-left (fits t) _ e))
-          (cut-fits-in f h lifted lo hi k at at′ (branch-later s t f lifted lo hi g) n v (and-right (fits t) _ e))
+          let on = cut-fits-in f h lifted lo hi k at at′ (branch-later s t f lifted lo hi g) n v (and-right (fits t) _ e) in
+          cases (before k (highOf lifted hi f))
+          (λ a. cases (before (lifted ++ s) k)
+          (λ b. let here = cut-fits t h (lifted ++ s) (highOf lifted hi f) k at at′ (branch-first s t f lifted lo hi g) b a n
+          (narrow-high f lifted lo hi k (branch-later s t f lifted lo hi g) v a) (and-left (fits t) _ e) in
+          rw (a, b) (both (here .0) refl, here .1))
+          (λ b. rw (a, b) (refl, refl)))
+          (λ a. rw a (both (and-left (fits t) _ e) (on .0), on .1))

@@ -1,11 +1,7 @@
 -- A cut parts a settled sound tree: both parts are sound for their own ranges, of the same level, and hold the rows of their ranges.
-use Prim.Native.Nat.{ℕ, zero, suc}
-use mathlib.Core.Path.{_≡_, refl, sym, ap, ap₂, subst, _∙_}
-use mathlib.Core.List.{List, [], _∷_, _++_, append-nil}
-use mathlib.Core.Bool.{Bool, true, false, not, false≢true}
+use Rattle.image.specs.Prelude.{ℕ, zero, suc, _≡_, refl, sym, ap, ap₂, subst, _∙_, List, [], _∷_, _++_, append-nil, Bool, true, false, not, false≢true, cases}
 use Rattle.image.specs.Bytes.{before, shared}
 use Rattle.image.specs.Path.{owns}
-use Rattle.image.specs.Entry.{Message}
 use Rattle.image.specs.Table.{Row, everyKey, underPrefix}
 use Rattle.image.specs.Image.{Tree, unread, leaf, interior, Forest, end, tree}
 use Rattle.image.specs.Meaning.{highOf, applyAll, rows, rowsIn}
@@ -14,10 +10,9 @@ use Rattle.octets.specs.Order.{not-so, before-le, before-asym}
 use Rattle.laws.specs.Rising.{one-key}
 use Rattle.laws.specs.LookupTable.{parts, later-none, under-high}
 use Rattle.laws.specs.RowsRising.{every-key, is-true}
-use Rattle.laws.specs.Filter.{keep, upTo, since, keep-append, keep-all, keep-none, every-imp, Rowed, leaf-rowed, leaf-rows, leaf-sound, rowed-low, rowed-high}
+use Rattle.laws.specs.Filter.{keep, upTo, since, keep-append, keep-all, keep-none, every-imp, Rowed, leaf-rowed, leaf-rows, leaf-sound, rowed-low, rowed-high, not-not}
 use Rattle.laws.specs.Pieces.{still, levelled, Good, Run, done, more, joined, raise, run-high, run-join, rows-join, high-raise, rows-raise, Branches, branch-first, branch-later, branches-run, node-good, node-rows, over-run, over-rows, inner-branches, inner-first}
 use Rattle.slice.specs.Slicing.Slice.{restIn, packed, after, leftOf, leftIn, rightOf, edgeIn}
-use Rattle.laws.specs.Filter.{not-not}
 use Rattle.laws.specs.PushDown.{keys-owned}
 
 -- k ≤ hi, the tree before it
@@ -159,57 +154,18 @@ module _ (fresh : ℕ → ℕ) (w : Bool) where
               ∙ sym (keep-append (since k) (rows t (lifted ++ s) (highOf lifted hi f)) (rowsIn f lifted hi));
         })
 
-    cut-step : before k (lifted ++ s) ≡ false
-        → (before (lifted ++ s) k ≡ true → before k (highOf lifted hi f) ≡ true
-        → Cut h (lifted ++ s) k (highOf lifted hi f) (leftOf fresh t (lifted ++ s) (highOf lifted hi f) k at)
-        (rightOf fresh w t (lifted ++ s) (highOf lifted hi f) k at′) (rows t (lifted ++ s) (highOf lifted hi f)))
-        → (before k (highOf lifted hi f) ≡ false
-        → Cuts h (highOf lifted hi f) k hi (leftIn fresh f lifted hi k at) (edgeIn fresh w f lifted hi k at′) (restIn f lifted hi k) (rowsIn f lifted hi))
-        → Cuts h (lifted ++ s) k hi (leftIn fresh (tree s t f) lifted hi k at) (edgeIn fresh w (tree s t f) lifted hi k at′)
-        (restIn (tree s t f) lifted hi k) (rowsIn (tree s t f) lifted hi)
-    cut-step a here on = go (before k (highOf lifted hi f)) refl (before (lifted ++ s) k) refl
-      where
-        go : (x : Bool) → before k (highOf lifted hi f) ≡ x → (y : Bool) → before (lifted ++ s) k ≡ y
-            → Cuts h (lifted ++ s) k hi (leftIn fresh (tree s t f) lifted hi k at) (edgeIn fresh w (tree s t f) lifted hi k at′)
-            (restIn (tree s t f) lifted hi k) (rowsIn (tree s t f) lifted hi)
-        go true e true d = cut-inside e d (here d e)
-        go true e false d = cut-at e d a
-        go false e y d = cut-past e (on e)
-
-  no-level : (i : ℕ) (f : Forest) (ms : List Message) → levelled (interior i f ms) zero ≡ true → ⊥
-  unfolding levelled
-  no-level i f ms e = false≢true e
-
-  no-still : (i : ℕ) (f : Forest) (m : Message) (ms : List Message) → still (interior i f (m ∷ ms)) ≡ true → ⊥
-  unfolding still
-  no-still i f m ms e = false≢true e
-
-  no-read : (i : ℕ) (lo hi : List ℕ) → soundTree (unread i) lo hi ≡ true → ⊥
-  unfolding soundTree
-  no-read i lo hi e = false≢true e
-
-  at-end : (lifted hi k : List ℕ) → before k hi ≡ true → before k (highOf lifted hi end) ≡ false → ⊥
-  unfolding highOf
-  at-end lifted hi k a b = not-so a b
-
-  at-first : (lifted hi k s : List ℕ) (t : Tree) (f : Forest) → before k (highOf lifted hi (tree s t f)) ≡ false → before k (lifted ++ s) ≡ false
-  unfolding highOf
-  at-first lifted hi k s t f e = e
-
   cuts-first : {h : ℕ} {k hi : List ℕ} {l e r : Forest} {t : List Row} (lo lo′ : List ℕ) → lo ≡ lo′ → Cuts h lo k hi l e r t → Cuts h lo′ k hi l e r t
   cuts-first {h} {k} {hi} {l} {e} {r} {t} lo lo′ q c = subst (λ x. Cuts h x k hi l e r t) q c
 
-  high-first : (lifted hi s : List ℕ) (t : Tree) (f : Forest) → lifted ++ s ≡ highOf lifted hi (tree s t f)
-  unfolding highOf
-  high-first lifted hi s t f = refl
-
   mutual
+    unfolding soundTree still levelled highOf
+
     pub cut-tree : (t : Tree) (h : ℕ) (lo hi k : List ℕ) (at at′ : ℕ) → Good h t lo hi → before lo k ≡ true → before k hi ≡ true
         → Cut h lo k hi (leftOf fresh t lo hi k at) (rightOf fresh w t lo hi k at′) (rows t lo hi)
-    cut-tree (unread i) h lo hi k at at′ g a b = absurd (no-read i lo hi (g .sound))
+    cut-tree (unread i) h lo hi k at at′ g a b = absurd (false≢true (g .sound))
     cut-tree (leaf i rs) h lo hi k at at′ g a b = cut-leaf i rs h lo hi k at at′ g a b
-    cut-tree (interior i f (m ∷ ms)) h lo hi k at at′ g a b = absurd (no-still i f m ms (g .holdsNoMessage))
-    cut-tree (interior i f []) zero lo hi k at at′ g a b = absurd (no-level i f [] (g .level))
+    cut-tree (interior i f (m ∷ ms)) h lo hi k at at′ g a b = absurd (false≢true (g .holdsNoMessage))
+    cut-tree (interior i f []) zero lo hi k at at′ g a b = absurd (false≢true (g .level))
     cut-tree (interior i f []) (suc h) lo hi k at at′ g a b =
         cut-inner i f h lo hi k at at′ g a
         (cuts-first (highOf (shared lo hi) hi f) lo (inner-first i f lo hi g)
@@ -218,12 +174,13 @@ module _ (fresh : ℕ → ℕ) (w : Bool) where
 
     pub cut-forest : (f : Forest) (h : ℕ) (lifted lo hi k : List ℕ) (at at′ : ℕ) → Branches h f lifted lo hi → before k (highOf lifted hi f) ≡ false → before k hi ≡ true
         → Cuts h (highOf lifted hi f) k hi (leftIn fresh f lifted hi k at) (edgeIn fresh w f lifted hi k at′) (restIn f lifted hi k) (rowsIn f lifted hi)
-    cut-forest end h lifted lo hi k at at′ g a b = absurd (at-end lifted hi k b a)
+    cut-forest end h lifted lo hi k at at′ g a b = not-so b a
     cut-forest (tree s t f) h lifted lo hi k at at′ g a b =
-        cuts-first (lifted ++ s) (highOf lifted hi (tree s t f)) (high-first lifted hi s t f)
-        (cut-step s t f h lifted lo hi k at at′ g (at-first lifted hi k s t f a)
-        (λ x y. cut-tree t h (lifted ++ s) (highOf lifted hi f) k at at′ (branch-first s t f lifted lo hi g) x y)
-        (λ x. cut-forest f h lifted lo hi k at at′ (branch-later s t f lifted lo hi g) x b))
+        cases (before k (highOf lifted hi f))
+        (λ e. cases (before (lifted ++ s) k)
+        (λ d. cut-inside s t f h lifted lo hi k at at′ g e d (cut-tree t h (lifted ++ s) (highOf lifted hi f) k at at′ (branch-first s t f lifted lo hi g) d e))
+        (λ d. cut-at s t f h lifted lo hi k at at′ g e d a))
+        (λ e. cut-past s t f h lifted lo hi k at at′ g e (cut-forest f h lifted lo hi k at at′ (branch-later s t f lifted lo hi g) e b))
 
   pub inner-cuts : (i : ℕ) (f : Forest) (h : ℕ) (lo hi k : List ℕ) (at at′ : ℕ) → Good (suc h) (interior i f []) lo hi → before lo k ≡ true → before k hi ≡ true
       → Cuts h lo k hi (leftIn fresh f (shared lo hi) hi k at) (edgeIn fresh w f (shared lo hi) hi k at′) (restIn f (shared lo hi) hi k) (rowsIn f (shared lo hi) hi)

@@ -1,11 +1,5 @@
 -- The node numbers of the two parts of a cut: each number stands in them at most as often as in the whole and among the new ones.
-use Prim.Native.Nat.{ℕ, zero, suc, _+_, _≤_}
-use mathlib.Core.Path.{_≡_, refl, ap, ap₂, _∙_}
-use mathlib.Core.List.{List, [], _∷_, _++_}
-use mathlib.Core.Bool.{Bool, true, false, _||_, cond, false≢true}
-use native.Mathlib.Omega.{arith}
-use lib.Dec.{eqb}
-use borrow.Author.Tests.{eqb-true, ne-eqb, eq-eqb}
+use Rattle.image.specs.Prelude.{ℕ, zero, suc, _+_, _≤_, _≡_, refl, ap, ap₂, _∙_, List, [], _∷_, _++_, Bool, true, false, cond, false≢true, arith, eqb, eqb-true, ne-eqb, eq-eqb, cases}
 use Rattle.image.specs.Bytes.{before, shared}
 use Rattle.image.specs.Entry.{Message}
 use Rattle.image.specs.Table.{Row}
@@ -123,28 +117,8 @@ module _ (j : ℕ) where
         let r : Forest = restIn f (shared lo hi) hi k in
         omega (arith, met-node (fresh at) lo k l, met-packed w fresh′ at′ (taken w h) k hi e r)
 
-    step-numbers : (s : List ℕ) (t : Tree) (f : Forest) (lifted hi k : List ℕ) (at at′ c : ℕ)
-        → met j (leftOf fresh t (lifted ++ s) (highOf lifted hi f) k at) + metIn j (rightOf fresh′ w t (lifted ++ s) (highOf lifted hi f) k at′) ≤ met j t + c
-        → metIn j (leftIn fresh f lifted hi k at) + metIn j (edgeIn fresh′ w f lifted hi k at′) + metIn j (restIn f lifted hi k) ≤ metIn j f + c
-        → metIn j (leftIn fresh (tree s t f) lifted hi k at) + metIn j (edgeIn fresh′ w (tree s t f) lifted hi k at′) + metIn j (restIn (tree s t f) lifted hi k)
-        ≤ metIn j (tree s t f) + c
-    unfolding leftIn edgeIn restIn metIn
-    step-numbers s t f lifted hi k at at′ c here on = go (before k (highOf lifted hi f)) refl (before (lifted ++ s) k) refl
-      where
-        go : (x : Bool) → before k (highOf lifted hi f) ≡ x → (y : Bool) → before (lifted ++ s) k ≡ y
-            → metIn j (leftIn fresh (tree s t f) lifted hi k at) + metIn j (edgeIn fresh′ w (tree s t f) lifted hi k at′) + metIn j (restIn (tree s t f) lifted hi k)
-            ≤ metIn j (tree s t f) + c
-        go true a true b = rw (a, b) (omega (arith, here, met-raise lifted f))
-        go true a false b = rw (a, b) (omega (arith, met-raise lifted f))
-        go false a y b = rw a (omega (arith, on))
-
-    none-numbers : (lifted hi k : List ℕ) (at at′ c : ℕ)
-        → metIn j (leftIn fresh end lifted hi k at) + metIn j (edgeIn fresh′ w end lifted hi k at′) + metIn j (restIn end lifted hi k) ≤ metIn j end + c
-    unfolding leftIn edgeIn restIn metIn
-    none-numbers lifted hi k at at′ c = omega arith
-
     mutual
-      unfolding levelled levelledIn
+      unfolding levelled levelledIn leftIn edgeIn restIn metIn
 
       pub cut-numbers : (t : Tree) (h : ℕ) (lo hi k : List ℕ) (at at′ : ℕ) → levelled t h ≡ true
           → met j (leftOf fresh t lo hi k at) + metIn j (rightOf fresh′ w t lo hi k at′) ≤ met j t + (spent fresh j h at + spent fresh′ j (taken w h) at′)
@@ -157,11 +131,13 @@ module _ (j : ℕ) where
       pub cut-numbers-in : (f : Forest) (h : ℕ) (lifted hi k : List ℕ) (at at′ : ℕ) → levelledIn f h ≡ true
           → metIn j (leftIn fresh f lifted hi k at) + metIn j (edgeIn fresh′ w f lifted hi k at′) + metIn j (restIn f lifted hi k)
           ≤ metIn j f + (spent fresh j h at + spent fresh′ j (taken w h) at′)
-      cut-numbers-in end h lifted hi k at at′ e = none-numbers lifted hi k at at′ (spent fresh j h at + spent fresh′ j (taken w h) at′)
+      cut-numbers-in end h lifted hi k at at′ e = omega arith
       cut-numbers-in (tree s t f) h lifted hi k at at′ e =
-          step-numbers s t f lifted hi k at at′ (spent fresh j h at + spent fresh′ j (taken w h) at′)
-          (cut-numbers t h (lifted ++ s) (highOf lifted hi f) k at at′ (and-left _ _ e))
-          (cut-numbers-in f h lifted hi k at at′ (and-right (levelled t h) _ e))
+          cases (before k (highOf lifted hi f))
+          (λ a. cases (before (lifted ++ s) k)
+          (λ b. rw (a, b) (omega (arith, cut-numbers t h (lifted ++ s) (highOf lifted hi f) k at at′ (and-left _ _ e), met-raise lifted f)))
+          (λ b. rw (a, b) (omega (arith, met-raise lifted f))))
+          (λ a. rw a (omega (arith, cut-numbers-in f h lifted hi k at at′ (and-right (levelled t h) _ e))))
 
 -- numbers that are all j + 1 are never j
 other-spent : (j c at : ℕ) → spent (λ (i : ℕ). suc j) j c at ≡ 0
@@ -194,11 +170,7 @@ right-numbers-in j fresh w f h lifted hi k at e =
 not-in : (i : ℕ) (is : List ℕ) → hits i is ≡ 0 → isIn i is ≡ false
 unfolding hits isIn one
 not-in i [] e = refl
-not-in i (x ∷ is) e = go (eqb i x) refl (not-in i is)
-  where
-    go : (b : Bool) → eqb i x ≡ b → (hits i is ≡ 0 → isIn i is ≡ false) → eqb i x || isIn i is ≡ false
-    go true f ih = let z : one i x ≡ 1 = rw f in absurd (omega arith)
-    go false f ih = rw f (ih (omega arith))
+not-in i (x ∷ is) e = cases (eqb i x) (λ f. let z : one i x ≡ 1 = rw f in absurd (omega arith)) (λ f. rw f (not-in i is (omega arith)))
 
 pub once-of : (is : List ℕ) → ((j : ℕ) → hits j is ≤ 1) → once is ≡ true
 unfolding once hits one

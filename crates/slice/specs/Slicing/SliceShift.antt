@@ -1,9 +1,5 @@
 -- Slices do not depend on what both pivots and the cut begin with: code may slice by what is left after the lifted bytes.
-use Prim.Native.Nat.{ℕ, suc}
-use mathlib.Core.Path.{_≡_, refl, ap, ap₂, _∙_}
-use mathlib.Core.List.{List, [], _∷_, _++_, append-assoc}
-use mathlib.Core.Bool.{Bool, true, false, not, cond}
-use lib.ListN.{length, drop}
+use Rattle.image.specs.Prelude.{ℕ, suc, _≡_, refl, ap, ap₂, _∙_, List, [], _∷_, _++_, append-assoc, Bool, true, false, not, cond, length, drop}
 use Rattle.image.specs.Bytes.{before, shared}
 use Rattle.image.specs.Table.{Row, underPrefix}
 use Rattle.image.specs.Image.{Tree, unread, leaf, interior, Forest, end, tree}
@@ -102,18 +98,6 @@ module _ (prefix : List ℕ) where
       (rest-shift f l hi k))
 
   module _ (fresh : ℕ → ℕ) where
-    left-step : (s : List ℕ) (t : Tree) (f : Forest) (l hi k : List ℕ) (at : ℕ)
-        → leftOf fresh t (prefix ++ (l ++ s)) (prefix ++ highOf l hi f) (prefix ++ k) at ≡ leftOf fresh t (l ++ s) (highOf l hi f) k at
-        → leftIn fresh f (prefix ++ l) (prefix ++ hi) (prefix ++ k) at ≡ raise prefix (leftIn fresh f l hi k at)
-        → leftIn fresh (tree s t f) (prefix ++ l) (prefix ++ hi) (prefix ++ k) at ≡ raise prefix (leftIn fresh (tree s t f) l hi k at)
-    unfolding leftIn
-    left-step s t f l hi k at here on =
-        rw (test-high l hi k f, test-low l k s)
-        (raise-cond (before k (highOf l hi f)) _ _ _ _
-        (raise-cond (before (l ++ s) k) _ _ _ _
-        (raise-tree l s _ _ end end (ap₂ (λ x y. leftOf fresh t x y (prefix ++ k) at) (append-assoc prefix l s) (high-shift prefix l hi f) ∙ here) raise-end) raise-end)
-        (raise-tree l s t t _ _ refl on))
-
     mutual
       unfolding leftOf leftIn
 
@@ -130,18 +114,12 @@ module _ (prefix : List ℕ) where
       pub left-shift-in : (f : Forest) (l hi k : List ℕ) (at : ℕ) → leftIn fresh f (prefix ++ l) (prefix ++ hi) (prefix ++ k) at ≡ raise prefix (leftIn fresh f l hi k at)
       left-shift-in end l hi k at = raise-end
       left-shift-in (tree s t f) l hi k at =
-          left-step s t f l hi k at (left-shift t (l ++ s) (highOf l hi f) k at) (left-shift-in f l hi k at)
-
-    edge-step : (w : Bool) (s : List ℕ) (t : Tree) (f : Forest) (l hi k : List ℕ) (at : ℕ)
-        → rightOf fresh w t (prefix ++ (l ++ s)) (prefix ++ highOf l hi f) (prefix ++ k) at ≡ raise prefix (rightOf fresh w t (l ++ s) (highOf l hi f) k at)
-        → edgeIn fresh w f (prefix ++ l) (prefix ++ hi) (prefix ++ k) at ≡ raise prefix (edgeIn fresh w f l hi k at)
-        → edgeIn fresh w (tree s t f) (prefix ++ l) (prefix ++ hi) (prefix ++ k) at ≡ raise prefix (edgeIn fresh w (tree s t f) l hi k at)
-    unfolding edgeIn
-    edge-step w s t f l hi k at here on =
-        rw (test-high l hi k f, test-low l k s)
-        (raise-cond (before k (highOf l hi f)) _ _ _ _
-        (raise-cond (before (l ++ s) k) _ _ _ _
-        (ap₂ (λ x y. rightOf fresh w t x y (prefix ++ k) at) (append-assoc prefix l s) (high-shift prefix l hi f) ∙ here) raise-end) on)
+          rw (test-high l hi k f, test-low l k s)
+          (raise-cond (before k (highOf l hi f)) _ _ _ _
+          (raise-cond (before (l ++ s) k) _ _ _ _
+          (raise-tree l s _ _ end end (ap₂ (λ x y. leftOf fresh t x y (prefix ++ k) at) (append-assoc prefix l s) (high-shift prefix l hi f) ∙ left-shift t (l ++ s) (highOf l hi f) k at)
+          raise-end) raise-end)
+          (raise-tree l s t t _ _ refl (left-shift-in f l hi k at)))
 
     right-leaf : (n : ℕ) (rs : List Row) (lo hi k : List ℕ)
         → tree (prefix ++ k) (leaf n (lowerRows (shared (prefix ++ k) (prefix ++ hi)) (keep (since (prefix ++ k)) (underPrefix (shared (prefix ++ lo) (prefix ++ hi)) rs)))) end
@@ -166,4 +144,8 @@ module _ (prefix : List ℕ) where
       pub edge-shift : (w : Bool) (f : Forest) (l hi k : List ℕ) (at : ℕ) → edgeIn fresh w f (prefix ++ l) (prefix ++ hi) (prefix ++ k) at ≡ raise prefix (edgeIn fresh w f l hi k at)
       edge-shift w end l hi k at = raise-end
       edge-shift w (tree s t f) l hi k at =
-          edge-step w s t f l hi k at (right-shift w t (l ++ s) (highOf l hi f) k at) (edge-shift w f l hi k at)
+          rw (test-high l hi k f, test-low l k s)
+          (raise-cond (before k (highOf l hi f)) _ _ _ _
+          (raise-cond (before (l ++ s) k) _ _ _ _
+          (ap₂ (λ x y. rightOf fresh w t x y (prefix ++ k) at) (append-assoc prefix l s) (high-shift prefix l hi f) ∙ right-shift w t (l ++ s) (highOf l hi f) k at) raise-end)
+          (edge-shift w f l hi k at))

@@ -1,9 +1,5 @@
 -- What code does: at each node the pivots and the cut are what is left after the lifted bytes, so that the node itself lifts nothing.
-use Prim.Native.Nat.{ℕ, suc}
-use mathlib.Core.Path.{_≡_, refl, sym, ap, _∙_}
-use mathlib.Core.List.{List, [], _∷_, _++_}
-use mathlib.Core.Bool.{Bool, true}
-use lib.ListN.{length, drop}
+use Rattle.image.specs.Prelude.{ℕ, suc, _≡_, refl, sym, ap, _∙_, List, [], _∷_, _++_, Bool, true, length, drop}
 use Rattle.image.specs.Bytes.{before, shared}
 use Rattle.image.specs.Table.{Row, underPrefix}
 use Rattle.image.specs.Image.{Tree, leaf, interior, Forest, end, tree}
@@ -42,7 +38,7 @@ module _ (lo hi : List ℕ) where
         (λ i. rightOf fresh w t (sym split-low i) (sym split-high i) (sym (split-cut k a b) i) at)
         ∙ right-shift (shared lo hi) fresh w t (drop d lo) (drop d hi) (drop d k) at
 
-under-none : (t : List Row) → underPrefix [] t ≡ t
+pub under-none : (t : List Row) → underPrefix [] t ≡ t
 unfolding underPrefix
 under-none [] = refl
 under-none (r ∷ t) = ap (λ u. r ∷ u) (under-none t)

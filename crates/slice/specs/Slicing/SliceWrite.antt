@@ -1,13 +1,5 @@
 -- Slices written into an image: page by page into free nodes, the deepest first. What is read back is the slice.
-use Prim.Native.Nat.{ℕ, zero, suc, _+_, _*_, _≤_}
-use mathlib.Core.Path.{_≡_, refl, sym, ap, subst, _∙_}
-use mathlib.Core.List.{List, [], _∷_, _++_}
-use mathlib.Core.Bool.{Bool, true, false, _&&_, cond, false≢true}
-use mathlib.Core.Option.{Option, none, some}
-use native.Mathlib.Omega.{arith}
-use lib.ListN.{length, replicate, length-replicate}
-use lib.Dec.{leb, eqb}
-use borrow.Author.Tests.{leb-true, eqb-true, eq-eqb}
+use Rattle.image.specs.Prelude.{ℕ, zero, suc, _+_, _*_, _≤_, _≡_, refl, sym, ap, subst, _∙_, List, [], _∷_, _++_, Bool, true, false, _&&_, cond, false≢true, Option, none, some, arith, length, replicate, length-replicate, leb, eqb, leb-true, eqb-true, eq-eqb, cases}
 use Rattle.image.specs.Bytes.{before, shared}
 use Rattle.image.specs.Entry.{Message, pivotLimit}
 use Rattle.image.specs.Table.{Row, underPrefix}
@@ -43,11 +35,7 @@ pageOf-full h (interior i f ms) e =
 pub in-hits : (j : ℕ) (is : List ℕ) → isIn j is ≡ true → 1 ≤ hits j is
 unfolding isIn hits one
 in-hits j [] e = absurd (false≢true e)
-in-hits j (i ∷ is) e = go (eqb j i) refl (in-hits j is)
-  where
-    go : (x : Bool) → eqb j i ≡ x → (isIn j is ≡ true → 1 ≤ hits j is) → 1 ≤ cond (eqb j i) 1 0 + hits j is
-    go true q ih = rw q (omega arith)
-    go false q ih = rw q (omega (arith, ih (rw q at e)))
+in-hits j (i ∷ is) e = cases (eqb j i) (λ q. rw q (omega arith)) (λ q. rw q (omega (arith, in-hits j is (rw q at e))))
 
 pub stays : (h : ℕ) (s s′ : List ℕ) (t : Tree) → treeAt h s (numberOf t) ≡ t → ((j : ℕ) → 1 ≤ met j t → nodeBytes s′ j ≡ nodeBytes s j) → treeAt h s′ (numberOf t) ≡ t
 unfolding Keeps
@@ -203,55 +191,9 @@ module _ (fresh : ℕ → ℕ) where
         reads = node-done l s′ (fresh at) lo k g (omega (arith, d .onlyIn .size)) fit new (d .readsIn);
       })
 
-  step-written : (q : List ℕ) (t : Tree) (f : Forest) (h : ℕ) (lifted hi k : List ℕ) (at : ℕ) (s : List ℕ) → levelled t h ≡ true
-      → treeAt h s (numberOf t) ≡ t → ((j : ℕ) → metIn j (tree q t f) + spent fresh j h at ≤ 1)
-      → (before (lifted ++ q) k ≡ true → before k (highOf lifted hi f) ≡ true
-      → LeftDone s (leftWrite t h (lifted ++ q) (highOf lifted hi f) k at s) h at (leftOf fresh t (lifted ++ q) (highOf lifted hi f) k at))
-      → LeftDoneIn s (leftWriteIn f h lifted hi k at s) h at (leftIn fresh f lifted hi k at)
-      → LeftDoneIn s (leftWriteIn (tree q t f) h lifted hi k at s) h at (leftIn fresh (tree q t f) lifted hi k at)
-  unfolding leftWriteIn leftIn ReadsIn metIn
-  step-written q t f h lifted hi k at s lv e dist here on = go (before k (highOf lifted hi f)) refl (before (lifted ++ q) k) refl
-    where
-      go : (x : Bool) → before k (highOf lifted hi f) ≡ x → (y : Bool) → before (lifted ++ q) k ≡ y
-          → LeftDoneIn s (leftWriteIn (tree q t f) h lifted hi k at s) h at (leftIn fresh (tree q t f) lifted hi k at)
-      go true a true b =
-          rw (a, b)
-          (record {
-            onlyIn = here b a .only;
-            readsIn =
-                (ap (treeAt h (leftWrite t h (lifted ++ q) (highOf lifted hi f) k at s)) (number-left t h (lifted ++ q) (highOf lifted hi f) k at lv) ∙ here b a .reads, tt);
-          })
-      go true a false b = rw (a, b) (record { onlyIn = only-none fresh s h at; readsIn = tt })
-      go false a y b =
-          rw a
-          (record {
-            onlyIn = on .onlyIn;
-            readsIn = (
-              stays h s (leftWriteIn f h lifted hi k at s) t e (λ j m. on .onlyIn .others j (let d : met j t + metIn j f + spent fresh j h at ≤ 1 = dist j in omega arith)),
-              on .readsIn,
-            );
-          })
-
-  own-new : (i : ℕ) (f : Forest) (ms : List Message) (h at : ℕ) → met (fresh at) (interior i f ms) + spent fresh (fresh at) (suc h) at ≤ 1
-      → metIn (fresh at) f + spent fresh (fresh at) h (suc at) ≡ 0
-  unfolding met spent
-  own-new i f ms h at d = omega (arith, one-same (fresh at))
-
-  pub less-met : (i : ℕ) (f : Forest) (ms : List Message) (h at j : ℕ) → met j (interior i f ms) + spent fresh j (suc h) at ≤ 1 → metIn j f + spent fresh j h (suc at) ≤ 1
-  unfolding met spent
-  less-met i f ms h at j d = omega arith
-
-  pub first-met : (q : List ℕ) (t : Tree) (f : Forest) (j c : ℕ) → metIn j (tree q t f) + c ≤ 1 → met j t + c ≤ 1
-  unfolding metIn
-  first-met q t f j c d = omega arith
-
-  pub later-met : (q : List ℕ) (t : Tree) (f : Forest) (j c : ℕ) → metIn j (tree q t f) + c ≤ 1 → metIn j f + c ≤ 1
-  unfolding metIn
-  later-met q t f j c d = omega arith
-
   module _ (n : ℕ) (room : (i : ℕ) → 1024 * fresh i + 1024 ≤ n) where
     mutual
-      unfolding soundTree still levelled fitsIn leftWriteIn leftIn ReadsIn
+      unfolding soundTree still levelled fitsIn leftWriteIn leftIn ReadsIn met metIn spent
 
       pub left-written : (t : Tree) (h : ℕ) (lo hi k : List ℕ) (at : ℕ) (s : List ℕ) → n ≤ length s → Good h t lo hi → fits t ≡ true → before lo k ≡ true → before k hi ≡ true
           → length k ≤ pivotLimit → treeAt h s (numberOf t) ≡ t → ((j : ℕ) → met j t + spent fresh j h at ≤ 1)
@@ -266,18 +208,30 @@ module _ (fresh : ℕ → ℕ) where
       left-written (interior i f []) (suc (suc l)) lo hi k at s big g e a b short r d =
           left-inner i f l lo hi k at s (leftWriteIn f (suc l) (shared lo hi) hi k (suc at) s) (omega (arith, room at))
           (cut-fits fresh true (interior i f []) (suc (suc l)) lo hi k at 0 g a b short refl e .0)
-          (omega (arith, left-numbers-in (fresh at) fresh f (suc l) (shared lo hi) hi k (suc at) (inner-branches i f lo hi g .levels), own-new i f [] (suc l) at (d (fresh at))))
+          (omega (arith, left-numbers-in (fresh at) fresh f (suc l) (shared lo hi) hi k (suc at) (inner-branches i f lo hi g .levels), d (fresh at), one-same (fresh at)))
           refl
           (left-written-in f (suc l) (shared lo hi) lo hi k (suc at) s big (inner-branches i f lo hi g) (and-right (leb (branchesSize f) entriesLimit && shortIn f) _ e) short
-          (branches-read l s (numberOf (interior i f [])) i f [] r) (λ j. less-met i f [] (suc l) at j (d j)))
+          (branches-read l s (numberOf (interior i f [])) i f [] r) (λ j. omega (arith, d j)))
 
       pub left-written-in : (f : Forest) (h : ℕ) (lifted lo hi k : List ℕ) (at : ℕ) (s : List ℕ) → n ≤ length s → Branches h f lifted lo hi → fitsIn f ≡ true
           → length k ≤ pivotLimit → ReadsIn (λ j. treeAt h s j) f → ((j : ℕ) → metIn j f + spent fresh j h at ≤ 1)
           → LeftDoneIn s (leftWriteIn f h lifted hi k at s) h at (leftIn fresh f lifted hi k at)
       left-written-in end h lifted lo hi k at s big g e short r d = record { onlyIn = only-none fresh s h at; readsIn = tt }
       left-written-in (tree q t f) h lifted lo hi k at s big g e short r d =
-          step-written q t f h lifted hi k at s (branch-first q t f lifted lo hi g .level) (r .0) d
-          (λ x y. left-written t h (lifted ++ q) (highOf lifted hi f) k at s big (branch-first q t f lifted lo hi g) (and-left (fits t) _ e) x y short (r .0)
-          (λ j. first-met q t f j (spent fresh j h at) (d j)))
-          (left-written-in f h lifted lo hi k at s big (branch-later q t f lifted lo hi g) (and-right (fits t) _ e) short (r .1)
-          (λ j. later-met q t f j (spent fresh j h at) (d j)))
+          let on = left-written-in f h lifted lo hi k at s big (branch-later q t f lifted lo hi g) (and-right (fits t) _ e) short (r .1) (λ j. omega (arith, d j)) in
+          cases (before k (highOf lifted hi f))
+          (λ a. cases (before (lifted ++ q) k)
+          (λ b. let first = branch-first q t f lifted lo hi g in
+          let here = left-written t h (lifted ++ q) (highOf lifted hi f) k at s big first (and-left (fits t) _ e) b a short (r .0) (λ j. omega (arith, d j)) in
+          rw (a, b)
+          (record {
+            onlyIn = here .only;
+            readsIn =
+                (ap (treeAt h (leftWrite t h (lifted ++ q) (highOf lifted hi f) k at s)) (number-left t h (lifted ++ q) (highOf lifted hi f) k at (first .level)) ∙ here .reads, tt);
+          }))
+          (λ b. rw (a, b) (record { onlyIn = only-none fresh s h at; readsIn = tt })))
+          (λ a. rw a
+          (record {
+            onlyIn = on .onlyIn;
+            readsIn = (stays h s (leftWriteIn f h lifted hi k at s) t (r .0) (λ j m. on .onlyIn .others j (omega (arith, d j))), on .readsIn);
+          }))

@@ -1,9 +1,5 @@
 -- The swing: a settled tree under other bytes is sound there, when its paths are well formed there. And the middle of a move as one tree.
-use Prim.Native.Nat.{ℕ}
-use mathlib.Core.Path.{_≡_, refl, sym, ap, _∙_}
-use mathlib.Core.List.{List, [], _∷_, _++_, append-assoc}
-use mathlib.Core.Bool.{Bool, true, _&&_, false≢true}
-use lib.Seq.{drop-append-seam}
+use Rattle.image.specs.Prelude.{ℕ, _≡_, refl, sym, ap, _∙_, List, [], _∷_, _++_, append-assoc, Bool, true, _&&_, false≢true, drop-append-seam}
 use Rattle.image.specs.Bytes.{before, shared}
 use Rattle.image.specs.Path.{owns, wellFormed}
 use Rattle.image.specs.Table.{Row, everyKey, rising, underPrefix, renamed}

@@ -1,11 +1,5 @@
 -- The middle of a move, one node a level, as one tree; and the empty trees that close the gap.
-use Prim.Native.Nat.{ℕ, zero, suc, _-_, _≤_}
-use mathlib.Core.Path.{_≡_, refl, sym, _∙_}
-use mathlib.Core.List.{List, [], append-nil}
-use mathlib.Core.Bool.{true, false}
-use native.Mathlib.Omega.{arith}
-use lib.ListN.{length}
-use borrow.Author.Tests.{le-leb}
+use Rattle.image.specs.Prelude.{ℕ, zero, suc, _-_, _≤_, _≡_, refl, sym, _∙_, List, [], append-nil, true, false, arith, length, le-leb}
 use Rattle.image.specs.Bytes.{before, begins, shared}
 use Rattle.image.specs.Entry.{pivotLimit}
 use Rattle.image.specs.Table.{everyKey, rising, underPrefix}

@@ -1,9 +1,5 @@
 -- The written slices, too, do not depend on the lifted bytes: the contracts of the code that slices are equations with these.
-use Prim.Native.Nat.{ℕ, zero, suc}
-use mathlib.Core.Path.{_≡_, refl, sym, ap, ap₂, _∙_}
-use mathlib.Core.List.{List, [], _++_, append-assoc}
-use mathlib.Core.Bool.{Bool, true, false, cond}
-use lib.ListN.{length, drop}
+use Rattle.image.specs.Prelude.{ℕ, zero, suc, _≡_, refl, sym, ap, ap₂, _∙_, List, [], _++_, append-assoc, Bool, true, false, cond, length, drop}
 use Rattle.image.specs.Bytes.{before, shared}
 use Rattle.image.specs.Table.{Row}
 use Rattle.image.specs.Image.{Tree, unread, leaf, interior, Forest, end, tree}
@@ -24,17 +20,6 @@ cond-path true a b a′ b′ p q = p
 cond-path false a b a′ b′ p q = q
 
 module _ (prefix : List ℕ) (fresh : ℕ → ℕ) where
-  left-step : (q : List ℕ) (t : Tree) (f : Forest) (h : ℕ) (l hi k : List ℕ) (at : ℕ) (s : List ℕ)
-      → leftWrite fresh t h (prefix ++ (l ++ q)) (prefix ++ highOf l hi f) (prefix ++ k) at s ≡ leftWrite fresh t h (l ++ q) (highOf l hi f) k at s
-      → leftWriteIn fresh f h (prefix ++ l) (prefix ++ hi) (prefix ++ k) at s ≡ leftWriteIn fresh f h l hi k at s
-      → leftWriteIn fresh (tree q t f) h (prefix ++ l) (prefix ++ hi) (prefix ++ k) at s ≡ leftWriteIn fresh (tree q t f) h l hi k at s
-  unfolding leftWriteIn
-  left-step q t f h l hi k at s here on =
-      rw (test-high prefix l hi k f, test-low prefix l k q)
-      (cond-path (before k (highOf l hi f)) _ _ _ _
-      (cond-path (before (l ++ q) k) _ _ _ _
-      (ap₂ (λ x y. leftWrite fresh t h x y (prefix ++ k) at s) (append-assoc prefix l q) (high-shift prefix l hi f) ∙ here) refl) on)
-
   left-page : (t : Tree) (h : ℕ) (lo hi k : List ℕ) (at : ℕ) → pageOf h (leftOf fresh t (prefix ++ lo) (prefix ++ hi) (prefix ++ k) at) ≡ pageOf h (leftOf fresh t lo hi k at)
   left-page t h lo hi k at = ap (pageOf h) (left-shift prefix fresh t lo hi k at)
 
@@ -53,7 +38,11 @@ module _ (prefix : List ℕ) (fresh : ℕ → ℕ) where
     pub left-write-shift-in : (f : Forest) (h : ℕ) (l hi k : List ℕ) (at : ℕ) (s : List ℕ) → leftWriteIn fresh f h (prefix ++ l) (prefix ++ hi) (prefix ++ k) at s ≡ leftWriteIn fresh f h l hi k at s
     left-write-shift-in end h l hi k at s = refl
     left-write-shift-in (tree q t f) h l hi k at s =
-        left-step q t f h l hi k at s (left-write-shift t h (l ++ q) (highOf l hi f) k at s) (left-write-shift-in f h l hi k at s)
+        rw (test-high prefix l hi k f, test-low prefix l k q)
+        (cond-path (before k (highOf l hi f)) _ _ _ _
+        (cond-path (before (l ++ q) k) _ _ _ _
+        (ap₂ (λ x y. leftWrite fresh t h x y (prefix ++ k) at s) (append-assoc prefix l q) (high-shift prefix l hi f) ∙ left-write-shift t h (l ++ q) (highOf l hi f) k at s) refl)
+        (left-write-shift-in f h l hi k at s))
 
   over-write-shift : (n h : ℕ) (lo hi : List ℕ) (g : Forest) (s : List ℕ) → overWrite n h (prefix ++ lo) (prefix ++ hi) (raise prefix g) s ≡ overWrite n h lo hi g s
   unfolding overWrite raise
@@ -69,17 +58,6 @@ module _ (prefix : List ℕ) (fresh : ℕ → ℕ) where
       ∙ over-write-shift m h (highOf [] hi r) hi r (overWrite n h k (highOf [] hi r) e s))
   packed-write-shift false h n m k hi e r s =
       ap (λ g. overWrite n h (prefix ++ k) (prefix ++ hi) g s) (joined-raise prefix e r) ∙ over-write-shift n h k hi (joined e r) s
-
-  edge-step : (w : Bool) (q : List ℕ) (t : Tree) (f : Forest) (h : ℕ) (l hi k : List ℕ) (at : ℕ) (s : List ℕ)
-      → rightWrite fresh w t h (prefix ++ (l ++ q)) (prefix ++ highOf l hi f) (prefix ++ k) at s ≡ rightWrite fresh w t h (l ++ q) (highOf l hi f) k at s
-      → edgeWrite fresh w f h (prefix ++ l) (prefix ++ hi) (prefix ++ k) at s ≡ edgeWrite fresh w f h l hi k at s
-      → edgeWrite fresh w (tree q t f) h (prefix ++ l) (prefix ++ hi) (prefix ++ k) at s ≡ edgeWrite fresh w (tree q t f) h l hi k at s
-  unfolding edgeWrite
-  edge-step w q t f h l hi k at s here on =
-      rw (test-high prefix l hi k f, test-low prefix l k q)
-      (cond-path (before k (highOf l hi f)) _ _ _ _
-      (cond-path (before (l ++ q) k) _ _ _ _
-      (ap₂ (λ x y. rightWrite fresh w t h x y (prefix ++ k) at s) (append-assoc prefix l q) (high-shift prefix l hi f) ∙ here) refl) on)
 
   right-leaf-page : (w : Bool) (i : ℕ) (rs : List Row) (h : ℕ) (lo hi k : List ℕ) (at : ℕ) (s : List ℕ)
       → rightWrite fresh w (leaf i rs) h (prefix ++ lo) (prefix ++ hi) (prefix ++ k) at s ≡ rightWrite fresh w (leaf i rs) h lo hi k at s
@@ -103,7 +81,11 @@ module _ (prefix : List ℕ) (fresh : ℕ → ℕ) where
         → edgeWrite fresh w f h (prefix ++ l) (prefix ++ hi) (prefix ++ k) at s ≡ edgeWrite fresh w f h l hi k at s
     edge-write-shift w end h l hi k at s = refl
     edge-write-shift w (tree q t f) h l hi k at s =
-        edge-step w q t f h l hi k at s (right-write-shift w t h (l ++ q) (highOf l hi f) k at s) (edge-write-shift w f h l hi k at s)
+        rw (test-high prefix l hi k f, test-low prefix l k q)
+        (cond-path (before k (highOf l hi f)) _ _ _ _
+        (cond-path (before (l ++ q) k) _ _ _ _
+        (ap₂ (λ x y. rightWrite fresh w t h x y (prefix ++ k) at s) (append-assoc prefix l q) (high-shift prefix l hi f) ∙ right-write-shift w t h (l ++ q) (highOf l hi f) k at s) refl)
+        (edge-write-shift w f h l hi k at s))
 
 -- the forms that code recurses by
 module _ (fresh : ℕ → ℕ) (lo hi k : List ℕ) (a : before lo k ≡ true) (b : before k hi ≡ true) where

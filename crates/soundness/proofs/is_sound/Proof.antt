@@ -1,4 +1,5 @@
-use borrow.Author.Needs.{needs}
+-- `is_sound` meets its contract. Relies on specs/Judged.
+use Rattle.image.specs.Prelude.{needs}
 use Rattle.soundness.specs.Judged.{verdict-yes, verdict-no}
 use Rattle.soundness.proofs.is_sound.Statement.{statement}
 use Rattle.soundness.proofs.is_sound.Tie as tie

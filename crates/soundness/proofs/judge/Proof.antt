@@ -1,5 +1,5 @@
-use native.Mathlib.Omega.{arith}
-use borrow.Author.Needs.{needs}
+-- `judge` meets its contract. Relies on specs/Judged.
+use Rattle.image.specs.Prelude.{arith, needs}
 use Rattle.soundness.specs.Judged.{judged-no-tree, judged-settled-yes, judged-settled-no, judged-yes, judged-no, count-it, whole-long}
 use Rattle.soundness.proofs.judge.Statement.{statement}
 use Rattle.soundness.proofs.judge.Tie as tie

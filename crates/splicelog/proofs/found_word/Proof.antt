@@ -1,6 +1,5 @@
 -- `found_word` meets its contract: one law of specs/ for each way out.
-use borrow.Author.Needs.{needs}
-use native.Mathlib.Omega.{arith}
+use Rattle.image.specs.Prelude.{needs, arith}
 use Rattle.splicelog.specs.Words.{length-bound, length-word, refused-word}
 use Rattle.splicelog.proofs.found_word.Statement.{statement}
 use Rattle.splicelog.proofs.found_word.Tie as tie

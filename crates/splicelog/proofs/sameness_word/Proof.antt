@@ -1,5 +1,5 @@
 -- `sameness_word` meets its contract: one law of specs/ for each way out.
-use borrow.Author.Needs.{needs}
+use Rattle.image.specs.Prelude.{needs}
 use Rattle.splicelog.specs.Words.{same-word, different-word, refused-sameness}
 use Rattle.splicelog.proofs.sameness_word.Statement.{statement}
 use Rattle.splicelog.proofs.sameness_word.Tie as tie

@@ -1,7 +1,6 @@
 -- `splicelog_batch` meets its contract: the front of the buffer is lent, and the answer told as one word. Relies on specs/BatchWord.
 use Rattle.splicelog.specs.BatchWord.{room-small, batch-small, front-small, front-meets}
-use borrow.Author.Needs.{needs}
-use native.Mathlib.Omega.{arith}
+use Rattle.image.specs.Prelude.{needs, arith}
 use Rattle.splicelog.proofs.splicelog_batch.Statement.{statement}
 use Rattle.splicelog.proofs.splicelog_batch.Tie as tie
 

@@ -1,5 +1,5 @@
 -- `splicelog_get` meets its contract: one law of specs/ for each way out.
-use borrow.Author.Needs.{needs}
+use Rattle.image.specs.Prelude.{needs}
 use Rattle.splicelog.specs.Words.{word-meets}
 use Rattle.splicelog.proofs.splicelog_get.Statement.{statement}
 use Rattle.splicelog.proofs.splicelog_get.Tie as tie

@@ -1,4 +1,5 @@
-use borrow.Author.Needs.{needs}
+-- `splicelog_put` meets its contract. Relies on specs/Words.
+use Rattle.image.specs.Prelude.{needs}
 use Rattle.splicelog.specs.Words.{number-meets}
 use Rattle.splicelog.proofs.splicelog_put.Statement.{statement}
 use Rattle.splicelog.proofs.splicelog_put.Tie as tie

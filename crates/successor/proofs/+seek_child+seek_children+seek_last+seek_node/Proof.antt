@@ -6,18 +6,13 @@ use Rattle.successor.specs.Walk.{walkIn, runPaths, BranchesReady}
 use Rattle.successor.specs.Buffer.{bufferIs}
 use Rattle.path.specs.Fed.{shapeIs}
 use Rattle.lookup.specs.Look.{node-inside}
-use Rattle.node.specs.Search.Own.{branch, branchesAmong, branch-place, branches-none, branches-other}
-use Rattle.node.specs.Entries.{listed, listed-end}
-use Rattle.node.specs.Places.{part, Within, step-bad-is, step-read-is, entry-wider}
+use Rattle.node.specs.Search.Own.{branch, branchesAmong, child-branch}
+use Rattle.node.specs.Search.Child.{NextChild, pends-child, pends-end}
+use Rattle.node.specs.Entries.{listed}
+use Rattle.node.specs.Places.{part, Within, entries-inside}
 use Rattle.node.specs.declared.Entry.{Entry}
 use Rattle.laws.specs.Reading.SeekHere.{under}
-use lib.ListN.{length}
-use mathlib.Core.List.{_∷_}
-use mathlib.Core.Path.{_≡_, refl, sym, _∙_}
-use Prim.Native.Nat.{_+_, _-_, _*_, _≤_}
-use native.Mathlib.Omega.{arith}
-use borrow.Author.Needs.{needs}
-use Prim.Native.Nat.{ℕ, _<_}
+use Rattle.image.specs.Prelude.{length, _∷_, _≡_, refl, sym, _∙_, _+_, _-_, _*_, arith, ℕ, _<_, needs}
 use borrow.Fn.Kinds.{In}
 use borrow.Fn.PlainCycle.{Measures, is, falls, and}
 use Rattle.successor.proofs.seek_child.Reads as seek-child
@@ -32,13 +27,12 @@ use Rattle.successor.proofs.+seek_child+seek_children+seek_last+seek_no
 use Rattle.successor.proofs.seek_node.Reads as seek-node
 use Rattle.successor.proofs.seek_node.Kinds as seek-node-kinds
 use Rattle.successor.proofs.+seek_child+seek_children+seek_last+seek_node.Lts-seek_node as seek-node-lts
-use Rattle.node.proofs.Cursor.step.Reads as step-reads
+use Rattle.node.proofs.search.read_child.Reads as read-child-reads
 use Rattle.octets.proofs.common_length.Reads as common-length-reads
-use Rattle.node.proofs.header.read_length.Reads as read-length-reads
+use Rattle.node.proofs.entries_of.Reads as entries-of-reads
 use Rattle.successor.proofs.is_far.Reads as is-far-reads
 use Rattle.successor.proofs.join.Reads as join-reads
 use Rattle.successor.proofs.seek_entries.Reads as seek-entries-reads
-use Rattle.node.proofs.search.branch_of.Reads as branch-of-reads
 use Rattle.successor.proofs.+seek_child+seek_children+seek_last+seek_node.{statement}
 use Rattle.successor.proofs.+seek_child+seek_children+seek_last+seek_node.Tie.{close}
 
@@ -88,7 +82,8 @@ abbrev seek-node-below : ℕ → In 5 seek-node-kinds.ps
 seek-node-below t =
     and 5 seek-node-kinds.ps (falls 5 seek-node-kinds.ps _<_ μ-seek-node t) seek-node.Pre
 
-seek-child-is-far-requires : (t : ℕ) → seek-child-lts.Need-is-far-requires (
+abbrev seek-child-claims : ℕ → seek-child-lts.Claims
+seek-child-claims t = (
   is-far-reads.Asked,
   is-far-reads.Learnt,
   common-length-reads.Asked,
@@ -97,812 +92,219 @@ seek-child-is-far-requires : (t : ℕ) → seek-child-lts.Need-is-far-requires (
   join-reads.Learnt,
   seek-node-below t,
   seek-node.Post,
-) (seek-child-at t) seek-child.Post
+)
+
+seek-child-is-far-requires : (t : ℕ) → seek-child-lts.Need-is-far-requires (seek-child-claims t) (seek-child-at t) seek-child.Post
 seek-child-is-far-requires t c κs = search needs
 
-seek-child-returns : (t : ℕ) → seek-child-lts.Need-returns (
-  is-far-reads.Asked,
-  is-far-reads.Learnt,
-  common-length-reads.Asked,
-  common-length-reads.Learnt,
-  join-reads.Asked,
-  join-reads.Learnt,
-  seek-node-below t,
-  seek-node.Post,
-) (seek-child-at t) seek-child.Post
+seek-child-returns : (t : ℕ) → seek-child-lts.Need-returns (seek-child-claims t) (seek-child-at t) seek-child.Post
 seek-child-returns t c = skips-child (c .before .before .before .before .before .before .before .before .before .args .store .now) (c .before .before .before .before .before .before .before .before .before .args .pre .now) (c .before .before .before .before .before .before .before .before .before .args .low .now) (c .before .before .before .before .before .before .before .before .before .args .high .now) (c .before .before .before .before .before .before .before .before .before .args .child .level) (c .before .before .before .before .before .before .before .before .before .args .child .num) (c .before .before .before .before .before .before .before .before .before .pre .1) (shapeIs (c .before .before .before .before .before .before .before .before .before .args .child .shape)) (c .before .before .before .before .before .before .before .before .before .args .below .now) (c .before .before .before .before .before .before .before .before .before .args .after .now) (bufferIs (c .before .before .before .before .before .before .before .before .before .args .child .best)) (c .before .before .is-far .result) (c .before .before .is-far .ensures) (c .before .if1 .taken)
 
-seek-child-common-length-requires : (t : ℕ) → seek-child-lts.Need-common-length-requires (
-  is-far-reads.Asked,
-  is-far-reads.Learnt,
-  common-length-reads.Asked,
-  common-length-reads.Learnt,
-  join-reads.Asked,
-  join-reads.Learnt,
-  seek-node-below t,
-  seek-node.Post,
-) (seek-child-at t) seek-child.Post
+seek-child-common-length-requires : (t : ℕ) → seek-child-lts.Need-common-length-requires (seek-child-claims t) (seek-child-at t) seek-child.Post
 seek-child-common-length-requires t c κs = search needs
 
-seek-child-sub-join : (t : ℕ) → seek-child-lts.Need-sub-join (
-  is-far-reads.Asked,
-  is-far-reads.Learnt,
-  common-length-reads.Asked,
-  common-length-reads.Learnt,
-  join-reads.Asked,
-  join-reads.Learnt,
-  seek-node-below t,
-  seek-node.Post,
-) (seek-child-at t) seek-child.Post
+seek-child-sub-join : (t : ℕ) → seek-child-lts.Need-sub-join (seek-child-claims t) (seek-child-at t) seek-child.Post
 seek-child-sub-join t c = search needs
 
-seek-child-part-join-start : (t : ℕ) → seek-child-lts.Need-part-join-start (
-  is-far-reads.Asked,
-  is-far-reads.Learnt,
-  common-length-reads.Asked,
-  common-length-reads.Learnt,
-  join-reads.Asked,
-  join-reads.Learnt,
-  seek-node-below t,
-  seek-node.Post,
-) (seek-child-at t) seek-child.Post
+seek-child-part-join-start : (t : ℕ) → seek-child-lts.Need-part-join-start (seek-child-claims t) (seek-child-at t) seek-child.Post
 seek-child-part-join-start t c = search needs
 
-seek-child-part-join-end : (t : ℕ) → seek-child-lts.Need-part-join-end (
-  is-far-reads.Asked,
-  is-far-reads.Learnt,
-  common-length-reads.Asked,
-  common-length-reads.Learnt,
-  join-reads.Asked,
-  join-reads.Learnt,
-  seek-node-below t,
-  seek-node.Post,
-) (seek-child-at t) seek-child.Post
+seek-child-part-join-end : (t : ℕ) → seek-child-lts.Need-part-join-end (seek-child-claims t) (seek-child-at t) seek-child.Post
 seek-child-part-join-end t c = search needs
 
-seek-child-join-requires : (t : ℕ) → seek-child-lts.Need-join-requires (
-  is-far-reads.Asked,
-  is-far-reads.Learnt,
-  common-length-reads.Asked,
-  common-length-reads.Learnt,
-  join-reads.Asked,
-  join-reads.Learnt,
-  seek-node-below t,
-  seek-node.Post,
-) (seek-child-at t) seek-child.Post
+seek-child-join-requires : (t : ℕ) → seek-child-lts.Need-join-requires (seek-child-claims t) (seek-child-at t) seek-child.Post
 seek-child-join-requires t c κs = search needs
 
-seek-child-returns-2 : (t : ℕ) → seek-child-lts.Need-returns-2 (
-  is-far-reads.Asked,
-  is-far-reads.Learnt,
-  common-length-reads.Asked,
-  common-length-reads.Learnt,
-  join-reads.Asked,
-  join-reads.Learnt,
-  seek-node-below t,
-  seek-node.Post,
-) (seek-child-at t) seek-child.Post
+seek-child-returns-2 : (t : ℕ) → seek-child-lts.Need-returns-2 (seek-child-claims t) (seek-child-at t) seek-child.Post
 seek-child-returns-2 t c = long-child (c .before .before .before .before .before .before .before .before .before .before .before .before .before .args .store .now) (c .before .before .before .before .before .before .before .before .before .before .before .before .before .args .pre .now) (c .before .before .before .before .before .before .before .before .before .before .before .before .before .args .low .now) (c .before .before .before .before .before .before .before .before .before .before .before .before .before .args .high .now) (c .before .before .before .before .before .before .before .before .before .before .before .before .before .args .child .level) (c .before .before .before .before .before .before .before .before .before .before .before .before .before .args .child .num) (c .before .before .before .before .before .before .before .before .before .before .before .before .before .pre .1) (shapeIs (c .before .before .before .before .before .before .before .before .before .before .before .before .before .args .child .shape)) (c .before .before .before .before .before .before .before .before .before .before .before .before .before .args .below .now) (c .before .before .before .before .before .before .before .before .before .before .before .before .before .args .after .now) (bufferIs (c .before .before .before .before .before .before .before .before .before .before .before .before .before .args .child .best)) (c .before .before .before .before .common-length .result) (c .before .before .before .before .common-length .ensures .0) (c .before .before .join .result) (c .before .before .join .ensures) (omega arith)
 
-seek-child-sub-seek-node : (t : ℕ) → seek-child-lts.Need-sub-seek-node (
-  is-far-reads.Asked,
-  is-far-reads.Learnt,
-  common-length-reads.Asked,
-  common-length-reads.Learnt,
-  join-reads.Asked,
-  join-reads.Learnt,
-  seek-node-below t,
-  seek-node.Post,
-) (seek-child-at t) seek-child.Post
+seek-child-sub-seek-node : (t : ℕ) → seek-child-lts.Need-sub-seek-node (seek-child-claims t) (seek-child-at t) seek-child.Post
 seek-child-sub-seek-node t c = search needs
 
-seek-child-part-seek-node-start : (t : ℕ) → seek-child-lts.Need-part-seek-node-start (
-  is-far-reads.Asked,
-  is-far-reads.Learnt,
-  common-length-reads.Asked,
-  common-length-reads.Learnt,
-  join-reads.Asked,
-  join-reads.Learnt,
-  seek-node-below t,
-  seek-node.Post,
-) (seek-child-at t) seek-child.Post
+seek-child-part-seek-node-start : (t : ℕ) → seek-child-lts.Need-part-seek-node-start (seek-child-claims t) (seek-child-at t) seek-child.Post
 seek-child-part-seek-node-start t c = search needs
 
-seek-child-part-seek-node-end : (t : ℕ) → seek-child-lts.Need-part-seek-node-end (
-  is-far-reads.Asked,
-  is-far-reads.Learnt,
-  common-length-reads.Asked,
-  common-length-reads.Learnt,
-  join-reads.Asked,
-  join-reads.Learnt,
-  seek-node-below t,
-  seek-node.Post,
-) (seek-child-at t) seek-child.Post
+seek-child-part-seek-node-end : (t : ℕ) → seek-child-lts.Need-part-seek-node-end (seek-child-claims t) (seek-child-at t) seek-child.Post
 seek-child-part-seek-node-end t c = let h : length (c .before .before .before .join .result .bytes) ≡ 64 = search needs in omega arith
 
-seek-child-sub-seek-node-2 : (t : ℕ) → seek-child-lts.Need-sub-seek-node-2 (
-  is-far-reads.Asked,
-  is-far-reads.Learnt,
-  common-length-reads.Asked,
-  common-length-reads.Learnt,
-  join-reads.Asked,
-  join-reads.Learnt,
-  seek-node-below t,
-  seek-node.Post,
-) (seek-child-at t) seek-child.Post
+seek-child-sub-seek-node-2 : (t : ℕ) → seek-child-lts.Need-sub-seek-node-2 (seek-child-claims t) (seek-child-at t) seek-child.Post
 seek-child-sub-seek-node-2 t c = search needs
 
-seek-child-part-seek-node-start-2 : (t : ℕ) → seek-child-lts.Need-part-seek-node-start-2 (
-  is-far-reads.Asked,
-  is-far-reads.Learnt,
-  common-length-reads.Asked,
-  common-length-reads.Learnt,
-  join-reads.Asked,
-  join-reads.Learnt,
-  seek-node-below t,
-  seek-node.Post,
-) (seek-child-at t) seek-child.Post
+seek-child-part-seek-node-start-2 : (t : ℕ) → seek-child-lts.Need-part-seek-node-start-2 (seek-child-claims t) (seek-child-at t) seek-child.Post
 seek-child-part-seek-node-start-2 t c = search needs
 
-seek-child-part-seek-node-end-2 : (t : ℕ) → seek-child-lts.Need-part-seek-node-end-2 (
-  is-far-reads.Asked,
-  is-far-reads.Learnt,
-  common-length-reads.Asked,
-  common-length-reads.Learnt,
-  join-reads.Asked,
-  join-reads.Learnt,
-  seek-node-below t,
-  seek-node.Post,
-) (seek-child-at t) seek-child.Post
+seek-child-part-seek-node-end-2 : (t : ℕ) → seek-child-lts.Need-part-seek-node-end-2 (seek-child-claims t) (seek-child-at t) seek-child.Post
 seek-child-part-seek-node-end-2 t c = search needs
 
-seek-child-seek-node-requires : (t : ℕ) → seek-child-lts.Need-seek-node-requires (
-  is-far-reads.Asked,
-  is-far-reads.Learnt,
-  common-length-reads.Asked,
-  common-length-reads.Learnt,
-  join-reads.Asked,
-  join-reads.Learnt,
-  seek-node-below t,
-  seek-node.Post,
-) (seek-child-at t) seek-child.Post
+seek-child-seek-node-requires : (t : ℕ) → seek-child-lts.Need-seek-node-requires (seek-child-claims t) (seek-child-at t) seek-child.Post
 seek-child-seek-node-requires t c κs = (omega arith, enters-ready (c .before .before .before .before .before .before .before .before .before .before .before .before .before .before .before .before .args .store .now) (c .before .before .before .before .before .before .before .before .before .before .before .before .before .before .before .before .args .pre .now) (c .before .before .before .before .before .before .before .before .before .before .before .before .before .before .before .before .args .low .now) (c .before .before .before .before .before .before .before .before .before .before .before .before .before .before .before .before .args .high .now) (c .before .before .before .before .before .before .before .before .before .before .before .before .before .before .before .before .args .child .level) (c .before .before .before .before .before .before .before .before .before .before .before .before .before .before .before .before .args .child .num) (c .before .before .before .before .before .before .before .before .before .before .before .before .before .before .before .before .pre .1) (c .before .before .before .before .before .before .before .common-length .result) (c .before .before .before .before .before .before .before .common-length .ensures .0) (c .before .before .before .before .before .join .result) (c .before .before .before .before .before .join .ensures) (omega arith))
 
-seek-child-returns-3 : (t : ℕ) → seek-child-lts.Need-returns-3 (
-  is-far-reads.Asked,
-  is-far-reads.Learnt,
-  common-length-reads.Asked,
-  common-length-reads.Learnt,
-  join-reads.Asked,
-  join-reads.Learnt,
-  seek-node-below t,
-  seek-node.Post,
-) (seek-child-at t) seek-child.Post
+seek-child-returns-3 : (t : ℕ) → seek-child-lts.Need-returns-3 (seek-child-claims t) (seek-child-at t) seek-child.Post
 seek-child-returns-3 t c = enters-child (c .before .before .before .before .before .before .before .before .before .before .before .before .before .before .before .before .before .args .store .now) (c .before .before .before .before .before .before .before .before .before .before .before .before .before .before .before .before .before .args .pre .now) (c .before .before .before .before .before .before .before .before .before .before .before .before .before .before .before .before .before .args .low .now) (c .before .before .before .before .before .before .before .before .before .before .before .before .before .before .before .before .before .args .high .now) (c .before .before .before .before .before .before .before .before .before .before .before .before .before .before .before .before .before .args .child .level) (c .before .before .before .before .before .before .before .before .before .before .before .before .before .before .before .before .before .args .child .num) (c .before .before .before .before .before .before .before .before .before .before .before .before .before .before .before .before .before .pre .1) (shapeIs (c .before .before .before .before .before .before .before .before .before .before .before .before .before .before .before .before .before .args .child .shape)) (c .before .before .before .before .before .before .before .before .before .before .before .before .before .before .before .before .before .args .below .now) (c .before .before .before .before .before .before .before .before .before .before .before .before .before .before .before .before .before .args .after .now) (bufferIs (c .before .before .before .before .before .before .before .before .before .before .before .before .before .before .before .before .before .args .child .best)) (c .before .before .before .before .before .before .before .before .common-length .result) (c .before .before .before .before .before .before .before .before .common-length .ensures .0) (c .before .before .before .before .before .before .join .result) (c .before .before .before .before .before .before .join .ensures) (omega arith) _ (c .seek-node .ensures)
 
 abbrev seek-children-Inv-loop : seek-children-lts.InvT-loop
-seek-children-Inv-loop store hi pre below after c₀ low₀ v₀ end c low v =
-    (end ≡ c₀ .end) × (c .end ≡ end) × Within 0 (length store) low
+seek-children-Inv-loop store hi pre below after c₀ low₀ v₀ c low v =
+    (c .end ≡ c₀ .end) × Within 0 (length store) low
     × BranchesReady store (v .level) pre hi (branch (v .num) (part store low) ∷ branchesAmong (listed store (c .at) (c .end)))
     × (walkIn store (shapeIs (v .shape)) below after (bufferIs (v .best)) (under pre (runPaths (v .level) store hi (branch (v .num) (part store low) ∷ branchesAmong (listed store (c .at) (c .end))) (listed store (c .at) (c .end))))
     ≡ walkIn store (shapeIs (v₀ .shape)) below after (bufferIs (v₀ .best)) (under pre (runPaths (v₀ .level) store hi (branch (v₀ .num) (part store low₀) ∷ branchesAmong (listed store (c₀ .at) (c₀ .end))) (listed store (c₀ .at) (c₀ .end)))))
     × (v .level ≡ v₀ .level)
 
 abbrev seek-children-μ-loop : seek-children-lts.MeasureT-loop
-seek-children-μ-loop store hi pre below after c₀ low₀ v₀ end c low v = end - c .at
+seek-children-μ-loop store hi pre below after c₀ low₀ v₀ c low v = c₀ .end - c .at
 
-seek-children-loop-holds : (t : ℕ) → seek-children-lts.Need-loop-holds (
-  step-reads.Asked,
-  step-reads.Learnt,
+abbrev seek-children-claims : ℕ → seek-children-lts.Claims
+seek-children-claims t = (
+  read-child-reads.Asked,
+  read-child-reads.Learnt,
   seek-last-below t,
   seek-last.Post,
-  branch-of-reads.Asked,
-  branch-of-reads.Learnt,
   seek-child-below t,
   seek-child.Post,
-) (seek-children-at t) seek-children.Post seek-children-Inv-loop seek-children-μ-loop
-seek-children-loop-holds t c = (refl, refl, c .before .before .before .before .before .before .before .pre .1 .1, c .before .before .before .before .before .before .before .pre .1 .2, refl, refl)
+)
 
-seek-children-step-requires : (t : ℕ) → seek-children-lts.Need-step-requires (
-  step-reads.Asked,
-  step-reads.Learnt,
-  seek-last-below t,
-  seek-last.Post,
-  branch-of-reads.Asked,
-  branch-of-reads.Learnt,
-  seek-child-below t,
-  seek-child.Post,
-) (seek-children-at t) seek-children.Post seek-children-Inv-loop seek-children-μ-loop
-seek-children-step-requires t c κs = omega arith
+seek-children-loop-holds : (t : ℕ) → seek-children-lts.Need-loop-holds (seek-children-claims t) (seek-children-at t) seek-children.Post seek-children-Inv-loop seek-children-μ-loop
+seek-children-loop-holds t c = (refl, c .before .before .before .before .before .before .before .pre .1 .1, c .before .before .before .before .before .before .before .pre .1 .2, refl, refl)
 
-seek-children-enum-known-e : (t : ℕ) → seek-children-lts.Need-enum-known-e (
-  step-reads.Asked,
-  step-reads.Learnt,
-  seek-last-below t,
-  seek-last.Post,
-  branch-of-reads.Asked,
-  branch-of-reads.Learnt,
-  seek-child-below t,
-  seek-child.Post,
-) (seek-children-at t) seek-children.Post seek-children-Inv-loop seek-children-μ-loop
-seek-children-enum-known-e t c = search needs
+seek-children-read-child-requires : (t : ℕ) → seek-children-lts.Need-read-child-requires (seek-children-claims t) (seek-children-at t) seek-children.Post seek-children-Inv-loop seek-children-μ-loop
+seek-children-read-child-requires t c κs = omega (arith, c .before .before .before .before .before .before .before .before .pre .1 .0, c .loop .inv .0)
 
-seek-children-enum-told : (t : ℕ) → seek-children-lts.Need-enum-told (
-  step-reads.Asked,
-  step-reads.Learnt,
-  seek-last-below t,
-  seek-last.Post,
-  branch-of-reads.Asked,
-  branch-of-reads.Learnt,
-  seek-child-below t,
-  seek-child.Post,
-) (seek-children-at t) seek-children.Post seek-children-Inv-loop seek-children-μ-loop
-seek-children-enum-told t c = search needs
-
-seek-children-seek-last-requires : (t : ℕ) → seek-children-lts.Need-seek-last-requires (
-  step-reads.Asked,
-  step-reads.Learnt,
-  seek-last-below t,
-  seek-last.Post,
-  branch-of-reads.Asked,
-  branch-of-reads.Learnt,
-  seek-child-below t,
-  seek-child.Post,
-) (seek-children-at t) seek-children.Post seek-children-Inv-loop seek-children-μ-loop
-seek-children-seek-last-requires t c κs = (omega arith, (omega arith, c .before .before .before .before .before .loop .inv .2, last-ready (c .before .before .before .before .before .before .before .before .before .before .before .before .before .args .store .now) (c .before .before .before .before .before .before .before .before .before .before .before .before .before .args .pre .now) (c .before .before .before .before .before .before .before .before .before .before .before .before .before .args .hi .now) (c .before .before .before .before .before .loop .v .level) (c .before .before .before .before .before .loop .v .num) (c .before .before .before .before .before .loop .low) (listed (c .before .before .before .before .before .before .before .before .before .before .before .before .before .args .store .now) (c .before .before .before .before .before .loop .c .at) (c .before .before .before .before .before .loop .c .end)) (c .before .before .before .before .before .loop .inv .3) (branches-none _ (step-bad-is _ _ _ _ (c .before .before .step .ensures) (c .enum-told .given .1) .1))))
-
-seek-children-returns : (t : ℕ) → seek-children-lts.Need-returns (
-  step-reads.Asked,
-  step-reads.Learnt,
-  seek-last-below t,
-  seek-last.Post,
-  branch-of-reads.Asked,
-  branch-of-reads.Learnt,
-  seek-child-below t,
-  seek-child.Post,
-) (seek-children-at t) seek-children.Post seek-children-Inv-loop seek-children-μ-loop
-seek-children-returns t c = run-ends (c .before .before .before .before .before .before .before .before .before .before .before .before .before .before .args .store .now) (shapeIs (c .before .before .before .before .before .before .loop .v .shape)) (c .before .before .before .before .before .before .before .before .before .before .before .before .before .before .args .below .now) (c .before .before .before .before .before .before .before .before .before .before .before .before .before .before .args .after .now) (c .before .before .before .before .before .before .before .before .before .before .before .before .before .before .args .pre .now) (c .before .before .before .before .before .before .before .before .before .before .before .before .before .before .args .hi .now) (c .before .before .before .before .before .before .loop .v .level) (c .before .before .before .before .before .before .loop .v .num) (c .before .before .before .before .before .before .loop .low) (bufferIs (c .before .before .before .before .before .before .loop .v .best)) (listed (c .before .before .before .before .before .before .before .before .before .before .before .before .before .before .args .store .now) (c .before .before .before .before .before .before .loop .c .at) (c .before .before .before .before .before .before .loop .c .end)) (c .before .before .before .before .before .before .loop .inv .3) _ (c .before .before .before .before .before .before .loop .inv .4) (branches-none _ (step-bad-is _ _ _ _ (c .before .before .before .step .ensures) (c .before .enum-told .given .1) .1)) _ (c .seek-last .ensures)
-
-seek-children-branch-of-requires : (t : ℕ) → seek-children-lts.Need-branch-of-requires (
-  step-reads.Asked,
-  step-reads.Learnt,
-  seek-last-below t,
-  seek-last.Post,
-  branch-of-reads.Asked,
-  branch-of-reads.Learnt,
-  seek-child-below t,
-  seek-child.Post,
-) (seek-children-at t) seek-children.Post seek-children-Inv-loop seek-children-μ-loop
-seek-children-branch-of-requires t c κs = search needs
-
-seek-children-enum-known-k : (t : ℕ) → seek-children-lts.Need-enum-known-k (
-  step-reads.Asked,
-  step-reads.Learnt,
-  seek-last-below t,
-  seek-last.Post,
-  branch-of-reads.Asked,
-  branch-of-reads.Learnt,
-  seek-child-below t,
-  seek-child.Post,
-) (seek-children-at t) seek-children.Post seek-children-Inv-loop seek-children-μ-loop
+seek-children-enum-known-k : (t : ℕ) → seek-children-lts.Need-enum-known-k (seek-children-claims t) (seek-children-at t) seek-children.Post seek-children-Inv-loop seek-children-μ-loop
 seek-children-enum-known-k t c = search needs
 
-seek-children-enum-told-2 : (t : ℕ) → seek-children-lts.Need-enum-told-2 (
-  step-reads.Asked,
-  step-reads.Learnt,
-  seek-last-below t,
-  seek-last.Post,
-  branch-of-reads.Asked,
-  branch-of-reads.Learnt,
-  seek-child-below t,
-  seek-child.Post,
-) (seek-children-at t) seek-children.Post seek-children-Inv-loop seek-children-μ-loop
-seek-children-enum-told-2 t c = search needs
+seek-children-enum-told : (t : ℕ) → seek-children-lts.Need-enum-told (seek-children-claims t) (seek-children-at t) seek-children.Post seek-children-Inv-loop seek-children-μ-loop
+seek-children-enum-told t c = search needs
 
-seek-children-seek-last-requires-2 : (t : ℕ) → seek-children-lts.Need-seek-last-requires-2 (
-  step-reads.Asked,
-  step-reads.Learnt,
-  seek-last-below t,
-  seek-last.Post,
-  branch-of-reads.Asked,
-  branch-of-reads.Learnt,
-  seek-child-below t,
-  seek-child.Post,
-) (seek-children-at t) seek-children.Post seek-children-Inv-loop seek-children-μ-loop
-seek-children-seek-last-requires-2 t c κs =
-    let n = step-read-is (c .before .before .before .before .before .before .before .before .before .before .before .before .before .before .before .before .before .args .store .now) (c .before .before .before .before .before .before .before .before .before .loop .c .at) (c .before .before .before .before .before .before .before .before .before .loop .c .end) _ (c .before .before .before .before .e .given .0 .0) (c .before .before .before .before .e .given .0 .1 .0) (c .before .before .before .before .before .before .step .ensures) (c .before .before .before .before .e .given .1) in
-    (omega arith, (omega arith, c .before .before .before .before .before .before .before .before .before .loop .inv .2, last-ready (c .before .before .before .before .before .before .before .before .before .before .before .before .before .before .before .before .before .args .store .now) (c .before .before .before .before .before .before .before .before .before .before .before .before .before .before .before .before .before .args .pre .now) (c .before .before .before .before .before .before .before .before .before .before .before .before .before .before .before .before .before .args .hi .now) (c .before .before .before .before .before .before .before .before .before .loop .v .level) (c .before .before .before .before .before .before .before .before .before .loop .v .num) (c .before .before .before .before .before .before .before .before .before .loop .low) (listed (c .before .before .before .before .before .before .before .before .before .before .before .before .before .before .before .before .before .args .store .now) (c .before .before .before .before .before .before .before .before .before .loop .c .at) (c .before .before .before .before .before .before .before .before .before .loop .c .end)) (c .before .before .before .before .before .before .before .before .before .loop .inv .3) (branches-other (c .before .before .before .before .e .given .0 .0) (c .before .before .before .before .before .before .before .before .before .before .before .before .before .before .before .before .before .args .store .now) _ _ (n .lists) (sym (c .before .before .branch-of .ensures) ∙ c .enum-told2 .given .1))))
+seek-children-seek-last-requires : (t : ℕ) → seek-children-lts.Need-seek-last-requires (seek-children-claims t) (seek-children-at t) seek-children.Post seek-children-Inv-loop seek-children-μ-loop
+seek-children-seek-last-requires t c κs = (omega arith, (omega (arith, c .before .before .before .before .before .before .before .before .before .before .before .pre .1 .0, c .before .before .before .loop .inv .0), c .before .before .before .loop .inv .1, last-ready (c .before .before .before .before .before .before .before .before .before .before .before .args .store .now) (c .before .before .before .before .before .before .before .before .before .before .before .args .pre .now) (c .before .before .before .before .before .before .before .before .before .before .before .args .hi .now) (c .before .before .before .loop .v .level) (c .before .before .before .loop .v .num) (c .before .before .before .loop .low) (listed (c .before .before .before .before .before .before .before .before .before .before .before .args .store .now) (c .before .before .before .loop .c .at) (c .before .before .before .loop .c .end)) (c .before .before .before .loop .inv .2) (pends-end _ _ _ _ (c .before .before .read-child .ensures) (c .enum-told .given .1))))
 
-seek-children-returns-2 : (t : ℕ) → seek-children-lts.Need-returns-2 (
-  step-reads.Asked,
-  step-reads.Learnt,
-  seek-last-below t,
-  seek-last.Post,
-  branch-of-reads.Asked,
-  branch-of-reads.Learnt,
-  seek-child-below t,
-  seek-child.Post,
-) (seek-children-at t) seek-children.Post seek-children-Inv-loop seek-children-μ-loop
-seek-children-returns-2 t c =
-    let n = step-read-is (c .before .before .before .before .before .before .before .before .before .before .before .before .before .before .before .before .before .before .args .store .now) (c .before .before .before .before .before .before .before .before .before .before .loop .c .at) (c .before .before .before .before .before .before .before .before .before .before .loop .c .end) _ (c .before .before .before .before .before .e .given .0 .0) (c .before .before .before .before .before .e .given .0 .1 .0) (c .before .before .before .before .before .before .before .step .ensures) (c .before .before .before .before .before .e .given .1) in
-    run-ends (c .before .before .before .before .before .before .before .before .before .before .before .before .before .before .before .before .before .before .args .store .now) (shapeIs (c .before .before .before .before .before .before .before .before .before .before .loop .v .shape)) (c .before .before .before .before .before .before .before .before .before .before .before .before .before .before .before .before .before .before .args .below .now) (c .before .before .before .before .before .before .before .before .before .before .before .before .before .before .before .before .before .before .args .after .now) (c .before .before .before .before .before .before .before .before .before .before .before .before .before .before .before .before .before .before .args .pre .now) (c .before .before .before .before .before .before .before .before .before .before .before .before .before .before .before .before .before .before .args .hi .now) (c .before .before .before .before .before .before .before .before .before .before .loop .v .level) (c .before .before .before .before .before .before .before .before .before .before .loop .v .num) (c .before .before .before .before .before .before .before .before .before .before .loop .low) (bufferIs (c .before .before .before .before .before .before .before .before .before .before .loop .v .best)) (listed (c .before .before .before .before .before .before .before .before .before .before .before .before .before .before .before .before .before .before .args .store .now) (c .before .before .before .before .before .before .before .before .before .before .loop .c .at) (c .before .before .before .before .before .before .before .before .before .before .loop .c .end)) (c .before .before .before .before .before .before .before .before .before .before .loop .inv .3) _ (c .before .before .before .before .before .before .before .before .before .before .loop .inv .4) (branches-other (c .before .before .before .before .before .e .given .0 .0) (c .before .before .before .before .before .before .before .before .before .before .before .before .before .before .before .before .before .before .args .store .now) _ _ (n .lists) (sym (c .before .before .before .branch-of .ensures) ∙ c .before .enum-told2 .given .1)) _ (c .seek-last2 .ensures)
+seek-children-returns : (t : ℕ) → seek-children-lts.Need-returns (seek-children-claims t) (seek-children-at t) seek-children.Post seek-children-Inv-loop seek-children-μ-loop
+seek-children-returns t c = run-ends (c .before .before .before .before .before .before .before .before .before .before .before .before .args .store .now) (shapeIs (c .before .before .before .before .loop .v .shape)) (c .before .before .before .before .before .before .before .before .before .before .before .before .args .below .now) (c .before .before .before .before .before .before .before .before .before .before .before .before .args .after .now) (c .before .before .before .before .before .before .before .before .before .before .before .before .args .pre .now) (c .before .before .before .before .before .before .before .before .before .before .before .before .args .hi .now) (c .before .before .before .before .loop .v .level) (c .before .before .before .before .loop .v .num) (c .before .before .before .before .loop .low) (bufferIs (c .before .before .before .before .loop .v .best)) (listed (c .before .before .before .before .before .before .before .before .before .before .before .before .args .store .now) (c .before .before .before .before .loop .c .at) (c .before .before .before .before .loop .c .end)) (c .before .before .before .before .loop .inv .2) _ (c .before .before .before .before .loop .inv .3) (pends-end _ _ _ _ (c .before .before .before .read-child .ensures) (c .before .enum-told .given .1)) _ (c .seek-last .ensures)
 
-seek-children-sub-seek-child : (t : ℕ) → seek-children-lts.Need-sub-seek-child (
-  step-reads.Asked,
-  step-reads.Learnt,
+-- the child that was read
+branch-next : (t : ℕ) (c : seek-children-lts.After-known-told (
+  read-child-reads.Asked,
+  read-child-reads.Learnt,
   seek-last-below t,
   seek-last.Post,
-  branch-of-reads.Asked,
-  branch-of-reads.Learnt,
   seek-child-below t,
   seek-child.Post,
-) (seek-children-at t) seek-children.Post seek-children-Inv-loop seek-children-μ-loop
-seek-children-sub-seek-child t c = let w = c .before .before .before .before .before .before .before .before .before .before .loop .inv .2 in omega arith
+) (seek-children-at t) seek-children.Post seek-children-Inv-loop seek-children-μ-loop) → NextChild (c .before .before .before .before .before .before .before .before .before .before .before .before .args .store .now) (c .before .before .before .before .loop .c .at) (c .before .before .before .before .loop .c .end) (c .before .k .given .0 .0) (c .before .k .given .0 .1 .0) (c .before .k .given .0 .1 .1 .0)
+branch-next t c = pends-child _ _ _ _ _ _ _ (c .before .before .before .read-child .ensures) (c .before .k .given .1)
 
-seek-children-part-seek-child-start : (t : ℕ) → seek-children-lts.Need-part-seek-child-start (
-  step-reads.Asked,
-  step-reads.Learnt,
-  seek-last-below t,
-  seek-last.Post,
-  branch-of-reads.Asked,
-  branch-of-reads.Learnt,
-  seek-child-below t,
-  seek-child.Post,
-) (seek-children-at t) seek-children.Post seek-children-Inv-loop seek-children-μ-loop
-seek-children-part-seek-child-start t c = let w = c .before .before .before .before .before .before .before .before .before .before .loop .inv .2 in omega arith
+seek-children-sub-seek-child : (t : ℕ) → seek-children-lts.Need-sub-seek-child (seek-children-claims t) (seek-children-at t) seek-children.Post seek-children-Inv-loop seek-children-μ-loop
+seek-children-sub-seek-child t c = let w = c .before .before .before .before .loop .inv .1 in omega arith
 
-seek-children-part-seek-child-end : (t : ℕ) → seek-children-lts.Need-part-seek-child-end (
-  step-reads.Asked,
-  step-reads.Learnt,
-  seek-last-below t,
-  seek-last.Post,
-  branch-of-reads.Asked,
-  branch-of-reads.Learnt,
-  seek-child-below t,
-  seek-child.Post,
-) (seek-children-at t) seek-children.Post seek-children-Inv-loop seek-children-μ-loop
-seek-children-part-seek-child-end t c = let w = c .before .before .before .before .before .before .before .before .before .before .loop .inv .2 in omega arith
+seek-children-part-seek-child-start : (t : ℕ) → seek-children-lts.Need-part-seek-child-start (seek-children-claims t) (seek-children-at t) seek-children.Post seek-children-Inv-loop seek-children-μ-loop
+seek-children-part-seek-child-start t c = let w = c .before .before .before .before .loop .inv .1 in omega arith
 
-seek-children-sub-seek-child-2 : (t : ℕ) → seek-children-lts.Need-sub-seek-child-2 (
-  step-reads.Asked,
-  step-reads.Learnt,
-  seek-last-below t,
-  seek-last.Post,
-  branch-of-reads.Asked,
-  branch-of-reads.Learnt,
-  seek-child-below t,
-  seek-child.Post,
-) (seek-children-at t) seek-children.Post seek-children-Inv-loop seek-children-μ-loop
-seek-children-sub-seek-child-2 t c =
-    let n = step-read-is (c .before .before .before .before .before .before .before .before .before .before .before .before .before .before .before .before .before .before .before .args .store .now) (c .before .before .before .before .before .before .before .before .before .before .before .loop .c .at) (c .before .before .before .before .before .before .before .before .before .before .before .loop .c .end) _ (c .before .before .before .before .before .before .e .given .0 .0) (c .before .before .before .before .before .before .e .given .0 .1 .0) (c .before .before .before .before .before .before .before .before .step .ensures) (c .before .before .before .before .before .before .e .given .1) in
-    let w = branch-place (c .before .before .before .before .before .before .before .before .before .before .before .loop .c .at) (c .before .before .before .before .before .before .before .before .before .before .before .loop .c .end) (c .before .before .before .before .before .before .e .given .0 .0) (c .before .before .k .given .0 .0) (c .before .before .k .given .0 .1 .0) (sym (c .before .before .before .before .branch-of .ensures) ∙ c .before .before .k .given .1) (n .reachable) in
-    omega arith
+seek-children-part-seek-child-end : (t : ℕ) → seek-children-lts.Need-part-seek-child-end (seek-children-claims t) (seek-children-at t) seek-children.Post seek-children-Inv-loop seek-children-μ-loop
+seek-children-part-seek-child-end t c = let w = c .before .before .before .before .loop .inv .1 in omega arith
 
-seek-children-part-seek-child-start-2 : (t : ℕ) → seek-children-lts.Need-part-seek-child-start-2 (
-  step-reads.Asked,
-  step-reads.Learnt,
-  seek-last-below t,
-  seek-last.Post,
-  branch-of-reads.Asked,
-  branch-of-reads.Learnt,
-  seek-child-below t,
-  seek-child.Post,
-) (seek-children-at t) seek-children.Post seek-children-Inv-loop seek-children-μ-loop
-seek-children-part-seek-child-start-2 t c =
-    let n = step-read-is (c .before .before .before .before .before .before .before .before .before .before .before .before .before .before .before .before .before .before .before .args .store .now) (c .before .before .before .before .before .before .before .before .before .before .before .loop .c .at) (c .before .before .before .before .before .before .before .before .before .before .before .loop .c .end) _ (c .before .before .before .before .before .before .e .given .0 .0) (c .before .before .before .before .before .before .e .given .0 .1 .0) (c .before .before .before .before .before .before .before .before .step .ensures) (c .before .before .before .before .before .before .e .given .1) in
-    let w = branch-place (c .before .before .before .before .before .before .before .before .before .before .before .loop .c .at) (c .before .before .before .before .before .before .before .before .before .before .before .loop .c .end) (c .before .before .before .before .before .before .e .given .0 .0) (c .before .before .k .given .0 .0) (c .before .before .k .given .0 .1 .0) (sym (c .before .before .before .before .branch-of .ensures) ∙ c .before .before .k .given .1) (n .reachable) in
-    omega arith
+seek-children-sub-seek-child-2 : (t : ℕ) → seek-children-lts.Need-sub-seek-child-2 (seek-children-claims t) (seek-children-at t) seek-children.Post seek-children-Inv-loop seek-children-μ-loop
+seek-children-sub-seek-child-2 t c = let w = (branch-next t (c .before)) .place in omega arith
 
-seek-children-part-seek-child-end-2 : (t : ℕ) → seek-children-lts.Need-part-seek-child-end-2 (
-  step-reads.Asked,
-  step-reads.Learnt,
-  seek-last-below t,
-  seek-last.Post,
-  branch-of-reads.Asked,
-  branch-of-reads.Learnt,
-  seek-child-below t,
-  seek-child.Post,
-) (seek-children-at t) seek-children.Post seek-children-Inv-loop seek-children-μ-loop
-seek-children-part-seek-child-end-2 t c =
-    let n = step-read-is (c .before .before .before .before .before .before .before .before .before .before .before .before .before .before .before .before .before .before .before .args .store .now) (c .before .before .before .before .before .before .before .before .before .before .before .loop .c .at) (c .before .before .before .before .before .before .before .before .before .before .before .loop .c .end) _ (c .before .before .before .before .before .before .e .given .0 .0) (c .before .before .before .before .before .before .e .given .0 .1 .0) (c .before .before .before .before .before .before .before .before .step .ensures) (c .before .before .before .before .before .before .e .given .1) in
-    let w = branch-place (c .before .before .before .before .before .before .before .before .before .before .before .loop .c .at) (c .before .before .before .before .before .before .before .before .before .before .before .loop .c .end) (c .before .before .before .before .before .before .e .given .0 .0) (c .before .before .k .given .0 .0) (c .before .before .k .given .0 .1 .0) (sym (c .before .before .before .before .branch-of .ensures) ∙ c .before .before .k .given .1) (n .reachable) in
-    omega arith
+seek-children-part-seek-child-start-2 : (t : ℕ) → seek-children-lts.Need-part-seek-child-start-2 (seek-children-claims t) (seek-children-at t) seek-children.Post seek-children-Inv-loop seek-children-μ-loop
+seek-children-part-seek-child-start-2 t c = let w = (branch-next t (c .before)) .place in omega arith
 
-seek-children-seek-child-requires : (t : ℕ) → seek-children-lts.Need-seek-child-requires (
-  step-reads.Asked,
-  step-reads.Learnt,
-  seek-last-below t,
-  seek-last.Post,
-  branch-of-reads.Asked,
-  branch-of-reads.Learnt,
-  seek-child-below t,
-  seek-child.Post,
-) (seek-children-at t) seek-children.Post seek-children-Inv-loop seek-children-μ-loop
+seek-children-part-seek-child-end-2 : (t : ℕ) → seek-children-lts.Need-part-seek-child-end-2 (seek-children-claims t) (seek-children-at t) seek-children.Post seek-children-Inv-loop seek-children-μ-loop
+seek-children-part-seek-child-end-2 t c = let w = (branch-next t (c .before)) .place in omega arith
+
+seek-children-seek-child-requires : (t : ℕ) → seek-children-lts.Need-seek-child-requires (seek-children-claims t) (seek-children-at t) seek-children.Post seek-children-Inv-loop seek-children-μ-loop
 seek-children-seek-child-requires t c κs =
-    let n = step-read-is (c .before .before .before .before .before .before .before .before .before .before .before .before .before .before .before .before .before .before .before .before .args .store .now) (c .before .before .before .before .before .before .before .before .before .before .before .before .loop .c .at) (c .before .before .before .before .before .before .before .before .before .before .before .before .loop .c .end) _ (c .before .before .before .before .before .before .before .e .given .0 .0) (c .before .before .before .before .before .before .before .e .given .0 .1 .0) (c .before .before .before .before .before .before .before .before .before .step .ensures) (c .before .before .before .before .before .before .before .e .given .1) in
-    (omega arith, inner-ready (c .before .before .before .before .before .before .before .before .before .before .before .before .before .before .before .before .before .before .before .before .args .store .now) (c .before .before .before .before .before .before .before .before .before .before .before .before .before .before .before .before .before .before .before .before .args .pre .now) (c .before .before .before .before .before .before .before .before .before .before .before .before .before .before .before .before .before .before .before .before .args .hi .now) (c .before .before .before .before .before .before .before .before .before .before .before .before .loop .v .level) (c .before .before .before .before .before .before .before .before .before .before .before .before .loop .v .num) (c .before .before .before .before .before .before .before .before .before .before .before .before .loop .low) (listed (c .before .before .before .before .before .before .before .before .before .before .before .before .before .before .before .before .before .before .before .before .args .store .now) (c .before .before .before .before .before .before .before .before .before .before .before .before .loop .c .at) (c .before .before .before .before .before .before .before .before .before .before .before .before .loop .c .end)) (c .before .before .before .before .before .before .before .before .before .before .before .before .loop .inv .3) (c .before .before .before .before .before .before .before .e .given .0 .0) (c .before .before .before .k .given .0 .0) (c .before .before .before .k .given .0 .1 .0) (listed (c .before .before .before .before .before .before .before .before .before .before .before .before .before .before .before .before .before .before .before .before .args .store .now) (c .before .before .before .before .before .before .before .e .given .0 .1 .0 .at) (c .before .before .before .before .before .before .before .e .given .0 .1 .0 .end)) (n .lists) (sym (c .before .before .before .before .before .branch-of .ensures) ∙ c .before .before .before .k .given .1))
+    let n = branch-next t (c .before .before) in
+    (omega arith, inner-ready (c .before .before .before .before .before .before .before .before .before .before .before .before .before .before .args .store .now) (c .before .before .before .before .before .before .before .before .before .before .before .before .before .before .args .pre .now) (c .before .before .before .before .before .before .before .before .before .before .before .before .before .before .args .hi .now) (c .before .before .before .before .before .before .loop .v .level) (c .before .before .before .before .before .before .loop .v .num) (c .before .before .before .before .before .before .loop .low) (listed (c .before .before .before .before .before .before .before .before .before .before .before .before .before .before .args .store .now) (c .before .before .before .before .before .before .loop .c .at) (c .before .before .before .before .before .before .loop .c .end)) (c .before .before .before .before .before .before .loop .inv .2) (Entry.Child (c .before .before .before .k .given .0 .0) (c .before .before .before .k .given .0 .1 .0)) (c .before .before .before .k .given .0 .0) (c .before .before .before .k .given .0 .1 .0) (listed (c .before .before .before .before .before .before .before .before .before .before .before .before .before .before .args .store .now) (c .before .before .before .k .given .0 .1 .1 .0 .at) (c .before .before .before .k .given .0 .1 .1 .0 .end)) (n .entry) (sym (child-branch _ _ _ refl)))
 
-seek-children-loop-less : (t : ℕ) → seek-children-lts.Need-loop-less (
-  step-reads.Asked,
-  step-reads.Learnt,
-  seek-last-below t,
-  seek-last.Post,
-  branch-of-reads.Asked,
-  branch-of-reads.Learnt,
-  seek-child-below t,
-  seek-child.Post,
-) (seek-children-at t) seek-children.Post seek-children-Inv-loop seek-children-μ-loop
+seek-children-loop-less : (t : ℕ) → seek-children-lts.Need-loop-less (seek-children-claims t) (seek-children-at t) seek-children.Post seek-children-Inv-loop seek-children-μ-loop
 seek-children-loop-less t c =
-    let n = step-read-is (c .before .before .before .before .before .before .before .before .before .before .before .before .before .before .before .before .before .before .before .before .before .args .store .now) (c .before .before .before .before .before .before .before .before .before .before .before .before .before .loop .c .at) (c .before .before .before .before .before .before .before .before .before .before .before .before .before .loop .c .end) _ (c .before .before .before .before .before .before .before .before .e .given .0 .0) (c .before .before .before .before .before .before .before .before .e .given .0 .1 .0) (c .before .before .before .before .before .before .before .before .before .before .step .ensures) (c .before .before .before .before .before .before .before .before .e .given .1) in
-    omega arith
+    let n = branch-next t (c .before .before .before) in
+    omega (arith, n .moves, n .stays, c .before .before .before .before .before .before .before .loop .inv .0)
 
-seek-children-loop-again : (t : ℕ) → seek-children-lts.Need-loop-again (
-  step-reads.Asked,
-  step-reads.Learnt,
-  seek-last-below t,
-  seek-last.Post,
-  branch-of-reads.Asked,
-  branch-of-reads.Learnt,
-  seek-child-below t,
-  seek-child.Post,
-) (seek-children-at t) seek-children.Post seek-children-Inv-loop seek-children-μ-loop
+seek-children-loop-again : (t : ℕ) → seek-children-lts.Need-loop-again (seek-children-claims t) (seek-children-at t) seek-children.Post seek-children-Inv-loop seek-children-μ-loop
 seek-children-loop-again t c =
-    let n = step-read-is (c .before .before .before .before .before .before .before .before .before .before .before .before .before .before .before .before .before .before .before .before .before .args .store .now) (c .before .before .before .before .before .before .before .before .before .before .before .before .before .loop .c .at) (c .before .before .before .before .before .before .before .before .before .before .before .before .before .loop .c .end) _ (c .before .before .before .before .before .before .before .before .e .given .0 .0) (c .before .before .before .before .before .before .before .before .e .given .0 .1 .0) (c .before .before .before .before .before .before .before .before .before .before .step .ensures) (c .before .before .before .before .before .before .before .before .e .given .1) in
-    let w = branch-place (c .before .before .before .before .before .before .before .before .before .before .before .before .before .loop .c .at) (c .before .before .before .before .before .before .before .before .before .before .before .before .before .loop .c .end) (c .before .before .before .before .before .before .before .before .e .given .0 .0) (c .before .before .before .before .k .given .0 .0) (c .before .before .before .before .k .given .0 .1 .0) (sym (c .before .before .before .before .before .before .branch-of .ensures) ∙ c .before .before .before .before .k .given .1) (n .reachable) in
-    let b : c .before .before .before .before .before .before .before .before .before .before .before .before .before .loop .c .end ≤ length (c .before .before .before .before .before .before .before .before .before .before .before .before .before .before .before .before .before .before .before .before .before .args .store .now) = omega (arith, c .before .before .before .before .before .before .before .before .before .before .before .before .before .before .before .before .before .before .before .before .before .pre .1 .0, c .before .before .before .before .before .before .before .before .before .before .before .before .before .loop .inv .0, c .before .before .before .before .before .before .before .before .before .before .before .before .before .loop .inv .1) in (
-      c .before .before .before .before .before .before .before .before .before .before .before .before .before .loop .inv .0,
-      n .ends ∙ c .before .before .before .before .before .before .before .before .before .before .before .before .before .loop .inv .1,
-      entry-wider (c .before .before .before .before .before .before .before .before .before .before .before .before .before .loop .c .at) (c .before .before .before .before .before .before .before .before .before .before .before .before .before .loop .c .end) 0 (length (c .before .before .before .before .before .before .before .before .before .before .before .before .before .before .before .before .before .before .before .before .before .args .store .now)) (Entry.Child (c .before .before .before .before .k .given .0 .0) (c .before .before .before .before .k .given .0 .1 .0)) (omega arith) b w,
-      later-ready (c .before .before .before .before .before .before .before .before .before .before .before .before .before .before .before .before .before .before .before .before .before .args .store .now) (c .before .before .before .before .before .before .before .before .before .before .before .before .before .before .before .before .before .before .before .before .before .args .pre .now) (c .before .before .before .before .before .before .before .before .before .before .before .before .before .before .before .before .before .before .before .before .before .args .hi .now) (c .before .before .before .before .before .before .before .before .before .before .before .before .before .loop .v .level) (c .before .before .before .before .before .before .before .before .before .before .before .before .before .loop .v .num) (c .before .before .before .before .before .before .before .before .before .before .before .before .before .loop .low) (listed (c .before .before .before .before .before .before .before .before .before .before .before .before .before .before .before .before .before .before .before .before .before .args .store .now) (c .before .before .before .before .before .before .before .before .before .before .before .before .before .loop .c .at) (c .before .before .before .before .before .before .before .before .before .before .before .before .before .loop .c .end)) (c .before .before .before .before .before .before .before .before .before .before .before .before .before .loop .inv .3) (c .before .before .before .before .before .before .before .before .e .given .0 .0) (c .before .before .before .before .k .given .0 .0) (c .before .before .before .before .k .given .0 .1 .0) (listed (c .before .before .before .before .before .before .before .before .before .before .before .before .before .before .before .before .before .before .before .before .before .args .store .now) (c .before .before .before .before .before .before .before .before .e .given .0 .1 .0 .at) (c .before .before .before .before .before .before .before .before .e .given .0 .1 .0 .end)) (n .lists) (sym (c .before .before .before .before .before .before .branch-of .ensures) ∙ c .before .before .before .before .k .given .1),
-      run-step (c .before .before .before .before .before .before .before .before .before .before .before .before .before .before .before .before .before .before .before .before .before .args .store .now) (shapeIs (c .before .before .before .before .before .before .before .before .before .before .before .before .before .loop .v .shape)) (c .before .before .before .before .before .before .before .before .before .before .before .before .before .before .before .before .before .before .before .before .before .args .below .now) (c .before .before .before .before .before .before .before .before .before .before .before .before .before .before .before .before .before .before .before .before .before .args .after .now) (c .before .before .before .before .before .before .before .before .before .before .before .before .before .before .before .before .before .before .before .before .before .args .pre .now) (c .before .before .before .before .before .before .before .before .before .before .before .before .before .before .before .before .before .before .before .before .before .args .hi .now) (c .before .before .before .before .before .before .before .before .before .before .before .before .before .loop .v .level) (c .before .before .before .before .before .before .before .before .before .before .before .before .before .loop .v .num) (c .before .before .before .before .before .before .before .before .before .before .before .before .before .loop .low) (bufferIs (c .before .before .before .before .before .before .before .before .before .before .before .before .before .loop .v .best)) (listed (c .before .before .before .before .before .before .before .before .before .before .before .before .before .before .before .before .before .before .before .before .before .args .store .now) (c .before .before .before .before .before .before .before .before .before .before .before .before .before .loop .c .at) (c .before .before .before .before .before .before .before .before .before .before .before .before .before .loop .c .end)) (c .before .before .before .before .before .before .before .before .before .before .before .before .before .loop .inv .3) (c .before .before .before .before .before .before .before .before .e .given .0 .0) (c .before .before .before .before .k .given .0 .0) (c .before .before .before .before .k .given .0 .1 .0) (listed (c .before .before .before .before .before .before .before .before .before .before .before .before .before .before .before .before .before .before .before .before .before .args .store .now) (c .before .before .before .before .before .before .before .before .e .given .0 .1 .0 .at) (c .before .before .before .before .before .before .before .before .e .given .0 .1 .0 .end)) (n .lists) (sym (c .before .before .before .before .before .before .branch-of .ensures) ∙ c .before .before .before .before .k .given .1) _ (c .before .before .before .before .before .before .before .before .before .before .before .before .before .loop .inv .4) _ (c .seek-child .ensures),
-      c .before .before .before .before .before .before .before .before .before .before .before .before .before .loop .inv .5,
+    let n = branch-next t (c .before .before .before) in (
+      n .ends ∙ c .before .before .before .before .before .before .before .loop .inv .0,
+      n .place,
+      later-ready (c .before .before .before .before .before .before .before .before .before .before .before .before .before .before .before .args .store .now) (c .before .before .before .before .before .before .before .before .before .before .before .before .before .before .before .args .pre .now) (c .before .before .before .before .before .before .before .before .before .before .before .before .before .before .before .args .hi .now) (c .before .before .before .before .before .before .before .loop .v .level) (c .before .before .before .before .before .before .before .loop .v .num) (c .before .before .before .before .before .before .before .loop .low) (listed (c .before .before .before .before .before .before .before .before .before .before .before .before .before .before .before .args .store .now) (c .before .before .before .before .before .before .before .loop .c .at) (c .before .before .before .before .before .before .before .loop .c .end)) (c .before .before .before .before .before .before .before .loop .inv .2) (Entry.Child (c .before .before .before .before .k .given .0 .0) (c .before .before .before .before .k .given .0 .1 .0)) (c .before .before .before .before .k .given .0 .0) (c .before .before .before .before .k .given .0 .1 .0) (listed (c .before .before .before .before .before .before .before .before .before .before .before .before .before .before .before .args .store .now) (c .before .before .before .before .k .given .0 .1 .1 .0 .at) (c .before .before .before .before .k .given .0 .1 .1 .0 .end)) (n .entry) (sym (child-branch _ _ _ refl)),
+      run-step (c .before .before .before .before .before .before .before .before .before .before .before .before .before .before .before .args .store .now) (shapeIs (c .before .before .before .before .before .before .before .loop .v .shape)) (c .before .before .before .before .before .before .before .before .before .before .before .before .before .before .before .args .below .now) (c .before .before .before .before .before .before .before .before .before .before .before .before .before .before .before .args .after .now) (c .before .before .before .before .before .before .before .before .before .before .before .before .before .before .before .args .pre .now) (c .before .before .before .before .before .before .before .before .before .before .before .before .before .before .before .args .hi .now) (c .before .before .before .before .before .before .before .loop .v .level) (c .before .before .before .before .before .before .before .loop .v .num) (c .before .before .before .before .before .before .before .loop .low) (bufferIs (c .before .before .before .before .before .before .before .loop .v .best)) (listed (c .before .before .before .before .before .before .before .before .before .before .before .before .before .before .before .args .store .now) (c .before .before .before .before .before .before .before .loop .c .at) (c .before .before .before .before .before .before .before .loop .c .end)) (c .before .before .before .before .before .before .before .loop .inv .2) (Entry.Child (c .before .before .before .before .k .given .0 .0) (c .before .before .before .before .k .given .0 .1 .0)) (c .before .before .before .before .k .given .0 .0) (c .before .before .before .before .k .given .0 .1 .0) (listed (c .before .before .before .before .before .before .before .before .before .before .before .before .before .before .before .args .store .now) (c .before .before .before .before .k .given .0 .1 .1 .0 .at) (c .before .before .before .before .k .given .0 .1 .1 .0 .end)) (n .entry) (sym (child-branch _ _ _ refl)) _ (c .before .before .before .before .before .before .before .loop .inv .3) _ (c .seek-child .ensures),
+      c .before .before .before .before .before .before .before .loop .inv .4,
     )
 
-seek-children-seek-last-requires-3 : (t : ℕ) → seek-children-lts.Need-seek-last-requires-3 (
-  step-reads.Asked,
-  step-reads.Learnt,
-  seek-last-below t,
-  seek-last.Post,
-  branch-of-reads.Asked,
-  branch-of-reads.Learnt,
-  seek-child-below t,
-  seek-child.Post,
-) (seek-children-at t) seek-children.Post seek-children-Inv-loop seek-children-μ-loop
-seek-children-seek-last-requires-3 t c κs = (omega arith, (omega arith, c .before .before .loop .inv .2, last-ready (c .before .before .before .before .before .before .before .before .before .before .args .store .now) (c .before .before .before .before .before .before .before .before .before .before .args .pre .now) (c .before .before .before .before .before .before .before .before .before .before .args .hi .now) (c .before .before .loop .v .level) (c .before .before .loop .v .num) (c .before .before .loop .low) (listed (c .before .before .before .before .before .before .before .before .before .before .args .store .now) (c .before .before .loop .c .at) (c .before .before .loop .c .end)) (c .before .before .loop .inv .3) (branches-none _ (listed-end _ _ _ (omega arith)))))
-
-seek-children-returns-3 : (t : ℕ) → seek-children-lts.Need-returns-3 (
-  step-reads.Asked,
-  step-reads.Learnt,
-  seek-last-below t,
-  seek-last.Post,
-  branch-of-reads.Asked,
-  branch-of-reads.Learnt,
-  seek-child-below t,
-  seek-child.Post,
-) (seek-children-at t) seek-children.Post seek-children-Inv-loop seek-children-μ-loop
-seek-children-returns-3 t c = run-ends (c .before .before .before .before .before .before .before .before .before .before .before .args .store .now) (shapeIs (c .before .before .before .loop .v .shape)) (c .before .before .before .before .before .before .before .before .before .before .before .args .below .now) (c .before .before .before .before .before .before .before .before .before .before .before .args .after .now) (c .before .before .before .before .before .before .before .before .before .before .before .args .pre .now) (c .before .before .before .before .before .before .before .before .before .before .before .args .hi .now) (c .before .before .before .loop .v .level) (c .before .before .before .loop .v .num) (c .before .before .before .loop .low) (bufferIs (c .before .before .before .loop .v .best)) (listed (c .before .before .before .before .before .before .before .before .before .before .before .args .store .now) (c .before .before .before .loop .c .at) (c .before .before .before .loop .c .end)) (c .before .before .before .loop .inv .3) _ (c .before .before .before .loop .inv .4) (branches-none _ (listed-end _ _ _ (omega arith))) _ (c .seek-last3 .ensures)
-
-seek-last-sub-seek-child : (t : ℕ) → seek-last-lts.Need-sub-seek-child (
+abbrev seek-last-claims : ℕ → seek-last-lts.Claims
+seek-last-claims t = (
   seek-child-below t,
   seek-child.Post,
   seek-entries-reads.Asked,
   seek-entries-reads.Learnt,
-) (seek-last-at t) seek-last.Post
+)
+
+seek-last-sub-seek-child : (t : ℕ) → seek-last-lts.Need-sub-seek-child (seek-last-claims t) (seek-last-at t) seek-last.Post
 seek-last-sub-seek-child t c = let w = c .before .before .before .before .before .before .before .pre .1 .1 in omega arith
 
-seek-last-part-seek-child-start : (t : ℕ) → seek-last-lts.Need-part-seek-child-start (
-  seek-child-below t,
-  seek-child.Post,
-  seek-entries-reads.Asked,
-  seek-entries-reads.Learnt,
-) (seek-last-at t) seek-last.Post
+seek-last-part-seek-child-start : (t : ℕ) → seek-last-lts.Need-part-seek-child-start (seek-last-claims t) (seek-last-at t) seek-last.Post
 seek-last-part-seek-child-start t c = let w = c .before .before .before .before .before .before .before .pre .1 .1 in omega arith
 
-seek-last-part-seek-child-end : (t : ℕ) → seek-last-lts.Need-part-seek-child-end (
-  seek-child-below t,
-  seek-child.Post,
-  seek-entries-reads.Asked,
-  seek-entries-reads.Learnt,
-) (seek-last-at t) seek-last.Post
+seek-last-part-seek-child-end : (t : ℕ) → seek-last-lts.Need-part-seek-child-end (seek-last-claims t) (seek-last-at t) seek-last.Post
 seek-last-part-seek-child-end t c = let w = c .before .before .before .before .before .before .before .pre .1 .1 in omega arith
 
-seek-last-seek-child-requires : (t : ℕ) → seek-last-lts.Need-seek-child-requires (
-  seek-child-below t,
-  seek-child.Post,
-  seek-entries-reads.Asked,
-  seek-entries-reads.Learnt,
-) (seek-last-at t) seek-last.Post
+seek-last-seek-child-requires : (t : ℕ) → seek-last-lts.Need-seek-child-requires (seek-last-claims t) (seek-last-at t) seek-last.Post
 seek-last-seek-child-requires t c κs = (omega arith, c .before .before .before .before .before .before .before .before .pre .1 .2)
 
-seek-last-seek-entries-requires : (t : ℕ) → seek-last-lts.Need-seek-entries-requires (
-  seek-child-below t,
-  seek-child.Post,
-  seek-entries-reads.Asked,
-  seek-entries-reads.Learnt,
-) (seek-last-at t) seek-last.Post
+seek-last-seek-entries-requires : (t : ℕ) → seek-last-lts.Need-seek-entries-requires (seek-last-claims t) (seek-last-at t) seek-last.Post
 seek-last-seek-entries-requires t c κs = (c .before .before .before .before .before .before .before .before .before .pre .1 .2 .whole, c .before .before .before .before .before .before .before .before .before .pre .1 .0)
 
-seek-last-returns : (t : ℕ) → seek-last-lts.Need-returns (
-  seek-child-below t,
-  seek-child.Post,
-  seek-entries-reads.Asked,
-  seek-entries-reads.Learnt,
-) (seek-last-at t) seek-last.Post
+seek-last-returns : (t : ℕ) → seek-last-lts.Need-returns (seek-last-claims t) (seek-last-at t) seek-last.Post
 seek-last-returns t c = last-child _ _ _ _ _ _ _ _ _ (c .before .before .before .before .before .before .before .before .before .before .args .run .low) _ _ _ (c .before .seek-child .ensures) (c .seek-entries .ensures)
 
-seek-node-mul-at : (t : ℕ) → seek-node-lts.Need-mul-at (
-  read-length-reads.Asked,
-  read-length-reads.Learnt,
+abbrev seek-node-claims : ℕ → seek-node-lts.Claims
+seek-node-claims t = (
+  entries-of-reads.Asked,
+  entries-of-reads.Learnt,
   seek-entries-reads.Asked,
   seek-entries-reads.Learnt,
-  step-reads.Asked,
-  step-reads.Learnt,
-  branch-of-reads.Asked,
-  branch-of-reads.Learnt,
+  read-child-reads.Asked,
+  read-child-reads.Learnt,
   seek-children-below t,
   seek-children.Post,
-) (seek-node-at t) seek-node.Post
-seek-node-mul-at t c = let w = node-inside (c .before .before .before .before .before .before .before .args .store .now) (c .before .before .before .before .before .before .before .args .node .num) (c .before .before .before .before .before .before .before .args .node .level) (c .before .before .before .before .before .before .before .pre .1 .usable) in omega arith
+)
 
-seek-node-read-length-requires : (t : ℕ) → seek-node-lts.Need-read-length-requires (
-  read-length-reads.Asked,
-  read-length-reads.Learnt,
-  seek-entries-reads.Asked,
-  seek-entries-reads.Learnt,
-  step-reads.Asked,
-  step-reads.Learnt,
-  branch-of-reads.Asked,
-  branch-of-reads.Learnt,
-  seek-children-below t,
-  seek-children.Post,
-) (seek-node-at t) seek-node.Post
-seek-node-read-length-requires t c κs = let w = node-inside (c .before .before .before .before .before .before .before .args .store .now) (c .before .before .before .before .before .before .before .args .node .num) (c .before .before .before .before .before .before .before .args .node .level) (c .before .before .before .before .before .before .before .pre .1 .usable) in omega arith
+seek-node-entries-of-requires : (t : ℕ) → seek-node-lts.Need-entries-of-requires (seek-node-claims t) (seek-node-at t) seek-node.Post
+seek-node-entries-of-requires t c κs = node-inside (c .before .before .before .before .before .before .args .store .now) (c .before .before .before .before .before .before .args .node .num) (c .before .before .before .before .before .before .args .node .level) (c .before .before .before .before .before .before .pre .1 .usable) .0
 
-seek-node-add-from : (t : ℕ) → seek-node-lts.Need-add-from (
-  read-length-reads.Asked,
-  read-length-reads.Learnt,
-  seek-entries-reads.Asked,
-  seek-entries-reads.Learnt,
-  step-reads.Asked,
-  step-reads.Learnt,
-  branch-of-reads.Asked,
-  branch-of-reads.Learnt,
-  seek-children-below t,
-  seek-children.Post,
-) (seek-node-at t) seek-node.Post
-seek-node-add-from t c = let w = node-inside (c .before .before .before .before .before .before .before .before .args .store .now) (c .before .before .before .before .before .before .before .before .args .node .num) (c .before .before .before .before .before .before .before .before .args .node .level) (c .before .before .before .before .before .before .before .before .pre .1 .usable) in omega arith
+seek-node-seek-entries-requires : (t : ℕ) → seek-node-lts.Need-seek-entries-requires (seek-node-claims t) (seek-node-at t) seek-node.Post
+seek-node-seek-entries-requires t c κs = let b = entries-inside (c .before .before .before .before .before .before .before .before .args .store .now) (c .before .before .before .before .before .before .before .before .args .node .num) (c .before .entries-of .result) (c .before .entries-of .ensures) (node-inside (c .before .before .before .before .before .before .before .before .args .store .now) (c .before .before .before .before .before .before .before .before .args .node .num) (c .before .before .before .before .before .before .before .before .args .node .level) (c .before .before .before .before .before .before .before .before .pre .1 .usable)) in (c .before .before .before .before .before .before .before .before .pre .1 .whole, omega arith)
 
-seek-node-add-end : (t : ℕ) → seek-node-lts.Need-add-end (
-  read-length-reads.Asked,
-  read-length-reads.Learnt,
-  seek-entries-reads.Asked,
-  seek-entries-reads.Learnt,
-  step-reads.Asked,
-  step-reads.Learnt,
-  branch-of-reads.Asked,
-  branch-of-reads.Learnt,
-  seek-children-below t,
-  seek-children.Post,
-) (seek-node-at t) seek-node.Post
-seek-node-add-end t c = let w = node-inside (c .before .before .before .before .before .before .before .before .args .store .now) (c .before .before .before .before .before .before .before .before .args .node .num) (c .before .before .before .before .before .before .before .before .args .node .level) (c .before .before .before .before .before .before .before .before .pre .1 .usable) in omega arith
+seek-node-returns : (t : ℕ) → seek-node-lts.Need-returns (seek-node-claims t) (seek-node-at t) seek-node.Post
+seek-node-returns t c = node-leaf (c .before .before .before .before .before .before .before .before .before .args .store .now) (c .before .before .before .before .before .before .before .before .before .args .pre .now) (c .before .before .before .before .before .before .before .before .before .args .hi .now) (c .before .before .before .before .before .before .before .before .before .args .node .level) (c .before .before .before .before .before .before .before .before .before .args .node .num) (c .before .before .before .before .before .before .before .before .before .pre .1) (shapeIs (c .before .before .before .before .before .before .before .before .before .args .node .shape)) (c .before .before .before .before .before .before .before .before .before .args .below .now) (c .before .before .before .before .before .before .before .before .before .args .after .now) (bufferIs (c .before .before .before .before .before .before .before .before .before .args .node .best)) (c .before .before .entries-of .result) (c .before .before .entries-of .ensures) (omega arith) _ (c .seek-entries .ensures)
 
-seek-node-seek-entries-requires : (t : ℕ) → seek-node-lts.Need-seek-entries-requires (
-  read-length-reads.Asked,
-  read-length-reads.Learnt,
-  seek-entries-reads.Asked,
-  seek-entries-reads.Learnt,
-  step-reads.Asked,
-  step-reads.Learnt,
-  branch-of-reads.Asked,
-  branch-of-reads.Learnt,
-  seek-children-below t,
-  seek-children.Post,
-) (seek-node-at t) seek-node.Post
-seek-node-seek-entries-requires t c κs = let w = node-inside (c .before .before .before .before .before .before .before .before .before .args .store .now) (c .before .before .before .before .before .before .before .before .before .args .node .num) (c .before .before .before .before .before .before .before .before .before .args .node .level) (c .before .before .before .before .before .before .before .before .before .pre .1 .usable) in (c .before .before .before .before .before .before .before .before .before .pre .1 .whole, omega arith)
+seek-node-read-child-requires : (t : ℕ) → seek-node-lts.Need-read-child-requires (seek-node-claims t) (seek-node-at t) seek-node.Post
+seek-node-read-child-requires t c κs = let b = entries-inside (c .before .before .before .before .before .before .before .before .args .store .now) (c .before .before .before .before .before .before .before .before .args .node .num) (c .before .entries-of .result) (c .before .entries-of .ensures) (node-inside (c .before .before .before .before .before .before .before .before .args .store .now) (c .before .before .before .before .before .before .before .before .args .node .num) (c .before .before .before .before .before .before .before .before .args .node .level) (c .before .before .before .before .before .before .before .before .pre .1 .usable)) in omega arith
 
-seek-node-returns : (t : ℕ) → seek-node-lts.Need-returns (
-  read-length-reads.Asked,
-  read-length-reads.Learnt,
-  seek-entries-reads.Asked,
-  seek-entries-reads.Learnt,
-  step-reads.Asked,
-  step-reads.Learnt,
-  branch-of-reads.Asked,
-  branch-of-reads.Learnt,
-  seek-children-below t,
-  seek-children.Post,
-) (seek-node-at t) seek-node.Post
-seek-node-returns t c = node-leaf (c .before .before .before .before .before .before .before .before .before .before .args .store .now) (c .before .before .before .before .before .before .before .before .before .before .args .pre .now) (c .before .before .before .before .before .before .before .before .before .before .args .hi .now) (c .before .before .before .before .before .before .before .before .before .before .args .node .level) (c .before .before .before .before .before .before .before .before .before .before .args .node .num) (c .before .before .before .before .before .before .before .before .before .before .pre .1) (shapeIs (c .before .before .before .before .before .before .before .before .before .before .args .node .shape)) (c .before .before .before .before .before .before .before .before .before .before .args .below .now) (c .before .before .before .before .before .before .before .before .before .before .args .after .now) (bufferIs (c .before .before .before .before .before .before .before .before .before .before .args .node .best)) (c .before .before .read-length .result) (c .before .before .read-length .ensures .0) (omega arith) _ (c .seek-entries .ensures)
-
-seek-node-step-requires : (t : ℕ) → seek-node-lts.Need-step-requires (
-  read-length-reads.Asked,
-  read-length-reads.Learnt,
-  seek-entries-reads.Asked,
-  seek-entries-reads.Learnt,
-  step-reads.Asked,
-  step-reads.Learnt,
-  branch-of-reads.Asked,
-  branch-of-reads.Learnt,
-  seek-children-below t,
-  seek-children.Post,
-) (seek-node-at t) seek-node.Post
-seek-node-step-requires t c κs = let w = node-inside (c .before .before .before .before .before .before .before .before .before .args .store .now) (c .before .before .before .before .before .before .before .before .before .args .node .num) (c .before .before .before .before .before .before .before .before .before .args .node .level) (c .before .before .before .before .before .before .before .before .before .pre .1 .usable) in omega arith
-
-seek-node-enum-known-e : (t : ℕ) → seek-node-lts.Need-enum-known-e (
-  read-length-reads.Asked,
-  read-length-reads.Learnt,
-  seek-entries-reads.Asked,
-  seek-entries-reads.Learnt,
-  step-reads.Asked,
-  step-reads.Learnt,
-  branch-of-reads.Asked,
-  branch-of-reads.Learnt,
-  seek-children-below t,
-  seek-children.Post,
-) (seek-node-at t) seek-node.Post
-seek-node-enum-known-e t c = search needs
-
-seek-node-enum-told : (t : ℕ) → seek-node-lts.Need-enum-told (
-  read-length-reads.Asked,
-  read-length-reads.Learnt,
-  seek-entries-reads.Asked,
-  seek-entries-reads.Learnt,
-  step-reads.Asked,
-  step-reads.Learnt,
-  branch-of-reads.Asked,
-  branch-of-reads.Learnt,
-  seek-children-below t,
-  seek-children.Post,
-) (seek-node-at t) seek-node.Post
-seek-node-enum-told t c = search needs
-
-seek-node-seek-entries-requires-2 : (t : ℕ) → seek-node-lts.Need-seek-entries-requires-2 (
-  read-length-reads.Asked,
-  read-length-reads.Learnt,
-  seek-entries-reads.Asked,
-  seek-entries-reads.Learnt,
-  step-reads.Asked,
-  step-reads.Learnt,
-  branch-of-reads.Asked,
-  branch-of-reads.Learnt,
-  seek-children-below t,
-  seek-children.Post,
-) (seek-node-at t) seek-node.Post
-seek-node-seek-entries-requires-2 t c κs = let w = node-inside (c .before .before .before .before .before .before .before .before .before .before .before .before .args .store .now) (c .before .before .before .before .before .before .before .before .before .before .before .before .args .node .num) (c .before .before .before .before .before .before .before .before .before .before .before .before .args .node .level) (c .before .before .before .before .before .before .before .before .before .before .before .before .pre .1 .usable) in (c .before .before .before .before .before .before .before .before .before .before .before .before .pre .1 .whole, omega arith)
-
-seek-node-returns-2 : (t : ℕ) → seek-node-lts.Need-returns-2 (
-  read-length-reads.Asked,
-  read-length-reads.Learnt,
-  seek-entries-reads.Asked,
-  seek-entries-reads.Learnt,
-  step-reads.Asked,
-  step-reads.Learnt,
-  branch-of-reads.Asked,
-  branch-of-reads.Learnt,
-  seek-children-below t,
-  seek-children.Post,
-) (seek-node-at t) seek-node.Post
-seek-node-returns-2 t c = node-childless (c .before .before .before .before .before .before .before .before .before .before .before .before .before .args .store .now) (c .before .before .before .before .before .before .before .before .before .before .before .before .before .args .pre .now) (c .before .before .before .before .before .before .before .before .before .before .before .before .before .args .hi .now) (c .before .before .before .before .before .before .before .before .before .before .before .before .before .args .node .level) (c .before .before .before .before .before .before .before .before .before .before .before .before .before .args .node .num) (c .before .before .before .before .before .before .before .before .before .before .before .before .before .pre .1) (shapeIs (c .before .before .before .before .before .before .before .before .before .before .before .before .before .args .node .shape)) (c .before .before .before .before .before .before .before .before .before .before .before .before .before .args .below .now) (c .before .before .before .before .before .before .before .before .before .before .before .before .before .args .after .now) (bufferIs (c .before .before .before .before .before .before .before .before .before .before .before .before .before .args .node .best)) (c .before .before .before .before .before .read-length .result) (c .before .before .before .before .before .read-length .ensures .0) (omega arith) (branches-none _ (step-bad-is _ _ _ _ (c .before .before .before .step .ensures) (c .before .enum-told .given .1) .1)) _ (c .seek-entries2 .ensures)
-
-seek-node-branch-of-requires : (t : ℕ) → seek-node-lts.Need-branch-of-requires (
-  read-length-reads.Asked,
-  read-length-reads.Learnt,
-  seek-entries-reads.Asked,
-  seek-entries-reads.Learnt,
-  step-reads.Asked,
-  step-reads.Learnt,
-  branch-of-reads.Asked,
-  branch-of-reads.Learnt,
-  seek-children-below t,
-  seek-children.Post,
-) (seek-node-at t) seek-node.Post
-seek-node-branch-of-requires t c κs = search needs
-
-seek-node-enum-known-k : (t : ℕ) → seek-node-lts.Need-enum-known-k (
-  read-length-reads.Asked,
-  read-length-reads.Learnt,
-  seek-entries-reads.Asked,
-  seek-entries-reads.Learnt,
-  step-reads.Asked,
-  step-reads.Learnt,
-  branch-of-reads.Asked,
-  branch-of-reads.Learnt,
-  seek-children-below t,
-  seek-children.Post,
-) (seek-node-at t) seek-node.Post
+seek-node-enum-known-k : (t : ℕ) → seek-node-lts.Need-enum-known-k (seek-node-claims t) (seek-node-at t) seek-node.Post
 seek-node-enum-known-k t c = search needs
 
-seek-node-enum-told-2 : (t : ℕ) → seek-node-lts.Need-enum-told-2 (
-  read-length-reads.Asked,
-  read-length-reads.Learnt,
-  seek-entries-reads.Asked,
-  seek-entries-reads.Learnt,
-  step-reads.Asked,
-  step-reads.Learnt,
-  branch-of-reads.Asked,
-  branch-of-reads.Learnt,
-  seek-children-below t,
-  seek-children.Post,
-) (seek-node-at t) seek-node.Post
-seek-node-enum-told-2 t c = search needs
+seek-node-enum-told : (t : ℕ) → seek-node-lts.Need-enum-told (seek-node-claims t) (seek-node-at t) seek-node.Post
+seek-node-enum-told t c = search needs
 
-seek-node-seek-entries-requires-3 : (t : ℕ) → seek-node-lts.Need-seek-entries-requires-3 (
-  read-length-reads.Asked,
-  read-length-reads.Learnt,
-  seek-entries-reads.Asked,
-  seek-entries-reads.Learnt,
-  step-reads.Asked,
-  step-reads.Learnt,
-  branch-of-reads.Asked,
-  branch-of-reads.Learnt,
-  seek-children-below t,
-  seek-children.Post,
-) (seek-node-at t) seek-node.Post
-seek-node-seek-entries-requires-3 t c κs = let w = node-inside (c .before .before .before .before .before .before .before .before .before .before .before .before .before .before .before .before .args .store .now) (c .before .before .before .before .before .before .before .before .before .before .before .before .before .before .before .before .args .node .num) (c .before .before .before .before .before .before .before .before .before .before .before .before .before .before .before .before .args .node .level) (c .before .before .before .before .before .before .before .before .before .before .before .before .before .before .before .before .pre .1 .usable) in (c .before .before .before .before .before .before .before .before .before .before .before .before .before .before .before .before .pre .1 .whole, omega arith)
+seek-node-seek-entries-requires-2 : (t : ℕ) → seek-node-lts.Need-seek-entries-requires-2 (seek-node-claims t) (seek-node-at t) seek-node.Post
+seek-node-seek-entries-requires-2 t c κs = let b = entries-inside (c .before .before .before .before .before .before .before .before .before .before .before .args .store .now) (c .before .before .before .before .before .before .before .before .before .before .before .args .node .num) (c .before .before .before .before .entries-of .result) (c .before .before .before .before .entries-of .ensures) (node-inside (c .before .before .before .before .before .before .before .before .before .before .before .args .store .now) (c .before .before .before .before .before .before .before .before .before .before .before .args .node .num) (c .before .before .before .before .before .before .before .before .before .before .before .args .node .level) (c .before .before .before .before .before .before .before .before .before .before .before .pre .1 .usable)) in (c .before .before .before .before .before .before .before .before .before .before .before .pre .1 .whole, omega arith)
 
-seek-node-returns-3 : (t : ℕ) → seek-node-lts.Need-returns-3 (
-  read-length-reads.Asked,
-  read-length-reads.Learnt,
-  seek-entries-reads.Asked,
-  seek-entries-reads.Learnt,
-  step-reads.Asked,
-  step-reads.Learnt,
-  branch-of-reads.Asked,
-  branch-of-reads.Learnt,
-  seek-children-below t,
-  seek-children.Post,
-) (seek-node-at t) seek-node.Post
-seek-node-returns-3 t c =
-    let n = step-read-is _ _ _ _ (c .before .before .before .before .before .e .given .0 .0) (c .before .before .before .before .before .e .given .0 .1 .0) (c .before .before .before .before .before .before .before .step .ensures) (c .before .before .before .before .before .e .given .1) in
-    node-childless (c .before .before .before .before .before .before .before .before .before .before .before .before .before .before .before .before .before .args .store .now) (c .before .before .before .before .before .before .before .before .before .before .before .before .before .before .before .before .before .args .pre .now) (c .before .before .before .before .before .before .before .before .before .before .before .before .before .before .before .before .before .args .hi .now) (c .before .before .before .before .before .before .before .before .before .before .before .before .before .before .before .before .before .args .node .level) (c .before .before .before .before .before .before .before .before .before .before .before .before .before .before .before .before .before .args .node .num) (c .before .before .before .before .before .before .before .before .before .before .before .before .before .before .before .before .before .pre .1) (shapeIs (c .before .before .before .before .before .before .before .before .before .before .before .before .before .before .before .before .before .args .node .shape)) (c .before .before .before .before .before .before .before .before .before .before .before .before .before .before .before .before .before .args .below .now) (c .before .before .before .before .before .before .before .before .before .before .before .before .before .before .before .before .before .args .after .now) (bufferIs (c .before .before .before .before .before .before .before .before .before .before .before .before .before .before .before .before .before .args .node .best)) (c .before .before .before .before .before .before .before .before .before .read-length .result) (c .before .before .before .before .before .before .before .before .before .read-length .ensures .0) (omega arith) (branches-other (c .before .before .before .before .before .e .given .0 .0) (c .before .before .before .before .before .before .before .before .before .before .before .before .before .before .before .before .before .args .store .now) _ _ (n .lists) (sym (c .before .before .before .branch-of .ensures) ∙ c .before .enum-told2 .given .1)) _ (c .seek-entries3 .ensures)
+seek-node-returns-2 : (t : ℕ) → seek-node-lts.Need-returns-2 (seek-node-claims t) (seek-node-at t) seek-node.Post
+seek-node-returns-2 t c = node-childless (c .before .before .before .before .before .before .before .before .before .before .before .before .args .store .now) (c .before .before .before .before .before .before .before .before .before .before .before .before .args .pre .now) (c .before .before .before .before .before .before .before .before .before .before .before .before .args .hi .now) (c .before .before .before .before .before .before .before .before .before .before .before .before .args .node .level) (c .before .before .before .before .before .before .before .before .before .before .before .before .args .node .num) (c .before .before .before .before .before .before .before .before .before .before .before .before .pre .1) (shapeIs (c .before .before .before .before .before .before .before .before .before .before .before .before .args .node .shape)) (c .before .before .before .before .before .before .before .before .before .before .before .before .args .below .now) (c .before .before .before .before .before .before .before .before .before .before .before .before .args .after .now) (bufferIs (c .before .before .before .before .before .before .before .before .before .before .before .before .args .node .best)) (c .before .before .before .before .before .entries-of .result) (c .before .before .before .before .before .entries-of .ensures) (omega arith) (pends-end _ _ _ _ (c .before .before .before .read-child .ensures) (c .before .enum-told .given .1)) _ (c .seek-entries2 .ensures)
 
-seek-node-sub-down : (t : ℕ) → seek-node-lts.Need-sub-down (
-  read-length-reads.Asked,
-  read-length-reads.Learnt,
-  seek-entries-reads.Asked,
-  seek-entries-reads.Learnt,
-  step-reads.Asked,
-  step-reads.Learnt,
-  branch-of-reads.Asked,
-  branch-of-reads.Learnt,
-  seek-children-below t,
-  seek-children.Post,
-) (seek-node-at t) seek-node.Post
+seek-node-sub-down : (t : ℕ) → seek-node-lts.Need-sub-down (seek-node-claims t) (seek-node-at t) seek-node.Post
 seek-node-sub-down t c = omega arith
 
-seek-node-seek-children-requires : (t : ℕ) → seek-node-lts.Need-seek-children-requires (
-  read-length-reads.Asked,
-  read-length-reads.Learnt,
-  seek-entries-reads.Asked,
-  seek-entries-reads.Learnt,
-  step-reads.Asked,
-  step-reads.Learnt,
-  branch-of-reads.Asked,
-  branch-of-reads.Learnt,
-  seek-children-below t,
-  seek-children.Post,
-) (seek-node-at t) seek-node.Post
+seek-node-seek-children-requires : (t : ℕ) → seek-node-lts.Need-seek-children-requires (seek-node-claims t) (seek-node-at t) seek-node.Post
 seek-node-seek-children-requires t c κs =
-    let w = node-inside (c .before .before .before .before .before .before .before .before .before .before .before .before .before .before .before .before .before .args .store .now) (c .before .before .before .before .before .before .before .before .before .before .before .before .before .before .before .before .before .args .node .num) (c .before .before .before .before .before .before .before .before .before .before .before .before .before .before .before .before .before .args .node .level) (c .before .before .before .before .before .before .before .before .before .before .before .before .before .before .before .before .before .pre .1 .usable) in
-    let n = step-read-is _ _ _ _ (c .before .before .before .before .before .e .given .0 .0) (c .before .before .before .before .before .e .given .0 .1 .0) (c .before .before .before .before .before .before .before .step .ensures) (c .before .before .before .before .before .e .given .1) in
-    let p = branch-place _ _ (c .before .before .before .before .before .e .given .0 .0) (c .before .k .given .0 .0) (c .before .k .given .0 .1 .0) (sym (c .before .before .before .branch-of .ensures) ∙ c .before .k .given .1) (n .reachable) in
-    (omega arith, (omega arith, record { low = omega arith; rises = omega arith; high = omega arith }, node-ready (c .before .before .before .before .before .before .before .before .before .before .before .before .before .before .before .before .before .args .store .now) (c .before .before .before .before .before .before .before .before .before .before .before .before .before .before .before .before .before .args .pre .now) (c .before .before .before .before .before .before .before .before .before .before .before .before .before .before .before .before .before .args .hi .now) (c .before .before .before .before .before .before .before .before .before .before .before .before .before .before .before .before .before .args .node .level) (c .before .before .before .before .before .before .before .before .before .before .before .before .before .before .before .before .before .args .node .num) (c .before .before .before .before .before .before .before .before .before .before .before .before .before .before .before .before .before .pre .1) (c .before .before .before .before .before .before .before .before .before .read-length .result) (c .before .before .before .before .before .before .before .before .before .read-length .ensures .0) (omega arith) (c .before .before .before .before .before .e .given .0 .0) (c .before .k .given .0 .0) (c .before .k .given .0 .1 .0) (listed (c .before .before .before .before .before .before .before .before .before .before .before .before .before .before .before .before .before .args .store .now) (c .before .before .before .before .before .e .given .0 .1 .0 .at) (c .before .before .before .before .before .e .given .0 .1 .0 .end)) (n .lists) (sym (c .before .before .before .branch-of .ensures) ∙ c .before .k .given .1)))
+    let b = entries-inside (c .before .before .before .before .before .before .before .before .before .before .before .before .args .store .now) (c .before .before .before .before .before .before .before .before .before .before .before .before .args .node .num) (c .before .before .before .before .before .entries-of .result) (c .before .before .before .before .before .entries-of .ensures) (node-inside (c .before .before .before .before .before .before .before .before .before .before .before .before .args .store .now) (c .before .before .before .before .before .before .before .before .before .before .before .before .args .node .num) (c .before .before .before .before .before .before .before .before .before .before .before .before .args .node .level) (c .before .before .before .before .before .before .before .before .before .before .before .before .pre .1 .usable)) in
+    let n = pends-child (c .before .before .before .before .before .before .before .before .before .before .before .before .args .store .now) _ _ _ (c .before .k .given .0 .0) (c .before .k .given .0 .1 .0) (c .before .k .given .0 .1 .1 .0) (c .before .before .before .read-child .ensures) (c .before .k .given .1) in
+    (omega arith, (omega (arith, n .ends), n .place, node-ready (c .before .before .before .before .before .before .before .before .before .before .before .before .args .store .now) (c .before .before .before .before .before .before .before .before .before .before .before .before .args .pre .now) (c .before .before .before .before .before .before .before .before .before .before .before .before .args .hi .now) (c .before .before .before .before .before .before .before .before .before .before .before .before .args .node .level) (c .before .before .before .before .before .before .before .before .before .before .before .before .args .node .num) (c .before .before .before .before .before .before .before .before .before .before .before .before .pre .1) (c .before .before .before .before .before .entries-of .result) (c .before .before .before .before .before .entries-of .ensures) (omega arith) (Entry.Child (c .before .k .given .0 .0) (c .before .k .given .0 .1 .0)) (c .before .k .given .0 .0) (c .before .k .given .0 .1 .0) (listed (c .before .before .before .before .before .before .before .before .before .before .before .before .args .store .now) (c .before .k .given .0 .1 .1 .0 .at) (c .before .k .given .0 .1 .1 .0 .end)) (n .entry) (sym (child-branch _ _ _ refl))))
 
-seek-node-returns-4 : (t : ℕ) → seek-node-lts.Need-returns-4 (
-  read-length-reads.Asked,
-  read-length-reads.Learnt,
-  seek-entries-reads.Asked,
-  seek-entries-reads.Learnt,
-  step-reads.Asked,
-  step-reads.Learnt,
-  branch-of-reads.Asked,
-  branch-of-reads.Learnt,
-  seek-children-below t,
-  seek-children.Post,
-) (seek-node-at t) seek-node.Post
-seek-node-returns-4 t c =
-    let n = step-read-is _ _ _ _ (c .before .before .before .before .before .before .e .given .0 .0) (c .before .before .before .before .before .before .e .given .0 .1 .0) (c .before .before .before .before .before .before .before .before .step .ensures) (c .before .before .before .before .before .before .e .given .1) in
-    node-children (c .before .before .before .before .before .before .before .before .before .before .before .before .before .before .before .before .before .before .args .store .now) (c .before .before .before .before .before .before .before .before .before .before .before .before .before .before .before .before .before .before .args .pre .now) (c .before .before .before .before .before .before .before .before .before .before .before .before .before .before .before .before .before .before .args .hi .now) (c .before .before .before .before .before .before .before .before .before .before .before .before .before .before .before .before .before .before .args .node .level) (c .before .before .before .before .before .before .before .before .before .before .before .before .before .before .before .before .before .before .args .node .num) (c .before .before .before .before .before .before .before .before .before .before .before .before .before .before .before .before .before .before .pre .1) (shapeIs (c .before .before .before .before .before .before .before .before .before .before .before .before .before .before .before .before .before .before .args .node .shape)) (c .before .before .before .before .before .before .before .before .before .before .before .before .before .before .before .before .before .before .args .below .now) (c .before .before .before .before .before .before .before .before .before .before .before .before .before .before .before .before .before .before .args .after .now) (bufferIs (c .before .before .before .before .before .before .before .before .before .before .before .before .before .before .before .before .before .before .args .node .best)) (c .before .before .before .before .before .before .before .before .before .before .read-length .result) (c .before .before .before .before .before .before .before .before .before .before .read-length .ensures .0) (omega arith) (c .before .before .before .before .before .before .e .given .0 .0) (c .before .before .k .given .0 .0) (c .before .before .k .given .0 .1 .0) (listed (c .before .before .before .before .before .before .before .before .before .before .before .before .before .before .before .before .before .before .args .store .now) (c .before .before .before .before .before .before .e .given .0 .1 .0 .at) (c .before .before .before .before .before .before .e .given .0 .1 .0 .end)) (n .lists) (sym (c .before .before .before .before .branch-of .ensures) ∙ c .before .before .k .given .1) _ (c .seek-children .ensures)
+seek-node-returns-3 : (t : ℕ) → seek-node-lts.Need-returns-3 (seek-node-claims t) (seek-node-at t) seek-node.Post
+seek-node-returns-3 t c =
+    let n = pends-child (c .before .before .before .before .before .before .before .before .before .before .before .before .before .args .store .now) _ _ _ (c .before .before .k .given .0 .0) (c .before .before .k .given .0 .1 .0) (c .before .before .k .given .0 .1 .1 .0) (c .before .before .before .before .read-child .ensures) (c .before .before .k .given .1) in
+    node-children (c .before .before .before .before .before .before .before .before .before .before .before .before .before .args .store .now) (c .before .before .before .before .before .before .before .before .before .before .before .before .before .args .pre .now) (c .before .before .before .before .before .before .before .before .before .before .before .before .before .args .hi .now) (c .before .before .before .before .before .before .before .before .before .before .before .before .before .args .node .level) (c .before .before .before .before .before .before .before .before .before .before .before .before .before .args .node .num) (c .before .before .before .before .before .before .before .before .before .before .before .before .before .pre .1) (shapeIs (c .before .before .before .before .before .before .before .before .before .before .before .before .before .args .node .shape)) (c .before .before .before .before .before .before .before .before .before .before .before .before .before .args .below .now) (c .before .before .before .before .before .before .before .before .before .before .before .before .before .args .after .now) (bufferIs (c .before .before .before .before .before .before .before .before .before .before .before .before .before .args .node .best)) (c .before .before .before .before .before .before .entries-of .result) (c .before .before .before .before .before .before .entries-of .ensures) (omega arith) (Entry.Child (c .before .before .k .given .0 .0) (c .before .before .k .given .0 .1 .0)) (c .before .before .k .given .0 .0) (c .before .before .k .given .0 .1 .0) (listed (c .before .before .before .before .before .before .before .before .before .before .before .before .before .args .store .now) (c .before .before .k .given .0 .1 .1 .0 .at) (c .before .before .k .given .0 .1 .1 .0 .end)) (n .entry) (sym (child-branch _ _ _ refl)) _ (c .seek-children .ensures)
 
 pub +seek-child+seek-children+seek-last+seek-node-spec : {M : Type 1} → statement M
 +seek-child+seek-children+seek-last+seek-node-spec =
@@ -935,12 +337,10 @@ pub +seek-child+seek-children+seek-last+seek-node-spec : {M : Type 1} → statem
     (seek-child-seek-node-requires t)
     (seek-child-returns-3 t))
     (λ t. seek-children-lts.spec (
-      step-reads.Asked,
-      step-reads.Learnt,
+      read-child-reads.Asked,
+      read-child-reads.Learnt,
       seek-last-below t,
       seek-last.Post,
-      branch-of-reads.Asked,
-      branch-of-reads.Learnt,
       seek-child-below t,
       seek-child.Post,
     )
@@ -949,16 +349,11 @@ pub +seek-child+seek-children+seek-last+seek-node-spec : {M : Type 1} → statem
     seek-children-Inv-loop
     seek-children-μ-loop
     (seek-children-loop-holds t)
-    (seek-children-step-requires t)
-    (seek-children-enum-known-e t)
+    (seek-children-read-child-requires t)
+    (seek-children-enum-known-k t)
     (seek-children-enum-told t)
     (seek-children-seek-last-requires t)
     (seek-children-returns t)
-    (seek-children-branch-of-requires t)
-    (seek-children-enum-known-k t)
-    (seek-children-enum-told-2 t)
-    (seek-children-seek-last-requires-2 t)
-    (seek-children-returns-2 t)
     (seek-children-sub-seek-child t)
     (seek-children-part-seek-child-start t)
     (seek-children-part-seek-child-end t)
@@ -967,9 +362,7 @@ pub +seek-child+seek-children+seek-last+seek-node-spec : {M : Type 1} → statem
     (seek-children-part-seek-child-end-2 t)
     (seek-children-seek-child-requires t)
     (seek-children-loop-less t)
-    (seek-children-loop-again t)
-    (seek-children-seek-last-requires-3 t)
-    (seek-children-returns-3 t))
+    (seek-children-loop-again t))
     (λ t. seek-last-lts.spec (
       seek-child-below t,
       seek-child.Post,
@@ -985,35 +378,25 @@ pub +seek-child+seek-children+seek-last+seek-node-spec : {M : Type 1} → statem
     (seek-last-seek-entries-requires t)
     (seek-last-returns t))
     λ t. seek-node-lts.spec (
-      read-length-reads.Asked,
-      read-length-reads.Learnt,
+      entries-of-reads.Asked,
+      entries-of-reads.Learnt,
       seek-entries-reads.Asked,
       seek-entries-reads.Learnt,
-      step-reads.Asked,
-      step-reads.Learnt,
-      branch-of-reads.Asked,
-      branch-of-reads.Learnt,
+      read-child-reads.Asked,
+      read-child-reads.Learnt,
       seek-children-below t,
       seek-children.Post,
     )
     (seek-node-at t)
     seek-node.Post
-    (seek-node-mul-at t)
-    (seek-node-read-length-requires t)
-    (seek-node-add-from t)
-    (seek-node-add-end t)
+    (seek-node-entries-of-requires t)
     (seek-node-seek-entries-requires t)
     (seek-node-returns t)
-    (seek-node-step-requires t)
-    (seek-node-enum-known-e t)
+    (seek-node-read-child-requires t)
+    (seek-node-enum-known-k t)
     (seek-node-enum-told t)
     (seek-node-seek-entries-requires-2 t)
     (seek-node-returns-2 t)
-    (seek-node-branch-of-requires t)
-    (seek-node-enum-known-k t)
-    (seek-node-enum-told-2 t)
-    (seek-node-seek-entries-requires-3 t)
-    (seek-node-returns-3 t)
     (seek-node-sub-down t)
     (seek-node-seek-children-requires t)
-    (seek-node-returns-4 t)
+    (seek-node-returns-3 t)

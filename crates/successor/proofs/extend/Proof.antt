@@ -1,13 +1,8 @@
 -- `successor::extend` meets the contract: the loop keeps what the buffer holds with the bytes left after it
 -- (specs/BufferSteps). A buffer's array has 64 bytes, which the invariant carries.
-use lib.ListN.{length-set}
+use Rattle.image.specs.Prelude.{length-set, length, drop, _≡_, refl, _-_, _≤_, arith, needs}
 use Rattle.successor.specs.BufferSteps.{extend-full, extend-step, extend-end}
 use Rattle.successor.specs.Buffer.{bufferIs, appended}
-use lib.ListN.{length, drop}
-use mathlib.Core.Path.{_≡_, refl}
-use Prim.Native.Nat.{_-_, _≤_}
-use native.Mathlib.Omega.{arith}
-use borrow.Author.Needs.{needs}
 use Rattle.successor.proofs.extend.Statement.{statement}
 use Rattle.successor.proofs.extend.Tie as tie
 

@@ -1,9 +1,6 @@
 -- `successor::is_better` meets the contract: by whether the buffer holds a path (specs/Tests).
 use Rattle.successor.specs.Tests.{better-none, better-some}
-use lib.ListN.{length}
-use mathlib.Core.Path.{_≡_}
-use native.Mathlib.Omega.{arith}
-use borrow.Author.Needs.{needs}
+use Rattle.image.specs.Prelude.{length, _≡_, arith, needs}
 use Rattle.successor.proofs.is_better.Statement.{statement}
 use Rattle.successor.proofs.is_better.Tie as tie
 

@@ -1,6 +1,6 @@
 -- `successor::is_far` meets the contract: four tests, one law for each return (specs/Tests).
 use Rattle.successor.specs.Tests.{far-early, far-late, far-under, far-inside, far-past}
-use borrow.Author.Needs.{needs}
+use Rattle.image.specs.Prelude.{needs}
 use Rattle.successor.proofs.is_far.Statement.{statement}
 use Rattle.successor.proofs.is_far.Tie as tie
 

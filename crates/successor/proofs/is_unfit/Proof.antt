@@ -1,7 +1,6 @@
 -- `successor::is_unfit` meets the contract: nothing goes on from the dead shape; else the rest begins in the second part or in the first (specs/Tests).
 use Rattle.successor.specs.Tests.{unfit-dead, unfit-first, unfit-second}
-use native.Mathlib.Omega.{arith}
-use borrow.Author.Needs.{needs}
+use Rattle.image.specs.Prelude.{arith, needs}
 use Rattle.successor.proofs.is_unfit.Statement.{statement}
 use Rattle.successor.proofs.is_unfit.Tie as tie
 

@@ -1,6 +1,6 @@
 -- `successor::is_wanted` meets the contract: three tests, one law for each return (specs/Tests).
 use Rattle.successor.specs.Tests.{wanted-early, wanted-apart, wanted-last}
-use borrow.Author.Needs.{needs}
+use Rattle.image.specs.Prelude.{needs}
 use Rattle.successor.proofs.is_wanted.Statement.{statement}
 use Rattle.successor.proofs.is_wanted.Tie as tie
 

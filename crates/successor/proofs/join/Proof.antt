@@ -1,7 +1,6 @@
 -- `successor::join` meets the contract: an empty buffer extended twice (specs/BufferSteps).
 use Rattle.successor.specs.BufferSteps.{join-is}
-use mathlib.Core.Path.{refl}
-use borrow.Author.Needs.{needs}
+use Rattle.image.specs.Prelude.{refl, needs}
 use Rattle.successor.proofs.join.Statement.{statement}
 use Rattle.successor.proofs.join.Tie as tie
 

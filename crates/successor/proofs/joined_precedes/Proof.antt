@@ -1,8 +1,7 @@
 -- `successor::joined_precedes` meets the contract: the first part decides unless it begins the other string
 -- (specs/Joined).
 use Rattle.successor.specs.Joined.{joined-yes, joined-no, short-yes}
-use native.Mathlib.Omega.{arith}
-use borrow.Author.Needs.{needs}
+use Rattle.image.specs.Prelude.{arith, needs}
 use Rattle.successor.proofs.joined_precedes.Statement.{statement}
 use Rattle.successor.proofs.joined_precedes.Tie as tie
 

@@ -1,6 +1,6 @@
 -- `successor::next_path` meets the contract: every path is unfit for the dead shape (specs/NodeSteps).
 use Rattle.successor.specs.NodeSteps.{next-any}
-use borrow.Author.Needs.{needs}
+use Rattle.image.specs.Prelude.{needs}
 use Rattle.successor.proofs.next_path.Statement.{statement}
 use Rattle.successor.proofs.next_path.Tie as tie
 

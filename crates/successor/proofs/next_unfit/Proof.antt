@@ -3,8 +3,7 @@
 use Rattle.successor.specs.NodeSteps.{root-next}
 use Rattle.successor.specs.Present.{root-ready}
 use Rattle.lookup.specs.Root.{long-enough}
-use native.Mathlib.Omega.{arith}
-use borrow.Author.Needs.{needs}
+use Rattle.image.specs.Prelude.{arith, needs}
 use Rattle.successor.proofs.next_unfit.Statement.{statement}
 use Rattle.successor.proofs.next_unfit.Tie as tie
 

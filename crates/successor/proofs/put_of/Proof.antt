@@ -1,6 +1,6 @@
 -- `successor::put_of` meets the contract: by cases of the message (specs/Steps).
 use Rattle.successor.specs.Steps.{put-at, drop-other, clear-other}
-use borrow.Author.Needs.{needs}
+use Rattle.image.specs.Prelude.{needs}
 use Rattle.successor.proofs.put_of.Statement.{statement}
 use Rattle.successor.proofs.put_of.Tie as tie
 

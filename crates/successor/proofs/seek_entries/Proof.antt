@@ -7,11 +7,7 @@ use Rattle.path.specs.Fed.{shapeIs}
 use Rattle.node.specs.Entries.{listed, listed-end}
 use Rattle.node.specs.Places.{Next, step-bad-is, step-read-is, entry-wider}
 use Rattle.laws.specs.Reading.SeekHere.{under}
-use lib.ListN.{length}
-use mathlib.Core.Path.{_≡_, refl, _∙_}
-use Prim.Native.Nat.{_-_}
-use native.Mathlib.Omega.{arith}
-use borrow.Author.Needs.{needs}
+use Rattle.image.specs.Prelude.{length, _≡_, refl, _∙_, _-_, arith, needs}
 use Rattle.successor.proofs.seek_entries.Statement.{statement}
 use Rattle.successor.proofs.seek_entries.Tie as tie
 

@@ -1,6 +1,6 @@
 -- `successor::suffix_of` meets the contract: by cases of the entry (specs/Steps).
 use Rattle.successor.specs.Steps.{pair-at, child-other, message-put}
-use borrow.Author.Needs.{needs}
+use Rattle.image.specs.Prelude.{needs}
 use Rattle.successor.proofs.suffix_of.Statement.{statement}
 use Rattle.successor.proofs.suffix_of.Tie as tie
 

@@ -3,10 +3,7 @@ use Rattle.successor.specs.Steps.{suffix-place, entry-tried, entry-other
 use Rattle.successor.specs.Suffixes.{suffixIs}
 use Rattle.successor.specs.declared.Suffix.{Suffix}
 use Rattle.node.specs.Places.{Within}
-use lib.ListN.{length}
-use mathlib.Core.Path.{_≡_, sym, _∙_}
-use native.Mathlib.Omega.{arith}
-use borrow.Author.Needs.{needs}
+use Rattle.image.specs.Prelude.{length, _≡_, sym, _∙_, arith, needs}
 use Rattle.successor.proofs.try_entry.Statement.{statement}
 use Rattle.successor.proofs.try_entry.Tie as tie
 

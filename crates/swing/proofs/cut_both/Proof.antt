@@ -1,6 +1,6 @@
 -- `cut_both` meets its contract: the lower range is cut in what the higher one leaves. Relies on specs/Code.
 use Rattle.swing.specs.Code.{high-asked, low-asked, both-done}
-use borrow.Author.Needs.{needs}
+use Rattle.image.specs.Prelude.{needs}
 use Rattle.swing.proofs.cut_both.Statement.{statement}
 use Rattle.swing.proofs.cut_both.Tie as tie
 

@@ -1,8 +1,7 @@
 -- `cut_range` meets its contract: each cut asks what RangeAsks says of its image. Relies on specs/Code.
 use Rattle.swing.specs.Code.{then-right, then-inner, range-done}
 use Rattle.slice.specs.Callers.{top-bare}
-use native.Mathlib.Omega.{arith}
-use borrow.Author.Needs.{needs}
+use Rattle.image.specs.Prelude.{arith, needs}
 use Rattle.swing.proofs.cut_range.Statement.{statement}
 use Rattle.swing.proofs.cut_range.Tie as tie
 

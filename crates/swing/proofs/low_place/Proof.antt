@@ -1,6 +1,6 @@
 -- `low_place` meets its contract, by direction. Relies on specs/Code.
 use Rattle.swing.specs.Code.{place-up, place-down}
-use borrow.Author.Needs.{needs}
+use Rattle.image.specs.Prelude.{needs}
 use Rattle.swing.proofs.low_place.Statement.{statement}
 use Rattle.swing.proofs.low_place.Tie as tie
 

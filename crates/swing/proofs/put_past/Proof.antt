@@ -1,7 +1,6 @@
 -- `put_past` meets its contract: a path and one byte are one put. Relies on specs/Code.
 use Rattle.swing.specs.Code.{past-put}
-use mathlib.Core.Path.{refl}
-use borrow.Author.Needs.{needs}
+use Rattle.image.specs.Prelude.{refl, needs}
 use Rattle.swing.proofs.put_past.Statement.{statement}
 use Rattle.swing.proofs.put_past.Tie as tie
 

@@ -1,7 +1,6 @@
 -- `swing` meets its contract: the plan of each direction. Relies on specs/Asked.
 use Rattle.swing.specs.Asked.{plan-up, done-up, plan-down, done-down}
-use mathlib.Core.Path.{sym, _∙_}
-use borrow.Author.Needs.{needs}
+use Rattle.image.specs.Prelude.{sym, _∙_, needs}
 use Rattle.swing.proofs.swing.Statement.{statement}
 use Rattle.swing.proofs.swing.Tie as tie
 

@@ -1,8 +1,6 @@
 -- `swing_between` meets its contract: the steps of specs/Between, one for each call.
-use mathlib.Core.Path.{_∙_}
+use Rattle.image.specs.Prelude.{_∙_, arith, needs}
 use Rattle.swing.specs.Between.{store-size, low-levels, some-levels, enough-free, cuts-asked, range-taken, root-asked, swung-done}
-use native.Mathlib.Omega.{arith}
-use borrow.Author.Needs.{needs}
 use Rattle.swing.proofs.swing_between.Statement.{statement}
 use Rattle.swing.proofs.swing_between.Tie as tie
 

@@ -1,9 +1,7 @@
 -- `swing_over` meets its contract: the ends of the two ranges are laid down. Relies on specs/Asked.
 use Rattle.swing.specs.Asked.{end-laid, past-plan, over-done}
 use Rattle.swing.specs.Steps.{past-length}
-use mathlib.Core.Path.{refl}
-use native.Mathlib.Omega.{arith}
-use borrow.Author.Needs.{needs}
+use Rattle.image.specs.Prelude.{refl, arith, needs}
 use Rattle.swing.proofs.swing_over.Statement.{statement}
 use Rattle.swing.proofs.swing_over.Tie as tie
 

@@ -1,7 +1,6 @@
 -- `take_out` meets its contract: the tail, then the gap. Relies on specs/Code.
 use Rattle.swing.specs.Code.{tail-asked, front-short, gap-asked, out-done}
-use native.Mathlib.Omega.{arith}
-use borrow.Author.Needs.{needs}
+use Rattle.image.specs.Prelude.{arith, needs}
 use Rattle.swing.proofs.take_out.Statement.{statement}
 use Rattle.swing.proofs.take_out.Tie as tie
 

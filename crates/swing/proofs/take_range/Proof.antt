@@ -1,6 +1,6 @@
 -- `take_range` meets its contract, by direction. Relies on specs/Code.
 use Rattle.swing.specs.Code.{up-asked, up-done, down-asked, down-done}
-use borrow.Author.Needs.{needs}
+use Rattle.image.specs.Prelude.{needs}
 use Rattle.swing.proofs.take_range.Statement.{statement}
 use Rattle.swing.proofs.take_range.Tie as tie
 

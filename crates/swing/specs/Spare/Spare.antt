@@ -1,13 +1,6 @@
 -- The numbers of the nodes that are not marked; with the marks of the nodes in use they are the free nodes, rising.
 -- Relies on tree_check's Marks (what the marks say) and on slice/Moving's free list.
-use Prim.Native.Nat.{ℕ, zero, suc, _+_, _-_, _≤_, _<_}
-use mathlib.Core.Path.{_≡_, refl, sym, ap, _∙_}
-use mathlib.Core.List.{List, [], _∷_}
-use mathlib.Core.Bool.{Bool, true, false, cond}
-use native.Mathlib.Omega.{arith}
-use lib.ListN.{length, getD}
-use lib.Dec.{eqb}
-use borrow.Author.Tests.{eq-eqb, ne-eqb}
+use Rattle.image.specs.Prelude.{ℕ, zero, suc, _+_, _-_, _≤_, _<_, _≡_, refl, sym, ap, _∙_, List, [], _∷_, Bool, true, false, cond, arith, length, getD, eqb, eq-eqb, ne-eqb}
 use Rattle.image.specs.Image.{nodesOf, treeOf}
 use Rattle.image.specs.Sound.{isIn, numbers}
 use Rattle.packed.specs.Build.HandedLaws.{listed-length}

@@ -1,13 +1,6 @@
 -- The steps of free_list: what is listed so far, with what is still to be looked at, is the whole list.
 -- Relies on packed's laws of numbers put one after another.
-use Prim.Native.Nat.{ℕ, zero, suc, _+_, _*_, _-_, _≤_, _<_}
-use mathlib.Core.Path.{_≡_, refl, sym, ap, ap₂, _∙_}
-use mathlib.Core.List.{List, [], _∷_, _++_, append-assoc, append-nil}
-use mathlib.Core.Bool.{Bool, true, false}
-use native.Mathlib.Omega.{arith}
-use lib.ListN.{length, getD}
-use lib.Dec.{eqb}
-use borrow.Author.Tests.{eq-eqb, ne-eqb}
+use Rattle.image.specs.Prelude.{ℕ, zero, suc, _+_, _*_, _-_, _≤_, _<_, _≡_, refl, sym, ap, ap₂, _∙_, List, [], _∷_, _++_, append-assoc, append-nil, Bool, true, false, arith, length, getD, eqb, eq-eqb, ne-eqb}
 use Rattle.image.specs.Bytes.{u16, u16Bytes}
 use Rattle.octets.specs.Put.{put, u16-there}
 use Rattle.packed.specs.Build.Handed.{listed}

@@ -1,8 +1,7 @@
 -- Messages of a node, checked and counted. Relies on node_check and on ChildSteps.
 use Rattle.tree_check.specs.ChildSteps.{messages-unsound, messages-sound}
 use Rattle.tree_check.specs.Node.Counted.{counts-no, counts-yes}
-use borrow.Author.Needs.{needs}
-use Prim.Native.Nat.{_-_}
+use Rattle.image.specs.Prelude.{needs}
 use Rattle.tree_check.proofs.check_messages.Statement.{statement}
 use Rattle.tree_check.proofs.check_messages.Tie as tie
 

@@ -1,11 +1,7 @@
 -- `check_tree`: node 0, then the walk from the root with no mark set.
 -- Relies on RootSteps.
-use borrow.Author.Tests.{not-true, not-false}
-use lib.ListN.{length}
-use mathlib.Core.Path.{_≡_}
-use native.Mathlib.Omega.{arith}
+use Rattle.image.specs.Prelude.{not-true, not-false, length, _≡_, arith, needs}
 use Rattle.tree_check.specs.RootSteps.{bad-head, from-root}
-use borrow.Author.Needs.{needs}
 use Rattle.tree_check.proofs.check_tree.Statement.{statement}
 use Rattle.tree_check.proofs.check_tree.Tie as tie
 

@@ -1,10 +1,6 @@
 -- `clear` leaves zeros. The invariant: every byte before i is zero.
 -- Relies on RootSteps.
-use Prim.Native.Nat.{ℕ, _-_, _≤_, _<_}
-use mathlib.Core.Path.{_≡_, refl, _∙_}
-use native.Mathlib.Omega.{arith}
-use borrow.Author.Needs.{needs}
-use lib.ListN.{length, getD, length-set}
+use Rattle.image.specs.Prelude.{ℕ, _-_, _≤_, _<_, _≡_, refl, _∙_, arith, length, getD, length-set, needs}
 use Rattle.tree_check.specs.RootSteps.{zero-next, zeroed}
 use Rattle.tree_check.proofs.clear.Statement.{statement}
 use Rattle.tree_check.proofs.clear.Tie as tie

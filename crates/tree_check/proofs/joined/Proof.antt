@@ -1,6 +1,6 @@
 -- `joined` adds two tallies number by number.
 -- Relies on CountLaws.
-use borrow.Author.Needs.{needs}
+use Rattle.image.specs.Prelude.{needs}
 use Rattle.tree_check.specs.CountLaws.{sum-is}
 use Rattle.tree_check.proofs.joined.Statement.{statement}
 use Rattle.tree_check.proofs.joined.Tie as tie

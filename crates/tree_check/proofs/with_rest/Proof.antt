@@ -1,6 +1,6 @@
 -- What is held with the answer for the rest: the two answers of the rest.
 -- Relies on `joined` and on Answer.
-use borrow.Author.Needs.{needs}
+use Rattle.image.specs.Prelude.{needs}
 use Rattle.tree_check.specs.Answer.{rest-unsound, rest-joined}
 use Rattle.tree_check.proofs.with_rest.Statement.{statement}
 use Rattle.tree_check.proofs.with_rest.Tie as tie

@@ -1,10 +1,5 @@
 -- The answer of a check that also counts, and the count as the list of entries goes by.
-use Prim.Native.Nat.{ℕ, suc, _+_}
-use mathlib.Core.Path.{_≡_, sym, ap, _∙_}
-use mathlib.Core.List.{List, [], _∷_}
-use mathlib.Core.Bool.{Bool, true, false}
-use native.Mathlib.Omega.{arith}
-use lib.ListN.{length}
+use Rattle.image.specs.Prelude.{ℕ, suc, _+_, _≡_, sym, ap, _∙_, List, [], _∷_, Bool, true, false, arith, length}
 use Rattle.image.specs.Entry as defined
 use Rattle.octets.specs.Cap.{cap}
 use Rattle.tree_check.specs.declared.node_check.Counted.{Counted}

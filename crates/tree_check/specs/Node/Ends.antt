@@ -1,17 +1,10 @@
 -- A leaf whose keys rise is sound if its first key is not below the low pivot and its last key below the high one: the walk that asks no more.
 -- Relies on Leaf, whose walk asks of every key whether the leaf owns it, and on the order of strings.
-use Prim.Native.Nat.{ℕ, _-_, _<_, _≤_}
-use mathlib.Core.Path.{_≡_, refl, sym, ap, _∙_}
-use mathlib.Core.List.{List, [], _∷_}
-use mathlib.Core.Bool.{Bool, true, false, _&&_, not}
-use mathlib.Core.Option.{Option, none, some}
-use native.Mathlib.Omega.{arith}
-use lib.ListN.{length}
-use borrow.Author.Tests.{le-leb, lt-leb}
+use Rattle.image.specs.Prelude.{ℕ, _-_, _<_, _≤_, _≡_, refl, sym, ap, _∙_, List, [], _∷_, Bool, true, false, _&&_, not, and-true, Option, none, some, arith, length, le-leb, lt-leb}
 use Rattle.image.specs.Bytes.{before}
 use Rattle.image.specs.Path.{owns, valueFits, valueLimit}
 use Rattle.image.specs.Entry as defined
-use Rattle.octets.specs.Order.{not-so, before-trans}
+use Rattle.octets.specs.Order.{not-so, before-trans, refuted, and-false}
 use Rattle.path.specs.Shape as machine
 use Rattle.node.specs.Cut.{cut-length}
 use Rattle.node.specs.Entries.{entriesFrom}
@@ -45,10 +38,6 @@ unfoldable pub walkRun : machine.Shape → List ℕ → List ℕ → Option (Lis
 walkRun sh lo hi prev none = false
 walkRun sh lo hi prev (some es) = walkList sh lo hi prev es
 
-and-no : (a : Bool) → false ≡ a && false
-and-no true = refl
-and-no false = refl
-
 -- THE TWO WALKS ARE ONE
 module _ (g v l : Bool) where
   both-yes : (g && v) && (l && true) ≡ (g && (true && true) && v) && l
@@ -80,10 +69,6 @@ module _ (g v l : Bool) where
       go true v l = refl
       go false v l = refl
 
-and-true : (a : Bool) → a ≡ a && true
-and-true true = refl
-and-true false = refl
-
 module _ (sh : machine.Shape) (lo hi : List ℕ) where
   -- one row more, of which the low pivot is already known to be passed
   row-owned : (k v : List ℕ) (W L : Bool) → before k lo ≡ false → W ≡ L && before k hi
@@ -96,11 +81,7 @@ module _ (sh : machine.Shape) (lo hi : List ℕ) where
       go false f = rw (e, f) (both-no (machine.goesOn sh k) (valueFits v) L (not (before k lo)))
 
   past-low : (p k : List ℕ) → before p lo ≡ false → before p k ≡ true → before k lo ≡ false
-  past-low p k n b = go (before k lo) refl
-    where
-      go : (x : Bool) → before k lo ≡ x → before k lo ≡ false
-      go false f = f
-      go true f = not-so (before-trans p k lo b f) n
+  past-low p k n b = refuted (λ f. not-so (before-trans p k lo b f) n)
 
   -- where the last key is below the high pivot, so is every key before it
   list-after : (p : List ℕ) (es : List defined.Entry) → before p lo ≡ false → walkList sh lo hi (some p) es ≡ leafList sh lo hi (some p) es && before p hi
@@ -124,7 +105,7 @@ module _ (sh : machine.Shape) (lo hi : List ℕ) where
           below-high g w l = by (before k hi) refl g w l
             where
               by : (x : Bool) → before k hi ≡ x → (g w l : Bool) → (g && owns lo hi k && w) && l ≡ (g && owns lo hi k && w) && l && before p hi
-              by true f g w l = rw (before-trans p k hi b f) (and-true ((g && owns lo hi k && w) && l))
+              by true f g w l = rw (before-trans p k hi b f) (sym (and-true ((g && owns lo hi k && w) && l)))
               by false f g w l = unfold owns in rw f (none-left g (not (before k lo)) w l (before p hi))
                 where
                   none-left : (g a w l z : Bool) → (g && (a && false) && w) && l ≡ (g && (a && false) && w) && l && z
@@ -164,7 +145,7 @@ module _ (sh : machine.Shape) (lo hi : List ℕ) where
   run-pair : (prev : Option (List ℕ)) (k v : List ℕ) (y : Option (List defined.Entry))
       → walkRun sh lo hi prev (defined.entryThen (some (defined.pair k v)) y) ≡ rowNext sh lo prev k v && walkRun sh lo hi (some k) y
   unfolding walkRun walkList defined.entryThen
-  run-pair prev k v none = and-no (rowNext sh lo prev k v)
+  run-pair prev k v none = sym (and-false (rowNext sh lo prev k v))
   run-pair prev k v (some es) = refl
 
   run-other : (prev : Option (List ℕ)) (e : Entry) (s : List ℕ) (y : Option (List defined.Entry)) → pairIs e ≡ Pair.Other → walkRun sh lo hi prev (defined.entryThen (some (entryIn s e)) y) ≡ false
@@ -227,20 +208,20 @@ unfolding closes prevIn
 key-closes s hi prev p b e h = rw e h
 
 module _ (sh : machine.Shape) (lo : List ℕ) (prev : Option (List ℕ)) (k s : List ℕ) (v : Place) (w : Within 0 (length s) v) where
-  fits-no : 32 < v .stop - v .start → valueFits (part s v) ≡ false
-  unfolding valueFits valueLimit
-  fits-no h = let l = cut-length s (v .start) (v .stop) (w .rises) (w .high) in lt-leb (length (part s v)) 32 (omega arith)
+  fits-no : valueLimit < v .stop - v .start → valueFits (part s v) ≡ false
+  unfolding valueFits
+  fits-no h = let l = cut-length s (v .start) (v .stop) (w .rises) (w .high) in lt-leb (length (part s v)) valueLimit (omega arith)
 
-  fits-yes : v .stop - v .start ≤ 32 → valueFits (part s v) ≡ true
-  unfolding valueFits valueLimit
-  fits-yes h = let l = cut-length s (v .start) (v .stop) (w .rises) (w .high) in le-leb (length (part s v)) 32 (omega arith)
+  fits-yes : v .stop - v .start ≤ valueLimit → valueFits (part s v) ≡ true
+  unfolding valueFits
+  fits-yes h = let l = cut-length s (v .start) (v .stop) (w .rises) (w .high) in le-leb (length (part s v)) valueLimit (omega arith)
 
   all-no : (a b : Bool) → false ≡ a && (b && false)
   all-no true true = refl
   all-no true false = refl
   all-no false b = refl
 
-  pub row-long : 32 < v .stop - v .start → false ≡ rowNext sh lo prev k (part s v)
+  pub row-long : valueLimit < v .stop - v .start → false ≡ rowNext sh lo prev k (part s v)
   unfolding rowNext
   row-long h = rw (fits-no h) (all-no (after lo prev k) (machine.goesOn sh k))
 
@@ -248,9 +229,9 @@ module _ (sh : machine.Shape) (lo : List ℕ) (prev : Option (List ℕ)) (k s : 
   unfolding rowNext
   row-back x e f = rw (sym e ∙ f)
 
-  pub row-shape : v .stop - v .start ≤ 32 → (x z : Bool) → x ≡ after lo prev k → x ≡ true → z ≡ machine.goesOn sh k → z ≡ rowNext sh lo prev k (part s v)
+  pub row-shape : v .stop - v .start ≤ valueLimit → (x z : Bool) → x ≡ after lo prev k → x ≡ true → z ≡ machine.goesOn sh k → z ≡ rowNext sh lo prev k (part s v)
   unfolding rowNext
-  row-shape h x z ex fx ez = rw (fits-yes h, sym ex ∙ fx) (ez ∙ and-true (machine.goesOn sh k))
+  row-shape h x z ex fx ez = rw (fits-yes h, sym ex ∙ fx) (ez ∙ sym (and-true (machine.goesOn sh k)))
 
 pub leaf-start : (sh : machine.Shape) (lo hi s : List ℕ) (x : Option (List defined.Entry)) → walkRun sh lo hi (prevIn s Prev.Start) x ≡ walkRun sh lo hi none x
 unfolding prevIn

@@ -1,11 +1,5 @@
 -- A sound interior node, entry by entry: what check_children does.
-use Prim.Native.Nat.{ℕ}
-use mathlib.Core.Path.{_≡_, refl, ap, subst, _∙_}
-use mathlib.Core.List.{List, [], _∷_}
-use mathlib.Core.Bool.{Bool, true, false, _&&_, cond}
-use mathlib.Core.Option.{Option, none, some}
-use native.Mathlib.Omega.{arith}
-use lib.ListN.{drop}
+use Rattle.image.specs.Prelude.{ℕ, _≡_, refl, ap, subst, _∙_, List, [], _∷_, Bool, true, false, _&&_, cond, and-false, Option, none, some, arith, drop}
 use Rattle.image.specs.Bytes.{before, shared}
 use Rattle.image.specs.Path.{owns}
 use Rattle.image.specs.Entry as defined
@@ -46,13 +40,14 @@ messages-not sh lo hi (defined.pair k v ∷ es) h = refl
 messages-not sh lo hi (defined.child i k ∷ es) h = refl
 messages-not sh lo hi (defined.message m ∷ es) h = go (messagesOf es) refl (messages-not sh lo hi es)
   where
-    and-false : (a : Bool) → a && false ≡ false
-    and-false true = refl
-    and-false false = refl
-
     go : (o : Option (List defined.Message)) → messagesOf es ≡ o → (messagesOf es ≡ none → messagesRun sh lo hi (some es) ≡ false) → messagesRun sh lo hi (some (defined.message m ∷ es)) ≡ false
     go none e ih = rw (ih e) (and-false (messageHere sh lo hi m))
     go (some ts) e ih = let q : some (m ∷ ts) ≡ none = unfold messageThen in rw e at h in let z : _≡_ {A = ℕ} 0 1 = cc in absurd (omega arith)
+
+pub onward-none : (o : Option (List ℕ)) → none ≡ onward o (λ after. none)
+unfolding onward
+onward-none none = refl
+onward-none (some s) = refl
 
 module _ (node : ℕ → Shape → List ℕ → List ℕ → List ℕ → Option (List ℕ)) (sh : Shape) (lo hi : List ℕ) where
   -- the child of number i between two pivots
@@ -70,11 +65,6 @@ module _ (node : ℕ → Shape → List ℕ → List ℕ → List ℕ → Option
   unfoldable pub branchesRun : ℕ → List ℕ → Option (List defined.Entry) → List ℕ → Option (List ℕ)
   branchesRun i low none seen = none
   branchesRun i low (some es) seen = branchesList i low es seen
-
-  onward-none : (o : Option (List ℕ)) → none ≡ onward o (λ after. none)
-  unfolding onward
-  onward-none none = refl
-  onward-none (some s) = refl
 
   -- the step of the walk, also where the later entries do not read
   pub branches-step : (i : ℕ) (low : List ℕ) (j : ℕ) (q : List ℕ) (y : Option (List defined.Entry)) (seen : List ℕ)

@@ -1,10 +1,5 @@
 -- A sound leaf, pair by pair.
-use Prim.Native.Nat.{ℕ}
-use mathlib.Core.Path.{_≡_, refl, sym, ap, ap₂, subst, _∙_}
-use mathlib.Core.List.{List, [], _∷_}
-use mathlib.Core.Bool.{Bool, true, false, _&&_}
-use mathlib.Core.Option.{Option, none, some}
-use native.Mathlib.Omega.{arith}
+use Rattle.image.specs.Prelude.{ℕ, _≡_, refl, sym, ap, ap₂, subst, _∙_, List, [], _∷_, Bool, true, false, _&&_, and-true, and-false, Option, none, some, arith}
 use Rattle.image.specs.Bytes.{before}
 use Rattle.image.specs.Path.{owns, valueFits}
 use Rattle.image.specs.Entry as defined
@@ -44,10 +39,6 @@ leafList sh lo hi prev (defined.message m ∷ es) = false
 unfoldable pub leafRun : machine.Shape → List ℕ → List ℕ → Option (List ℕ) → Option (List defined.Entry) → Bool
 leafRun sh lo hi prev none = false
 leafRun sh lo hi prev (some es) = leafList sh lo hi prev es
-
-and-no : (a : Bool) → false ≡ a && false
-and-no true = refl
-and-no false = refl
 
 pub prev-place : (n : ℕ) (prev : Prev) (p : Place) → PrevFits n prev → prev ≡ Prev.Key p → Within 0 n p
 unfolding PrevFits
@@ -124,11 +115,7 @@ module _ (sh : machine.Shape) (lo hi : List ℕ) where
   unfolding leafList rowHere pairsOf
   list-rules prev [] rs h =
       let q : rs ≡ [] = cc in
-      rw q (led-nil prev ∙ and-yes (led prev []) ∙ ap (λ z. led prev [] && z) (sym rules-nil))
-    where
-      and-yes : (a : Bool) → a ≡ a && true
-      and-yes true = refl
-      and-yes false = refl
+      rw q (led-nil prev ∙ sym (and-true (led prev [])) ∙ ap (λ z. led prev [] && z) (sym rules-nil))
   list-rules prev (defined.pair k v ∷ es) rs h = go (pairsOf es) refl (λ ts e. list-rules (some k) es ts e)
     where
       go : (o : Option (List Row)) → pairsOf es ≡ o → ((ts : List Row) → pairsOf es ≡ some ts → leafList sh lo hi (some k) es ≡ led (some k) ts && rules ts)
@@ -148,7 +135,7 @@ module _ (sh : machine.Shape) (lo hi : List ℕ) where
   list-none prev (defined.pair k v ∷ es) h = go (pairsOf es) refl (list-none (some k) es)
     where
       go : (o : Option (List Row)) → pairsOf es ≡ o → (pairsOf es ≡ none → leafList sh lo hi (some k) es ≡ false) → leafList sh lo hi prev (defined.pair k v ∷ es) ≡ false
-      go none e ih = rw (ih e) (sym (and-no (rowHere sh lo hi prev k v)))
+      go none e ih = rw (ih e) (and-false (rowHere sh lo hi prev k v))
       go (some ts) e ih = let q : some (record { key = k; value = v } ∷ ts) ≡ none = unfold pairThen in rw e at h in let z : _≡_ {A = ℕ} 0 1 = cc in absurd (omega arith)
   list-none prev (defined.child i k ∷ es) h = refl
   list-none prev (defined.message m ∷ es) h = refl

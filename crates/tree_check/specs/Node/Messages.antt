@@ -1,12 +1,5 @@
 -- A sound message, and the walk over those that a node holds.
-use Prim.Native.Nat.{ℕ, _-_, _<_, _≤_}
-use mathlib.Core.Path.{_≡_, refl, sym, ap, subst, _∙_}
-use mathlib.Core.List.{List, [], _∷_}
-use mathlib.Core.Bool.{Bool, true, false, _&&_}
-use mathlib.Core.Option.{Option, none, some}
-use native.Mathlib.Omega.{arith}
-use lib.ListN.{length}
-use borrow.Author.Tests.{le-leb, lt-leb}
+use Rattle.image.specs.Prelude.{ℕ, _-_, _<_, _≤_, _≡_, refl, sym, ap, subst, _∙_, List, [], _∷_, Bool, true, false, _&&_, and-true, and-false, Option, none, some, arith, length, le-leb, lt-leb}
 use Rattle.image.specs.Bytes.{same}
 use Rattle.image.specs.Path.{owns, valueFits, valueLimit}
 use Rattle.image.specs.Entry as defined
@@ -50,11 +43,7 @@ note-places a b e m h w = subst (EntryWithin a b) (note-entry e m h) w
 module _ (sh : Shape) (lo hi : List ℕ) where
   run-message : (m : defined.Message) (y : Option (List defined.Entry)) → messagesRun sh lo hi (defined.entryThen (some (defined.message m)) y) ≡ messageHere sh lo hi m && messagesRun sh lo hi y
   unfolding messagesRun defined.entryThen
-  run-message m none = no (messageHere sh lo hi m)
-    where
-      no : (a : Bool) → false ≡ a && false
-      no true = refl
-      no false = refl
+  run-message m none = sym (and-false (messageHere sh lo hi m))
   run-message m (some es) = refl
 
   run-other : (e : Entry) (s : List ℕ) (y : Option (List defined.Entry)) → noteIs e ≡ Note.Other → messagesRun sh lo hi (defined.entryThen (some (entryIn s e)) y) ≡ false
@@ -93,15 +82,11 @@ module _ (sh : Shape) (lo hi : List ℕ) where
 
   -- one message
   module _ (s : List ℕ) (m : Message) (p v : Place) (e : m ≡ Message.Put p v) (w : Within 0 (length s) v) where
-    pub put-long : 32 < v .stop - v .start → false ≡ messageHere sh lo hi (messageIn s m)
-    unfolding messageHere valueFits valueLimit
+    pub put-long : valueLimit < v .stop - v .start → false ≡ messageHere sh lo hi (messageIn s m)
+    unfolding messageHere valueFits
     put-long h =
         let l = cut-length s (v .start) (v .stop) (w .rises) (w .high) in
-        rw (e, lt-leb (length (part s v)) 32 (omega arith)) (no (goesOn sh (part s p) && owns lo hi (part s p)))
-      where
-        no : (a : Bool) → false ≡ a && false
-        no true = refl
-        no false = refl
+        rw (e, lt-leb (length (part s v)) valueLimit (omega arith)) (sym (and-false (goesOn sh (part s p) && owns lo hi (part s p))))
 
     pub put-out : (x : Bool) → x ≡ owns lo hi (part s p) → x ≡ false → false ≡ messageHere sh lo hi (messageIn s m)
     unfolding messageHere
@@ -111,32 +96,20 @@ module _ (sh : Shape) (lo hi : List ℕ) where
         no true b = refl
         no false b = refl
 
-    pub put-shape : v .stop - v .start ≤ 32 → (x y : Bool) → x ≡ owns lo hi (part s p) → x ≡ true → y ≡ goesOn sh (part s p) → y ≡ messageHere sh lo hi (messageIn s m)
-    unfolding messageHere valueFits valueLimit
+    pub put-shape : v .stop - v .start ≤ valueLimit → (x y : Bool) → x ≡ owns lo hi (part s p) → x ≡ true → y ≡ goesOn sh (part s p) → y ≡ messageHere sh lo hi (messageIn s m)
+    unfolding messageHere valueFits
     put-shape h x y f g k =
         let l = cut-length s (v .start) (v .stop) (w .rises) (w .high) in
-        rw (e, sym f ∙ g, le-leb (length (part s v)) 32 (omega arith)) (k ∙ yes (goesOn sh (part s p)))
-      where
-        yes : (a : Bool) → a ≡ a && true && true
-        yes true = refl
-        yes false = refl
+        rw (e, sym f ∙ g, le-leb (length (part s v)) valueLimit (omega arith)) (k ∙ sym (and-true (goesOn sh (part s p))) ∙ sym (and-true (goesOn sh (part s p) && true)))
 
   module _ (s : List ℕ) (m : Message) (p : Place) where
     pub drop-out : m ≡ Message.Drop p → (x : Bool) → x ≡ owns lo hi (part s p) → x ≡ false → false ≡ messageHere sh lo hi (messageIn s m)
     unfolding messageHere
-    drop-out e x f g = rw (e, sym f ∙ g) (no (goesOn sh (part s p)))
-      where
-        no : (a : Bool) → false ≡ a && false
-        no true = refl
-        no false = refl
+    drop-out e x f g = rw (e, sym f ∙ g) (sym (and-false (goesOn sh (part s p))))
 
     pub drop-shape : m ≡ Message.Drop p → (x y : Bool) → x ≡ owns lo hi (part s p) → x ≡ true → y ≡ goesOn sh (part s p) → y ≡ messageHere sh lo hi (messageIn s m)
     unfolding messageHere
-    drop-shape e x y f g k = rw (e, sym f ∙ g) (k ∙ yes (goesOn sh (part s p)))
-      where
-        yes : (a : Bool) → a ≡ a && true
-        yes true = refl
-        yes false = refl
+    drop-shape e x y f g k = rw (e, sym f ∙ g) (k ∙ sym (and-true (goesOn sh (part s p))))
 
     pub clear-all : m ≡ Message.Clear p → p .stop ≤ p .start → true ≡ messageHere sh lo hi (messageIn s m)
     unfolding messageHere same

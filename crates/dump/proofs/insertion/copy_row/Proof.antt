@@ -1,8 +1,5 @@
 -- `copy_row` meets its contract: what is set aside is the row's bytes. Relies on specs/Insertion/Moves.
-use borrow.Author.Needs.{needs}
-use native.Mathlib.Omega.{arith}
-use Prim.Native.Nat.{_*_}
-use mathlib.Core.Path.{refl, ap, _∙_}
+use Rattle.image.specs.Prelude.{needs, arith, _*_, refl, ap, _∙_}
 use Rattle.octets.specs.Put.{put}
 use Rattle.dump.specs.Insertion.Moves.{row-aside}
 use Rattle.dump.proofs.insertion.copy_row.Statement.{statement}

@@ -1,8 +1,7 @@
 -- `insert_row` meets its contract: the place, the move and the new row make the table with the row put into it.
 -- Relies on specs/InsertSteps and on the contracts of the three calls.
 use Rattle.dump.specs.Insertion.InsertSteps.{fit-front, inserted}
-use borrow.Author.Needs.{needs}
-use native.Mathlib.Omega.{arith}
+use Rattle.image.specs.Prelude.{needs, arith}
 use Rattle.dump.proofs.insertion.insert_row.Statement.{statement}
 use Rattle.dump.proofs.insertion.insert_row.Tie as tie
 

@@ -1,9 +1,6 @@
 -- `merge_chunk` meets its contract: before each turn some of the rows set aside are to come in, and those behind them are done.
 -- Relies on specs/Insertion/MergeSteps.
-use borrow.Author.Needs.{needs}
-use native.Mathlib.Omega.{arith}
-use mathlib.Core.Path.{_≡_, refl}
-use lib.ListN.{length}
+use Rattle.image.specs.Prelude.{needs, arith, _≡_, refl, length}
 use Rattle.dump.specs.Insertion.MergeSteps.{part-size, Aside, set-aside, Merging, merge-first, row-fit, row-rises, row-room, row-there, row-path, merge-next, merge-end}
 use Rattle.dump.proofs.insertion.merge_chunk.Statement.{statement}
 use Rattle.dump.proofs.insertion.merge_chunk.Tie as tie

@@ -1,6 +1,5 @@
 -- `merge_row` meets its contract: the place, the move and the copy are one put. Relies on specs/Insertion/MergeSteps.
-use borrow.Author.Needs.{needs}
-use native.Mathlib.Omega.{arith}
+use Rattle.image.specs.Prelude.{needs, arith}
 use Rattle.dump.specs.Insertion.MergeSteps.{row-merged}
 use Rattle.dump.proofs.insertion.merge_row.Statement.{statement}
 use Rattle.dump.proofs.insertion.merge_row.Tie as tie

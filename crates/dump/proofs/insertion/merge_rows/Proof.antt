@@ -1,10 +1,6 @@
 -- `merge_rows` meets its contract: before each turn the rows up to `done` are merged, and those behind are as they were.
 -- Relies on specs/Insertion/MergeSteps.
-use borrow.Author.Needs.{needs}
-use native.Mathlib.Omega.{arith}
-use Prim.Native.Nat.{_+_, _-_, _≤_}
-use mathlib.Core.Path.{_≡_, refl}
-use lib.ListN.{length}
+use Rattle.image.specs.Prelude.{needs, arith, _+_, _-_, _≤_, _≡_, refl, length}
 use Rattle.dump.specs.Insertion.Insertion.{Merged}
 use Rattle.dump.specs.Insertion.MergeSteps.{merged-none, merged-same, merged-alone, chunk-apart, chunk-merged}
 use Rattle.dump.proofs.insertion.merge_rows.Statement.{statement}

@@ -1,9 +1,5 @@
 -- `move_rows` meets its contract: before each turn the rows from `at` on are moved. Relies on specs/Insertion/Moves.
-use borrow.Author.Needs.{needs}
-use native.Mathlib.Omega.{arith}
-use Prim.Native.Nat.{_≤_}
-use mathlib.Core.Path.{_≡_, refl, _∙_}
-use lib.ListN.{length}
+use Rattle.image.specs.Prelude.{needs, arith, _≤_, _≡_, refl, _∙_, length}
 use Rattle.dump.specs.Insertion.Moves.{moved, move-none, move-one, move-all}
 use Rattle.dump.proofs.insertion.move_rows.Statement.{statement}
 use Rattle.dump.proofs.insertion.move_rows.Tie as tie

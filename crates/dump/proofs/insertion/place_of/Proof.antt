@@ -3,10 +3,7 @@
 use Rattle.packed.specs.Rows.Area.{rowsOf}
 use Rattle.dump.specs.Insertion.Insertion.{rank}
 use Rattle.dump.specs.Insertion.Ranks.{place-most, place-behind, place-upto}
-use borrow.Author.Needs.{needs}
-use native.Mathlib.Omega.{arith}
-use Prim.Native.Nat.{_+_, _-_, _/_, _≤_}
-use mathlib.Core.Path.{sym, _∙_}
+use Rattle.image.specs.Prelude.{needs, arith, _+_, _-_, _/_, _≤_, sym, _∙_}
 use Rattle.dump.proofs.insertion.place_of.Statement.{statement}
 use Rattle.dump.proofs.insertion.place_of.Tie as tie
 

@@ -2,8 +2,7 @@
 -- Relies on specs/ReplaceSteps and on the contracts of the three calls.
 use Rattle.dump.specs.Insertion.Slots.{fit-fewer}
 use Rattle.dump.specs.Insertion.ReplaceSteps.{replace-end, replace-other, replace-here}
-use borrow.Author.Needs.{needs}
-use native.Mathlib.Omega.{arith}
+use Rattle.image.specs.Prelude.{needs, arith}
 use Rattle.dump.proofs.insertion.replace_row.Statement.{statement}
 use Rattle.dump.proofs.insertion.replace_row.Tie as tie
 

@@ -2,8 +2,7 @@
 -- Relies on specs/ReplaceSteps and on the contracts of the calls.
 use Rattle.dump.specs.Insertion.Slots.{fit-fewer}
 use Rattle.dump.specs.Insertion.ReplaceSteps.{set-first, first-apart, set-second, second-apart, second-absent, new-room, set-new}
-use borrow.Author.Needs.{needs}
-use native.Mathlib.Omega.{arith}
+use Rattle.image.specs.Prelude.{needs, arith}
 use Rattle.dump.proofs.insertion.set_row.Statement.{statement}
 use Rattle.dump.proofs.insertion.set_row.Tie as tie
 

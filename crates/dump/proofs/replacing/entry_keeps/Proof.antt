@@ -1,6 +1,6 @@
 -- An entry by its kind: only a message may take rows away (specs/ReplacingSteps).
 use Rattle.dump.specs.ReplacingSteps.{pair-keeps, child-keeps, message-keeps}
-use borrow.Author.Needs.{needs}
+use Rattle.image.specs.Prelude.{needs}
 use Rattle.dump.proofs.replacing.entry_keeps.Statement.{statement}
 use Rattle.dump.proofs.replacing.entry_keeps.Tie as tie
 

@@ -1,6 +1,6 @@
 -- A message by its kind: a put takes no row away (specs/ReplacingSteps).
 use Rattle.dump.specs.ReplacingSteps.{put-keeps, drop-keeps, clear-keeps}
-use borrow.Author.Needs.{needs}
+use Rattle.image.specs.Prelude.{needs}
 use Rattle.dump.proofs.replacing.message_keeps.Statement.{statement}
 use Rattle.dump.proofs.replacing.message_keeps.Tie as tie
 

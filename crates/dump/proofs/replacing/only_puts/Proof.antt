@@ -1,40 +1,31 @@
 -- The loop over a node's entries: none of those passed takes a row away. The measure is the bytes left.
 -- Relies on specs/ReplacingSteps and on the contract of the cursor.
-use Rattle.node.specs.Places.{step-read-is, step-bad-is}
+use Rattle.node.specs.Places.{step-read-is, step-bad-is, entries-inside}
 use Rattle.node.specs.Entries.{listed, listed-end}
 use Rattle.lookup.specs.Look.{listing}
 use Rattle.dump.specs.Replacing.{onlyPuts}
 use Rattle.dump.specs.ReplacingSteps.{keeps-end, keeps-not, keeps-on}
-use borrow.Author.Needs.{needs}
-use native.Mathlib.Omega.{arith}
-use Prim.Native.Nat.{_+_, _-_, _*_}
-use mathlib.Core.Path.{_≡_, refl, ap, _∙_}
+use Rattle.image.specs.Prelude.{needs, arith, _-_, _≡_, refl, ap, _∙_}
 use Rattle.dump.proofs.replacing.only_puts.Statement.{statement}
 use Rattle.dump.proofs.replacing.only_puts.Tie as tie
 
 abbrev Inv-loop : tie.InvT-loop
-Inv-loop store num at len from end c₀ c = (c .end ≡ end) × (onlyPuts (listed store (c .at) (c .end)) ≡ onlyPuts (listing store num))
+Inv-loop store num c₀ end c = (c .end ≡ end) × (onlyPuts (listed store (c .at) (c .end)) ≡ onlyPuts (listing store num))
 
 abbrev μ-loop : tie.MeasureT-loop
-μ-loop store num at len from end c₀ c = end - c .at
+μ-loop store num c₀ end c = end - c .at
 
-mul-at : tie.Need-mul-at Inv-loop μ-loop
-mul-at c = let a = c .before .pre .0 in omega arith
-
-read-length-requires : tie.Need-read-length-requires Inv-loop μ-loop
-read-length-requires c κs = let a = c .before .pre .0 in omega arith
-
-add-from : tie.Need-add-from Inv-loop μ-loop
-add-from c = let a = c .before .before .pre .0 in omega arith
-
-add-end : tie.Need-add-end Inv-loop μ-loop
-add-end c = let a = c .before .before .pre .0 in let b = c .before .before .pre .1 in let d = c .read-length .ensures .0 in omega arith
+entries-of-requires : tie.Need-entries-of-requires Inv-loop μ-loop
+entries-of-requires c κs = c .before .pre .0
 
 loop-holds : tie.Need-loop-holds Inv-loop μ-loop
-loop-holds c = (refl, ap (λ n. onlyPuts (listed (c .before .before .args .store .now) (c .before .before .args .num * 1024 + 8) (c .before .before .args .num * 1024 + 8 + n))) (c .read-length .ensures .0))
+loop-holds c = (refl, ap (λ x. onlyPuts (listed (c .before .before .args .store .now) (x .at) (x .end))) (c .entries-of .ensures))
 
 step-requires : tie.Need-step-requires Inv-loop μ-loop
-step-requires c κs = let a = c .before .before .loop .inv .0 in let b = c .before .before .before .before .before .pre .0 in let d = c .before .before .before .before .before .pre .1 in let e = c .before .before .before .read-length .ensures .0 in omega arith
+step-requires c κs =
+    let a = c .before .before .loop .inv .0 in
+    let b = entries-inside (c .before .before .before .before .before .args .store .now) (c .before .before .before .before .before .args .num) (c .before .before .before .entries-of .result) (c .before .before .before .entries-of .ensures) (c .before .before .before .before .before .pre) in
+    omega arith
 
 enum-known-e : tie.Need-enum-known-e Inv-loop μ-loop
 enum-known-e c = search needs
@@ -66,10 +57,7 @@ only-puts-spec =
     (tie.spec
     Inv-loop
     μ-loop
-    mul-at
-    read-length-requires
-    add-from
-    add-end
+    entries-of-requires
     loop-holds
     step-requires
     enum-known-e

@@ -2,9 +2,7 @@
 use Rattle.node.specs.Places.{EntryWithin}
 use Rattle.dump.specs.InsertSteps.{after-pair, after-child}
 use Rattle.dump.specs.ReplacingSteps.{laid-same, message-settable, message-laid}
-use borrow.Author.Needs.{needs}
-use mathlib.Core.Path.{subst}
-use lib.ListN.{length}
+use Rattle.image.specs.Prelude.{needs, subst, length}
 use Rattle.dump.proofs.replacing.set_entry.Statement.{statement}
 use Rattle.dump.proofs.replacing.set_entry.Tie as tie
 

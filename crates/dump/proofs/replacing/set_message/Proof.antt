@@ -2,10 +2,7 @@
 use Rattle.node.specs.Places.{MessageWithin}
 use Rattle.dump.specs.InsertSteps.{after-drop, after-clear}
 use Rattle.dump.specs.ReplacingSteps.{laid-same, put-path, put-value, put-room, put-laid}
-use borrow.Author.Needs.{needs}
-use native.Mathlib.Omega.{arith}
-use mathlib.Core.Path.{subst}
-use lib.ListN.{length}
+use Rattle.image.specs.Prelude.{needs, arith, subst, length}
 use Rattle.dump.proofs.replacing.set_message.Statement.{statement}
 use Rattle.dump.proofs.replacing.set_message.Tie as tie
 

@@ -4,12 +4,7 @@ use Rattle.node.specs.Entries.{listed, listed-end}
 use Rattle.dump.specs.Insertion.Insertion.{laid}
 use Rattle.dump.specs.Replacing.{putAmong}
 use Rattle.dump.specs.ReplacingSteps.{Setting, setting-first, setting-end, setting-here, setting-next}
-use borrow.Author.Needs.{needs}
-use native.Mathlib.Omega.{arith}
-use Prim.Native.Nat.{_-_}
-use mathlib.Core.Path.{_≡_, refl, _∙_}
-use mathlib.Core.List.{[]}
-use lib.ListN.{length}
+use Rattle.image.specs.Prelude.{needs, arith, _-_, _≡_, refl, _∙_, [], length}
 use Rattle.dump.proofs.replacing.set_puts.Statement.{statement}
 use Rattle.dump.proofs.replacing.set_puts.Tie as tie
 

@@ -1,8 +1,6 @@
 -- `alike` meets its contract: two notes of one kind on the same bytes. Relies on specs/Steps.
 use Rattle.live_count.specs.Notes.Steps.{unlike-told, alike-told}
-use borrow.Author.Needs.{needs}
-use native.Mathlib.Omega.{arith}
-use Prim.Native.Nat.{_-_}
+use Rattle.image.specs.Prelude.{needs, arith}
 use Rattle.live_count.proofs.notes.alike.Statement.{statement}
 use Rattle.live_count.proofs.notes.alike.Tie as tie
 

@@ -1,11 +1,8 @@
-use borrow.Author.Needs.{needs}
 -- `as_number` meets its contract, by the two values of a test. Relies on specs/Steps.
-use native.Mathlib.Omega.{arith}
+use Rattle.image.specs.Prelude.{arith}
 use Rattle.live_count.specs.Notes.Steps.{one-yes, one-not}
 use Rattle.live_count.proofs.notes.as_number.Statement.{statement}
 use Rattle.live_count.proofs.notes.as_number.Tie as tie
-use Rattle.live_count.proofs.notes.as_number.Reads as reads
-use Rattle.live_count.proofs.notes.as_number.Lts as lts
 
 returns : tie.Need-returns
 returns c = (one-yes _ (c .if1 .taken), omega arith)

@@ -1,15 +1,9 @@
 -- `concern_of` meets its contract, exit by exit. Relies on specs/Apart.
-use native.Mathlib.Omega.{arith}
+use Rattle.image.specs.Prelude.{arith, needs}
 use Rattle.node.specs.Cut.{cut-length}
 use Rattle.live_count.specs.Notes.Apart.{no-note, far, all-cleared, too-short, high-off, low-off, cleared, named}
-use borrow.Author.Needs.{needs}
 use Rattle.live_count.proofs.notes.concern_of.Statement.{statement}
 use Rattle.live_count.proofs.notes.concern_of.Tie as tie
-use Rattle.live_count.proofs.notes.concern_of.Reads as reads
-use Rattle.live_count.proofs.notes.concern_of.Lts as lts
-use Rattle.octets.proofs.common_length.Reads as common-length-reads
-use Rattle.octets.proofs.precedes.Reads as precedes-reads
-use Rattle.live_count.proofs.notes.misses.Reads as misses-reads
 
 returns : tie.Need-returns
 returns c = no-note (c .before .before .before .before .before .args .s .now) (c .before .before .before .before .before .args .a) (c .before .before .before .before .before .args .b) (c .before .before .before .before .before .args .clears) (c .before .before .before .before .before .args .w .now) (c .before .before .before .before .before .args .lo .now) (c .before .before .before .before .before .args .hi .now) (c .before .before .before .before .before .pre .0) (c .before .before .before .before .before .pre .1)

@@ -1,13 +1,9 @@
 -- `concern_of_message` meets its contract, by the kind of the message. Relies on specs/Steps.
-use native.Mathlib.Omega.{arith}
+use Rattle.image.specs.Prelude.{arith, needs}
 use Rattle.node.specs.Search.Latest.{put-places, drop-places, clear-places}
 use Rattle.live_count.specs.Notes.Steps.{put-concerned, drop-concerned, clear-concerned}
-use borrow.Author.Needs.{needs}
 use Rattle.live_count.proofs.notes.concern_of_message.Statement.{statement}
 use Rattle.live_count.proofs.notes.concern_of_message.Tie as tie
-use Rattle.live_count.proofs.notes.concern_of_message.Reads as reads
-use Rattle.live_count.proofs.notes.concern_of_message.Lts as lts
-use Rattle.live_count.proofs.notes.concern_of.Reads as concern-of-reads
 
 enum-known-m : tie.Need-enum-known-m
 enum-known-m c = search needs

@@ -6,10 +6,7 @@ use Rattle.node.specs.declared.Entry.{Entry}
 use Rattle.node.specs.Search.PairSteps.{pair-next, pair-none}
 use Rattle.live_count.specs.Notes.Notes.{quiet, countQuiet}
 use Rattle.live_count.specs.Notes.Steps.{quiet-end, quiet-unpaired, quiet-on}
-use borrow.Author.Needs.{needs}
-use native.Mathlib.Omega.{arith}
-use Prim.Native.Nat.{_+_, _-_, _≤_}
-use mathlib.Core.Path.{_≡_, refl, _∙_}
+use Rattle.image.specs.Prelude.{needs, arith, _+_, _-_, _≤_, _≡_, refl, _∙_}
 use Rattle.live_count.proofs.notes.count_pairs.Statement.{statement}
 use Rattle.live_count.proofs.notes.count_pairs.Tie as tie
 

@@ -1,15 +1,9 @@
-use borrow.Author.Needs.{needs}
 -- `is_quiet` meets its contract: from the last note up, those passed are not on the key. Relies on specs/Apart.
-use Prim.Native.Nat.{_≤_, _-_}
-use mathlib.Core.Path.{_≡_, refl}
-use native.Mathlib.Omega.{arith}
+use Rattle.image.specs.Prelude.{needs, _≤_, _-_, _≡_, refl, arith}
 use Rattle.live_count.specs.Notes.Notes.{quiet}
 use Rattle.live_count.specs.Notes.Apart.{latest-one, passed-one, passed-all}
 use Rattle.live_count.proofs.notes.is_quiet.Statement.{statement}
 use Rattle.live_count.proofs.notes.is_quiet.Tie as tie
-use Rattle.live_count.proofs.notes.is_quiet.Reads as reads
-use Rattle.live_count.proofs.notes.is_quiet.Lts as lts
-use Rattle.live_count.proofs.notes.note_covers.Reads as note-covers-reads
 
 abbrev Inv-loop : tie.InvT-loop
 Inv-loop s notes count key i₀ i = (i ≤ i₀) × (quiet s notes i₀ key ≡ quiet s notes i key)

@@ -1,9 +1,6 @@
 -- `keep` meets its contract, by what the message is to the keys. Relies on specs/Steps.
 use Rattle.live_count.specs.Notes.Steps.{kept-none, kept-full, kept-one, kept-again}
-use borrow.Author.Needs.{needs}
-use native.Mathlib.Omega.{arith}
-use Prim.Native.Nat.{_-_}
-use mathlib.Core.Path.{refl}
+use Rattle.image.specs.Prelude.{needs, arith, refl}
 use Rattle.live_count.proofs.notes.keep.Statement.{statement}
 use Rattle.live_count.proofs.notes.keep.Tie as tie
 

@@ -1,6 +1,6 @@
 -- `misses` meets its contract, exit by exit. Relies on specs/Apart.
 use Rattle.live_count.specs.Notes.Apart.{unmissed, low-clear, low-name}
-use borrow.Author.Needs.{needs}
+use Rattle.image.specs.Prelude.{needs}
 use Rattle.live_count.proofs.notes.misses.Statement.{statement}
 use Rattle.live_count.proofs.notes.misses.Tie as tie
 

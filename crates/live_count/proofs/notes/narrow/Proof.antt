@@ -1,10 +1,6 @@
 -- `narrow` meets its contract: the notes of the node above one by one. Relies on specs/Steps.
 use Rattle.live_count.specs.Notes.Steps.{Narrowing, narrowing-start, narrowing-full, narrowing-on, narrowing-end}
-use borrow.Author.Needs.{needs}
-use native.Mathlib.Omega.{arith}
-use Prim.Native.Nat.{_-_, _≤_}
-use mathlib.Core.Path.{_≡_, refl}
-use lib.ListN.{length}
+use Rattle.image.specs.Prelude.{needs, arith, _-_, _≤_, _≡_, refl, length}
 use Rattle.live_count.proofs.notes.narrow.Statement.{statement}
 use Rattle.live_count.proofs.notes.narrow.Tie as tie
 

@@ -1,10 +1,7 @@
 -- `narrow_note` meets its contract: a note is a message of its own. Relies on specs/Steps.
 use Rattle.live_count.specs.Notes.Steps.{kept-used, note-concerned}
 use Rattle.live_count.specs.Notes.Notes.{noteCovers}
-use mathlib.Core.Bool.{not}
-use borrow.Author.Needs.{needs}
-use Prim.Native.Nat.{_-_}
-use mathlib.Core.Path.{refl}
+use Rattle.image.specs.Prelude.{not, refl, needs}
 use Rattle.live_count.proofs.notes.narrow_note.Statement.{statement}
 use Rattle.live_count.proofs.notes.narrow_note.Tie as tie
 

@@ -1,12 +1,8 @@
 -- `note_covers` meets its contract. Relies on specs/Apart.
-use native.Mathlib.Omega.{arith}
+use Rattle.image.specs.Prelude.{arith, needs}
 use Rattle.live_count.specs.Notes.Apart.{short-covers, clear-covers, name-covers}
-use borrow.Author.Needs.{needs}
 use Rattle.live_count.proofs.notes.note_covers.Statement.{statement}
 use Rattle.live_count.proofs.notes.note_covers.Tie as tie
-use Rattle.live_count.proofs.notes.note_covers.Reads as reads
-use Rattle.live_count.proofs.notes.note_covers.Lts as lts
-use Rattle.octets.proofs.equal.Reads as equal-reads
 
 add-b : tie.Need-add-b
 add-b c = search needs

@@ -1,19 +1,11 @@
-use borrow.Author.Needs.{needs}
 -- `note_entries` meets its contract: what is noted so far, and the entries left, tell what the notes before and all the entries do.
 -- Relies on specs/Steps and on the contract of node's cursor.
-use Prim.Native.Nat.{_≤_, _-_}
-use mathlib.Core.Path.{_≡_, refl, _∙_}
-use native.Mathlib.Omega.{arith}
-use lib.ListN.{length}
+use Rattle.image.specs.Prelude.{needs, _-_, _≡_, refl, _∙_, arith, length}
 use Rattle.node.specs.Places.{Next, step-bad-is, step-read-is, entry-wider}
 use Rattle.node.specs.Entries.{listed, listed-end}
 use Rattle.live_count.specs.Notes.Steps.{Noting, noting-start, noting-end, noting-full, noting-on}
 use Rattle.live_count.proofs.notes.note_entries.Statement.{statement}
 use Rattle.live_count.proofs.notes.note_entries.Tie as tie
-use Rattle.live_count.proofs.notes.note_entries.Reads as reads
-use Rattle.live_count.proofs.notes.note_entries.Lts as lts
-use Rattle.node.proofs.Cursor.step.Reads as step-reads
-use Rattle.live_count.proofs.notes.note_entry.Reads as note-entry-reads
 
 abbrev Inv-loop : tie.InvT-loop
 Inv-loop s w lo hi notes₀ count end c₀ n₀ notes c n = (c .end ≡ end) × (length notes ≡ length notes₀) × Noting s lo hi w notes₀ count (listed s (c₀ .at) (c₀ .end)) notes n (listed s (c .at) (c .end))

@@ -1,12 +1,9 @@
 -- `note_entry` meets its contract, by the kind of the entry. Relies on specs/Steps.
 use Rattle.node.specs.Search.Latest.{message-places}
 use Rattle.live_count.specs.Notes.Steps.{noted-pair, noted-child, noted-message}
-use borrow.Author.Needs.{needs}
+use Rattle.image.specs.Prelude.{needs}
 use Rattle.live_count.proofs.notes.note_entry.Statement.{statement}
 use Rattle.live_count.proofs.notes.note_entry.Tie as tie
-use Rattle.live_count.proofs.notes.note_entry.Reads as reads
-use Rattle.live_count.proofs.notes.note_entry.Lts as lts
-use Rattle.live_count.proofs.notes.note_message.Reads as note-message-reads
 
 enum-told : tie.Need-enum-told
 enum-told c = search needs

@@ -2,8 +2,7 @@
 use Rattle.live_count.specs.Notes.Steps.{kept-used}
 use Rattle.live_count.specs.Notes.Notes.{notCovers}
 use Rattle.node.specs.Places.{messageIn}
-use borrow.Author.Needs.{needs}
-use Prim.Native.Nat.{_-_}
+use Rattle.image.specs.Prelude.{needs}
 use Rattle.live_count.proofs.notes.note_message.Statement.{statement}
 use Rattle.live_count.proofs.notes.note_message.Tie as tie
 

@@ -1,8 +1,6 @@
 -- `repeats` meets its contract, by the last note. Relies on specs/Steps.
 use Rattle.live_count.specs.Notes.Steps.{repeats-none, repeats-last}
-use borrow.Author.Needs.{needs}
-use native.Mathlib.Omega.{arith}
-use Prim.Native.Nat.{_-_}
+use Rattle.image.specs.Prelude.{needs, arith, _-_}
 use Rattle.live_count.proofs.notes.repeats.Statement.{statement}
 use Rattle.live_count.proofs.notes.repeats.Tie as tie
 

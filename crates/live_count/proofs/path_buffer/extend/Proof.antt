@@ -1,11 +1,6 @@
 -- `path_buffer::extend` meets its contract: after i bytes the buffer is what a copy of i bytes leaves (`paste`).
 -- Relies on specs/PathSteps.
-use borrow.Author.Needs.{needs}
-use Prim.Native.Nat.{_≤_, _-_, _+_}
-use native.Mathlib.Omega.{arith}
-use mathlib.Core.Path.{_≡_, refl}
-use lib.ListN.{length}
-use lib.Seq.{paste, paste-zero}
+use Rattle.image.specs.Prelude.{needs, _≤_, _-_, _+_, arith, _≡_, refl, length, paste, paste-zero}
 use Rattle.live_count.specs.PathBuffers.{pathIn}
 use Rattle.live_count.specs.PathSteps.{copy-step, copied}
 use Rattle.live_count.proofs.path_buffer.extend.Statement.{statement}

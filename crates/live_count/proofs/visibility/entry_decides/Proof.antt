@@ -1,12 +1,9 @@
 -- `entry_decides` meets its contract, by the kind of the entry.
 -- Relies on specs/Steps.
-use mathlib.Core.Path.{subst}
+use Rattle.image.specs.Prelude.{subst, arith, length, needs}
 use Rattle.node.specs.Places.{Within, EntryWithin}
 use Rattle.node.specs.Search.Latest.{message-places}
 use Rattle.live_count.specs.Steps.{pair-decides, child-decides, message-decides}
-use native.Mathlib.Omega.{arith}
-use lib.ListN.{length}
-use borrow.Author.Needs.{needs}
 use Rattle.live_count.proofs.visibility.entry_decides.Statement.{statement}
 use Rattle.live_count.proofs.visibility.entry_decides.Tie as tie
 

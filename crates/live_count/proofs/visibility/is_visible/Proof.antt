@@ -1,9 +1,6 @@
 -- `is_visible` meets its contract: the nodes of the trail from the last one up, those passed having no message on the path.
 -- Relies on specs/Steps.
-use borrow.Author.Needs.{needs}
-use Prim.Native.Nat.{_≤_, _-_}
-use native.Mathlib.Omega.{arith}
-use mathlib.Core.Path.{_≡_, refl}
+use Rattle.image.specs.Prelude.{needs, _≤_, _-_, arith, _≡_, refl}
 use Rattle.live_count.specs.Walk.{passes}
 use Rattle.live_count.specs.Steps.{trail-latest, trail-quiet, trail-over}
 use Rattle.live_count.proofs.visibility.is_visible.Statement.{statement}

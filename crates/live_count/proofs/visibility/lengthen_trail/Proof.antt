@@ -1,29 +1,19 @@
 -- `lengthen_trail` meets its contract: a node without messages leaves the test of the trail as it is.
 -- Relies on specs/Steps.
 use Rattle.live_count.specs.Steps.{same-trail, longer-trail}
-use mathlib.Core.Path.{_≡_}
-use lib.ListN.{length}
-use borrow.Author.Needs.{needs}
+use Rattle.node.specs.Places.{entries-inside}
+use Rattle.image.specs.Prelude.{_≡_, length, needs}
 use Rattle.live_count.proofs.visibility.lengthen_trail.Statement.{statement}
 use Rattle.live_count.proofs.visibility.lengthen_trail.Tie as tie
 
-mul-at : tie.Need-mul-at
-mul-at c = search needs
-
-read-length-requires : tie.Need-read-length-requires
-read-length-requires c κs = search needs
-
-add-from : tie.Need-add-from
-add-from c = search needs
-
-add-has-messages : tie.Need-add-has-messages
-add-has-messages c = search needs
+entries-of-requires : tie.Need-entries-of-requires
+entries-of-requires c κs = search needs
 
 has-messages-requires : tie.Need-has-messages-requires
-has-messages-requires c κs = search needs
+has-messages-requires c κs = entries-inside (c .before .before .args .store .now) (c .before .before .args .num) (c .entries-of .result) (c .entries-of .ensures) (c .before .before .pre .2 .inside, c .before .before .pre .2 .fits) .2
 
 returns : tie.Need-returns
-returns c = same-trail _ _ _ _ (c .before .before .before .before .pre .1) (c .before .before .before .before .pre .0) _ _ (c .before .before .read-length .ensures .0) (c .before .has-messages .ensures) (c .if1 .taken)
+returns c = same-trail (c .before .before .before .before .args .store .now) (c .before .before .before .before .args .num) _ _ (c .before .before .before .before .pre .1) (c .before .before .before .before .pre .0) (c .before .before .entries-of .result) _ (c .before .before .entries-of .ensures) (c .before .has-messages .ensures) (c .if1 .taken)
 
 push-requires : tie.Need-push-requires
 push-requires c κs = search needs
@@ -38,10 +28,7 @@ pub lengthen-trail-spec : {M : Type 1} → statement M
 lengthen-trail-spec =
     tie.close
     (tie.spec
-    mul-at
-    read-length-requires
-    add-from
-    add-has-messages
+    entries-of-requires
     has-messages-requires
     returns
     push-requires

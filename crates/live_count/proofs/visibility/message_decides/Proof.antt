@@ -3,9 +3,7 @@
 use Rattle.node.specs.Places.{Within}
 use Rattle.node.specs.Search.Latest.{put-places}
 use Rattle.live_count.specs.Steps.{put-hidden, put-decides, drop-decides, clear-decides}
-use native.Mathlib.Omega.{arith}
-use lib.ListN.{length}
-use borrow.Author.Needs.{needs}
+use Rattle.image.specs.Prelude.{arith, length, needs}
 use Rattle.live_count.proofs.visibility.message_decides.Statement.{statement}
 use Rattle.live_count.proofs.visibility.message_decides.Tie as tie
 

@@ -4,10 +4,7 @@ use Rattle.node.specs.Search.Latest.{newestAmong}
 use Rattle.live_count.specs.Notes.Notes.{noneCovers}
 use Rattle.live_count.specs.Live.{holdsNoMessage}
 use Rattle.live_count.specs.NotedSteps.{uncovered-all, uncovered-end}
-use Prim.Native.Nat.{_-_}
-use mathlib.Core.Path.{_≡_, sym, _∙_}
-use borrow.Author.Needs.{needs}
-use native.Mathlib.Omega.{arith}
+use Rattle.image.specs.Prelude.{_-_, _≡_, sym, _∙_, arith, needs}
 use Rattle.live_count.proofs.visibility.none_covers.Statement.{statement}
 use Rattle.live_count.proofs.visibility.none_covers.Tie as tie
 

@@ -1,9 +1,7 @@
 -- `pass_any` meets its contract: one law of specs/CoverSteps for each way out.
-use lib.ListN.{length}
+use Rattle.image.specs.Prelude.{length, arith, needs}
 use Rattle.node.specs.Places.{Next, step-read-is, entry-wider}
 use Rattle.live_count.specs.CoverSteps.{any-end, any-covers, any-uncovered}
-use borrow.Author.Needs.{needs}
-use native.Mathlib.Omega.{arith}
 use Rattle.live_count.proofs.visibility.pass_any.Statement.{statement}
 use Rattle.live_count.proofs.visibility.pass_any.Tie as tie
 

@@ -1,7 +1,6 @@
 -- `pass_entry` meets its contract: the quick look, or any entry. Relies on specs/CoverSteps.
 use Rattle.live_count.specs.CoverSteps.{quick-passing}
-use borrow.Author.Needs.{needs}
-use native.Mathlib.Omega.{arith}
+use Rattle.image.specs.Prelude.{needs}
 use Rattle.live_count.proofs.visibility.pass_entry.Statement.{statement}
 use Rattle.live_count.proofs.visibility.pass_entry.Tie as tie
 

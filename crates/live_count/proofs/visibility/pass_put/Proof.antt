@@ -1,8 +1,7 @@
 -- `pass_put` meets its contract: a put is told by its own numbers. Relies on specs/CoverSteps.
 use Rattle.node.specs.Places.{split-at-is}
 use Rattle.live_count.specs.CoverSteps.{no-pass, put-passed}
-use borrow.Author.Needs.{needs}
-use native.Mathlib.Omega.{arith}
+use Rattle.image.specs.Prelude.{needs, arith}
 use Rattle.live_count.proofs.visibility.pass_put.Statement.{statement}
 use Rattle.live_count.proofs.visibility.pass_put.Tie as tie
 

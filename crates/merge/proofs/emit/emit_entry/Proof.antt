@@ -1,8 +1,6 @@
 -- `emit_entry` meets its contract, by the kind of the entry.
 -- Relies on specs/EmitSteps.
-use borrow.Author.Needs.{needs}
-use native.Mathlib.Omega.{arith}
-use lib.ListN.{length}
+use Rattle.image.specs.Prelude.{needs, arith, length}
 use Rattle.node.specs.Places.{Within}
 use Rattle.node.specs.Search.Latest.{message-places}
 use Rattle.merge.specs.WeighSteps.{pair-places, child-places}

@@ -1,7 +1,6 @@
 -- `emit_node` meets its contract.
 -- Relies on specs/EmitSteps.
-use borrow.Author.Needs.{needs}
-use native.Mathlib.Omega.{arith}
+use Rattle.image.specs.Prelude.{needs, arith}
 use Rattle.merge.specs.EmitSteps.{small-as, bytes-as, fits-by, puts-by, ends-by}
 use Rattle.merge.proofs.emit.emit_node.Statement.{statement}
 use Rattle.merge.proofs.emit.emit_node.Tie as tie

@@ -1,6 +1,6 @@
 -- `emit_unless` meets its contract.
 -- Relies on specs/EmitSteps.
-use borrow.Author.Needs.{needs}
+use Rattle.image.specs.Prelude.{needs}
 use Rattle.push.specs.WriteSteps.{puts-nothing, ends-nowhere}
 use Rattle.node.specs.Places.{entryIn}
 use Rattle.merge.specs.EmitSteps.{child-gone, other-stays, fits-by, puts-by, ends-by}

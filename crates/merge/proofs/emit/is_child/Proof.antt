@@ -1,5 +1,5 @@
 -- `is_child` meets its contract.
-use borrow.Author.Needs.{needs}
+use Rattle.image.specs.Prelude.{needs}
 use Rattle.merge.specs.EmitSteps.{pair-is-none, child-is-one, message-is-none}
 use Rattle.merge.proofs.emit.is_child.Statement.{statement}
 use Rattle.merge.proofs.emit.is_child.Tie as tie

@@ -1,5 +1,5 @@
 -- `lesser` meets its contract.
-use native.Mathlib.Omega.{arith}
+use Rattle.image.specs.Prelude.{arith}
 use Rattle.merge.specs.WeighSteps.{least-left, least-right}
 use Rattle.merge.proofs.weigh.lesser.Statement.{statement}
 use Rattle.merge.proofs.weigh.lesser.Tie as tie

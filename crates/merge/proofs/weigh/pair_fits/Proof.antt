@@ -1,6 +1,6 @@
 -- `pair_fits` meets its contract.
 -- Relies on specs/WeighSteps.
-use borrow.Author.Needs.{needs}
+use Rattle.image.specs.Prelude.{needs}
 use Rattle.merge.specs.WeighSteps.{left-grows, right-grows, both-weigh}
 use Rattle.merge.proofs.weigh.pair_fits.Statement.{statement}
 use Rattle.merge.proofs.weigh.pair_fits.Tie as tie

@@ -1,10 +1,6 @@
 -- `weigh_entries` meets its contract: the sum so far and the entries left weigh what all do.
 -- Relies on specs/WeighSteps and on the contract of node's cursor.
-use borrow.Author.Needs.{needs}
-use native.Mathlib.Omega.{arith}
-use lib.ListN.{length}
-use mathlib.Core.Path.{_≡_, refl, _∙_}
-use Prim.Native.Nat.{_≤_, _-_}
+use Rattle.image.specs.Prelude.{needs, arith, length, _≡_, refl, _∙_, _≤_, _-_}
 use Rattle.node.specs.Entries.{listed, listed-end}
 use Rattle.node.specs.Places.{Next, step-bad-is, step-read-is, entry-wider}
 use Rattle.merge.specs.Laws.Joined.{weights}

@@ -1,8 +1,6 @@
 -- `weigh_entry` meets its contract, by the kind of the entry.
 -- Relies on specs/WeighSteps.
-use borrow.Author.Needs.{needs}
-use native.Mathlib.Omega.{arith}
-use lib.ListN.{length}
+use Rattle.image.specs.Prelude.{needs, arith, length}
 use Rattle.node.specs.Places.{Within}
 use Rattle.merge.specs.WeighSteps.{pair-places, child-places, pair-weighs, child-long, child-big, child-weighs, message-weighs}
 use Rattle.merge.proofs.weigh.weigh_entry.Statement.{statement}

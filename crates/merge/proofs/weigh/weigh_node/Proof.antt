@@ -1,7 +1,6 @@
 -- `weigh_node` meets its contract.
 -- Relies on specs/WeighSteps.
-use borrow.Author.Needs.{needs}
-use native.Mathlib.Omega.{arith}
+use Rattle.image.specs.Prelude.{needs, arith}
 use Rattle.image.specs.Image.{nodesOf}
 use Rattle.merge.specs.WeighSteps.{node-out, node-long, node-weighs, listing-as}
 use Rattle.merge.proofs.weigh.weigh_node.Statement.{statement}

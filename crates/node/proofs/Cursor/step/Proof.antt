@@ -1,9 +1,7 @@
-use Prim.Native.Nat.{_+_}
+-- `step` meets its contract. Relies on specs/Entries and specs/Places.
+use Rattle.image.specs.Prelude.{_+_, refl, arith, needs}
 use Rattle.node.specs.Entries.{entries-short, entries-cut, entries-step, listed-end, listed-short, listed-cut, listed-step}
 use Rattle.node.specs.Places.{got-bad-is, got-good-is, step-bad, step-read, entry-wider, then-bad, then-good, cons-bad, cons-good}
-use mathlib.Core.Path.{refl}
-use native.Mathlib.Omega.{arith}
-use borrow.Author.Needs.{needs}
 use Rattle.node.proofs.Cursor.step.Statement.{statement}
 use Rattle.node.proofs.Cursor.step.Tie as tie
 

@@ -1,5 +1,6 @@
+-- `branch_of` meets its contract. Relies on specs/Search/Own.
 use Rattle.node.specs.Search.Own.{pair-branch, child-branch, message-branch}
-use borrow.Author.Needs.{needs}
+use Rattle.image.specs.Prelude.{needs}
 use Rattle.node.proofs.search.branch_of.Statement.{statement}
 use Rattle.node.proofs.search.branch_of.Tie as tie
 

@@ -1,5 +1,5 @@
 -- `entry_covers` meets its contract: one law of specs/ for each way out.
-use borrow.Author.Needs.{needs}
+use Rattle.image.specs.Prelude.{needs}
 use Rattle.node.specs.Search.Latest.{message-places, pair-uncovered, child-uncovered, message-on}
 use Rattle.node.proofs.search.entry_covers.Statement.{statement}
 use Rattle.node.proofs.search.entry_covers.Tie as tie

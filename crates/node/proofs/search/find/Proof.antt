@@ -1,11 +1,9 @@
+-- `find` meets its contract: its loop keeps an invariant. Relies on specs/Search/Pairs, specs/Places and specs/Entries.
 use Rattle.node.specs.Search.Pairs.{pairIs, findAmong, nothing-is, value-is, find-end, find-other, find-here, find-on, pair-places}
 use Rattle.node.specs.declared.search.Pair.{Pair}
 use Rattle.node.specs.Places.{Within, Next, step-bad-is, step-read-is}
 use Rattle.node.specs.Entries.{listed, listed-end}
-use mathlib.Core.Path.{_≡_, refl, sym, _∙_}
-use native.Mathlib.Omega.{arith}
-use Prim.Native.Nat.{_-_}
-use borrow.Author.Needs.{needs}
+use Rattle.image.specs.Prelude.{_≡_, refl, sym, _∙_, arith, _-_, needs}
 use Rattle.node.proofs.search.find.Statement.{statement}
 use Rattle.node.proofs.search.find.Tie as tie
 

@@ -3,10 +3,7 @@
 use Rattle.node.specs.Places.{Next, step-bad-is, step-read-is}
 use Rattle.node.specs.Entries.{listed, listed-end}
 use Rattle.node.specs.Search.Messages.{hasMessage, message-end, message-here, message-on}
-use borrow.Author.Needs.{needs}
-use Prim.Native.Nat.{_-_}
-use native.Mathlib.Omega.{arith}
-use mathlib.Core.Path.{_≡_, refl, _∙_}
+use Rattle.image.specs.Prelude.{needs, _-_, arith, _≡_, refl, _∙_}
 use Rattle.node.proofs.search.has_messages.Statement.{statement}
 use Rattle.node.proofs.search.has_messages.Tie as tie
 

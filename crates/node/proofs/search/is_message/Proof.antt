@@ -1,7 +1,7 @@
 -- `search::is_message` meets its contract, by the kind of the entry.
 -- Relies on specs/Search/Messages.
 use Rattle.node.specs.Search.Messages.{pair-message, child-message, is-message}
-use borrow.Author.Needs.{needs}
+use Rattle.image.specs.Prelude.{needs}
 use Rattle.node.proofs.search.is_message.Statement.{statement}
 use Rattle.node.proofs.search.is_message.Tie as tie
 

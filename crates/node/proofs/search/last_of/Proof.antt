@@ -1,5 +1,6 @@
+-- `last_of` meets its contract. Relies on specs/Search/Own.
 use Rattle.node.specs.Search.Own.{last-yes, last-no}
-use borrow.Author.Needs.{needs}
+use Rattle.image.specs.Prelude.{needs}
 use Rattle.node.proofs.search.last_of.Statement.{statement}
 use Rattle.node.proofs.search.last_of.Tie as tie
 

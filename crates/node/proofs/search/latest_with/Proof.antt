@@ -1,5 +1,6 @@
+-- `latest_with` meets its contract. Relies on specs/Search/Latest.
 use Rattle.node.specs.Search.Latest.{message-places, as-entry, latest-pair, latest-child, latest-on}
-use borrow.Author.Needs.{needs}
+use Rattle.image.specs.Prelude.{needs}
 use Rattle.node.proofs.search.latest_with.Statement.{statement}
 use Rattle.node.proofs.search.latest_with.Tie as tie
 

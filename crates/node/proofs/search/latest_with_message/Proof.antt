@@ -1,8 +1,7 @@
+-- `latest_with_message` meets its contract. Relies on specs/Search/Latest and specs/Places.
 use Rattle.node.specs.Search.Latest.{put-places, drop-places, clear-places, as-message, put-yes, put-no, drop-yes, drop-no, clear-yes, clear-no}
 use Rattle.node.specs.Places.{Within}
-use lib.ListN.{length}
-use native.Mathlib.Omega.{arith}
-use borrow.Author.Needs.{needs}
+use Rattle.image.specs.Prelude.{length, arith, needs}
 use Rattle.node.proofs.search.latest_with_message.Statement.{statement}
 use Rattle.node.proofs.search.latest_with_message.Tie as tie
 

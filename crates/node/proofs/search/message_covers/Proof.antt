@@ -1,7 +1,5 @@
 -- `message_covers` meets its contract: one law of specs/ for each way out.
-use borrow.Author.Needs.{needs}
-use native.Mathlib.Omega.{arith}
-use lib.ListN.{length}
+use Rattle.image.specs.Prelude.{needs, arith, length}
 use Rattle.node.specs.Places.{Within}
 use Rattle.node.specs.Search.Latest.{put-places, drop-places, clear-places, put-covers, drop-covers, clear-covers}
 use Rattle.node.proofs.search.message_covers.Statement.{statement}

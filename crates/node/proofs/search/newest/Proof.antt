@@ -1,12 +1,8 @@
-use borrow.Author.Needs.{needs}
-use native.Mathlib.Omega.{arith}
-use Prim.Native.Nat.{_-_}
-use mathlib.Core.Path.{_≡_, refl, _∙_}
-use lib.ListN.{length}
+-- `newest` meets its contract: its loop keeps an invariant. Relies on specs/Places, specs/Entries and specs/Search/Latest.
+use Rattle.image.specs.Prelude.{needs, arith, _-_, _≡_, refl, _∙_, length, not-true}
 use Rattle.image.specs.Meaning.{newer}
 use Rattle.node.specs.Places.{Next, step-bad-is, step-read-is, entry-wider}
 use Rattle.node.specs.Entries.{listed, listed-end}
-use borrow.Author.Tests.{not-true}
 use Rattle.node.specs.Search.Latest.{LatestFits, latestIn, newestAmong, uncovered-fits, latest-start, latest-step, latest-end, uncovered-step}
 use Rattle.node.proofs.search.newest.Statement.{statement}
 use Rattle.node.proofs.search.newest.Tie as tie

@@ -1,13 +1,9 @@
+-- `owner_after` meets its contract: its loop keeps an invariant. Relies on specs/Search/Own, specs/Places and specs/Entries.
 use Rattle.node.specs.Search.Own.{branch, branchIs, branchesAmong, ownerOf, branch-place, branches-none, branches-other, branches-more, at-last, inner-yes, inner-no}
 use Rattle.node.specs.declared.search.Branch.{Branch}
 use Rattle.node.specs.Places.{part, Within, Next, step-bad-is, step-read-is}
 use Rattle.node.specs.Entries.{listed, listed-end}
-use lib.ListN.{length}
-use mathlib.Core.List.{_∷_}
-use mathlib.Core.Path.{_≡_, refl, sym, _∙_}
-use native.Mathlib.Omega.{arith}
-use Prim.Native.Nat.{_-_}
-use borrow.Author.Needs.{needs}
+use Rattle.image.specs.Prelude.{length, _∷_, _≡_, refl, sym, _∙_, arith, _-_, needs}
 use Rattle.node.proofs.search.owner_after.Statement.{statement}
 use Rattle.node.proofs.search.owner_after.Tie as tie
 

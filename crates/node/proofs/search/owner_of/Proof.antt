@@ -1,10 +1,8 @@
+-- `owner_of` meets its contract. Relies on specs/Search/Own and specs/Places.
 use Rattle.node.specs.Search.Own.{branchIs, branch-place, branches-none, branches-other, branches-more, nobody-is, as-branches}
 use Rattle.node.specs.declared.search.Branch.{Branch}
 use Rattle.node.specs.Places.{Within, Next, step-bad-is, step-read-is}
-use lib.ListN.{length}
-use mathlib.Core.Path.{_≡_, sym, _∙_}
-use native.Mathlib.Omega.{arith}
-use borrow.Author.Needs.{needs}
+use Rattle.image.specs.Prelude.{length, _≡_, sym, _∙_, arith, needs}
 use Rattle.node.proofs.search.owner_of.Statement.{statement}
 use Rattle.node.proofs.search.owner_of.Tie as tie
 

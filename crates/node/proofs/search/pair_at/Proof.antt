@@ -1,8 +1,6 @@
 -- `pair_at` meets its contract: a pair where its numbers show one. Relies on specs/PairSteps.
 use Rattle.node.specs.Search.PairSteps.{not-told, pair-stands}
-use borrow.Author.Needs.{needs}
-use native.Mathlib.Omega.{arith}
-use Prim.Native.Nat.{_-_}
+use Rattle.image.specs.Prelude.{needs, arith}
 use Rattle.node.proofs.search.pair_at.Statement.{statement}
 use Rattle.node.proofs.search.pair_at.Tie as tie
 

@@ -1,5 +1,6 @@
+-- `pair_of` meets its contract. Relies on specs/Search/Pairs.
 use Rattle.node.specs.Search.Pairs.{pair-is, child-is, message-is}
-use borrow.Author.Needs.{needs}
+use Rattle.image.specs.Prelude.{needs}
 use Rattle.node.proofs.search.pair_of.Statement.{statement}
 use Rattle.node.proofs.search.pair_of.Tie as tie
 

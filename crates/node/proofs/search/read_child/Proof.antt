@@ -2,8 +2,7 @@
 -- Relies on specs/Search/Child and on the contract of the cursor.
 use Rattle.node.specs.Places.{Next, step-bad-is, step-read-is}
 use Rattle.node.specs.Search.Child.{child-bad, child-other, child-next}
-use mathlib.Core.Path.{sym, _∙_}
-use borrow.Author.Needs.{needs}
+use Rattle.image.specs.Prelude.{sym, _∙_, needs}
 use Rattle.node.proofs.search.read_child.Statement.{statement}
 use Rattle.node.proofs.search.read_child.Tie as tie
 

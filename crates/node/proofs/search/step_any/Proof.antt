@@ -1,7 +1,6 @@
 -- `step_any` meets its contract: the entry at the cursor, if it is a pair. Relies on specs/PairSteps and on node's cursor.
 use Rattle.node.specs.Search.PairSteps.{any-bad, any-other, any-pair}
-use borrow.Author.Needs.{needs}
-use Prim.Native.Nat.{_-_}
+use Rattle.image.specs.Prelude.{needs}
 use Rattle.node.proofs.search.step_any.Statement.{statement}
 use Rattle.node.proofs.search.step_any.Tie as tie
 

@@ -1,7 +1,6 @@
 -- `step_pair` meets its contract: by a quick look, or by way of any entry. Relies on specs/PairSteps.
 use Rattle.node.specs.Search.PairSteps.{pair-stepped}
-use borrow.Author.Needs.{needs}
-use Prim.Native.Nat.{_-_}
+use Rattle.image.specs.Prelude.{needs}
 use Rattle.node.proofs.search.step_pair.Statement.{statement}
 use Rattle.node.proofs.search.step_pair.Tie as tie
 

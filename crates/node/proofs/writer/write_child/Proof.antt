@@ -1,8 +1,7 @@
 -- `write_child` meets its contract: two writes, one after the other, are one entry.
 -- Relies on specs/Writer.
-use mathlib.Core.Path.{refl}
+use Rattle.image.specs.Prelude.{refl, needs}
 use Rattle.node.specs.Writer.{child-put}
-use borrow.Author.Needs.{needs}
 use Rattle.node.proofs.writer.write_child.Statement.{statement}
 use Rattle.node.proofs.writer.write_child.Tie as tie
 

@@ -2,7 +2,7 @@
 -- Relies on specs/Pages.
 use Rattle.node.specs.Pages.{leaf-written}
 use Rattle.laws.specs.Page.{zerosOf}
-use borrow.Author.Needs.{needs}
+use Rattle.image.specs.Prelude.{needs}
 use Rattle.node.proofs.writer.write_empty_leaf.Statement.{statement}
 use Rattle.node.proofs.writer.write_empty_leaf.Tie as tie
 

@@ -1,5 +1,5 @@
 -- `write_head` meets its contract.
-use borrow.Author.Needs.{needs}
+use Rattle.image.specs.Prelude.{needs}
 use Rattle.node.specs.Writer.{head-put}
 use Rattle.node.proofs.writer.write_head.Statement.{statement}
 use Rattle.node.proofs.writer.write_head.Tie as tie

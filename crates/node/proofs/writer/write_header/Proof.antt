@@ -2,7 +2,7 @@
 -- Relies on specs/Pages.
 use Rattle.node.specs.Pages.{head-written}
 use Rattle.laws.specs.Page.{zerosOf}
-use borrow.Author.Needs.{needs}
+use Rattle.image.specs.Prelude.{needs}
 use Rattle.node.proofs.writer.write_header.Statement.{statement}
 use Rattle.node.proofs.writer.write_header.Tie as tie
 

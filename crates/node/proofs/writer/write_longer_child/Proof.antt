@@ -1,9 +1,6 @@
 -- `write_longer_child` meets its contract: three writes, one after the other, are one entry.
 -- Relies on specs/Writer.
-use borrow.Author.Needs.{needs}
-use native.Mathlib.Omega.{arith}
-use mathlib.Core.Path.{sym, ap}
-use Prim.Native.Nat.{_+_}
+use Rattle.image.specs.Prelude.{needs, arith, sym, ap, _+_}
 use Rattle.node.specs.Writer.{child-length, longer-child-put}
 use Rattle.node.proofs.writer.write_longer_child.Statement.{statement}
 use Rattle.node.proofs.writer.write_longer_child.Tie as tie

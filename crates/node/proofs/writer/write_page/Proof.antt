@@ -1,7 +1,7 @@
 -- `write_page` meets its contract: three writes of the first bytes, then the page at its node.
 -- Relies on specs/Writer.
 use Rattle.node.specs.Writer.{page-put}
-use borrow.Author.Needs.{needs}
+use Rattle.image.specs.Prelude.{needs}
 use Rattle.node.proofs.writer.write_page.Statement.{statement}
 use Rattle.node.proofs.writer.write_page.Tie as tie
 

@@ -1,8 +1,7 @@
 -- `write_short` meets its contract: three writes, one after the other, are one entry.
 -- Relies on specs/Writer.
-use mathlib.Core.Path.{refl}
+use Rattle.image.specs.Prelude.{refl, needs}
 use Rattle.node.specs.Writer.{short-put}
-use borrow.Author.Needs.{needs}
 use Rattle.node.proofs.writer.write_short.Statement.{statement}
 use Rattle.node.proofs.writer.write_short.Tie as tie
 

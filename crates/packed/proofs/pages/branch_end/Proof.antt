@@ -1,6 +1,5 @@
-use mathlib.Core.Path.{sym}
-use native.Mathlib.Omega.{arith}
-use borrow.Author.Needs.{needs}
+-- `branch_end` meets its contract. Relies on specs/Pages/Entries.
+use Rattle.image.specs.Prelude.{sym, arith, needs}
 use Rattle.packed.specs.Pages.Entries.{end-first, end-later}
 use Rattle.packed.proofs.pages.branch_end.Statement.{statement}
 use Rattle.packed.proofs.pages.branch_end.Tie as tie

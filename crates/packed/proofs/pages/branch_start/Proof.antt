@@ -1,6 +1,5 @@
-use mathlib.Core.Path.{sym}
-use native.Mathlib.Omega.{arith}
-use borrow.Author.Needs.{needs}
+-- `branch_start` meets its contract. Relies on specs/Pages/Entries.
+use Rattle.image.specs.Prelude.{sym, arith, needs}
 use Rattle.packed.specs.Pages.Entries.{start-zero, start-short, start-long}
 use Rattle.packed.proofs.pages.branch_start.Statement.{statement}
 use Rattle.packed.proofs.pages.branch_start.Tie as tie

@@ -1,9 +1,7 @@
-use mathlib.Core.Path.{sym, ap, ap₂, _∙_}
+-- `emit_branch` meets its contract. Relies on specs/Pages/Entries.
+use Rattle.image.specs.Prelude.{sym, ap, ap₂, _∙_, length, arith, needs}
 use Rattle.image.specs.Entry.{child}
 use Rattle.laws.specs.Encode.{bytesOf, child-size}
-use lib.ListN.{length}
-use native.Mathlib.Omega.{arith}
-use borrow.Author.Needs.{needs}
 use Rattle.octets.specs.Put.{put, put-nil}
 use Rattle.packed.specs.Pages.Entries.{bytes-none, bytes-some, span}
 use Rattle.packed.proofs.pages.emit_branch.Statement.{statement}

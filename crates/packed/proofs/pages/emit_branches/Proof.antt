@@ -1,7 +1,5 @@
 -- The loop over the rows of an interior node. Relies on specs/Pages/Emitting and on how the bytes of children follow each other.
-use Prim.Native.Nat.{_-_}
-use native.Mathlib.Omega.{arith}
-use borrow.Author.Needs.{needs}
+use Rattle.image.specs.Prelude.{_-_, arith, needs}
 use Rattle.packed.specs.Pages.Emitting.{Emits, emits-first, emits-next, emits-last, emits-room}
 use Rattle.packed.specs.Pages.Entries.{branchBytes, bytes-step, bytes-done}
 use Rattle.packed.proofs.pages.emit_branches.Statement.{statement}

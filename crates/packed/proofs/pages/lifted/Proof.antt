@@ -1,7 +1,5 @@
-use mathlib.Core.Path.{sym, ap₂, _∙_}
-use lib.ListN.{length}
-use native.Mathlib.Omega.{arith}
-use borrow.Author.Needs.{needs}
+-- `lifted` meets its contract. Relies on specs/Pages/Entries and specs/Pages/Nodes.
+use Rattle.image.specs.Prelude.{sym, ap₂, _∙_, length, arith, needs}
 use Rattle.image.specs.Bytes.{shared}
 use Rattle.packed.specs.Pages.Entries.{span}
 use Rattle.packed.specs.Pages.Nodes.{high-last, high-row}

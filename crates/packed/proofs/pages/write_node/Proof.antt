@@ -1,7 +1,6 @@
 -- `write_node` meets its contract.
 -- Relies on specs/Pages/Nodes.
-use native.Mathlib.Omega.{arith}
-use borrow.Author.Needs.{needs}
+use Rattle.image.specs.Prelude.{arith, needs}
 use Rattle.laws.specs.Page.{zerosOf}
 use Rattle.packed.specs.Pages.Nodes.{bytes-of, inner-written}
 use Rattle.packed.proofs.pages.write_node.Statement.{statement}

@@ -1,8 +1,5 @@
-use Prim.Native.Nat.{_+_, _-_, _≤_}
-use mathlib.Core.Path.{_≡_, sym, ap, _∙_}
-use lib.ListN.{length}
-use native.Mathlib.Omega.{arith}
-use borrow.Author.Needs.{needs}
+-- `clear_marks` meets its contract: its loop keeps an invariant. Relies on specs/Rows/Puts and specs/Rows/Remark.
+use Rattle.image.specs.Prelude.{_+_, _-_, _≤_, _≡_, sym, ap, _∙_, length, arith, needs}
 use Rattle.packed.specs.Rows.Puts.{put-length}
 use Rattle.packed.specs.Rows.Remark.{clearMarks, clear-step, clear-done}
 use Rattle.packed.proofs.rows.clear_marks.Statement.{statement}

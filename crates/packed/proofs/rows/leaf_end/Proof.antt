@@ -1,8 +1,7 @@
-use Prim.Native.Nat.{_+_, _-_, _≤_}
-use mathlib.Core.Path.{_≡_, sym, _∙_}
-use borrow.Author.Needs.{needs}
-use native.Mathlib.Omega.{arith}
-use Rattle.packed.specs.Rows.Area.{leafEnd, leaf-end-done, leaf-end-stop, leaf-end-on}
+-- `leaf_end` meets its contract: its loop keeps an invariant. Relies on specs/Form/Chunk and specs/Rows/Area.
+use Rattle.image.specs.Prelude.{_+_, _-_, _≤_, _≡_, sym, _∙_, needs, arith}
+use Rattle.packed.specs.Form.Chunk.{end-done, end-stop, end-on}
+use Rattle.packed.specs.Rows.Area.{rowAdds, leafEnd}
 use Rattle.packed.proofs.rows.leaf_end.Statement.{statement}
 use Rattle.packed.proofs.rows.leaf_end.Tie as tie
 
@@ -45,8 +44,8 @@ add-if1 c = search needs
 returns : tie.Need-returns Inv-loop μ-loop
 returns c =
     sym (c .before .before .before .before .before .before .loop .inv .2
-    ∙ leaf-end-stop (c .before .before .before .before .before .before .before .before .args .m) (c .before .before .before .before .before .before .before .before .args .area .now) (c .before .before .before .before .before .before .loop .i) (c .before .before .before .before .before .before .loop .sum)
-    (6 + c .before .before .before .wide .result + c .before .wide2 .result) (c .before .before .before .before .before .before .before .before .pre .0) (omega arith) (omega arith) (omega arith))
+    ∙ end-stop (rowAdds (c .before .before .before .before .before .before .before .before .args .area .now)) (c .before .before .before .before .before .before .before .before .args .m) (c .before .before .before .before .before .before .loop .i) (c .before .before .before .before .before .before .loop .sum)
+    (6 + c .before .before .before .wide .result + c .before .wide2 .result) (omega arith) (omega arith) (omega arith))
 
 add-sum : tie.Need-add-sum Inv-loop μ-loop
 add-sum c = search needs
@@ -62,12 +61,12 @@ loop-again c = (
   omega arith,
   omega arith,
   c .before .before .before .before .before .before .loop .inv .2
-      ∙ leaf-end-on (c .before .before .before .before .before .before .before .before .args .m) (c .before .before .before .before .before .before .before .before .args .area .now) (c .before .before .before .before .before .before .loop .i) (c .before .before .before .before .before .before .loop .sum)
-      (6 + c .before .before .before .wide .result + c .before .wide2 .result) (c .before .before .before .before .before .before .before .before .pre .0) (omega arith) (omega arith) (omega arith),
+      ∙ end-on (rowAdds (c .before .before .before .before .before .before .before .before .args .area .now)) (c .before .before .before .before .before .before .before .before .args .m) (c .before .before .before .before .before .before .loop .i) (c .before .before .before .before .before .before .loop .sum)
+      (6 + c .before .before .before .wide .result + c .before .wide2 .result) (omega arith) (omega arith) (omega arith),
 )
 
 returns-2 : tie.Need-returns-2 Inv-loop μ-loop
-returns-2 c = sym (c .before .loop .inv .2 ∙ leaf-end-done _ _ _ _ (omega arith))
+returns-2 c = sym (c .before .loop .inv .2 ∙ end-done _ _ _ _ (omega arith))
 
 pub leaf-end-spec : {M : Type 1} → statement M
 leaf-end-spec =

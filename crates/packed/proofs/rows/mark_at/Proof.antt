@@ -1,4 +1,5 @@
-use borrow.Author.Needs.{needs}
+-- `mark_at` meets its contract. Relies on specs/Rows/Branches.
+use Rattle.image.specs.Prelude.{needs}
 use Rattle.image.specs.Bytes.{u16}
 use Rattle.packed.specs.Rows.Branches.{markAt}
 use Rattle.packed.proofs.rows.mark_at.Statement.{statement}

@@ -1,8 +1,7 @@
-use Prim.Native.Nat.{_-_, _≤_}
-use mathlib.Core.Path.{_≡_, sym, _∙_}
-use native.Mathlib.Omega.{arith}
-use borrow.Author.Needs.{needs}
-use Rattle.packed.specs.Rows.Branches.{nodeEnd, end-done, node-end-stop, node-end-on}
+-- `node_end` meets its contract: its loop keeps an invariant. Relies on specs/Form/Chunk and specs/Rows/Branches.
+use Rattle.image.specs.Prelude.{_-_, _≤_, _≡_, sym, _∙_, arith, needs}
+use Rattle.packed.specs.Form.Chunk.{end-done, end-stop, end-on}
+use Rattle.packed.specs.Rows.Branches.{nodeEnd, weightAt}
 use Rattle.packed.proofs.rows.node_end.Statement.{statement}
 use Rattle.packed.proofs.rows.node_end.Tie as tie
 
@@ -24,8 +23,8 @@ add-if1 c = search needs
 returns : tie.Need-returns Inv-loop μ-loop
 returns c = (
   sym (c .before .before .before .loop .inv .3
-      ∙ node-end-stop (c .before .before .before .before .before .args .m) (c .before .before .before .before .before .args .area .now) (c .before .before .before .before .before .pre .0) (c .before .before .before .loop .i) (c .before .before .before .loop .sum)
-      (c .before .weight-at .result) (omega arith) (omega arith) (omega arith) (omega arith) (omega arith)),
+      ∙ end-stop (weightAt (c .before .before .before .before .before .args .area .now)) (c .before .before .before .before .before .args .m) (c .before .before .before .loop .i) (c .before .before .before .loop .sum)
+      (c .before .weight-at .result) (omega arith) (omega arith) (omega arith)),
   omega arith,
   omega arith,
 )
@@ -45,8 +44,8 @@ loop-again c = (
   omega arith,
   omega arith,
   c .before .before .before .loop .inv .3
-      ∙ node-end-on (c .before .before .before .before .before .args .m) (c .before .before .before .before .before .args .area .now) (c .before .before .before .before .before .pre .0) (c .before .before .before .loop .i) (c .before .before .before .loop .sum)
-      (c .before .weight-at .result) (omega arith) (omega arith) (omega arith) (omega arith) (omega arith),
+      ∙ end-on (weightAt (c .before .before .before .before .before .args .area .now)) (c .before .before .before .before .before .args .m) (c .before .before .before .loop .i) (c .before .before .before .loop .sum)
+      (c .before .weight-at .result) (omega arith) (omega arith) (omega arith),
 )
 
 returns-2 : tie.Need-returns-2 Inv-loop μ-loop

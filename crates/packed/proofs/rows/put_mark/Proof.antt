@@ -1,8 +1,6 @@
-use mathlib.Core.Path.{refl}
-use lib.ListN.{length-set}
+-- `put_mark` meets its contract. Relies on specs/Rows/Puts.
+use Rattle.image.specs.Prelude.{refl, length-set, arith, needs}
 use Rattle.packed.specs.Rows.Puts.{putMark}
-use native.Mathlib.Omega.{arith}
-use borrow.Author.Needs.{needs}
 use Rattle.packed.proofs.rows.put_mark.Statement.{statement}
 use Rattle.packed.proofs.rows.put_mark.Tie as tie
 

@@ -1,6 +1,5 @@
-use mathlib.Core.Path.{sym}
-use native.Mathlib.Omega.{arith}
-use borrow.Author.Needs.{needs}
+-- `start_weight` meets its contract. Relies on specs/Rows/Remark.
+use Rattle.image.specs.Prelude.{sym, arith, needs}
 use Rattle.packed.specs.Rows.Remark.{start-first, start-later}
 use Rattle.packed.proofs.rows.start_weight.Statement.{statement}
 use Rattle.packed.proofs.rows.start_weight.Tie as tie

@@ -1,6 +1,5 @@
-use mathlib.Core.Path.{sym}
-use native.Mathlib.Omega.{arith}
-use borrow.Author.Needs.{needs}
+-- `weight_at` meets its contract. Relies on specs/Rows/Branches.
+use Rattle.image.specs.Prelude.{sym, arith, needs}
 use Rattle.packed.specs.Rows.Branches.{weight-none, weight-some}
 use Rattle.packed.proofs.rows.weight_at.Statement.{statement}
 use Rattle.packed.proofs.rows.weight_at.Tie as tie

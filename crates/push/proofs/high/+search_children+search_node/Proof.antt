@@ -6,17 +6,10 @@ use Rattle.node.specs.Search.Child.{pends-child, pends-end, NextChild}
 use Rattle.lookup.specs.Look.{node-inside}
 use Rattle.node.specs.Search.Own.{branch, branchesAmong}
 use Rattle.node.specs.Entries.{listed}
-use Rattle.node.specs.Places.{part, Within}
+use Rattle.node.specs.Places.{part, Within, entries-inside}
 use Rattle.laws.specs.Reading.Relative.{usableIn, first-usable, later-usable}
 use Rattle.image.specs.Image.{treeAt, nodesOf, forestOf}
-use mathlib.Core.Bool.{true}
-use mathlib.Core.Path.{_≡_, refl}
-use mathlib.Core.List.{_∷_}
-use lib.ListN.{length}
-use native.Mathlib.Omega.{arith}
-use Prim.Native.Nat.{_≤_, _-_, _+_, _*_}
-use borrow.Author.Needs.{needs}
-use Prim.Native.Nat.{ℕ, _<_}
+use Rattle.image.specs.Prelude.{true, _≡_, refl, _∷_, length, arith, _≤_, _-_, _+_, _*_, ℕ, _<_, needs}
 use borrow.Fn.Kinds.{In}
 use borrow.Fn.PlainCycle.{Measures, is, falls, and}
 use Rattle.push.proofs.high.search_children.Reads as search-children
@@ -28,7 +21,7 @@ use Rattle.push.proofs.high.+search_children+search_node.Lts-search_nod
 use Rattle.node.proofs.search.read_child.Reads as read-child-reads
 use Rattle.push.proofs.high.keep_high.Reads as keep-high-reads
 use Rattle.octets.proofs.common_length.Reads as common-length-reads
-use Rattle.node.proofs.header.read_length.Reads as read-length-reads
+use Rattle.node.proofs.entries_of.Reads as entries-of-reads
 use Rattle.push.proofs.high.+search_children+search_node.{statement}
 use Rattle.push.proofs.high.+search_children+search_node.Tie.{close}
 
@@ -82,522 +75,165 @@ first-next : (t : ℕ) (c : search-node-lts.After-known-told (
   common-length-reads.Learnt,
   keep-high-reads.Asked,
   keep-high-reads.Learnt,
-  read-length-reads.Asked,
-  read-length-reads.Learnt,
+  entries-of-reads.Asked,
+  entries-of-reads.Learnt,
   read-child-reads.Asked,
   read-child-reads.Learnt,
   search-children-below t,
   search-children.Post,
-) (search-node-at t) search-node.Post) → NextChild (c .before .before .before .before .before .before .before .before .before .before .before .before .args .store .now) (c .before .before .before .before .before .before .before .before .before .before .before .before .args .cur * 1024 + 8) (c .before .before .before .before .before .before .before .before .before .before .before .before .args .cur * 1024 + 8 + c .before .before .before .before .read-length .result) (c .before .first .given .0 .0) (c .before .first .given .0 .1 .0) (c .before .first .given .0 .1 .1 .0)
+) (search-node-at t) search-node.Post) → NextChild (c .before .before .before .before .before .before .before .before .before .before .before .before .args .store .now) (c .before .before .before .before .entries-of .result .at) (c .before .before .before .before .entries-of .result .end) (c .before .first .given .0 .0) (c .before .first .given .0 .1 .0) (c .before .first .given .0 .1 .1 .0)
 first-next t c = pends-child _ _ _ _ _ _ _ (c .before .before .before .read-child .ensures) (c .before .first .given .1)
 
-search-children-loop-holds : (t : ℕ) → search-children-lts.Need-loop-holds (
+abbrev search-children-claims : ℕ → search-children-lts.Claims
+search-children-claims t = (
   read-child-reads.Asked,
   read-child-reads.Learnt,
   search-node-below t,
   search-node.Post,
-) (search-children-at t) search-children.Post search-children-Inv-loop search-children-μ-loop
+)
+
+search-children-loop-holds : (t : ℕ) → search-children-lts.Need-loop-holds (search-children-claims t) (search-children-at t) search-children.Post search-children-Inv-loop search-children-μ-loop
 search-children-loop-holds t c = ((c .before .before .before .before .before .pre .1) .ends, (c .before .before .before .before .before .pre .1) .place, refl, (c .before .before .before .before .before .pre .1) .reads, refl)
 
-search-children-read-child-requires : (t : ℕ) → search-children-lts.Need-read-child-requires (
-  read-child-reads.Asked,
-  read-child-reads.Learnt,
-  search-node-below t,
-  search-node.Post,
-) (search-children-at t) search-children.Post search-children-Inv-loop search-children-μ-loop
+search-children-read-child-requires : (t : ℕ) → search-children-lts.Need-read-child-requires (search-children-claims t) (search-children-at t) search-children.Post search-children-Inv-loop search-children-μ-loop
 search-children-read-child-requires t c κs = c .loop .inv .0
 
-search-children-enum-known-k : (t : ℕ) → search-children-lts.Need-enum-known-k (
-  read-child-reads.Asked,
-  read-child-reads.Learnt,
-  search-node-below t,
-  search-node.Post,
-) (search-children-at t) search-children.Post search-children-Inv-loop search-children-μ-loop
+search-children-enum-known-k : (t : ℕ) → search-children-lts.Need-enum-known-k (search-children-claims t) (search-children-at t) search-children.Post search-children-Inv-loop search-children-μ-loop
 search-children-enum-known-k t c = search needs
 
-search-children-enum-told : (t : ℕ) → search-children-lts.Need-enum-told (
-  read-child-reads.Asked,
-  read-child-reads.Learnt,
-  search-node-below t,
-  search-node.Post,
-) (search-children-at t) search-children.Post search-children-Inv-loop search-children-μ-loop
+search-children-enum-told : (t : ℕ) → search-children-lts.Need-enum-told (search-children-claims t) (search-children-at t) search-children.Post search-children-Inv-loop search-children-μ-loop
 search-children-enum-told t c = search needs
 
-search-children-sub-search-node : (t : ℕ) → search-children-lts.Need-sub-search-node (
-  read-child-reads.Asked,
-  read-child-reads.Learnt,
-  search-node-below t,
-  search-node.Post,
-) (search-children-at t) search-children.Post search-children-Inv-loop search-children-μ-loop
+search-children-sub-search-node : (t : ℕ) → search-children-lts.Need-sub-search-node (search-children-claims t) (search-children-at t) search-children.Post search-children-Inv-loop search-children-μ-loop
 search-children-sub-search-node t c = let w = c .before .before .before .loop .inv .1 in omega arith
 
-search-children-part-search-node-start : (t : ℕ) → search-children-lts.Need-part-search-node-start (
-  read-child-reads.Asked,
-  read-child-reads.Learnt,
-  search-node-below t,
-  search-node.Post,
-) (search-children-at t) search-children.Post search-children-Inv-loop search-children-μ-loop
+search-children-part-search-node-start : (t : ℕ) → search-children-lts.Need-part-search-node-start (search-children-claims t) (search-children-at t) search-children.Post search-children-Inv-loop search-children-μ-loop
 search-children-part-search-node-start t c = let w = c .before .before .before .loop .inv .1 in omega arith
 
-search-children-part-search-node-end : (t : ℕ) → search-children-lts.Need-part-search-node-end (
-  read-child-reads.Asked,
-  read-child-reads.Learnt,
-  search-node-below t,
-  search-node.Post,
-) (search-children-at t) search-children.Post search-children-Inv-loop search-children-μ-loop
+search-children-part-search-node-end : (t : ℕ) → search-children-lts.Need-part-search-node-end (search-children-claims t) (search-children-at t) search-children.Post search-children-Inv-loop search-children-μ-loop
 search-children-part-search-node-end t c = let w = c .before .before .before .loop .inv .1 in omega arith
 
-search-children-search-node-requires : (t : ℕ) → search-children-lts.Need-search-node-requires (
-  read-child-reads.Asked,
-  read-child-reads.Learnt,
-  search-node-below t,
-  search-node.Post,
-) (search-children-at t) search-children.Post search-children-Inv-loop search-children-μ-loop
+search-children-search-node-requires : (t : ℕ) → search-children-lts.Need-search-node-requires (search-children-claims t) (search-children-at t) search-children.Post search-children-Inv-loop search-children-μ-loop
 search-children-search-node-requires t c κs = (omega arith, first-usable (nodesOf (length (c .before .before .before .before .before .before .before .before .before .before .before .args .store .now))) (λ j. treeAt (c .before .before .before .before .before .before .before .before .before .before .before .args .run .level) (c .before .before .before .before .before .before .before .before .before .before .before .args .store .now) j) (branch (c .before .before .before .before .before .loop .cur) (part (c .before .before .before .before .before .before .before .before .before .before .before .args .store .now) (c .before .before .before .before .before .loop .low))) (branchesAmong (listed (c .before .before .before .before .before .before .before .before .before .before .before .args .store .now) (c .before .before .before .before .before .loop .c .at) (c .before .before .before .before .before .loop .c .end))) (c .before .before .before .before .before .loop .inv .3))
 
-search-children-same-length : (t : ℕ) → search-children-lts.Need-same-length (
-  read-child-reads.Asked,
-  read-child-reads.Learnt,
-  search-node-below t,
-  search-node.Post,
-) (search-children-at t) search-children.Post search-children-Inv-loop search-children-μ-loop
+search-children-same-length : (t : ℕ) → search-children-lts.Need-same-length (search-children-claims t) (search-children-at t) search-children.Post search-children-Inv-loop search-children-μ-loop
 search-children-same-length t c = search needs
 
-search-children-returns : (t : ℕ) → search-children-lts.Need-returns (
-  read-child-reads.Asked,
-  read-child-reads.Learnt,
-  search-node-below t,
-  search-node.Post,
-) (search-children-at t) search-children.Post search-children-Inv-loop search-children-μ-loop
+search-children-returns : (t : ℕ) → search-children-lts.Need-returns (search-children-claims t) (search-children-at t) search-children.Post search-children-Inv-loop search-children-μ-loop
 search-children-returns t c = at-last (c .before .before .before .before .before .before .before .before .before .before .before .before .before .before .args .num) (λ j. treeAt (c .before .before .before .before .before .before .before .before .before .before .before .before .before .before .args .run .level) (c .before .before .before .before .before .before .before .before .before .before .before .before .before .before .args .store .now) j) (c .before .before .before .before .before .before .before .before .before .before .before .before .before .before .args .hi .now) (c .before .before .before .before .before .before .before .before .loop .cur) (part (c .before .before .before .before .before .before .before .before .before .before .before .before .before .before .args .store .now) (c .before .before .before .before .before .before .before .before .loop .low)) (branchesAmong (listed (c .before .before .before .before .before .before .before .before .before .before .before .before .before .before .args .store .now) (c .before .before .before .before .before .before .before .before .loop .c .at) (c .before .before .before .before .before .before .before .before .loop .c .end))) _ (c .before .before .before .before .before .before .before .before .loop .inv .4) _ _ (pends-end _ _ _ _ (c .before .before .before .before .before .before .before .read-child .ensures) (c .before .before .before .before .before .enum-told .given .1)) (c .before .before .search-node .ensures)
 
-search-children-sub-search-node-2 : (t : ℕ) → search-children-lts.Need-sub-search-node-2 (
-  read-child-reads.Asked,
-  read-child-reads.Learnt,
-  search-node-below t,
-  search-node.Post,
-) (search-children-at t) search-children.Post search-children-Inv-loop search-children-μ-loop
+search-children-sub-search-node-2 : (t : ℕ) → search-children-lts.Need-sub-search-node-2 (search-children-claims t) (search-children-at t) search-children.Post search-children-Inv-loop search-children-μ-loop
 search-children-sub-search-node-2 t c = let w = c .before .before .before .before .loop .inv .1 in omega arith
 
-search-children-part-search-node-start-2 :
-    (t : ℕ) → search-children-lts.Need-part-search-node-start-2 (
-      read-child-reads.Asked,
-      read-child-reads.Learnt,
-      search-node-below t,
-      search-node.Post,
-    ) (search-children-at t) search-children.Post search-children-Inv-loop search-children-μ-loop
+search-children-part-search-node-start-2 : (t : ℕ) → search-children-lts.Need-part-search-node-start-2 (search-children-claims t) (search-children-at t) search-children.Post search-children-Inv-loop search-children-μ-loop
 search-children-part-search-node-start-2 t c = let w = c .before .before .before .before .loop .inv .1 in omega arith
 
-search-children-part-search-node-end-2 : (t : ℕ) → search-children-lts.Need-part-search-node-end-2 (
-  read-child-reads.Asked,
-  read-child-reads.Learnt,
-  search-node-below t,
-  search-node.Post,
-) (search-children-at t) search-children.Post search-children-Inv-loop search-children-μ-loop
+search-children-part-search-node-end-2 : (t : ℕ) → search-children-lts.Need-part-search-node-end-2 (search-children-claims t) (search-children-at t) search-children.Post search-children-Inv-loop search-children-μ-loop
 search-children-part-search-node-end-2 t c = let w = c .before .before .before .before .loop .inv .1 in omega arith
 
-search-children-sub-search-node-3 : (t : ℕ) → search-children-lts.Need-sub-search-node-3 (
-  read-child-reads.Asked,
-  read-child-reads.Learnt,
-  search-node-below t,
-  search-node.Post,
-) (search-children-at t) search-children.Post search-children-Inv-loop search-children-μ-loop
+search-children-sub-search-node-3 : (t : ℕ) → search-children-lts.Need-sub-search-node-3 (search-children-claims t) (search-children-at t) search-children.Post search-children-Inv-loop search-children-μ-loop
 search-children-sub-search-node-3 t c = let n = branch-next t (c .before) in let w = n .place in omega arith
 
-search-children-part-search-node-start-3 :
-    (t : ℕ) → search-children-lts.Need-part-search-node-start-3 (
-      read-child-reads.Asked,
-      read-child-reads.Learnt,
-      search-node-below t,
-      search-node.Post,
-    ) (search-children-at t) search-children.Post search-children-Inv-loop search-children-μ-loop
+search-children-part-search-node-start-3 : (t : ℕ) → search-children-lts.Need-part-search-node-start-3 (search-children-claims t) (search-children-at t) search-children.Post search-children-Inv-loop search-children-μ-loop
 search-children-part-search-node-start-3 t c = let n = branch-next t (c .before) in let w = n .place in omega arith
 
-search-children-part-search-node-end-3 : (t : ℕ) → search-children-lts.Need-part-search-node-end-3 (
-  read-child-reads.Asked,
-  read-child-reads.Learnt,
-  search-node-below t,
-  search-node.Post,
-) (search-children-at t) search-children.Post search-children-Inv-loop search-children-μ-loop
+search-children-part-search-node-end-3 : (t : ℕ) → search-children-lts.Need-part-search-node-end-3 (search-children-claims t) (search-children-at t) search-children.Post search-children-Inv-loop search-children-μ-loop
 search-children-part-search-node-end-3 t c = let n = branch-next t (c .before) in let w = n .place in omega arith
 
-search-children-search-node-requires-2 : (t : ℕ) → search-children-lts.Need-search-node-requires-2 (
-  read-child-reads.Asked,
-  read-child-reads.Learnt,
-  search-node-below t,
-  search-node.Post,
-) (search-children-at t) search-children.Post search-children-Inv-loop search-children-μ-loop
+search-children-search-node-requires-2 : (t : ℕ) → search-children-lts.Need-search-node-requires-2 (search-children-claims t) (search-children-at t) search-children.Post search-children-Inv-loop search-children-μ-loop
 search-children-search-node-requires-2 t c κs = (omega arith, first-usable (nodesOf (length (c .before .before .before .before .before .before .before .before .before .before .before .before .before .args .store .now))) (λ j. treeAt (c .before .before .before .before .before .before .before .before .before .before .before .before .before .args .run .level) (c .before .before .before .before .before .before .before .before .before .before .before .before .before .args .store .now) j) (branch (c .before .before .before .before .before .before .before .loop .cur) (part (c .before .before .before .before .before .before .before .before .before .before .before .before .before .args .store .now) (c .before .before .before .before .before .before .before .loop .low))) (branchesAmong (listed (c .before .before .before .before .before .before .before .before .before .before .before .before .before .args .store .now) (c .before .before .before .before .before .before .before .loop .c .at) (c .before .before .before .before .before .before .before .loop .c .end))) (c .before .before .before .before .before .before .before .loop .inv .3))
 
-search-children-enum-told-2 : (t : ℕ) → search-children-lts.Need-enum-told-2 (
-  read-child-reads.Asked,
-  read-child-reads.Learnt,
-  search-node-below t,
-  search-node.Post,
-) (search-children-at t) search-children.Post search-children-Inv-loop search-children-μ-loop
+search-children-enum-told-2 : (t : ℕ) → search-children-lts.Need-enum-told-2 (search-children-claims t) (search-children-at t) search-children.Post search-children-Inv-loop search-children-μ-loop
 search-children-enum-told-2 t c = search needs
 
-search-children-enum-told-3 : (t : ℕ) → search-children-lts.Need-enum-told-3 (
-  read-child-reads.Asked,
-  read-child-reads.Learnt,
-  search-node-below t,
-  search-node.Post,
-) (search-children-at t) search-children.Post search-children-Inv-loop search-children-μ-loop
+search-children-enum-told-3 : (t : ℕ) → search-children-lts.Need-enum-told-3 (search-children-claims t) (search-children-at t) search-children.Post search-children-Inv-loop search-children-μ-loop
 search-children-enum-told-3 t c = search needs
 
-search-children-same-length-2 : (t : ℕ) → search-children-lts.Need-same-length-2 (
-  read-child-reads.Asked,
-  read-child-reads.Learnt,
-  search-node-below t,
-  search-node.Post,
-) (search-children-at t) search-children.Post search-children-Inv-loop search-children-μ-loop
+search-children-same-length-2 : (t : ℕ) → search-children-lts.Need-same-length-2 (search-children-claims t) (search-children-at t) search-children.Post search-children-Inv-loop search-children-μ-loop
 search-children-same-length-2 t c = search needs
 
-search-children-returns-2 : (t : ℕ) → search-children-lts.Need-returns-2 (
-  read-child-reads.Asked,
-  read-child-reads.Learnt,
-  search-node-below t,
-  search-node.Post,
-) (search-children-at t) search-children.Post search-children-Inv-loop search-children-μ-loop
+search-children-returns-2 : (t : ℕ) → search-children-lts.Need-returns-2 (search-children-claims t) (search-children-at t) search-children.Post search-children-Inv-loop search-children-μ-loop
 search-children-returns-2 t c = let n = branch-next t (c .before .before .before .before .before .before .before .before) in is-here (c .before .before .before .before .before .before .before .before .before .before .before .before .before .before .before .before .before .before .args .num) (λ j. treeAt (c .before .before .before .before .before .before .before .before .before .before .before .before .before .before .before .before .before .before .args .run .level) (c .before .before .before .before .before .before .before .before .before .before .before .before .before .before .before .before .before .before .args .store .now) j) (c .before .before .before .before .before .before .before .before .before .before .before .before .before .before .before .before .before .before .args .hi .now) (c .before .before .before .before .before .before .before .before .before .before .before .before .loop .cur) (part (c .before .before .before .before .before .before .before .before .before .before .before .before .before .before .before .before .before .before .args .store .now) (c .before .before .before .before .before .before .before .before .before .before .before .before .loop .low)) (branchesAmong (listed (c .before .before .before .before .before .before .before .before .before .before .before .before .before .before .before .before .before .before .args .store .now) (c .before .before .before .before .before .before .before .before .before .before .before .before .loop .c .at) (c .before .before .before .before .before .before .before .before .before .before .before .before .loop .c .end))) _ (c .before .before .before .before .before .before .before .before .before .before .before .before .loop .inv .4) (c .before .before .before .before .before .before .before .before .before .k .given .0 .0) (part (c .before .before .before .before .before .before .before .before .before .before .before .before .before .before .before .before .before .before .args .store .now) (c .before .before .before .before .before .before .before .before .before .k .given .0 .1 .0)) (branchesAmong (listed (c .before .before .before .before .before .before .before .before .before .before .before .before .before .before .before .before .before .before .args .store .now) (c .before .before .before .before .before .before .before .before .before .k .given .0 .1 .1 .0 .at) (c .before .before .before .before .before .before .before .before .before .k .given .0 .1 .1 .0 .end))) (n .lists) _ _ _ (c .before .before .before .before .search-node2 .ensures) (c .enum-told3 .given .1)
 
-search-children-loop-less : (t : ℕ) → search-children-lts.Need-loop-less (
-  read-child-reads.Asked,
-  read-child-reads.Learnt,
-  search-node-below t,
-  search-node.Post,
-) (search-children-at t) search-children.Post search-children-Inv-loop search-children-μ-loop
+search-children-loop-less : (t : ℕ) → search-children-lts.Need-loop-less (search-children-claims t) (search-children-at t) search-children.Post search-children-Inv-loop search-children-μ-loop
 search-children-loop-less t c = let n = branch-next t (c .before .before .before .before .before .before .before .before) in omega arith
 
-search-children-loop-again : (t : ℕ) → search-children-lts.Need-loop-again (
-  read-child-reads.Asked,
-  read-child-reads.Learnt,
-  search-node-below t,
-  search-node.Post,
-) (search-children-at t) search-children.Post search-children-Inv-loop search-children-μ-loop
+search-children-loop-again : (t : ℕ) → search-children-lts.Need-loop-again (search-children-claims t) (search-children-at t) search-children.Post search-children-Inv-loop search-children-μ-loop
 search-children-loop-again t c = let n = branch-next t (c .before .before .before .before .before .before .before .before) in (omega arith, n .place, search needs, later-usable (nodesOf (length (c .before .before .before .before .before .before .before .before .before .before .before .before .before .before .before .before .before .before .args .store .now))) (λ j. treeAt (c .before .before .before .before .before .before .before .before .before .before .before .before .before .before .before .before .before .before .args .run .level) (c .before .before .before .before .before .before .before .before .before .before .before .before .before .before .before .before .before .before .args .store .now) j) (branch (c .before .before .before .before .before .before .before .before .before .before .before .before .loop .cur) (part (c .before .before .before .before .before .before .before .before .before .before .before .before .before .before .before .before .before .before .args .store .now) (c .before .before .before .before .before .before .before .before .before .before .before .before .loop .low))) _ _ (n .lists) (c .before .before .before .before .before .before .before .before .before .before .before .before .loop .inv .3), not-here (c .before .before .before .before .before .before .before .before .before .before .before .before .before .before .before .before .before .before .args .num) (λ j. treeAt (c .before .before .before .before .before .before .before .before .before .before .before .before .before .before .before .before .before .before .args .run .level) (c .before .before .before .before .before .before .before .before .before .before .before .before .before .before .before .before .before .before .args .store .now) j) (c .before .before .before .before .before .before .before .before .before .before .before .before .before .before .before .before .before .before .args .hi .now) (c .before .before .before .before .before .before .before .before .before .before .before .before .loop .cur) (part (c .before .before .before .before .before .before .before .before .before .before .before .before .before .before .before .before .before .before .args .store .now) (c .before .before .before .before .before .before .before .before .before .before .before .before .loop .low)) (branchesAmong (listed (c .before .before .before .before .before .before .before .before .before .before .before .before .before .before .before .before .before .before .args .store .now) (c .before .before .before .before .before .before .before .before .before .before .before .before .loop .c .at) (c .before .before .before .before .before .before .before .before .before .before .before .before .loop .c .end))) _ (c .before .before .before .before .before .before .before .before .before .before .before .before .loop .inv .4) (c .before .before .before .before .before .before .before .before .before .k .given .0 .0) (part (c .before .before .before .before .before .before .before .before .before .before .before .before .before .before .before .before .before .before .args .store .now) (c .before .before .before .before .before .before .before .before .before .k .given .0 .1 .0)) (branchesAmong (listed (c .before .before .before .before .before .before .before .before .before .before .before .before .before .before .before .before .before .before .args .store .now) (c .before .before .before .before .before .before .before .before .before .k .given .0 .1 .1 .0 .at) (c .before .before .before .before .before .before .before .before .before .k .given .0 .1 .1 .0 .end))) (n .lists) _ _ (c .before .before .before .before .search-node2 .ensures) (c .enum-told2 .given .1))
 
-search-node-returns : (t : ℕ) → search-node-lts.Need-returns (
+abbrev search-node-claims : ℕ → search-node-lts.Claims
+search-node-claims t = (
   common-length-reads.Asked,
   common-length-reads.Learnt,
   keep-high-reads.Asked,
   keep-high-reads.Learnt,
-  read-length-reads.Asked,
-  read-length-reads.Learnt,
+  entries-of-reads.Asked,
+  entries-of-reads.Learnt,
   read-child-reads.Asked,
   read-child-reads.Learnt,
   search-children-below t,
   search-children.Post,
-) (search-node-at t) search-node.Post
+)
+
+search-node-returns : (t : ℕ) → search-node-lts.Need-returns (search-node-claims t) (search-node-at t) search-node.Post
 search-node-returns t c = seen-missing _ _ (high-leaf (c .before .before .before .before .before .args .num) (c .before .before .before .before .before .args .level) (c .before .before .before .before .before .args .store .now) (c .before .before .before .before .before .args .cur) (c .before .before .before .before .before .args .lo .now) (c .before .before .before .before .before .args .hi .now) (omega arith))
 
-search-node-common-length-requires : (t : ℕ) → search-node-lts.Need-common-length-requires (
-  common-length-reads.Asked,
-  common-length-reads.Learnt,
-  keep-high-reads.Asked,
-  keep-high-reads.Learnt,
-  read-length-reads.Asked,
-  read-length-reads.Learnt,
-  read-child-reads.Asked,
-  read-child-reads.Learnt,
-  search-children-below t,
-  search-children.Post,
-) (search-node-at t) search-node.Post
+search-node-common-length-requires : (t : ℕ) → search-node-lts.Need-common-length-requires (search-node-claims t) (search-node-at t) search-node.Post
 search-node-common-length-requires t c κs = search needs
 
-search-node-sub-keep-high : (t : ℕ) → search-node-lts.Need-sub-keep-high (
-  common-length-reads.Asked,
-  common-length-reads.Learnt,
-  keep-high-reads.Asked,
-  keep-high-reads.Learnt,
-  read-length-reads.Asked,
-  read-length-reads.Learnt,
-  read-child-reads.Asked,
-  read-child-reads.Learnt,
-  search-children-below t,
-  search-children.Post,
-) (search-node-at t) search-node.Post
+search-node-sub-keep-high : (t : ℕ) → search-node-lts.Need-sub-keep-high (search-node-claims t) (search-node-at t) search-node.Post
 search-node-sub-keep-high t c = search needs
 
-search-node-part-keep-high-start : (t : ℕ) → search-node-lts.Need-part-keep-high-start (
-  common-length-reads.Asked,
-  common-length-reads.Learnt,
-  keep-high-reads.Asked,
-  keep-high-reads.Learnt,
-  read-length-reads.Asked,
-  read-length-reads.Learnt,
-  read-child-reads.Asked,
-  read-child-reads.Learnt,
-  search-children-below t,
-  search-children.Post,
-) (search-node-at t) search-node.Post
+search-node-part-keep-high-start : (t : ℕ) → search-node-lts.Need-part-keep-high-start (search-node-claims t) (search-node-at t) search-node.Post
 search-node-part-keep-high-start t c = search needs
 
-search-node-part-keep-high-end : (t : ℕ) → search-node-lts.Need-part-keep-high-end (
-  common-length-reads.Asked,
-  common-length-reads.Learnt,
-  keep-high-reads.Asked,
-  keep-high-reads.Learnt,
-  read-length-reads.Asked,
-  read-length-reads.Learnt,
-  read-child-reads.Asked,
-  read-child-reads.Learnt,
-  search-children-below t,
-  search-children.Post,
-) (search-node-at t) search-node.Post
+search-node-part-keep-high-end : (t : ℕ) → search-node-lts.Need-part-keep-high-end (search-node-claims t) (search-node-at t) search-node.Post
 search-node-part-keep-high-end t c = search needs
 
-search-node-keep-high-requires : (t : ℕ) → search-node-lts.Need-keep-high-requires (
-  common-length-reads.Asked,
-  common-length-reads.Learnt,
-  keep-high-reads.Asked,
-  keep-high-reads.Learnt,
-  read-length-reads.Asked,
-  read-length-reads.Learnt,
-  read-child-reads.Asked,
-  read-child-reads.Learnt,
-  search-children-below t,
-  search-children.Post,
-) (search-node-at t) search-node.Post
+search-node-keep-high-requires : (t : ℕ) → search-node-lts.Need-keep-high-requires (search-node-claims t) (search-node-at t) search-node.Post
 search-node-keep-high-requires t c κs = search needs
 
-search-node-same-length : (t : ℕ) → search-node-lts.Need-same-length (
-  common-length-reads.Asked,
-  common-length-reads.Learnt,
-  keep-high-reads.Asked,
-  keep-high-reads.Learnt,
-  read-length-reads.Asked,
-  read-length-reads.Learnt,
-  read-child-reads.Asked,
-  read-child-reads.Learnt,
-  search-children-below t,
-  search-children.Post,
-) (search-node-at t) search-node.Post
+search-node-same-length : (t : ℕ) → search-node-lts.Need-same-length (search-node-claims t) (search-node-at t) search-node.Post
 search-node-same-length t c = search needs
 
-search-node-returns-2 : (t : ℕ) → search-node-lts.Need-returns-2 (
-  common-length-reads.Asked,
-  common-length-reads.Learnt,
-  keep-high-reads.Asked,
-  keep-high-reads.Learnt,
-  read-length-reads.Asked,
-  read-length-reads.Learnt,
-  read-child-reads.Asked,
-  read-child-reads.Learnt,
-  search-children-below t,
-  search-children.Post,
-) (search-node-at t) search-node.Post
+search-node-returns-2 : (t : ℕ) → search-node-lts.Need-returns-2 (search-node-claims t) (search-node-at t) search-node.Post
 search-node-returns-2 t c = node-found (c .before .before .before .before .before .before .before .before .before .before .before .before .args .num) (c .before .before .before .before .before .before .before .before .before .before .before .before .args .level) (c .before .before .before .before .before .before .before .before .before .before .before .before .args .store .now) (c .before .before .before .before .before .before .before .before .before .before .before .before .args .cur) (c .before .before .before .before .before .before .before .before .before .before .before .before .pre .1) (omega arith) (c .before .before .before .before .before .before .before .before .before .before .before .before .args .lo .now) (c .before .before .before .before .before .before .before .before .before .before .before .before .args .hi .now) (c .before .before .before .before .before .before .common-length .result) (c .before .before .before .before .before .before .common-length .ensures .0) (omega arith) _ _ (c .before .before .keep-high .ensures)
 
-search-node-mul-at : (t : ℕ) → search-node-lts.Need-mul-at (
-  common-length-reads.Asked,
-  common-length-reads.Learnt,
-  keep-high-reads.Asked,
-  keep-high-reads.Learnt,
-  read-length-reads.Asked,
-  read-length-reads.Learnt,
-  read-child-reads.Asked,
-  read-child-reads.Learnt,
-  search-children-below t,
-  search-children.Post,
-) (search-node-at t) search-node.Post
-search-node-mul-at t c = let w = node-inside (c .before .before .before .before .before .before .before .args .store .now) (c .before .before .before .before .before .before .before .args .cur) (c .before .before .before .before .before .before .before .args .level) (c .before .before .before .before .before .before .before .pre .1) in omega arith
+search-node-entries-of-requires : (t : ℕ) → search-node-lts.Need-entries-of-requires (search-node-claims t) (search-node-at t) search-node.Post
+search-node-entries-of-requires t c κs = node-inside (c .before .before .before .before .before .before .before .args .store .now) (c .before .before .before .before .before .before .before .args .cur) (c .before .before .before .before .before .before .before .args .level) (c .before .before .before .before .before .before .before .pre .1) .0
 
-search-node-read-length-requires : (t : ℕ) → search-node-lts.Need-read-length-requires (
-  common-length-reads.Asked,
-  common-length-reads.Learnt,
-  keep-high-reads.Asked,
-  keep-high-reads.Learnt,
-  read-length-reads.Asked,
-  read-length-reads.Learnt,
-  read-child-reads.Asked,
-  read-child-reads.Learnt,
-  search-children-below t,
-  search-children.Post,
-) (search-node-at t) search-node.Post
-search-node-read-length-requires t c κs = let w = node-inside (c .before .before .before .before .before .before .before .args .store .now) (c .before .before .before .before .before .before .before .args .cur) (c .before .before .before .before .before .before .before .args .level) (c .before .before .before .before .before .before .before .pre .1) in omega arith
+search-node-read-child-requires : (t : ℕ) → search-node-lts.Need-read-child-requires (search-node-claims t) (search-node-at t) search-node.Post
+search-node-read-child-requires t c κs = let w = entries-inside (c .before .before .before .before .before .before .before .before .args .store .now) (c .before .before .before .before .before .before .before .before .args .cur) (c .entries-of .result) (c .entries-of .ensures) (node-inside (c .before .before .before .before .before .before .before .before .args .store .now) (c .before .before .before .before .before .before .before .before .args .cur) (c .before .before .before .before .before .before .before .before .args .level) (c .before .before .before .before .before .before .before .before .pre .1)) in omega arith
 
-search-node-add-from : (t : ℕ) → search-node-lts.Need-add-from (
-  common-length-reads.Asked,
-  common-length-reads.Learnt,
-  keep-high-reads.Asked,
-  keep-high-reads.Learnt,
-  read-length-reads.Asked,
-  read-length-reads.Learnt,
-  read-child-reads.Asked,
-  read-child-reads.Learnt,
-  search-children-below t,
-  search-children.Post,
-) (search-node-at t) search-node.Post
-search-node-add-from t c = let w = node-inside (c .before .before .before .before .before .before .before .before .args .store .now) (c .before .before .before .before .before .before .before .before .args .cur) (c .before .before .before .before .before .before .before .before .args .level) (c .before .before .before .before .before .before .before .before .pre .1) in omega arith
-
-search-node-add-end : (t : ℕ) → search-node-lts.Need-add-end (
-  common-length-reads.Asked,
-  common-length-reads.Learnt,
-  keep-high-reads.Asked,
-  keep-high-reads.Learnt,
-  read-length-reads.Asked,
-  read-length-reads.Learnt,
-  read-child-reads.Asked,
-  read-child-reads.Learnt,
-  search-children-below t,
-  search-children.Post,
-) (search-node-at t) search-node.Post
-search-node-add-end t c = let w = node-inside (c .before .before .before .before .before .before .before .before .args .store .now) (c .before .before .before .before .before .before .before .before .args .cur) (c .before .before .before .before .before .before .before .before .args .level) (c .before .before .before .before .before .before .before .before .pre .1) in omega arith
-
-search-node-read-child-requires : (t : ℕ) → search-node-lts.Need-read-child-requires (
-  common-length-reads.Asked,
-  common-length-reads.Learnt,
-  keep-high-reads.Asked,
-  keep-high-reads.Learnt,
-  read-length-reads.Asked,
-  read-length-reads.Learnt,
-  read-child-reads.Asked,
-  read-child-reads.Learnt,
-  search-children-below t,
-  search-children.Post,
-) (search-node-at t) search-node.Post
-search-node-read-child-requires t c κs = let w = node-inside (c .before .before .before .before .before .before .before .before .args .store .now) (c .before .before .before .before .before .before .before .before .args .cur) (c .before .before .before .before .before .before .before .before .args .level) (c .before .before .before .before .before .before .before .before .pre .1) in omega arith
-
-search-node-enum-known-first : (t : ℕ) → search-node-lts.Need-enum-known-first (
-  common-length-reads.Asked,
-  common-length-reads.Learnt,
-  keep-high-reads.Asked,
-  keep-high-reads.Learnt,
-  read-length-reads.Asked,
-  read-length-reads.Learnt,
-  read-child-reads.Asked,
-  read-child-reads.Learnt,
-  search-children-below t,
-  search-children.Post,
-) (search-node-at t) search-node.Post
+search-node-enum-known-first : (t : ℕ) → search-node-lts.Need-enum-known-first (search-node-claims t) (search-node-at t) search-node.Post
 search-node-enum-known-first t c = search needs
 
-search-node-enum-told : (t : ℕ) → search-node-lts.Need-enum-told (
-  common-length-reads.Asked,
-  common-length-reads.Learnt,
-  keep-high-reads.Asked,
-  keep-high-reads.Learnt,
-  read-length-reads.Asked,
-  read-length-reads.Learnt,
-  read-child-reads.Asked,
-  read-child-reads.Learnt,
-  search-children-below t,
-  search-children.Post,
-) (search-node-at t) search-node.Post
+search-node-enum-told : (t : ℕ) → search-node-lts.Need-enum-told (search-node-claims t) (search-node-at t) search-node.Post
 search-node-enum-told t c = search needs
 
-search-node-returns-3 : (t : ℕ) → search-node-lts.Need-returns-3 (
-  common-length-reads.Asked,
-  common-length-reads.Learnt,
-  keep-high-reads.Asked,
-  keep-high-reads.Learnt,
-  read-length-reads.Asked,
-  read-length-reads.Learnt,
-  read-child-reads.Asked,
-  read-child-reads.Learnt,
-  search-children-below t,
-  search-children.Post,
-) (search-node-at t) search-node.Post
-search-node-returns-3 t c = node-bare (c .before .before .before .before .before .before .before .before .before .before .before .args .num) (c .before .before .before .before .before .before .before .before .before .before .before .args .level) (c .before .before .before .before .before .before .before .before .before .before .before .args .store .now) (c .before .before .before .before .before .before .before .before .before .before .before .args .cur) (c .before .before .before .before .before .before .before .before .before .before .before .pre .1) (omega arith) (c .before .before .before .before .before .before .before .before .before .before .before .args .lo .now) (c .before .before .before .before .before .before .before .before .before .before .before .args .hi .now) (c .before .before .before .before .before .common-length .result) (c .before .before .before .before .before .common-length .ensures .0) (λ h. omega arith) (c .before .before .before .read-length .result) (c .before .before .before .read-length .ensures .0) _ (pends-end _ _ _ _ (c .before .before .read-child .ensures) (c .enum-told .given .1))
+search-node-returns-3 : (t : ℕ) → search-node-lts.Need-returns-3 (search-node-claims t) (search-node-at t) search-node.Post
+search-node-returns-3 t c = node-bare (c .before .before .before .before .before .before .before .before .before .before .before .args .num) (c .before .before .before .before .before .before .before .before .before .before .before .args .level) (c .before .before .before .before .before .before .before .before .before .before .before .args .store .now) (c .before .before .before .before .before .before .before .before .before .before .before .args .cur) (c .before .before .before .before .before .before .before .before .before .before .before .pre .1) (omega arith) (c .before .before .before .before .before .before .before .before .before .before .before .args .lo .now) (c .before .before .before .before .before .before .before .before .before .before .before .args .hi .now) (c .before .before .before .before .before .common-length .result) (c .before .before .before .before .before .common-length .ensures .0) (λ h. omega arith) (c .before .before .before .entries-of .result) (c .before .before .before .entries-of .ensures) _ (pends-end _ _ _ _ (c .before .before .read-child .ensures) (c .enum-told .given .1))
 
-search-node-sub-down : (t : ℕ) → search-node-lts.Need-sub-down (
-  common-length-reads.Asked,
-  common-length-reads.Learnt,
-  keep-high-reads.Asked,
-  keep-high-reads.Learnt,
-  read-length-reads.Asked,
-  read-length-reads.Learnt,
-  read-child-reads.Asked,
-  read-child-reads.Learnt,
-  search-children-below t,
-  search-children.Post,
-) (search-node-at t) search-node.Post
+search-node-sub-down : (t : ℕ) → search-node-lts.Need-sub-down (search-node-claims t) (search-node-at t) search-node.Post
 search-node-sub-down t c = search needs
 
-search-node-sub-search-children : (t : ℕ) → search-node-lts.Need-sub-search-children (
-  common-length-reads.Asked,
-  common-length-reads.Learnt,
-  keep-high-reads.Asked,
-  keep-high-reads.Learnt,
-  read-length-reads.Asked,
-  read-length-reads.Learnt,
-  read-child-reads.Asked,
-  read-child-reads.Learnt,
-  search-children-below t,
-  search-children.Post,
-) (search-node-at t) search-node.Post
+search-node-sub-search-children : (t : ℕ) → search-node-lts.Need-sub-search-children (search-node-claims t) (search-node-at t) search-node.Post
 search-node-sub-search-children t c = search needs
 
-search-node-part-search-children-start : (t : ℕ) → search-node-lts.Need-part-search-children-start (
-  common-length-reads.Asked,
-  common-length-reads.Learnt,
-  keep-high-reads.Asked,
-  keep-high-reads.Learnt,
-  read-length-reads.Asked,
-  read-length-reads.Learnt,
-  read-child-reads.Asked,
-  read-child-reads.Learnt,
-  search-children-below t,
-  search-children.Post,
-) (search-node-at t) search-node.Post
+search-node-part-search-children-start : (t : ℕ) → search-node-lts.Need-part-search-children-start (search-node-claims t) (search-node-at t) search-node.Post
 search-node-part-search-children-start t c = search needs
 
-search-node-part-search-children-end : (t : ℕ) → search-node-lts.Need-part-search-children-end (
-  common-length-reads.Asked,
-  common-length-reads.Learnt,
-  keep-high-reads.Asked,
-  keep-high-reads.Learnt,
-  read-length-reads.Asked,
-  read-length-reads.Learnt,
-  read-child-reads.Asked,
-  read-child-reads.Learnt,
-  search-children-below t,
-  search-children.Post,
-) (search-node-at t) search-node.Post
+search-node-part-search-children-end : (t : ℕ) → search-node-lts.Need-part-search-children-end (search-node-claims t) (search-node-at t) search-node.Post
 search-node-part-search-children-end t c = search needs
 
-search-node-search-children-requires : (t : ℕ) → search-node-lts.Need-search-children-requires (
-  common-length-reads.Asked,
-  common-length-reads.Learnt,
-  keep-high-reads.Asked,
-  keep-high-reads.Learnt,
-  read-length-reads.Asked,
-  read-length-reads.Learnt,
-  read-child-reads.Asked,
-  read-child-reads.Learnt,
-  search-children-below t,
-  search-children.Post,
-) (search-node-at t) search-node.Post
-search-node-search-children-requires t c κs = let w = node-inside (c .before .before .before .before .before .before .before .before .before .before .before .before .before .before .args .store .now) (c .before .before .before .before .before .before .before .before .before .before .before .before .before .before .args .cur) (c .before .before .before .before .before .before .before .before .before .before .before .before .before .before .args .level) (c .before .before .before .before .before .before .before .before .before .before .before .before .before .before .pre .1) in let n = first-next t (c .before .before) in (omega arith, branches-ready (c .before .before .before .before .before .before .before .before .before .before .before .before .before .before .args .num) (c .before .before .before .before .before .before .before .before .before .before .before .before .before .before .args .level) (c .before .before .before .before .before .before .before .before .before .before .before .before .before .before .args .store .now) (c .before .before .before .before .before .before .before .before .before .before .before .before .before .before .args .cur) (c .before .before .before .before .before .before .before .before .before .before .before .before .before .before .pre .1) (omega arith) (c .before .before .before .before .before .before .before .before .before .before .before .before .before .before .args .lo .now) (c .before .before .before .before .before .before .before .before .before .before .before .before .before .before .args .hi .now) (c .before .before .before .before .before .before .before .before .common-length .result) (c .before .before .before .before .before .before .before .before .common-length .ensures .0) (λ h. omega arith) (c .before .before .before .before .before .before .read-length .result) (c .before .before .before .before .before .before .read-length .ensures .0) _ _ _ n (omega arith))
+search-node-search-children-requires : (t : ℕ) → search-node-lts.Need-search-children-requires (search-node-claims t) (search-node-at t) search-node.Post
+search-node-search-children-requires t c κs = let w = entries-inside (c .before .before .before .before .before .before .before .before .before .before .before .before .before .before .args .store .now) (c .before .before .before .before .before .before .before .before .before .before .before .before .before .before .args .cur) (c .before .before .before .before .before .before .entries-of .result) (c .before .before .before .before .before .before .entries-of .ensures) (node-inside (c .before .before .before .before .before .before .before .before .before .before .before .before .before .before .args .store .now) (c .before .before .before .before .before .before .before .before .before .before .before .before .before .before .args .cur) (c .before .before .before .before .before .before .before .before .before .before .before .before .before .before .args .level) (c .before .before .before .before .before .before .before .before .before .before .before .before .before .before .pre .1)) in let n = first-next t (c .before .before) in (omega arith, branches-ready (c .before .before .before .before .before .before .before .before .before .before .before .before .before .before .args .num) (c .before .before .before .before .before .before .before .before .before .before .before .before .before .before .args .level) (c .before .before .before .before .before .before .before .before .before .before .before .before .before .before .args .store .now) (c .before .before .before .before .before .before .before .before .before .before .before .before .before .before .args .cur) (c .before .before .before .before .before .before .before .before .before .before .before .before .before .before .pre .1) (omega arith) (c .before .before .before .before .before .before .before .before .before .before .before .before .before .before .args .lo .now) (c .before .before .before .before .before .before .before .before .before .before .before .before .before .before .args .hi .now) (c .before .before .before .before .before .before .before .before .common-length .result) (c .before .before .before .before .before .before .before .before .common-length .ensures .0) (λ h. omega arith) (c .before .before .before .before .before .before .entries-of .result) (c .before .before .before .before .before .before .entries-of .ensures) _ _ _ n (omega arith))
 
-search-node-same-length-2 : (t : ℕ) → search-node-lts.Need-same-length-2 (
-  common-length-reads.Asked,
-  common-length-reads.Learnt,
-  keep-high-reads.Asked,
-  keep-high-reads.Learnt,
-  read-length-reads.Asked,
-  read-length-reads.Learnt,
-  read-child-reads.Asked,
-  read-child-reads.Learnt,
-  search-children-below t,
-  search-children.Post,
-) (search-node-at t) search-node.Post
+search-node-same-length-2 : (t : ℕ) → search-node-lts.Need-same-length-2 (search-node-claims t) (search-node-at t) search-node.Post
 search-node-same-length-2 t c = search needs
 
-search-node-returns-4 : (t : ℕ) → search-node-lts.Need-returns-4 (
-  common-length-reads.Asked,
-  common-length-reads.Learnt,
-  keep-high-reads.Asked,
-  keep-high-reads.Learnt,
-  read-length-reads.Asked,
-  read-length-reads.Learnt,
-  read-child-reads.Asked,
-  read-child-reads.Learnt,
-  search-children-below t,
-  search-children.Post,
-) (search-node-at t) search-node.Post
-search-node-returns-4 t c = let n = first-next t (c .before .before .before .before .before) in node-above (c .before .before .before .before .before .before .before .before .before .before .before .before .before .before .before .before .before .args .num) (c .before .before .before .before .before .before .before .before .before .before .before .before .before .before .before .before .before .args .level) (c .before .before .before .before .before .before .before .before .before .before .before .before .before .before .before .before .before .args .store .now) (c .before .before .before .before .before .before .before .before .before .before .before .before .before .before .before .before .before .args .cur) (c .before .before .before .before .before .before .before .before .before .before .before .before .before .before .before .before .before .pre .1) (omega arith) (c .before .before .before .before .before .before .before .before .before .before .before .before .before .before .before .before .before .args .lo .now) (c .before .before .before .before .before .before .before .before .before .before .before .before .before .before .before .before .before .args .hi .now) (c .before .before .before .before .before .before .before .before .before .before .before .common-length .result) (c .before .before .before .before .before .before .before .before .before .before .before .common-length .ensures .0) (λ h. omega arith) (c .before .before .before .before .before .before .before .before .before .read-length .result) (c .before .before .before .before .before .before .before .before .before .read-length .ensures .0) _ _ _ n _ _ (c .before .before .search-children .ensures)
+search-node-returns-4 : (t : ℕ) → search-node-lts.Need-returns-4 (search-node-claims t) (search-node-at t) search-node.Post
+search-node-returns-4 t c = let n = first-next t (c .before .before .before .before .before) in node-above (c .before .before .before .before .before .before .before .before .before .before .before .before .before .before .before .before .before .args .num) (c .before .before .before .before .before .before .before .before .before .before .before .before .before .before .before .before .before .args .level) (c .before .before .before .before .before .before .before .before .before .before .before .before .before .before .before .before .before .args .store .now) (c .before .before .before .before .before .before .before .before .before .before .before .before .before .before .before .before .before .args .cur) (c .before .before .before .before .before .before .before .before .before .before .before .before .before .before .before .before .before .pre .1) (omega arith) (c .before .before .before .before .before .before .before .before .before .before .before .before .before .before .before .before .before .args .lo .now) (c .before .before .before .before .before .before .before .before .before .before .before .before .before .before .before .before .before .args .hi .now) (c .before .before .before .before .before .before .before .before .before .before .before .common-length .result) (c .before .before .before .before .before .before .before .before .before .before .before .common-length .ensures .0) (λ h. omega arith) (c .before .before .before .before .before .before .before .before .before .entries-of .result) (c .before .before .before .before .before .before .before .before .before .entries-of .ensures) _ _ _ n _ _ (c .before .before .search-children .ensures)
 
 pub +search-children+search-node-spec : {M : Type 1} → statement M
 +search-children+search-node-spec =
@@ -639,8 +275,8 @@ pub +search-children+search-node-spec : {M : Type 1} → statement M
       common-length-reads.Learnt,
       keep-high-reads.Asked,
       keep-high-reads.Learnt,
-      read-length-reads.Asked,
-      read-length-reads.Learnt,
+      entries-of-reads.Asked,
+      entries-of-reads.Learnt,
       read-child-reads.Asked,
       read-child-reads.Learnt,
       search-children-below t,
@@ -656,10 +292,7 @@ pub +search-children+search-node-spec : {M : Type 1} → statement M
     (search-node-keep-high-requires t)
     (search-node-same-length t)
     (search-node-returns-2 t)
-    (search-node-mul-at t)
-    (search-node-read-length-requires t)
-    (search-node-add-from t)
-    (search-node-add-end t)
+    (search-node-entries-of-requires t)
     (search-node-read-child-requires t)
     (search-node-enum-known-first t)
     (search-node-enum-told t)

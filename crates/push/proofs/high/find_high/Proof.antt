@@ -1,10 +1,8 @@
 -- `find_high` meets its contract: the search from the root, where nothing is lifted.
 -- Relies on specs/Steps and on the bytes of node 0 (lookup: Root).
-use mathlib.Core.Path.{refl}
-use native.Mathlib.Omega.{arith}
+use Rattle.image.specs.Prelude.{refl, arith, needs}
 use Rattle.push.specs.High.Steps.{root-seen}
 use Rattle.lookup.specs.Root.{long-enough, root-usable}
-use borrow.Author.Needs.{needs}
 use Rattle.push.proofs.high.find_high.Statement.{statement}
 use Rattle.push.proofs.high.find_high.Tie as tie
 

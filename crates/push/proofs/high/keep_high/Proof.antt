@@ -1,8 +1,7 @@
 -- `keep_high` meets its contract: the pivot is copied where it fits.
 -- Relies on specs/Steps.
-use native.Mathlib.Omega.{arith}
+use Rattle.image.specs.Prelude.{arith, needs}
 use Rattle.push.specs.High.Steps.{held-not, held-put}
-use borrow.Author.Needs.{needs}
 use Rattle.push.proofs.high.keep_high.Statement.{statement}
 use Rattle.push.proofs.high.keep_high.Tie as tie
 

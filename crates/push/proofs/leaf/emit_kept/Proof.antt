@@ -1,13 +1,10 @@
 -- `emit_kept` meets its contract: only a pair that stays is written.
 -- Relies on specs/LeafSteps and specs/WriteSteps.
-use native.Mathlib.Omega.{arith}
-use lib.ListN.{length}
-use mathlib.Core.Path.{subst, sym}
+use Rattle.image.specs.Prelude.{arith, length, subst, sym, needs}
 use Rattle.node.specs.Places.{Within, EntryWithin}
 use Rattle.laws.specs.Encode.{keyed-length}
 use Rattle.push.specs.WriteSteps.{puts-as, ends-as, fits-as, puts-nothing, ends-nowhere}
 use Rattle.push.specs.LeafSteps.{kept-child, kept-message, kept-not, kept-yes}
-use borrow.Author.Needs.{needs}
 use Rattle.push.proofs.leaf.emit_kept.Statement.{statement}
 use Rattle.push.proofs.leaf.emit_kept.Tie as tie
 

@@ -1,14 +1,11 @@
 -- `emit_leaf` meets its contract, by the kind of the message.
 -- Relies on specs/LeafSteps and specs/WriteSteps.
-use native.Mathlib.Omega.{arith}
-use lib.ListN.{length}
-use mathlib.Core.Path.{refl}
+use Rattle.image.specs.Prelude.{arith, length, refl, needs}
 use Rattle.node.specs.Entries.{listed}
 use Rattle.node.specs.Places.{Within}
 use Rattle.node.specs.Search.Latest.{put-places, drop-places, clear-places}
 use Rattle.push.specs.WriteSteps.{puts-as, ends-as, fits-as}
 use Rattle.push.specs.LeafSteps.{put-after, drop-after, clear-after}
-use borrow.Author.Needs.{needs}
 use Rattle.push.proofs.leaf.emit_leaf.Statement.{statement}
 use Rattle.push.proofs.leaf.emit_leaf.Tie as tie
 

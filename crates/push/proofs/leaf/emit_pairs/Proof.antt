@@ -1,11 +1,6 @@
 -- `emit_pairs` meets its contract: the pairs left that stay, written behind what is written, are all that stay.
 -- Relies on specs/LeafSteps, specs/WriteSteps and the contract of node's cursor.
-use borrow.Author.Needs.{needs}
-use native.Mathlib.Omega.{arith}
-use lib.ListN.{length}
-use mathlib.Core.List.{_∷_, []}
-use mathlib.Core.Path.{_≡_, refl, _∙_}
-use Prim.Native.Nat.{_-_, _+_}
+use Rattle.image.specs.Prelude.{needs, arith, length, _∷_, [], _≡_, refl, _∙_, _-_, _+_}
 use Rattle.node.specs.Entries.{listed, listed-end}
 use Rattle.node.specs.Places.{Next, step-bad-is, step-read-is, entry-wider, entryIn}
 use Rattle.octets.specs.Put.{put}

@@ -1,9 +1,8 @@
 -- `emit_with` meets its contract: the pairs before the key, the new pair, the pairs after it.
 -- Relies on specs/LeafSteps.
-use native.Mathlib.Omega.{arith}
+use Rattle.image.specs.Prelude.{arith, needs}
 use Rattle.node.specs.Entries.{listed}
 use Rattle.push.specs.LeafSteps.{first-fits, second-fits, third-fits, with-ends, with-put}
-use borrow.Author.Needs.{needs}
 use Rattle.push.proofs.leaf.emit_with.Statement.{statement}
 use Rattle.push.proofs.leaf.emit_with.Tie as tie
 

@@ -1,11 +1,6 @@
 -- `push_leaf` meets its contract: the entries left, taken after those that were taken, are all entries taken.
 -- Relies on specs/LeafSteps and on the contract of node's cursor.
-use borrow.Author.Needs.{needs}
-use native.Mathlib.Omega.{arith}
-use lib.ListN.{length}
-use mathlib.Core.Bool.{true}
-use mathlib.Core.Path.{_≡_, refl, _∙_}
-use Prim.Native.Nat.{_-_}
+use Rattle.image.specs.Prelude.{needs, arith, length, true, _≡_, refl, _∙_, _-_}
 use Rattle.node.specs.Entries.{listed, listed-end}
 use Rattle.node.specs.Places.{Next, step-bad-is, step-read-is, entry-wider, entryIn}
 use Rattle.push.specs.Laws.Written.{hasRoom}

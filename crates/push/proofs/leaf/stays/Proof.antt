@@ -1,7 +1,7 @@
 -- `stays` meets its contract, by the side.
 -- Relies on specs/LeafSteps.
 use Rattle.push.specs.LeafSteps.{stays-before, stays-after, stays-other, stays-outside}
-use borrow.Author.Needs.{needs}
+use Rattle.image.specs.Prelude.{needs}
 use Rattle.push.proofs.leaf.stays.Statement.{statement}
 use Rattle.push.proofs.leaf.stays.Tie as tie
 

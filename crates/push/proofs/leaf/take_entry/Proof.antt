@@ -1,12 +1,9 @@
 -- `take_entry` meets its contract: only a message that touches the leaf is applied.
 -- Relies on specs/LeafSteps and specs/ReadSteps.
-use native.Mathlib.Omega.{arith}
-use lib.ListN.{length}
-use mathlib.Core.Path.{ap}
+use Rattle.image.specs.Prelude.{arith, length, ap, needs}
 use Rattle.node.specs.Search.Latest.{message-places}
 use Rattle.push.specs.ReadSteps.{brought-yes}
 use Rattle.push.specs.LeafSteps.{takes-pair, takes-child, takes-not, takes-yes}
-use borrow.Author.Needs.{needs}
 use Rattle.push.proofs.leaf.take_entry.Statement.{statement}
 use Rattle.push.proofs.leaf.take_entry.Tie as tie
 

@@ -1,10 +1,9 @@
 -- `emit_entry` meets its contract: only a message that touches the child is written.
 -- Relies on specs/ReadSteps and specs/WriteSteps.
-use mathlib.Core.Path.{refl, sym}
+use Rattle.image.specs.Prelude.{refl, sym, needs}
 use Rattle.node.specs.Search.Latest.{message-places}
 use Rattle.push.specs.WriteSteps.{puts-as, ends-as, fits-as, puts-nothing, ends-nowhere}
 use Rattle.push.specs.ReadSteps.{brought-pair, brought-child, brought-not, brought-yes}
-use borrow.Author.Needs.{needs}
 use Rattle.push.proofs.message.emit_entry.Statement.{statement}
 use Rattle.push.proofs.message.emit_entry.Tie as tie
 

@@ -1,8 +1,6 @@
 -- `emit_message` meets its contract, by the kind of the message.
 -- Relies on specs/WriteSteps.
-use native.Mathlib.Omega.{arith}
-use lib.ListN.{length}
-use mathlib.Core.Path.{_≡_, sym}
+use Rattle.image.specs.Prelude.{arith, length, _≡_, sym, needs}
 use Rattle.node.specs.Places.{Within, messageIn}
 use Rattle.node.specs.Cut.{cut}
 use Rattle.node.specs.Search.Latest.{put-places, drop-places, clear-places}
@@ -10,7 +8,6 @@ use Rattle.push.specs.Laws.Arriving.{loweredBy}
 use Rattle.laws.specs.Encode.{bytesOf, keyedEntry, shortEntry, keyed-length, short-length}
 use Rattle.image.specs.Entry.{message}
 use Rattle.push.specs.WriteSteps.{put-bytes, drop-bytes, clear-bytes, puts-as, ends-as, fits-as}
-use borrow.Author.Needs.{needs}
 use Rattle.push.proofs.message.emit_message.Statement.{statement}
 use Rattle.push.proofs.message.emit_message.Tie as tie
 

@@ -1,16 +1,10 @@
 -- `emit_messages` meets its contract: what the entries left bring, written behind what is written, is what all bring.
 -- Relies on specs/WriteSteps and on the contract of node's cursor.
-use Rattle.node.specs.Places.{entryIn}
-use Rattle.push.specs.Laws.Arriving.{brought}
-use borrow.Author.Needs.{needs}
-use native.Mathlib.Omega.{arith}
-use lib.ListN.{length}
-use mathlib.Core.Path.{_≡_, refl, _∙_}
-use Prim.Native.Nat.{_-_, _+_}
+use Rattle.node.specs.Places.{entryIn, Next, step-bad-is, step-read-is, entry-wider}
+use Rattle.push.specs.Laws.Arriving.{brought, broughtAll}
+use Rattle.image.specs.Prelude.{needs, arith, length, _≡_, refl, _∙_, _-_, _+_}
 use Rattle.node.specs.Entries.{listed, listed-end}
-use Rattle.node.specs.Places.{Next, step-bad-is, step-read-is, entry-wider}
 use Rattle.octets.specs.Put.{put}
-use Rattle.push.specs.Laws.Arriving.{broughtAll}
 use Rattle.push.specs.WriteSteps.{line-fits, line-length, line-on, line-end, line-ends, brought-cons, brought-none}
 use Rattle.push.proofs.message.emit_messages.Statement.{statement}
 use Rattle.push.proofs.message.emit_messages.Tie as tie

@@ -1,11 +1,10 @@
 -- `push_interior` meets its contract: the old entries, what is brought, and the first bytes make the new page.
 -- Relies on specs/WriteSteps and on Laws/Only.
 use Rattle.node.specs.Entries.{listed}
-use native.Mathlib.Omega.{arith}
+use Rattle.image.specs.Prelude.{arith, needs}
 use Rattle.laws.specs.Page.{zerosOf}
 use Rattle.push.specs.WriteSteps.{interior-written}
 use Rattle.push.specs.Laws.Only.{room-inside, room-fits}
-use borrow.Author.Needs.{needs}
 use Rattle.push.proofs.message.push_interior.Statement.{statement}
 use Rattle.push.proofs.message.push_interior.Tie as tie
 

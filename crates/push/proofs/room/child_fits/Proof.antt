@@ -1,9 +1,8 @@
 -- `child_fits` meets its contract: the child is a node of the store, and the sum fits.
 -- Relies on specs/ReadSteps.
-use native.Mathlib.Omega.{arith}
+use Rattle.image.specs.Prelude.{arith, needs}
 use Rattle.image.specs.Image.{nodesOf}
 use Rattle.push.specs.ReadSteps.{room-no, room-is}
-use borrow.Author.Needs.{needs}
 use Rattle.push.proofs.room.child_fits.Statement.{statement}
 use Rattle.push.proofs.room.child_fits.Tie as tie
 

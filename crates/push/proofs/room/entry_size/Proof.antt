@@ -1,11 +1,8 @@
 -- `entry_size` meets its contract: only a message that touches the child brings bytes.
 -- Relies on specs/ReadSteps.
-use native.Mathlib.Omega.{arith}
-use lib.ListN.{length}
-use mathlib.Core.Path.{sym, ap, _∙_}
+use Rattle.image.specs.Prelude.{arith, length, sym, ap, _∙_, needs}
 use Rattle.node.specs.Search.Latest.{message-places}
 use Rattle.push.specs.ReadSteps.{brought-pair, brought-child, brought-not, brought-yes, brings-none}
-use borrow.Author.Needs.{needs}
 use Rattle.push.proofs.room.entry_size.Statement.{statement}
 use Rattle.push.proofs.room.entry_size.Tie as tie
 

@@ -1,11 +1,9 @@
 -- `message_size` meets its contract, by the kind of the message.
 -- Relies on specs/ReadSteps.
-use native.Mathlib.Omega.{arith}
-use lib.ListN.{length}
+use Rattle.image.specs.Prelude.{arith, length, needs}
 use Rattle.node.specs.Places.{Within}
 use Rattle.node.specs.Search.Latest.{put-places, drop-places, clear-places}
 use Rattle.push.specs.ReadSteps.{put-sized, drop-sized, clear-sized}
-use borrow.Author.Needs.{needs}
 use Rattle.push.proofs.room.message_size.Statement.{statement}
 use Rattle.push.proofs.room.message_size.Tie as tie
 

@@ -1,11 +1,6 @@
 -- `messages_fit` meets its contract: the sum so far and what the entries left bring make the sum of all.
 -- Relies on specs/ReadSteps and on the contract of node's cursor.
-use borrow.Author.Needs.{needs}
-use native.Mathlib.Omega.{arith}
-use lib.Dec.{leb}
-use lib.ListN.{length}
-use mathlib.Core.Path.{_≡_, refl, _∙_}
-use Prim.Native.Nat.{_<_, _-_, _+_}
+use Rattle.image.specs.Prelude.{needs, arith, leb, length, _≡_, refl, _∙_, _<_, _-_, _+_}
 use Rattle.node.specs.Entries.{listed, listed-end}
 use Rattle.node.specs.Places.{Next, step-bad-is, step-read-is, entry-wider}
 use Rattle.push.specs.Laws.Arriving.{broughtAll}

@@ -1,8 +1,7 @@
 -- `start_past` meets its contract: a part that is no longer than k leaves nothing.
 -- Relies on specs/ReadSteps.
-use native.Mathlib.Omega.{arith}
+use Rattle.image.specs.Prelude.{arith, needs}
 use Rattle.push.specs.ReadSteps.{past-end, past-on}
-use borrow.Author.Needs.{needs}
 use Rattle.push.proofs.room.start_past.Statement.{statement}
 use Rattle.push.proofs.room.start_past.Tie as tie
 

@@ -1,11 +1,9 @@
 -- `touches_child` meets its contract, by the kind of the message: a clear touches a child if it and what the child lifts begin alike.
 -- Relies on specs/ReadSteps.
-use native.Mathlib.Omega.{arith}
-use lib.ListN.{length}
+use Rattle.image.specs.Prelude.{arith, length, needs}
 use Rattle.node.specs.Places.{Within}
 use Rattle.node.specs.Search.Latest.{put-places, drop-places, clear-places}
 use Rattle.push.specs.ReadSteps.{put-touches, drop-touches, clear-first, clear-second}
-use borrow.Author.Needs.{needs}
 use Rattle.push.proofs.room.touches_child.Statement.{statement}
 use Rattle.push.proofs.room.touches_child.Tie as tie
 

@@ -1,5 +1,5 @@
-use borrow.Author.Needs.{needs}
-use Prim.Native.Nat.{_-_}
+-- `any_below` meets its contract. Relies on specs/Asks/Walk.
+use Rattle.image.specs.Prelude.{needs}
 use Rattle.rename.specs.Asks.Walk.{eight-is}
 use Rattle.rename.proofs.asks.any_below.Statement.{statement}
 use Rattle.rename.proofs.asks.any_below.Tie as tie

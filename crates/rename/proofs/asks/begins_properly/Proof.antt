@@ -1,7 +1,6 @@
-use borrow.Author.Needs.{needs}
-use Prim.Native.Nat.{_-_}
+-- `begins_properly` meets its contract. Relies on specs/Asks/Walk.
+use Rattle.image.specs.Prelude.{needs, not-true, not-false}
 use Rattle.rename.specs.Asks.Walk.{not-begins, begins-or-same}
-use borrow.Author.Tests.{not-true, not-false}
 use Rattle.rename.proofs.asks.begins_properly.Statement.{statement}
 use Rattle.rename.proofs.asks.begins_properly.Tie as tie
 

@@ -1,5 +1,5 @@
-use borrow.Author.Needs.{needs}
-use Prim.Native.Nat.{_-_}
+-- `may_move` meets its contract. Relies on specs/Asks/Walk.
+use Rattle.image.specs.Prelude.{needs}
 use Rattle.rename.specs.Asks.Walk.{first-nests, second-says}
 use Rattle.rename.proofs.asks.may_move.Statement.{statement}
 use Rattle.rename.proofs.asks.may_move.Tie as tie

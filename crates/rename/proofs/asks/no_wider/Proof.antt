@@ -1,5 +1,5 @@
-use borrow.Author.Needs.{needs}
-use Prim.Native.Nat.{_-_}
+-- `no_wider` meets its contract. Relies on specs/Asks/Walk.
+use Rattle.image.specs.Prelude.{needs}
 use Rattle.rename.specs.Asks.Walk.{old-dead, new-dead, more-components, by-bytes}
 use Rattle.rename.proofs.asks.no_wider.Statement.{statement}
 use Rattle.rename.proofs.asks.no_wider.Tie as tie

@@ -1,5 +1,5 @@
-use borrow.Author.Needs.{needs}
-use Prim.Native.Nat.{_-_}
+-- `rests_fit` meets its contract. Relies on specs/Asks/Walk.
+use Rattle.image.specs.Prelude.{needs}
 use Rattle.rename.specs.Asks.Walk.{rests-are}
 use Rattle.rename.proofs.asks.rests_fit.Statement.{statement}
 use Rattle.rename.proofs.asks.rests_fit.Tie as tie

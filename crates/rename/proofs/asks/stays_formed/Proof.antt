@@ -1,5 +1,5 @@
-use borrow.Author.Needs.{needs}
-use Prim.Native.Nat.{_-_}
+-- `stays_formed` meets its contract. Relies on specs/Asks/Walk.
+use Rattle.image.specs.Prelude.{needs}
 use Rattle.rename.specs.Asks.Walk.{nine-quick, nine-walk}
 use Rattle.rename.proofs.asks.stays_formed.Statement.{statement}
 use Rattle.rename.proofs.asks.stays_formed.Tie as tie

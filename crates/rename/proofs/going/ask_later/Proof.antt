@@ -1,7 +1,5 @@
-use borrow.Author.Needs.{needs}
-use Prim.Native.Nat.{_-_}
-use mathlib.Core.Path.{sym, _∙_}
-use borrow.Author.Tests.{not-true, not-false}
+-- `ask_later` meets its contract. Relies on specs/Going/GoingSteps.
+use Rattle.image.specs.Prelude.{needs, sym, _∙_, not-true, not-false}
 use Rattle.rename.specs.Going.GoingSteps.{at-from, at-to, at-nested, at-absent, at-malformed, at-same, at-last}
 use Rattle.rename.proofs.going.ask_later.Statement.{statement}
 use Rattle.rename.proofs.going.ask_later.Tie as tie

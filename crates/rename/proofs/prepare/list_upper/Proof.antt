@@ -1,7 +1,5 @@
 -- `list_upper` meets its contract: the numbers counted into the front of the list. Relies on specs/Steps.
-use borrow.Author.Needs.{needs}
-use native.Mathlib.Omega.{arith}
-use mathlib.Core.Path.{refl}
+use Rattle.image.specs.Prelude.{needs, arith, refl}
 use Rattle.rename.specs.Prepare.Steps.{listed-upper}
 use Rattle.rename.proofs.prepare.list_upper.Statement.{statement}
 use Rattle.rename.proofs.prepare.list_upper.Tie as tie

@@ -1,7 +1,5 @@
-use borrow.Author.Needs.{needs}
-use native.Mathlib.Omega.{arith}
-use Prim.Native.Nat.{_-_}
-use mathlib.Core.Path.{refl}
+-- `make_ready` meets its contract. Relies on specs/Prepare/Steps.
+use Rattle.image.specs.Prelude.{needs, arith, refl}
 use Rattle.rename.specs.Prepare.Steps.{node-few, ready-now, ready-rebuilt}
 use Rattle.rename.proofs.prepare.make_ready.Statement.{statement}
 use Rattle.rename.proofs.prepare.make_ready.Tie as tie

@@ -1,7 +1,5 @@
-use borrow.Author.Needs.{needs}
-use borrow.Author.Tests.{not-true, not-false}
-use native.Mathlib.Omega.{arith}
-use Prim.Native.Nat.{_-_}
+-- `may_swing` meets its contract. Relies on specs/Prepare/Steps.
+use Rattle.image.specs.Prelude.{needs, not-true, not-false, arith}
 use Rattle.rename.specs.Prepare.Steps.{swing-waits, swing-high, swing-room}
 use Rattle.rename.proofs.prepare.may_swing.Statement.{statement}
 use Rattle.rename.proofs.prepare.may_swing.Tie as tie

@@ -1,9 +1,5 @@
 -- `script::find_byte` meets its contract: the loop has passed i other bytes (specs/Find). Assumes nothing.
-use borrow.Author.Needs.{needs}
-use native.Mathlib.Omega.{arith}
-use Prim.Native.Nat.{_+_, _-_, _≤_}
-use mathlib.Core.Path.{_≡_}
-use lib.ListN.{length, drop}
+use Rattle.image.specs.Prelude.{needs, arith, _+_, _-_, _≤_, _≡_, length, drop}
 use Rattle.script.specs.Find.{upTo, found-here, goes-on, found-none}
 use Rattle.script.proofs.reading.find_byte.Statement.{statement}
 use Rattle.script.proofs.reading.find_byte.Tie as tie

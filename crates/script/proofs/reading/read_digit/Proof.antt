@@ -1,7 +1,5 @@
 -- `script::read_digit` meets its contract: by the tests on the byte. Assumes nothing.
-use borrow.Author.Tests.{lt-ltb, le-ltb}
-use borrow.Author.Needs.{needs}
-use native.Mathlib.Omega.{arith}
+use Rattle.image.specs.Prelude.{lt-ltb, le-ltb, arith, needs}
 use Rattle.image.specs.Program.{digitOf}
 use Rattle.script.proofs.reading.read_digit.Statement.{statement}
 use Rattle.script.proofs.reading.read_digit.Tie as tie

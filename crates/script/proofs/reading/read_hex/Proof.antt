@@ -1,9 +1,5 @@
 -- `script::read_hex` meets its contract: the loop has read i digits into n bytes, and the rest is still to be read (specs/Reading). Assumes nothing.
-use lib.ListN.{length-set, length, take, drop}
-use Prim.Native.Nat.{_*_, _-_, _≤_}
-use borrow.Author.Needs.{needs}
-use native.Mathlib.Omega.{arith}
-use mathlib.Core.Path.{_≡_, refl, _∙_}
+use Rattle.image.specs.Prelude.{length-set, length, take, drop, _*_, _-_, _≤_, arith, _≡_, refl, _∙_, needs}
 use Rattle.script.specs.Reading.{behindAll, wrong-value, hex-begins, odd-digit, high-wrong, low-wrong, both-right, hex-read}
 use Rattle.image.specs.Program.{bytesOf}
 use Rattle.script.proofs.reading.read_hex.Statement.{statement}

@@ -1,6 +1,5 @@
 -- `script::read_path` meets its contract: one law for each way out (specs/Reading). Assumes nothing.
-use borrow.Author.Needs.{needs}
-use native.Mathlib.Omega.{arith}
+use Rattle.image.specs.Prelude.{needs, arith}
 use Rattle.script.specs.Reading.{no-path, path-read, path-end}
 use Rattle.script.proofs.reading.read_path.Statement.{statement}
 use Rattle.script.proofs.reading.read_path.Tie as tie

@@ -1,5 +1,5 @@
 -- `script::read_value` meets its contract: a hyphen, or hexadecimal (specs/Reading). Assumes nothing.
-use borrow.Author.Needs.{needs}
+use Rattle.image.specs.Prelude.{needs}
 use Rattle.script.specs.Reading.{hyphen-value, other-value}
 use Rattle.script.proofs.reading.read_value.Statement.{statement}
 use Rattle.script.proofs.reading.read_value.Tie as tie

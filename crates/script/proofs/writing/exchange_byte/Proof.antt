@@ -1,5 +1,5 @@
 -- `script::exchange_byte` meets its contract: by the test on the byte. Assumes nothing.
-use borrow.Author.Tests.{eq-eqb, ne-eqb}
+use Rattle.image.specs.Prelude.{eq-eqb, ne-eqb}
 use Rattle.script.proofs.writing.exchange_byte.Statement.{statement}
 use Rattle.script.proofs.writing.exchange_byte.Tie as tie
 

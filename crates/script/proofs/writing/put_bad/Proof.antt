@@ -1,5 +1,5 @@
 -- `script::put_bad` meets its contract: the text is the definition's. Assumes nothing.
-use borrow.Author.Needs.{needs}
+use Rattle.image.specs.Prelude.{needs}
 use Rattle.image.specs.Program.{badText}
 use Rattle.script.proofs.writing.put_bad.Statement.{statement}
 use Rattle.script.proofs.writing.put_bad.Tie as tie

@@ -1,5 +1,5 @@
 -- `script::put_byte` meets its contract: one byte, as a text that was put (specs/Writing). Assumes nothing.
-use borrow.Author.Needs.{needs}
+use Rattle.image.specs.Prelude.{needs}
 use Rattle.script.specs.Writing.{wrote-byte}
 use Rattle.script.proofs.writing.put_byte.Statement.{statement}
 use Rattle.script.proofs.writing.put_byte.Tie as tie

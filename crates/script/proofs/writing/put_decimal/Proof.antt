@@ -1,6 +1,5 @@
 -- `script::put_decimal` meets its contract: one digit or two (specs/Steps). Assumes nothing.
-use borrow.Author.Needs.{needs}
-use native.Mathlib.Omega.{arith}
+use Rattle.image.specs.Prelude.{needs, arith}
 use Rattle.script.specs.Steps.{one-digit, two-digits}
 use Rattle.script.proofs.writing.put_decimal.Statement.{statement}
 use Rattle.script.proofs.writing.put_decimal.Tie as tie

@@ -1,5 +1,5 @@
 -- `script::put_end` meets its contract: the text is the definition's. Assumes nothing.
-use borrow.Author.Needs.{needs}
+use Rattle.image.specs.Prelude.{needs}
 use Rattle.image.specs.Program.{endText}
 use Rattle.script.proofs.writing.put_end.Statement.{statement}
 use Rattle.script.proofs.writing.put_end.Tie as tie

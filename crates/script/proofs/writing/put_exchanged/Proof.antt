@@ -1,10 +1,5 @@
 -- `script::put_exchanged` meets its contract: the loop has put the first i bytes (specs/Writing). Assumes nothing.
-use lib.ListN.{length-set, length, take}
-use borrow.Author.Needs.{needs}
-use native.Mathlib.Omega.{arith}
-use Prim.Native.Nat.{_+_, _-_, _≤_}
-use mathlib.Core.Path.{_≡_, refl, _∙_}
-use mathlib.Core.List.{_++_}
+use Rattle.image.specs.Prelude.{length-set, length, take, arith, _+_, _-_, _≤_, _≡_, refl, _∙_, _++_, needs}
 use Rattle.script.specs.Writing.{exchange-starts, exchange-more, exchange-done}
 use Rattle.image.specs.Program.{exchanged}
 use Rattle.script.proofs.writing.put_exchanged.Statement.{statement}

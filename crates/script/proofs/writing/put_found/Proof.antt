@@ -1,9 +1,9 @@
 -- `script::put_found` meets its contract: one law for each case of what get found (specs/Steps). Assumes nothing.
-use borrow.Author.Needs.{needs}
-use native.Mathlib.Omega.{arith}
+use Rattle.image.specs.Prelude.{needs, arith}
 use Rattle.script.specs.Steps.{found-length, part-short, value-ends, value-wrote, absent-wrote}
 use Rattle.script.proofs.writing.put_found.Statement.{statement}
 use Rattle.script.proofs.writing.put_found.Tie as tie
+use Rattle.image.specs.Path.{valueLimit}
 
 enum-known-found : tie.Need-enum-known-found
 enum-known-found c = search needs
@@ -15,13 +15,13 @@ part-put-value-start : tie.Need-part-put-value-start
 part-put-value-start c = search needs
 
 part-put-value-end : tie.Need-part-put-value-end
-part-put-value-end c = let l = found-length _ _ 32 (c .before .found .given .1) (c .before .before .before .before .before .pre .0) in omega arith
+part-put-value-end c = let l = found-length _ _ valueLimit (c .before .found .given .1) (c .before .before .before .before .before .pre .0) in omega arith
 
 put-value-requires : tie.Need-put-value-requires
-put-value-requires c κs = (part-short _ _ 32 (found-length _ _ 32 (c .before .before .before .found .given .1) (c .before .before .before .before .before .before .before .pre .0)), omega arith)
+put-value-requires c κs = (part-short _ _ valueLimit (found-length _ _ valueLimit (c .before .before .before .found .given .1) (c .before .before .before .before .before .before .before .pre .0)), omega arith)
 
 put-byte-requires : tie.Need-put-byte-requires
-put-byte-requires c κs = omega (arith, value-ends _ _ _ _ _ (c .before .before .before .put-value .ensures) (part-short _ _ 32 (found-length _ _ 32 (c .before .before .before .before .before .before .before .found .given .1) (c .before .before .before .before .before .before .before .before .before .before .before .pre .0))))
+put-byte-requires c κs = omega (arith, value-ends _ _ _ _ _ (c .before .before .before .put-value .ensures) (part-short _ _ valueLimit (found-length _ _ valueLimit (c .before .before .before .before .before .before .before .found .given .1) (c .before .before .before .before .before .before .before .before .before .before .before .pre .0))))
 
 enum-known-found-2 : tie.Need-enum-known-found-2
 enum-known-found-2 c = search needs

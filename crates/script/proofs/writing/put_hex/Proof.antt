@@ -1,10 +1,5 @@
 -- `script::put_hex` meets its contract: the loop has put two digits for each of the first i bytes (specs/Writing). Assumes nothing.
-use lib.ListN.{length-set, length, take}
-use Prim.Native.Nat.{_*_, _+_, _-_, _≤_}
-use borrow.Author.Needs.{needs}
-use native.Mathlib.Omega.{arith}
-use mathlib.Core.Path.{_≡_, refl, _∙_}
-use mathlib.Core.List.{_++_}
+use Rattle.image.specs.Prelude.{length-set, length, take, _*_, _+_, _-_, _≤_, arith, _≡_, refl, _∙_, _++_, needs}
 use Rattle.script.specs.Writing.{hex-starts, hex-more, hex-done}
 use Rattle.image.specs.Program.{hexText}
 use Rattle.script.proofs.writing.put_hex.Statement.{statement}

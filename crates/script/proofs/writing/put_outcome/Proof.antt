@@ -1,5 +1,5 @@
 -- `script::put_outcome` meets its contract: one law for each case of the outcome (specs/Steps). Assumes nothing.
-use borrow.Author.Needs.{needs}
+use Rattle.image.specs.Prelude.{needs}
 use Rattle.script.specs.Steps.{done-wrote, refusal-wrote}
 use Rattle.script.proofs.writing.put_outcome.Statement.{statement}
 use Rattle.script.proofs.writing.put_outcome.Tie as tie

@@ -1,5 +1,5 @@
 -- `script::put_refused` meets its contract: the word, the number and the line feed, one after another (specs/Steps). Assumes nothing.
-use borrow.Author.Needs.{needs}
+use Rattle.image.specs.Prelude.{needs}
 use Rattle.script.specs.Steps.{refused-wrote}
 use Rattle.script.proofs.writing.put_refused.Statement.{statement}
 use Rattle.script.proofs.writing.put_refused.Tie as tie

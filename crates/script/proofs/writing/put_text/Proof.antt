@@ -1,5 +1,5 @@
 -- `script::put_text` meets its contract: a copy, as a text that was put (specs/Writing). Assumes nothing.
-use borrow.Author.Needs.{needs}
+use Rattle.image.specs.Prelude.{needs}
 use Rattle.script.specs.Writing.{wrote-copy}
 use Rattle.script.proofs.writing.put_text.Statement.{statement}
 use Rattle.script.proofs.writing.put_text.Tie as tie

@@ -1,5 +1,5 @@
 -- `script::put_value` meets its contract: empty or not (specs/Steps). Assumes nothing.
-use borrow.Author.Needs.{needs}
+use Rattle.image.specs.Prelude.{needs}
 use Rattle.script.specs.Steps.{empty-wrote, hex-wrote}
 use Rattle.script.proofs.writing.put_value.Statement.{statement}
 use Rattle.script.proofs.writing.put_value.Tie as tie

@@ -1,6 +1,5 @@
 -- `script::show_digit` meets its contract: by the test on the digit. Assumes nothing.
-use borrow.Author.Tests.{lt-ltb, le-ltb}
-use borrow.Author.Needs.{needs}
+use Rattle.image.specs.Prelude.{lt-ltb, le-ltb, needs}
 use Rattle.image.specs.Program.{digitText}
 use Rattle.script.proofs.writing.show_digit.Statement.{statement}
 use Rattle.script.proofs.writing.show_digit.Tie as tie

@@ -11,12 +11,7 @@ use Rattle.laws.specs.Encode.{bytesOf, child-size}
 use Rattle.node.specs.Cut.{cut}
 use Rattle.node.specs.Entries.{listed}
 use Rattle.node.specs.Search.Own.{branchesAmong}
-use Prim.Native.Nat.{_≤_, _-_, _+_}
-use mathlib.Core.Path.{_≡_, refl}
-use mathlib.Core.Bool.{true}
-use lib.ListN.{length}
-use native.Mathlib.Omega.{arith}
-use borrow.Author.Needs.{needs}
+use Rattle.image.specs.Prelude.{_≤_, _-_, _+_, _≡_, refl, true, length, arith, needs}
 use Rattle.slice.proofs.branches.emit_branches.Statement.{statement}
 use Rattle.slice.proofs.branches.emit_branches.Tie as tie
 

@@ -5,8 +5,7 @@ use Rattle.slice.specs.BranchSteps.{left-inner, left-last, left-between,
 use Rattle.push.specs.WriteSteps.{puts-as, ends-as, fits-as}
 use Rattle.node.specs.Search.Own.{branchesAmong}
 use Rattle.node.specs.Entries.{listed}
-use mathlib.Core.Path.{refl}
-use borrow.Author.Needs.{needs}
+use Rattle.image.specs.Prelude.{refl, needs}
 use Rattle.slice.proofs.branches.emit_left.Statement.{statement}
 use Rattle.slice.proofs.branches.emit_left.Tie as tie
 
@@ -14,13 +13,13 @@ enum-known-cut : tie.Need-enum-known-cut
 enum-known-cut c = search needs
 
 emit-with-requires : tie.Need-emit-with-requires
-emit-with-requires c κs = let z = left-inner (c .before .before .before .before .before .before .args .node .now) (c .before .before .before .before .before .before .args .d) (c .before .before .before .before .before .before .args .num) (branchesAmong (listed (c .before .before .before .before .before .before .args .node .now) 8 (c .before .before .before .before .before .before .args .stop))) (c .before .before .before .before .before .before .args .cut) _ _ _ _ (c .before .before .cut .given .1) in (c .before .before .before .before .before .before .pre .0, inner-places (c .before .before .before .before .before .before .args .node .now) (c .before .before .before .before .before .before .args .node .now) (c .before .before .before .before .before .before .args .node .now) (c .before .before .before .before .before .before .args .node .now) 0 0 (c .before .before .before .before .before .before .args .node .now) (c .before .before .before .before .before .before .args .cut) _ _ _ _ (c .before .before .cut .given .1) (c .before .before .before .before .before .before .pre .1) .0, (fits-as (c .before .before .before .before .before .before .args .page .now) (c .before .before .before .before .before .before .args .page .now) 8 0 _ _ _ z (c .before .before .before .before .before .before .pre .2) refl), c .before .before .before .before .before .before .pre .3, c .before .before .before .before .before .before .pre .4, c .before .before .before .before .before .before .pre .5)
+emit-with-requires c κs = let z = left-inner (c .before .before .before .before .before .before .args .node .now) (c .before .before .before .before .before .before .args .d) (c .before .before .before .before .before .before .args .num) (branchesAmong (listed (c .before .before .before .before .before .before .args .node .now) 8 (c .before .before .before .before .before .before .args .stop))) (c .before .before .before .before .before .before .args .cut) _ _ _ _ (c .before .before .cut .given .1) in (c .before .before .before .before .before .before .pre .0, inner-places (c .before .before .before .before .before .before .args .node .now) (c .before .before .before .before .before .before .args .cut) _ _ _ _ (c .before .before .cut .given .1) (c .before .before .before .before .before .before .pre .1) .0 .inside, (fits-as (c .before .before .before .before .before .before .args .page .now) (c .before .before .before .before .before .before .args .page .now) 8 0 _ _ _ z (c .before .before .before .before .before .before .pre .2) refl), c .before .before .before .before .before .before .pre .3, c .before .before .before .before .before .before .pre .4, c .before .before .before .before .before .before .pre .5)
 
 enum-known-cut-2 : tie.Need-enum-known-cut-2
 enum-known-cut-2 c = search needs
 
 emit-with-requires-2 : tie.Need-emit-with-requires-2
-emit-with-requires-2 c κs = let z = left-last (c .before .before .before .before .before .before .args .node .now) (c .before .before .before .before .before .before .args .d) (c .before .before .before .before .before .before .args .num) (branchesAmong (listed (c .before .before .before .before .before .before .args .node .now) 8 (c .before .before .before .before .before .before .args .stop))) (c .before .before .before .before .before .before .args .cut) _ _ _ (c .before .before .cut2 .given .1) in (c .before .before .before .before .before .before .pre .0, last-places (c .before .before .before .before .before .before .args .node .now) (c .before .before .before .before .before .before .args .node .now) (c .before .before .before .before .before .before .args .node .now) (c .before .before .before .before .before .before .args .node .now) 0 0 (c .before .before .before .before .before .before .args .node .now) (c .before .before .before .before .before .before .args .cut) _ _ _ (c .before .before .cut2 .given .1) (c .before .before .before .before .before .before .pre .1), (fits-as (c .before .before .before .before .before .before .args .page .now) (c .before .before .before .before .before .before .args .page .now) 8 0 _ _ _ z (c .before .before .before .before .before .before .pre .2) refl), c .before .before .before .before .before .before .pre .3, c .before .before .before .before .before .before .pre .4, c .before .before .before .before .before .before .pre .5)
+emit-with-requires-2 c κs = let z = left-last (c .before .before .before .before .before .before .args .node .now) (c .before .before .before .before .before .before .args .d) (c .before .before .before .before .before .before .args .num) (branchesAmong (listed (c .before .before .before .before .before .before .args .node .now) 8 (c .before .before .before .before .before .before .args .stop))) (c .before .before .before .before .before .before .args .cut) _ _ _ (c .before .before .cut2 .given .1) in (c .before .before .before .before .before .before .pre .0, last-places (c .before .before .before .before .before .before .args .node .now) (c .before .before .before .before .before .before .args .cut) _ _ _ (c .before .before .cut2 .given .1) (c .before .before .before .before .before .before .pre .1) .inside, (fits-as (c .before .before .before .before .before .before .args .page .now) (c .before .before .before .before .before .before .args .page .now) 8 0 _ _ _ z (c .before .before .before .before .before .before .pre .2) refl), c .before .before .before .before .before .before .pre .3, c .before .before .before .before .before .before .pre .4, c .before .before .before .before .before .before .pre .5)
 
 enum-known-cut-3 : tie.Need-enum-known-cut-3
 enum-known-cut-3 c = search needs

@@ -7,8 +7,7 @@ use Rattle.node.specs.Entries.{listed}
 use Rattle.node.specs.Places.{part}
 use Rattle.laws.specs.Encode.{bytesOf}
 use Rattle.image.specs.Entry.{child}
-use lib.ListN.{drop}
-use borrow.Author.Needs.{needs}
+use Rattle.image.specs.Prelude.{drop, needs}
 use Rattle.slice.proofs.branches.emit_with.Statement.{statement}
 use Rattle.slice.proofs.branches.emit_with.Tie as tie
 

@@ -4,10 +4,7 @@ use Rattle.slice.specs.PairSteps.{side-child, side-message, side-not, si
 use Rattle.laws.specs.Encode.{keyed-length}
 use Rattle.push.specs.WriteSteps.{puts-as, ends-as, fits-as, puts-nothing, ends-nowhere}
 use Rattle.node.specs.Places.{Within, EntryWithin}
-use mathlib.Core.Path.{subst, sym}
-use lib.ListN.{length}
-use native.Mathlib.Omega.{arith}
-use borrow.Author.Needs.{needs}
+use Rattle.image.specs.Prelude.{subst, sym, length, arith, needs}
 use Rattle.slice.proofs.pairs.emit_pair.Statement.{statement}
 use Rattle.slice.proofs.pairs.emit_pair.Tie as tie
 

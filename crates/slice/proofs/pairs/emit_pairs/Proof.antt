@@ -6,12 +6,7 @@ use Rattle.slice.specs.Point.{sideLine}
 use Rattle.octets.specs.Put.{put}
 use Rattle.node.specs.Places.{Next, step-bad-is, step-read-is, entry-wider, entryIn}
 use Rattle.node.specs.Entries.{listed, listed-end}
-use Prim.Native.Nat.{_-_, _+_}
-use mathlib.Core.Path.{_≡_, refl, _∙_}
-use mathlib.Core.List.{_∷_, []}
-use lib.ListN.{length}
-use native.Mathlib.Omega.{arith}
-use borrow.Author.Needs.{needs}
+use Rattle.image.specs.Prelude.{_-_, _+_, _≡_, refl, _∙_, _∷_, [], length, arith, needs}
 use Rattle.slice.proofs.pairs.emit_pairs.Statement.{statement}
 use Rattle.slice.proofs.pairs.emit_pairs.Tie as tie
 

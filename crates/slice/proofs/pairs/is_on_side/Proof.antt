@@ -1,7 +1,7 @@
 -- `is_on_side` meets its contract: the test of the one side, or its opposite.
 -- Relies on specs/PairSteps.
 use Rattle.slice.specs.PairSteps.{on-left, on-right}
-use borrow.Author.Needs.{needs}
+use Rattle.image.specs.Prelude.{needs}
 use Rattle.slice.proofs.pairs.is_on_side.Statement.{statement}
 use Rattle.slice.proofs.pairs.is_on_side.Tie as tie
 

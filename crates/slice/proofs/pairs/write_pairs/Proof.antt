@@ -2,7 +2,7 @@
 -- Relies on specs/PairSteps.
 use Rattle.node.specs.Pages.{page-written}
 use Rattle.laws.specs.Page.{zerosOf}
-use borrow.Author.Needs.{needs}
+use Rattle.image.specs.Prelude.{needs}
 use Rattle.slice.proofs.pairs.write_pairs.Statement.{statement}
 use Rattle.slice.proofs.pairs.write_pairs.Tie as tie
 

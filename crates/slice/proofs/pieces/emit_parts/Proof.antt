@@ -4,10 +4,7 @@ use Rattle.slice.specs.PieceSteps.{pieces-none, pieces-edge, pieces-rest
 use Rattle.push.specs.WriteSteps.{puts-as, ends-as, fits-as, puts-nothing, ends-nowhere}
 use Rattle.laws.specs.Encode.{bytesOf}
 use Rattle.image.specs.Entry.{child}
-use lib.ListN.{length, drop}
-use mathlib.Core.Path.{refl}
-use native.Mathlib.Omega.{arith}
-use borrow.Author.Needs.{needs}
+use Rattle.image.specs.Prelude.{length, drop, refl, arith, needs}
 use Rattle.slice.proofs.pieces.emit_parts.Statement.{statement}
 use Rattle.slice.proofs.pieces.emit_parts.Tie as tie
 

@@ -2,8 +2,7 @@
 -- Relies on specs/PieceSteps.
 use Rattle.slice.specs.PieceSteps.{piece-short, piece-fits, piece-put, piece-ends}
 use Rattle.lookup.specs.Look.{part-rest}
-use native.Mathlib.Omega.{arith}
-use borrow.Author.Needs.{needs}
+use Rattle.image.specs.Prelude.{arith, needs}
 use Rattle.slice.proofs.pieces.emit_piece.Statement.{statement}
 use Rattle.slice.proofs.pieces.emit_piece.Tie as tie
 

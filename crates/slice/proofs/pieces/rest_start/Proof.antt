@@ -3,7 +3,7 @@
 use Rattle.slice.specs.PieceSteps.{inner-start, last-start, between-start, nowhere-start}
 use Rattle.node.specs.Search.Own.{branchesAmong}
 use Rattle.node.specs.Entries.{listed}
-use borrow.Author.Needs.{needs}
+use Rattle.image.specs.Prelude.{needs}
 use Rattle.slice.proofs.pieces.rest_start.Statement.{statement}
 use Rattle.slice.proofs.pieces.rest_start.Tie as tie
 

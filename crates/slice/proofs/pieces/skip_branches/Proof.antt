@@ -4,11 +4,7 @@ use Rattle.slice.specs.PieceSteps.{drop-next, drop-none, drop-zero}
 use Rattle.node.specs.Search.Child.{NextChild, pends-child, pends-end}
 use Rattle.node.specs.Search.Own.{branchesAmong}
 use Rattle.node.specs.Entries.{listed}
-use lib.ListN.{length, drop}
-use mathlib.Core.Path.{_≡_, refl, sym, _∙_}
-use Prim.Native.Nat.{_≤_}
-use native.Mathlib.Omega.{arith}
-use borrow.Author.Needs.{needs}
+use Rattle.image.specs.Prelude.{length, drop, _≡_, refl, sym, _∙_, _≤_, arith, needs}
 use Rattle.slice.proofs.pieces.skip_branches.Statement.{statement}
 use Rattle.slice.proofs.pieces.skip_branches.Tie as tie
 

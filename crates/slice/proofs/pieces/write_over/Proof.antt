@@ -6,12 +6,8 @@ use Rattle.slice.specs.Right.{allLine, piecesIn}
 use Rattle.slice.specs.Point.{branchLine}
 use Rattle.node.specs.Search.Own.{branchesAmong}
 use Rattle.node.specs.Entries.{listed}
-use mathlib.Core.List.{_++_}
+use Rattle.image.specs.Prelude.{_++_, length-append, refl, arith, needs}
 use Rattle.laws.specs.Page.{zerosOf}
-use lib.ListN.{length-append}
-use mathlib.Core.Path.{refl}
-use native.Mathlib.Omega.{arith}
-use borrow.Author.Needs.{needs}
 use Rattle.slice.proofs.pieces.write_over.Statement.{statement}
 use Rattle.slice.proofs.pieces.write_over.Tie as tie
 

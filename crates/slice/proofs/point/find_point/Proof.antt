@@ -6,12 +6,7 @@ use Rattle.node.specs.Search.Child.{NextChild, pends-child, pends-end}
 use Rattle.node.specs.Places.{Within, part}
 use Rattle.node.specs.Entries.{listed}
 use Rattle.node.specs.Search.Own.{branch, branchesAmong}
-use Prim.Native.Nat.{_≤_, _-_}
-use mathlib.Core.Path.{_≡_}
-use mathlib.Core.List.{_∷_}
-use lib.ListN.{length}
-use native.Mathlib.Omega.{arith}
-use borrow.Author.Needs.{needs}
+use Rattle.image.specs.Prelude.{_≤_, _-_, _≡_, _∷_, length, arith, needs}
 use Rattle.slice.proofs.point.find_point.Statement.{statement}
 use Rattle.slice.proofs.point.find_point.Tie as tie
 
@@ -23,13 +18,13 @@ abbrev μ-loop : tie.MeasureT-loop
 
 -- the first child, and each child after it, with the cursor that reading it leaves
 first-next : (c : tie.After-known-told Inv-loop μ-loop) → NextChild (c .before .before .before .before .before .before .before .args .node .now) 8 (c .before .before .before .before .before .before .before .args .stop) (c .before .first .given .0 .0) (c .before .first .given .0 .1 .0) (c .before .first .given .0 .1 .1 .0)
-first-next c = pends-child _ _ _ _ _ _ _ (c .before .before .before .read-child .ensures) (c .before .first .given .1)
+first-next c = pends-child _ _ _ _ _ _ _ (c .before .before .before .first-child .ensures) (c .before .first .given .1)
 
 branch-next : (c : tie.After-known-told2 Inv-loop μ-loop) → NextChild (c .before .before .before .before .before .before .before .before .before .before .before .before .args .node .now) (c .before .before .before .before .loop .c .at) (c .before .before .before .before .loop .c .end) (c .before .j .given .0 .0) (c .before .j .given .0 .1 .0) (c .before .j .given .0 .1 .1 .0)
-branch-next c = pends-child _ _ _ _ _ _ _ (c .before .before .before .read-child2 .ensures) (c .before .j .given .1)
+branch-next c = pends-child _ _ _ _ _ _ _ (c .before .before .before .read-child .ensures) (c .before .j .given .1)
 
-read-child-requires : tie.Need-read-child-requires Inv-loop μ-loop
-read-child-requires c κs = search needs
+first-child-requires : tie.Need-first-child-requires Inv-loop μ-loop
+first-child-requires c κs = search needs
 
 enum-known-first : tie.Need-enum-known-first Inv-loop μ-loop
 enum-known-first c = search needs
@@ -38,13 +33,13 @@ enum-told : tie.Need-enum-told Inv-loop μ-loop
 enum-told c = search needs
 
 returns : tie.Need-returns Inv-loop μ-loop
-returns c = point-none _ _ _ _ (pends-end _ _ _ _ (c .before .before .read-child .ensures) (c .enum-told .given .1))
+returns c = point-none _ _ _ _ (pends-end _ _ _ _ (c .before .before .first-child .ensures) (c .enum-told .given .1))
 
 loop-holds : tie.Need-loop-holds Inv-loop μ-loop
 loop-holds c = let n = first-next c in (omega arith, n .place, omega arith, point-first (c .before .before .before .before .before .before .before .args .hi .now) (c .before .before .before .before .before .before .before .args .k .now) _ _ (n .lists), omega arith)
 
-read-child-requires-2 : tie.Need-read-child-requires-2 Inv-loop μ-loop
-read-child-requires-2 c κs = c .loop .inv .0
+read-child-requires : tie.Need-read-child-requires Inv-loop μ-loop
+read-child-requires c κs = c .loop .inv .0
 
 enum-known-j : tie.Need-enum-known-j Inv-loop μ-loop
 enum-known-j c = search needs
@@ -56,7 +51,7 @@ last-point-requires : tie.Need-last-point-requires Inv-loop μ-loop
 last-point-requires c κs = (c .before .before .before .loop .inv .1, omega arith)
 
 returns-2 : tie.Need-returns-2 Inv-loop μ-loop
-returns-2 c = point-last (c .before .before .before .before .before .before .before .before .before .before .before .before .args .node .now) (c .before .before .before .before .before .before .before .before .before .before .before .before .args .hi .now) (c .before .before .before .before .before .before .before .before .before .before .before .before .args .k .now) _ (c .before .before .before .before .loop .n) (c .before .before .before .before .loop .num) (c .before .before .before .before .loop .low) (branchesAmong (listed (c .before .before .before .before .before .before .before .before .before .before .before .before .args .node .now) (c .before .before .before .before .loop .c .at) (c .before .before .before .before .loop .c .end))) (c .before .before .before .before .loop .inv .3) _ (pends-end _ _ _ _ (c .before .before .before .read-child2 .ensures) (c .before .enum-told2 .given .1)) (c .last-point .ensures)
+returns-2 c = point-last (c .before .before .before .before .before .before .before .before .before .before .before .before .args .node .now) (c .before .before .before .before .before .before .before .before .before .before .before .before .args .hi .now) (c .before .before .before .before .before .before .before .before .before .before .before .before .args .k .now) _ (c .before .before .before .before .loop .n) (c .before .before .before .before .loop .num) (c .before .before .before .before .loop .low) (branchesAmong (listed (c .before .before .before .before .before .before .before .before .before .before .before .before .args .node .now) (c .before .before .before .before .loop .c .at) (c .before .before .before .before .loop .c .end))) (c .before .before .before .before .loop .inv .3) _ (pends-end _ _ _ _ (c .before .before .before .read-child .ensures) (c .before .enum-told2 .given .1)) (c .last-point .ensures)
 
 sub-precedes : tie.Need-sub-precedes Inv-loop μ-loop
 sub-precedes c = let n = branch-next c in let w = n .place in omega arith
@@ -103,12 +98,12 @@ find-point-spec =
     (tie.spec
     Inv-loop
     μ-loop
-    read-child-requires
+    first-child-requires
     enum-known-first
     enum-told
     returns
     loop-holds
-    read-child-requires-2
+    read-child-requires
     enum-known-j
     enum-told-2
     last-point-requires

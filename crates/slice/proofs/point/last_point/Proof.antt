@@ -1,7 +1,7 @@
 -- `last_point` meets its contract, by the two tests of the last child.
 -- Relies on specs/PointSteps.
 use Rattle.slice.specs.PointSteps.{last-past, last-in, last-between}
-use borrow.Author.Needs.{needs}
+use Rattle.image.specs.Prelude.{needs}
 use Rattle.slice.proofs.point.last_point.Statement.{statement}
 use Rattle.slice.proofs.point.last_point.Tie as tie
 

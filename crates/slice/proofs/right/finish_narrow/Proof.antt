@@ -1,9 +1,7 @@
 -- `finish_narrow` meets its contract: one node over the pieces and the children.
 -- Relies on specs/PieceSteps.
 use Rattle.slice.specs.PieceSteps.{narrow-room, narrow-line, narrow-fits, narrow-done, one-some, one-none}
-use lib.ListN.{length}
-use native.Mathlib.Omega.{arith}
-use borrow.Author.Needs.{needs}
+use Rattle.image.specs.Prelude.{length, arith, needs}
 use Rattle.slice.proofs.right.finish_narrow.Statement.{statement}
 use Rattle.slice.proofs.right.finish_narrow.Tie as tie
 

@@ -1,8 +1,7 @@
 -- `number_pieces` meets its contract: two numbers of the list of free nodes.
 -- Relies on octets' reader of numbers.
 use Rattle.slice.specs.Point.{freshIn}
-use mathlib.Core.Path.{refl}
-use borrow.Author.Needs.{needs}
+use Rattle.image.specs.Prelude.{refl, needs}
 use Rattle.slice.proofs.right.number_pieces.Statement.{statement}
 use Rattle.slice.proofs.right.number_pieces.Tie as tie
 

@@ -3,8 +3,7 @@
 use Rattle.slice.specs.PieceSteps.{told-edge, told-rest}
 use Rattle.node.specs.Search.Child.{NextChild, pends-child, pends-end}
 use Rattle.node.specs.Cut.{cut-length}
-use native.Mathlib.Omega.{arith}
-use borrow.Author.Needs.{needs}
+use Rattle.image.specs.Prelude.{arith, needs}
 use Rattle.slice.proofs.right.tell_both.Statement.{statement}
 use Rattle.slice.proofs.right.tell_both.Tie as tie
 

@@ -1,8 +1,7 @@
 -- `tell_edge` meets its contract, by which pieces there are.
 -- Relies on specs/Right.
 use Rattle.slice.specs.Right.{edgeOnly}
-use mathlib.Core.Path.{sym, ap}
-use borrow.Author.Needs.{needs}
+use Rattle.image.specs.Prelude.{sym, ap, needs}
 use Rattle.slice.proofs.right.tell_edge.Statement.{statement}
 use Rattle.slice.proofs.right.tell_edge.Tie as tie
 

@@ -2,10 +2,7 @@
 -- Relies on specs/PieceSteps.
 use Rattle.slice.specs.PieceSteps.{told}
 use Rattle.slice.specs.Right.{withRest}
-use lib.ListN.{length}
-use mathlib.Core.Path.{sym, ap}
-use Prim.Native.Nat.{_+_}
-use borrow.Author.Needs.{needs}
+use Rattle.image.specs.Prelude.{length, sym, ap, _+_, needs}
 use Rattle.slice.proofs.right.tell_rest.Statement.{statement}
 use Rattle.slice.proofs.right.tell_rest.Tie as tie
 

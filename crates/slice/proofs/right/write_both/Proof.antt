@@ -2,9 +2,7 @@
 -- Relies on specs/PieceSteps and node's reader of children.
 use Rattle.slice.specs.PieceSteps.{high-none, high-some, ready-at, body-at, ready-ends}
 use Rattle.node.specs.Search.Child.{NextChild, pends-child, pends-end}
-use mathlib.Core.List.{[]}
-use native.Mathlib.Omega.{arith}
-use borrow.Author.Needs.{needs}
+use Rattle.image.specs.Prelude.{[], arith, needs}
 use Rattle.slice.proofs.right.write_both.Statement.{statement}
 use Rattle.slice.proofs.right.write_both.Tie as tie
 

@@ -1,9 +1,7 @@
 -- `write_wide` meets its contract: a node over the pieces, then one over the children.
 -- Relies on specs/PieceSteps.
 use Rattle.slice.specs.PieceSteps.{wide-rooms, wide-first, wide-second, wide-done, none-fits}
-use lib.ListN.{length}
-use native.Mathlib.Omega.{arith}
-use borrow.Author.Needs.{needs}
+use Rattle.image.specs.Prelude.{length, arith, needs}
 use Rattle.slice.proofs.right.write_wide.Statement.{statement}
 use Rattle.slice.proofs.right.write_wide.Tie as tie
 

@@ -1,7 +1,6 @@
 -- `emit_half` meets its contract: two puts, one behind the other. Relies on specs/Code.
 use Rattle.swing.specs.Code.{path-room, parts-room, half-done}
-use native.Mathlib.Omega.{arith}
-use borrow.Author.Needs.{needs}
+use Rattle.image.specs.Prelude.{arith, needs}
 use Rattle.swing.proofs.root.emit_half.Statement.{statement}
 use Rattle.swing.proofs.root.emit_half.Tie as tie
 

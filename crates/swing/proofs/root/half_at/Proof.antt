@@ -1,6 +1,6 @@
 -- `half_at` meets its contract: three numbers of the list. Relies on specs/Code.
 use Rattle.swing.specs.Code.{half-made}
-use borrow.Author.Needs.{needs}
+use Rattle.image.specs.Prelude.{needs}
 use Rattle.swing.proofs.root.half_at.Statement.{statement}
 use Rattle.swing.proofs.root.half_at.Tie as tie
 

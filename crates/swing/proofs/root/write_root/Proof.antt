@@ -1,8 +1,7 @@
 -- `write_root` meets its contract: three puts and a page. Relies on specs/Code.
 use Rattle.swing.specs.Code.{low-room, high-room, end-fits, num-room, root-done}
 use Rattle.laws.specs.Page.{zerosOf}
-use native.Mathlib.Omega.{arith}
-use borrow.Author.Needs.{needs}
+use Rattle.image.specs.Prelude.{arith, needs}
 use Rattle.swing.proofs.root.write_root.Statement.{statement}
 use Rattle.swing.proofs.root.write_root.Tie as tie
 

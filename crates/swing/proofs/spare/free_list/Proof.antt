@@ -1,9 +1,5 @@
-use borrow.Author.Needs.{needs}
-use native.Mathlib.Omega.{arith}
-use Prim.Native.Nat.{_+_, _-_, _≤_}
-use mathlib.Core.Path.{_≡_, refl}
-use mathlib.Core.List.{_++_}
-use lib.ListN.{length}
+-- `free_list` meets its contract: its loop keeps an invariant. Relies on specs/Spare/Spare and specs/Spare/SpareSteps.
+use Rattle.image.specs.Prelude.{needs, arith, _+_, _-_, _≤_, _≡_, refl, _++_, length}
 use Rattle.packed.specs.Build.Handed.{listed}
 use Rattle.swing.specs.Spare.Spare.{unmarked}
 use Rattle.swing.specs.Spare.SpareSteps.{list-first, list-more, list-last}

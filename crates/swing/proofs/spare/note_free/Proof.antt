@@ -1,5 +1,5 @@
-use borrow.Author.Needs.{needs}
-use Prim.Native.Nat.{_-_}
+-- `note_free` meets its contract. Relies on specs/Spare/SpareSteps.
+use Rattle.image.specs.Prelude.{needs}
 use Rattle.swing.specs.Spare.SpareSteps.{note-marked, note-unmarked}
 use Rattle.swing.proofs.spare.note_free.Statement.{statement}
 use Rattle.swing.proofs.spare.note_free.Tie as tie

@@ -1,19 +1,11 @@
-use borrow.Author.Needs.{needs}
 -- `all_zero` is `zeros` of the part. The invariant: the part is all zero just when the bytes read and those left are.
 -- Relies on Layout.
-use Prim.Native.Nat.{_-_}
-use mathlib.Core.Path.{_≡_, refl}
-use mathlib.Core.Bool.{_&&_}
-use native.Mathlib.Omega.{arith}
-use lib.Dec.{eqb}
+use Rattle.image.specs.Prelude.{needs, _-_, _≡_, refl, _&&_, arith, eqb}
 use Rattle.image.specs.Bytes.{zeros}
 use Rattle.node.specs.Cut.{cut}
 use Rattle.tree_check.specs.Layout.{zeros-on, zeros-done}
 use Rattle.tree_check.proofs.header.all_zero.Statement.{statement}
 use Rattle.tree_check.proofs.header.all_zero.Tie as tie
-use Rattle.tree_check.proofs.header.all_zero.Reads as reads
-use Rattle.tree_check.proofs.header.all_zero.Lts as lts
-use Rattle.tree_check.proofs.header.larger.Reads as larger-reads
 
 abbrev Inv-loop : tie.InvT-loop
 Inv-loop s from end i₀ most₀ i most = (eqb most 0 && zeros (cut s i end)) ≡ zeros (cut s from end)

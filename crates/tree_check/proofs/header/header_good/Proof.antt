@@ -1,8 +1,7 @@
 -- `header_good` is `soundHead`: the tests of node 0, each on a word of the store.
 -- Relies on RootSteps.
-use native.Mathlib.Omega.{arith}
+use Rattle.image.specs.Prelude.{arith, needs}
 use Rattle.tree_check.specs.RootSteps.{other-length, other-kind, other-count, root-low, root-past, no-level, many-levels, many-live, head-rest}
-use borrow.Author.Needs.{needs}
 use Rattle.tree_check.proofs.header.header_good.Statement.{statement}
 use Rattle.tree_check.proofs.header.header_good.Tie as tie
 

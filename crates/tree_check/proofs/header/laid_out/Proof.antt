@@ -1,7 +1,6 @@
 -- `laid_out` is `laidOut` of the bytes of the node.
 -- Relies on Layout: one law for each test that may fail.
-use borrow.Author.Needs.{needs}
-use native.Mathlib.Omega.{arith}
+use Rattle.image.specs.Prelude.{needs, arith}
 use Rattle.tree_check.specs.Layout.{laid-long, laid-kind, laid-level, laid-zero, laid-rest}
 use Rattle.tree_check.proofs.header.laid_out.Statement.{statement}
 use Rattle.tree_check.proofs.header.laid_out.Tie as tie

@@ -1,11 +1,8 @@
-use borrow.Author.Needs.{needs}
 -- `larger` meets its contract. Relies on specs/Layout.
-use native.Mathlib.Omega.{arith}
+use Rattle.image.specs.Prelude.{arith}
 use Rattle.tree_check.specs.Layout.{larger-second, larger-first}
 use Rattle.tree_check.proofs.header.larger.Statement.{statement}
 use Rattle.tree_check.proofs.header.larger.Tie as tie
-use Rattle.tree_check.proofs.header.larger.Reads as reads
-use Rattle.tree_check.proofs.header.larger.Lts as lts
 
 returns : tie.Need-returns
 returns c = larger-second (c .before .args .a) (c .before .args .b) (omega arith)

@@ -1,4 +1,5 @@
-use borrow.Author.Needs.{needs}
+-- `flattened` meets its contract. Relies on specs/Held.
+use Rattle.image.specs.Prelude.{needs}
 use Rattle.tree_check.specs.Held.{flat-dead, flat-partway}
 use Rattle.tree_check.proofs.lent.flattened.Statement.{statement}
 use Rattle.tree_check.proofs.lent.flattened.Tie as tie

@@ -1,4 +1,5 @@
-use borrow.Author.Needs.{needs}
+-- `hold` meets its contract. Relies on specs/Held.
+use Rattle.image.specs.Prelude.{needs}
 use Rattle.tree_check.specs.Held.{hold-unsound, hold-joined}
 use Rattle.tree_check.proofs.lent.hold.Statement.{statement}
 use Rattle.tree_check.proofs.lent.hold.Tie as tie

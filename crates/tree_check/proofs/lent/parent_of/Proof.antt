@@ -1,4 +1,5 @@
-use borrow.Author.Needs.{needs}
+-- `parent_of` meets its contract. Relies on specs/Held.
+use Rattle.image.specs.Prelude.{needs}
 use Rattle.tree_check.specs.Held.{parent-dead, parent-partway}
 use Rattle.tree_check.proofs.lent.parent_of.Statement.{statement}
 use Rattle.tree_check.proofs.lent.parent_of.Tie as tie

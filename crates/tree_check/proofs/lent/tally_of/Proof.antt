@@ -1,4 +1,5 @@
-use borrow.Author.Needs.{needs}
+-- `tally_of` meets its contract. Relies on specs/Held.
+use Rattle.image.specs.Prelude.{needs}
 use Rattle.tree_check.specs.Held.{tally-held}
 use Rattle.tree_check.proofs.lent.tally_of.Statement.{statement}
 use Rattle.tree_check.proofs.lent.tally_of.Tie as tie

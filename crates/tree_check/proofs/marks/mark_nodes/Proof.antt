@@ -1,11 +1,8 @@
 -- `mark_nodes` meets its contract: from the root, with no mark set. Relies on specs/MarkSteps and on lookup's laws of the root.
-use native.Mathlib.Omega.{arith}
-use mathlib.Core.Path.{_≡_}
-use lib.ListN.{length}
+use Rattle.image.specs.Prelude.{arith, _≡_, length, needs}
 use Rattle.lookup.specs.Root.{long-enough, root-usable}
 use Rattle.node.specs.Whole.{whole-parts}
 use Rattle.tree_check.specs.MarkSteps.{store-marked}
-use borrow.Author.Needs.{needs}
 use Rattle.tree_check.proofs.marks.mark_nodes.Statement.{statement}
 use Rattle.tree_check.proofs.marks.mark_nodes.Tie as tie
 

@@ -1,7 +1,6 @@
 -- `check_leaf` meets its contract: the walk that asks only of the first and the last key whether the leaf owns it, and the count as it goes.
 -- Relies on specs/Ends and specs/Counted.
-use mathlib.Core.Option.{none}
-use borrow.Author.Tests.{not-true, not-false}
+use Rattle.image.specs.Prelude.{none, not-true, not-false, arith, _+_, _-_, _≤_, _≡_, refl, _∙_, length, needs}
 use Rattle.path.specs.Fed.{shapeIs}
 use Rattle.node.specs.Entries.{entriesFrom, listed, entries-end, listed-end}
 use Rattle.node.specs.Places.{Within, Next}
@@ -10,11 +9,6 @@ use Rattle.node.specs.Search.PairSteps.{pair-next, pair-none}
 use Rattle.tree_check.specs.Node.Leaf.{prevIn, PrevFits, leafRun, start-fits, key-fits}
 use Rattle.tree_check.specs.Node.Ends.{walkRun, walk-is, leaf-start, leaf-unpaired, leaf-over, leaf-stop, leaf-on}
 use Rattle.tree_check.specs.Node.Counted.{counts-bad, counts-all, count-done, count-on}
-use borrow.Author.Needs.{needs}
-use native.Mathlib.Omega.{arith}
-use Prim.Native.Nat.{_+_, _-_, _≤_}
-use mathlib.Core.Path.{_≡_, refl, _∙_}
-use lib.ListN.{length}
 use Rattle.tree_check.proofs.node_check.check_leaf.Statement.{statement}
 use Rattle.tree_check.proofs.node_check.check_leaf.Tie as tie
 

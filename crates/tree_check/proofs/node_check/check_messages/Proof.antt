@@ -1,5 +1,5 @@
 -- `check_messages` meets its contract: message by message, and the count as it goes. Relies on specs/Messages and specs/Counted.
-use borrow.Author.Tests.{not-true, not-false}
+use Rattle.image.specs.Prelude.{not-true, not-false, arith, _+_, _-_, _≤_, _≡_, refl, sym, _∙_, length, needs}
 use Rattle.path.specs.Fed.{shapeIs}
 use Rattle.node.specs.Entries.{entriesFrom, listed, entries-end, listed-end}
 use Rattle.node.specs.Places.{Next, step-bad-is, step-read-is, entry-wider}
@@ -7,11 +7,6 @@ use Rattle.tree_check.specs.Node.Messages.{noteIs, note-places, notes-ba
 use Rattle.tree_check.specs.Node.Inside.{messagesRun}
 use Rattle.tree_check.specs.declared.node_check.Note.{Note}
 use Rattle.tree_check.specs.Node.Counted.{counts-bad, counts-all, count-done, count-on}
-use borrow.Author.Needs.{needs}
-use native.Mathlib.Omega.{arith}
-use Prim.Native.Nat.{_+_, _-_, _≤_}
-use mathlib.Core.Path.{_≡_, refl, sym, _∙_}
-use lib.ListN.{length}
 use Rattle.tree_check.proofs.node_check.check_messages.Statement.{statement}
 use Rattle.tree_check.proofs.node_check.check_messages.Tie as tie
 

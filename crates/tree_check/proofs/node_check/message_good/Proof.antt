@@ -1,10 +1,8 @@
+-- `message_good` meets its contract. Relies on specs/Node/Messages.
 use Rattle.tree_check.specs.Node.Messages.{put-long, put-out, put-shape, drop-out, drop-shape, clear-all, clear-shape}
 use Rattle.node.specs.Search.Latest.{put-places, drop-places, clear-places}
 use Rattle.node.specs.Places.{Within}
-use lib.ListN.{length}
-use native.Mathlib.Omega.{arith}
-use borrow.Author.Tests.{not-true, not-false}
-use borrow.Author.Needs.{needs}
+use Rattle.image.specs.Prelude.{length, arith, not-true, not-false, needs}
 use Rattle.tree_check.proofs.node_check.message_good.Statement.{statement}
 use Rattle.tree_check.proofs.node_check.message_good.Tie as tie
 

@@ -1,5 +1,6 @@
+-- `note_of` meets its contract. Relies on specs/Node/Messages.
 use Rattle.tree_check.specs.Node.Messages.{pair-note, child-note, message-note}
-use borrow.Author.Needs.{needs}
+use Rattle.image.specs.Prelude.{needs}
 use Rattle.tree_check.proofs.node_check.note_of.Statement.{statement}
 use Rattle.tree_check.proofs.node_check.note_of.Tie as tie
 

@@ -1,14 +1,8 @@
 -- `row_good` meets its contract. Relies on specs/Ends.
-use borrow.Author.Tests.{not-true, not-false}
-use native.Mathlib.Omega.{arith}
+use Rattle.image.specs.Prelude.{not-true, not-false, arith, needs}
 use Rattle.tree_check.specs.Node.Ends.{row-long, row-back, row-shape}
-use borrow.Author.Needs.{needs}
 use Rattle.tree_check.proofs.node_check.row_good.Statement.{statement}
 use Rattle.tree_check.proofs.node_check.row_good.Tie as tie
-use Rattle.tree_check.proofs.node_check.row_good.Reads as reads
-use Rattle.tree_check.proofs.node_check.row_good.Lts as lts
-use Rattle.tree_check.proofs.node_check.follows_on.Reads as follows-on-reads
-use Rattle.path.proofs.goes_on.Reads as goes-on-reads
 
 sub-if1 : tie.Need-sub-if1
 sub-if1 c = search needs

@@ -1,17 +1,18 @@
-/* The splice log: a store of paths and values in a byte array that the caller owns. The library is for x86-64 alone.
+/* SPDX-License-Identifier: MIT
  *
- * A store is n nodes of 1,024 bytes, n from 32 to 1,024. A path is 1 to 8 components of 1 to 16 bytes (21 to 7E without 2F), each
- * followed by a byte 00, at most 64 bytes in all. A value is 0 to 32 bytes. Every function takes any bytes, decides for itself whether
+ * The splice log: a store of paths and values in a byte array that the caller owns. Relies on the
+ * library; what is inline here is plain C over its calls. For C99 and C++98 or later.
+ *
+ * A store is n nodes of 1,024 bytes, n from 32 to 1,024. A path is 1 to 8 components of 1 to 16
+ * bytes (hexadecimal 21 to 7E without 2F), each followed by a byte 00, at most 64 bytes in all. A
+ * value is 0 to 32 bytes. Every function of the library takes any bytes, decides for itself whether
  * they are fit, and refuses by a number: then it has changed no byte.
  *
- *   0 accepted                      4 value over 32 bytes           8 no such path
- *   1 a length is wrong             5 buffer too short              9 a moved path would be malformed
- *   2 the image is not sound        6 no reachable interior node    10 the store is full
- *   3 a path is malformed           7 one path begins the other
- *
- * An array goes as a pointer and a length. The pointer may be NULL only where the length is 0. An array that is written (`store` and
- * `work` of the calls that change a store, `buffer` of get and next) must not overlap any other argument; arrays that are only read may
- * overlap each other. In particular next's `after` and `buffer` must be two arrays: see splicelog_step.
+ * An array goes as a pointer and a length. The pointer may be NULL only where the length is 0. An
+ * array that is written (`store` and `work` of the calls that change a store, `buffer` of get and
+ * next, `answers` of a batch) must not overlap any other argument; arrays that are only read may
+ * overlap each other. In particular next's `after` and `buffer` must be two arrays: splicelog_step
+ * sees to that. A pointer to one number or one structure is never NULL.
  */
 #ifndef SPLICELOG_H
 #define SPLICELOG_H
@@ -19,118 +20,329 @@
 #include <stddef.h>
 #include <stdint.h>
 
+#define SPLICELOG_VERSION "1.1"
+#define SPLICELOG_VERSION_MAJOR 1
+#define SPLICELOG_VERSION_MINOR 1
+
+/* The limits. Sizes are in bytes; a path's bytes 00 count. */
+#define SPLICELOG_VALUE_LIMIT 32
+#define SPLICELOG_PATH_LIMIT 64
+#define SPLICELOG_COMPONENT_LIMIT 16
+#define SPLICELOG_COMPONENTS_LIMIT 8
+#define SPLICELOG_NODE_SIZE 1024
+#define SPLICELOG_FEWEST_NODES 32
+#define SPLICELOG_MOST_NODES 1024
+#define SPLICELOG_WORK_PER_NODE 128
+
+/* The compiler warns of an answer that is not looked at; gcc also of an array that is shorter than
+ * the length told. An array is read, or written whatever its bytes were, or changed. */
+#ifdef __GNUC__
+#define SPLICELOG_RESULT __attribute__((warn_unused_result))
+#else
+#define SPLICELOG_RESULT
+#endif
+#if defined(__GNUC__) && !defined(__clang__) && __GNUC__ >= 10
+#define SPLICELOG_READS(pointer, length) __attribute__((access(read_only, pointer, length)))
+#define SPLICELOG_WRITES(pointer, length) __attribute__((access(write_only, pointer, length)))
+#define SPLICELOG_CHANGES(pointer, length) __attribute__((access(read_write, pointer, length)))
+#else
+#define SPLICELOG_READS(pointer, length)
+#define SPLICELOG_WRITES(pointer, length)
+#define SPLICELOG_CHANGES(pointer, length)
+#endif
+#define SPLICELOG_INLINE SPLICELOG_RESULT static inline
+
 #ifdef __cplusplus
+#define SPLICELOG_CAST(type, value) static_cast<type>(value)
 extern "C" {
+#else
+#define SPLICELOG_CAST(type, value) ((type)(value))
 #endif
 
+/* A length in the library's calls: the proved code counts in 64 bits on every target. Pass a size_t:
+ * it is this type, or becomes it without loss. */
+#if SIZE_MAX == UINT64_MAX
+typedef size_t splicelog_size;
+#else
+typedef uint64_t splicelog_size;
+#endif
+typedef char splicelog_size_has_64_bits[sizeof(splicelog_size) == 8 ? 1 : -1];
+
+/* The numbers that a call answers: 0, or that of the first question whose answer is no. */
+enum splicelog_refusal {
+    SPLICELOG_OK = 0,
+    SPLICELOG_WRONG_LENGTH = 1,     /* no store of 32 to 1,024 nodes, or too short a work area */
+    SPLICELOG_NOT_SOUND = 2,        /* the image is not sound */
+    SPLICELOG_MALFORMED_PATH = 3,   /* a path is not well formed */
+    SPLICELOG_VALUE_TOO_LONG = 4,   /* the value has more than 32 bytes */
+    SPLICELOG_BUFFER_TOO_SHORT = 5, /* get needs 32 bytes, next 64 */
+    SPLICELOG_NO_INTERIOR_NODE = 6, /* the number is not that of a reachable interior node */
+    SPLICELOG_NESTED_PATHS = 7,     /* one path of a move is a proper beginning of the other */
+    SPLICELOG_NOT_FOUND = 8,        /* no such path */
+    SPLICELOG_MALFORMED_MOVE = 9,   /* a path would not be well formed after the move */
+    SPLICELOG_FULL = 10             /* the path is absent, and there are n paths already */
+};
+
+/* A number in words, to print behind it. A number that no call answers has a text that says so. */
+SPLICELOG_INLINE const char *splicelog_text(uint32_t number) {
+    static const char *const texts[] = {
+        "accepted",
+        "a store is not a whole number of nodes from 32 to 1024, or the work area is too short",
+        "the image is not sound",
+        "a path is not well formed",
+        "the value is longer than 32 bytes",
+        "the buffer is too short",
+        "the number is not that of a reachable interior node",
+        "one path is a proper beginning of the other",
+        "there is no such path",
+        "a path would not be well formed after the move",
+        "the store is full",
+    };
+    return number < sizeof texts / sizeof *texts ? texts[number] : "not a number of the splice log";
+}
+
 /* Makes the store empty. Refuses by 1. */
-uint32_t splicelog_make(uint8_t *store, size_t store_len);
+SPLICELOG_RESULT SPLICELOG_WRITES(1, 2)
+uint32_t splicelog_make(uint8_t *store, splicelog_size store_len);
 
-/* The value of a path, at the front of a buffer of at least 32 bytes; later bytes of the buffer stay. Beside the number: its length.
- * Refuses by 1, 2, 3, 5, 8. */
-uint64_t splicelog_get(const uint8_t *store, size_t store_len, const uint8_t *path, size_t path_len, uint8_t *buffer, size_t buffer_len);
+/* The calls that only read answer a word: the number in its low 32 bits, and beside it, in the high
+ * 32, a length, a count or a verdict, which is 0 in a refusal. `if (splicelog_get(..))` is true for a
+ * value that was found: use the forms further down, which return the number alone. */
 
-/* The least path below `path` and greater than `after` (which may be empty), at the front of a buffer of at least 64 bytes; later bytes
- * of the buffer stay. Beside the number: its length. Refuses by 1, 2, 3, 5, 8. */
-uint64_t splicelog_next(const uint8_t *store, size_t store_len, const uint8_t *path, size_t path_len, const uint8_t *after,
-                        size_t after_len, uint8_t *buffer, size_t buffer_len);
+/* Whether the image is sound. Beside the number: how many paths it holds. Refuses by 1, 2. */
+SPLICELOG_RESULT SPLICELOG_READS(1, 2)
+uint64_t splicelog_check(const uint8_t *store, splicelog_size store_len);
 
-/* Whether two stores hold the same paths. Beside the number: 1 if they do, else 0. Refuses by 1, 2. */
-uint64_t splicelog_same(const uint8_t *store, size_t store_len, const uint8_t *other, size_t other_len);
+/* The value of a path, at the front of a buffer of at least 32 bytes; later bytes of the buffer
+ * stay. Beside the number: its length. Refuses by 1, 2, 3, 5, 8. */
+SPLICELOG_RESULT SPLICELOG_READS(1, 2) SPLICELOG_READS(3, 4) SPLICELOG_WRITES(5, 6)
+uint64_t splicelog_get(const uint8_t *store, splicelog_size store_len, const uint8_t *path,
+                       splicelog_size path_len, uint8_t *buffer, splicelog_size buffer_len);
 
-/* The calls that change a store are lent a work area of at least 128 bytes a node. An accepted call leaves the first 128 x n bytes of it
- * zero and the later ones as they were; a refused call leaves it as it was. */
+/* The least path below `path` and greater than `after` (which may be empty), at the front of a buffer
+ * of at least 64 bytes; later bytes of the buffer stay. Beside the number: its length. Refuses by 1,
+ * 2, 3, 5, 8. */
+SPLICELOG_RESULT SPLICELOG_READS(1, 2) SPLICELOG_READS(3, 4) SPLICELOG_READS(5, 6) SPLICELOG_WRITES(7, 8)
+uint64_t splicelog_next(const uint8_t *store, splicelog_size store_len, const uint8_t *path,
+                        splicelog_size path_len, const uint8_t *after, splicelog_size after_len,
+                        uint8_t *buffer, splicelog_size buffer_len);
+
+/* Whether two stores hold the same paths. Beside the number: 1 or 0. Refuses by 1, 2. */
+SPLICELOG_RESULT SPLICELOG_READS(1, 2) SPLICELOG_READS(3, 4)
+uint64_t splicelog_same(const uint8_t *store, splicelog_size store_len, const uint8_t *other,
+                        splicelog_size other_len);
+
+/* The calls that change a store are lent a work area of at least 128 bytes a node. An accepted call
+ * leaves the first 128 x n bytes of it zero and the later ones as they were; a refused call leaves it
+ * as it was. */
 
 /* The path has this value. Refuses by 1, 2, 3, 4, 10. */
-uint32_t splicelog_put(uint8_t *store, size_t store_len, uint8_t *work, size_t work_len, const uint8_t *path, size_t path_len,
-                       const uint8_t *value, size_t value_len);
+SPLICELOG_RESULT SPLICELOG_CHANGES(1, 2) SPLICELOG_WRITES(3, 4) SPLICELOG_READS(5, 6) SPLICELOG_READS(7, 8)
+uint32_t splicelog_put(uint8_t *store, splicelog_size store_len, uint8_t *work, splicelog_size work_len,
+                       const uint8_t *path, splicelog_size path_len, const uint8_t *value,
+                       splicelog_size value_len);
 
 /* The path is absent. Refuses by 1, 2, 3. */
-uint32_t splicelog_drop(uint8_t *store, size_t store_len, uint8_t *work, size_t work_len, const uint8_t *path, size_t path_len);
+SPLICELOG_RESULT SPLICELOG_CHANGES(1, 2) SPLICELOG_WRITES(3, 4) SPLICELOG_READS(5, 6)
+uint32_t splicelog_drop(uint8_t *store, splicelog_size store_len, uint8_t *work, splicelog_size work_len,
+                        const uint8_t *path, splicelog_size path_len);
 
 /* Every path below the given one, itself included, is absent. Refuses by 1, 2, 3. */
-uint32_t splicelog_clear(uint8_t *store, size_t store_len, uint8_t *work, size_t work_len, const uint8_t *path, size_t path_len);
+SPLICELOG_RESULT SPLICELOG_CHANGES(1, 2) SPLICELOG_WRITES(3, 4) SPLICELOG_READS(5, 6)
+uint32_t splicelog_clear(uint8_t *store, splicelog_size store_len, uint8_t *work, splicelog_size work_len,
+                         const uint8_t *path, splicelog_size path_len);
 
-/* Every path below `from`, itself included, is below `to` with the same rest and value; what else was below `to` is absent, and so is
- * everything below `from`. If the two are equal, no byte of the store changes. Refuses by 1, 2, 3, 7, 8, 9. */
-uint32_t splicelog_move(uint8_t *store, size_t store_len, uint8_t *work, size_t work_len, const uint8_t *from, size_t from_len,
-                        const uint8_t *to, size_t to_len);
+/* Every path below `from`, itself included, is below `to` with the same rest and value; what else was
+ * below `to` is absent, and so is everything below `from`. If the two are equal, no byte of the store
+ * changes. Refuses by 1, 2, 3, 7, 8, 9. */
+SPLICELOG_RESULT SPLICELOG_CHANGES(1, 2) SPLICELOG_WRITES(3, 4) SPLICELOG_READS(5, 6) SPLICELOG_READS(7, 8)
+uint32_t splicelog_move(uint8_t *store, splicelog_size store_len, uint8_t *work, splicelog_size work_len,
+                        const uint8_t *from, splicelog_size from_len, const uint8_t *to, splicelog_size to_len);
 
 /* Upkeep: the paths and their values stay. */
 
 /* No message waits in any node. Refuses by 1, 2. */
-uint32_t splicelog_settle(uint8_t *store, size_t store_len, uint8_t *work, size_t work_len);
+SPLICELOG_RESULT SPLICELOG_CHANGES(1, 2) SPLICELOG_WRITES(3, 4)
+uint32_t splicelog_settle(uint8_t *store, splicelog_size store_len, uint8_t *work, splicelog_size work_len);
 
 /* Settled, and at most a quarter of the nodes are in use. Refuses by 1, 2. */
-uint32_t splicelog_tidy(uint8_t *store, size_t store_len, uint8_t *work, size_t work_len);
+SPLICELOG_RESULT SPLICELOG_CHANGES(1, 2) SPLICELOG_WRITES(3, 4)
+uint32_t splicelog_tidy(uint8_t *store, splicelog_size store_len, uint8_t *work, splicelog_size work_len);
 
-/* The messages of a reachable interior node go down. A number that is no node's, however large, is refused by 6. Refuses by 1, 2, 6. */
-uint32_t splicelog_flush(uint8_t *store, size_t store_len, uint8_t *work, size_t work_len, size_t node);
+/* The messages of a reachable interior node go down. A number that is no node's, however large, is
+ * refused by 6. Refuses by 1, 2, 6. */
+SPLICELOG_RESULT SPLICELOG_CHANGES(1, 2) SPLICELOG_WRITES(3, 4)
+uint32_t splicelog_flush(uint8_t *store, splicelog_size store_len, uint8_t *work, splicelog_size work_len,
+                         splicelog_size node);
 
-/* Neighbouring children of a reachable interior node that hold no message and would fit in one node become one. Refuses by 1, 2, 6. */
-uint32_t splicelog_heal(uint8_t *store, size_t store_len, uint8_t *work, size_t work_len, size_t node);
+/* Neighbouring children of a reachable interior node that hold no message and fit in one node become
+ * one. Refuses by 1, 2, 6. */
+SPLICELOG_RESULT SPLICELOG_CHANGES(1, 2) SPLICELOG_WRITES(3, 4)
+uint32_t splicelog_heal(uint8_t *store, splicelog_size store_len, uint8_t *work, splicelog_size work_len,
+                        splicelog_size node);
 
-/* The number of an answer: 0 if the call was accepted. */
-static inline uint32_t splicelog_number(uint64_t answer) { return (uint32_t)answer; }
+/* A word's number, which is 0 if the call was accepted, and what stands beside it. */
+SPLICELOG_INLINE uint32_t splicelog_number(uint64_t answer) { return SPLICELOG_CAST(uint32_t, answer); }
+SPLICELOG_INLINE uint32_t splicelog_beside(uint64_t answer) { return SPLICELOG_CAST(uint32_t, answer >> 32); }
 
-/* What stands beside the number: a length, or same's 1 or 0. It is 0 in a refusal. */
-static inline uint32_t splicelog_beside(uint64_t answer) { return (uint32_t)(answer >> 32); }
+/* The calls that only read, as their number alone. What stands beside it goes where the last argument
+ * points: 0 in a refusal. */
 
-/* A place in a listing: the last path given. A listing begins at a place of length 0, whatever its bytes. */
-struct splicelog_place {
-    uint8_t bytes[64];
-    size_t length;
-};
-
-/* One step of a listing: the place becomes the least path below `path` that is greater than the place's. Gives 0, or the number of a
- * refusal, which leaves the place unchanged: 8 after the last path, else 1, 2 or 3. A place of more than 64 bytes is no path: 3.
- *
- *   struct splicelog_place place = {{0}, 0};
- *   while (splicelog_step(store, store_len, path, path_len, &place) == 0)
- *       use(place.bytes, place.length);
- */
-static inline uint32_t splicelog_step(const uint8_t *store, size_t store_len, const uint8_t *path, size_t path_len,
-                                      struct splicelog_place *place) {
-    static const uint8_t malformed[1] = {0};
-    uint8_t found[64];
-    const int sane = place->length <= sizeof place->bytes;
-    const uint64_t answer = splicelog_next(store, store_len, path, path_len, sane ? place->bytes : malformed, sane ? place->length : 1,
-                                           found, sizeof found);
-    if (splicelog_number(answer) == 0) {
-        place->length = splicelog_beside(answer);
-        for (size_t i = 0; i < place->length; i++)
-            place->bytes[i] = found[i];
-    }
+/* splicelog_check: `*live` becomes how many paths the store holds. */
+SPLICELOG_INLINE uint32_t splicelog_check_store(const uint8_t *store, size_t store_len, size_t *live) {
+    const uint64_t answer = splicelog_check(store, store_len);
+    *live = splicelog_beside(answer);
     return splicelog_number(answer);
 }
 
-/* A batch: a list of calls as one call. The image is judged once, and then call after call is made, each on the store as the last one left
- * it, with the same answers as the calls would give one by one. `calls` are pieces one after another and `answers` gets the answers one after
- * another, in the layout of docs/FORMAT.md: the helpers below write the one and read the other. A call that is refused is answered, and the
- * batch goes on. It stops when the calls end, in front of bytes that do not read as a call, or in front of a call whose answer might not fit
- * in what is left of `answers` (4 bytes a call, 36 a get, 68 a next; at most 2^28 - 1 bytes of it are used): go on from there with the calls
- * that are left. `work` is as for the calls that change a store. Refuses by 1, 2, before any call is made. */
-uint64_t splicelog_batch(uint8_t *store, size_t store_len, uint8_t *work, size_t work_len, const uint8_t *calls, size_t calls_len,
-                         uint8_t *answers, size_t answers_len);
+/* splicelog_get: `*length` becomes the value's length. */
+SPLICELOG_INLINE uint32_t splicelog_get_value(const uint8_t *store, size_t store_len, const uint8_t *path,
+                                              size_t path_len, uint8_t *buffer, size_t buffer_len,
+                                              size_t *length) {
+    const uint64_t answer = splicelog_get(store, store_len, path, path_len, buffer, buffer_len);
+    *length = splicelog_beside(answer);
+    return splicelog_number(answer);
+}
 
-/* What a batch answers: its number (0, 1 or 2), how many calls were made, how many bytes of answers were written. */
-static inline uint32_t splicelog_batch_number(uint64_t answer) { return (uint32_t)(answer & 0xFF); }
-static inline size_t splicelog_batch_done(uint64_t answer) { return (size_t)(answer >> 8 & 0xFFFFFFF); }
-static inline size_t splicelog_batch_written(uint64_t answer) { return (size_t)(answer >> 36); }
+/* splicelog_next: `*length` becomes the path's length. */
+SPLICELOG_INLINE uint32_t splicelog_next_path(const uint8_t *store, size_t store_len, const uint8_t *path,
+                                              size_t path_len, const uint8_t *after, size_t after_len,
+                                              uint8_t *buffer, size_t buffer_len, size_t *length) {
+    const uint64_t answer = splicelog_next(store, store_len, path, path_len, after, after_len, buffer, buffer_len);
+    *length = splicelog_beside(answer);
+    return splicelog_number(answer);
+}
 
-/* Calls for a batch, in an array of the caller's: `length` of `room` bytes are used. Begin with a length of 0. */
-struct splicelog_calls {
-    uint8_t *bytes;
-    size_t room;
+/* splicelog_same: `*same` becomes 1 or 0. */
+SPLICELOG_INLINE uint32_t splicelog_is_same(const uint8_t *store, size_t store_len, const uint8_t *other,
+                                            size_t other_len, int *same) {
+    const uint64_t answer = splicelog_same(store, store_len, other, other_len);
+    *same = splicelog_beside(answer) != 0;
+    return splicelog_number(answer);
+}
+
+/* Whether these bytes are a well-formed path: 1 or 0. */
+SPLICELOG_INLINE int splicelog_is_path(const uint8_t *path, size_t path_len) {
+    size_t components = 0, begin = 0;
+    if (path_len == 0 || path_len > SPLICELOG_PATH_LIMIT)
+        return 0;
+    for (size_t i = 0; i < path_len; i++) {
+        if (path[i] != 0 && (path[i] < 0x21 || path[i] > 0x7E || path[i] == 0x2F))
+            return 0;
+        if (path[i] == 0) {
+            if (i == begin || i - begin > SPLICELOG_COMPONENT_LIMIT)
+                return 0;
+            components++;
+            begin = i + 1;
+        }
+    }
+    return begin == path_len && components <= SPLICELOG_COMPONENTS_LIMIT;
+}
+
+/* The path of a text: "r1/c7" becomes the bytes 72 31 00 63 37 00 (hexadecimal). Gives 0, or 3 where
+ * the text is no path's: the path is then one byte 00, which no call accepts. */
+SPLICELOG_INLINE uint32_t splicelog_path(const char *text, uint8_t path[SPLICELOG_PATH_LIMIT], size_t *path_len) {
+    size_t end = 0;
+    for (; end < SPLICELOG_PATH_LIMIT - 1 && text[end] != 0; end++)
+        path[end] = SPLICELOG_CAST(uint8_t, text[end] == '/' ? 0 : text[end]);
+    path[end] = 0;
+    *path_len = end + 1;
+    if (text[end] == 0 && splicelog_is_path(path, end + 1))
+        return SPLICELOG_OK;
+    path[0] = 0;
+    *path_len = 1;
+    return SPLICELOG_MALFORMED_PATH;
+}
+
+/* The text of a path, with a byte 00 behind it as strings have. Gives 0, or 3 and the empty text
+ * where the bytes are no path. */
+SPLICELOG_INLINE uint32_t splicelog_path_text(const uint8_t *path, size_t path_len, char text[SPLICELOG_PATH_LIMIT]) {
+    const size_t length = splicelog_is_path(path, path_len) ? path_len - 1 : 0;
+    for (size_t i = 0; i < length; i++)
+        text[i] = SPLICELOG_CAST(char, path[i] == 0 ? '/' : path[i]);
+    text[length] = 0;
+    return length == 0 ? SPLICELOG_MALFORMED_PATH : SPLICELOG_OK;
+}
+
+/* A place in a listing: the last path given. A listing begins at a place of length 0, whatever its
+ * bytes. */
+struct splicelog_place {
+    uint8_t bytes[SPLICELOG_PATH_LIMIT];
     size_t length;
 };
+
+/* One step of a listing: the place becomes the least path below `path` that is greater than the
+ * place's. Gives 0, or the number of a refusal, which leaves the place unchanged: 8 after the last
+ * path, else 1, 2 or 3. A place of more than 64 bytes is no path: 3.
+ *
+ *   struct splicelog_place place = {{0}, 0};
+ *   while (splicelog_step(store, store_len, path, path_len, &place) == SPLICELOG_OK)
+ *       use(place.bytes, place.length);
+ */
+SPLICELOG_INLINE uint32_t splicelog_step(const uint8_t *store, size_t store_len, const uint8_t *path,
+                                         size_t path_len, struct splicelog_place *place) {
+    static const uint8_t malformed[1] = {0};
+    uint8_t found[SPLICELOG_PATH_LIMIT];
+    size_t length;
+    const int sane = place->length <= sizeof place->bytes;
+    const uint8_t *const after = sane ? place->bytes : malformed;
+    const uint32_t number = splicelog_next_path(store, store_len, path, path_len, after, sane ? place->length : 1,
+                                                found, sizeof found, &length);
+    if (number != SPLICELOG_OK)
+        return number;
+    for (size_t i = 0; i < length; i++)
+        place->bytes[i] = found[i];
+    place->length = length;
+    return number;
+}
+
+/* A number of two bytes, the low one first. */
+SPLICELOG_INLINE uint16_t splicelog_internal_number(const uint8_t *at) {
+    return SPLICELOG_CAST(uint16_t, at[0] | at[1] << 8);
+}
+
+/* The root's number and its level, as node 0 tells them, for flush and heal: the root is an interior
+ * node where there are 2 levels or more. They mean something in a sound image alone: check it first.
+ * A store too short for them gives 0. */
+SPLICELOG_INLINE size_t splicelog_root(const uint8_t *store, size_t store_len) {
+    return store_len < SPLICELOG_NODE_SIZE ? 0 : splicelog_internal_number(store + 6);
+}
+SPLICELOG_INLINE size_t splicelog_levels(const uint8_t *store, size_t store_len) {
+    return store_len < SPLICELOG_NODE_SIZE ? 0 : splicelog_internal_number(store + 8);
+}
+
+/* A batch: a list of calls as one call. The image is judged once, and then call after call is made,
+ * each on the store as the last one left it, with the same answers as the calls would give one by
+ * one. `calls` are pieces one after another and `answers` gets the answers one after another, in the
+ * layout of FORMAT.md: the helpers below write the one and read the other. A call that is refused is
+ * answered, and the batch goes on. It stops when the calls end, in front of bytes that do not read as
+ * a call, or in front of a call whose answer might not fit in what is left of `answers` (4 bytes a
+ * call, 36 a get, 68 a next; at most 2^28 - 1 bytes of it are used): splicelog_batch_stop tells
+ * which, splicelog_skip where to go on. `work` is as for the calls that change a store. Refuses by 1,
+ * 2, before any call is made. */
+SPLICELOG_RESULT SPLICELOG_CHANGES(1, 2) SPLICELOG_WRITES(3, 4) SPLICELOG_READS(5, 6) SPLICELOG_WRITES(7, 8)
+uint64_t splicelog_batch(uint8_t *store, splicelog_size store_len, uint8_t *work, splicelog_size work_len,
+                         const uint8_t *calls, splicelog_size calls_len, uint8_t *answers,
+                         splicelog_size answers_len);
+
+/* What a batch answers: its number (0, 1 or 2), how many calls were made, how many bytes of answers
+ * were written. */
+SPLICELOG_INLINE uint32_t splicelog_batch_number(uint64_t answer) {
+    return SPLICELOG_CAST(uint32_t, answer & 0xFF);
+}
+SPLICELOG_INLINE size_t splicelog_batch_done(uint64_t answer) {
+    return SPLICELOG_CAST(size_t, answer >> 8 & 0xFFFFFFF);
+}
+SPLICELOG_INLINE size_t splicelog_batch_written(uint64_t answer) {
+    return SPLICELOG_CAST(size_t, answer >> 36);
+}
 
 /* The kinds of calls in a batch. */
 enum splicelog_kind {
     SPLICELOG_PUT = 0x20,
     SPLICELOG_DROP = 0x21,
     SPLICELOG_CLEAR = 0x22,
-    SPLICELOG_MOVE = 0x23,
+    SPLICELOG_MOVE = 0x24,
     SPLICELOG_GET = 0x30,
     SPLICELOG_NEXT = 0x31,
     SPLICELOG_SETTLE = 0x40,
@@ -139,57 +351,140 @@ enum splicelog_kind {
     SPLICELOG_HEAL = 0x43
 };
 
-/* A call behind those that are there already. Put takes a path and its value; move both paths; next the path and the one after which to
- * look, which may be empty; drop, clear and get a path; settle and tidy nothing: what a call does not take has length 0. Gives 1, or 0 where
- * there is no room for it, and then nothing is added. */
-static inline int splicelog_add(struct splicelog_calls *calls, enum splicelog_kind kind, const uint8_t *first, size_t first_len,
-                                const uint8_t *second, size_t second_len) {
-    const int both = kind == SPLICELOG_PUT || kind == SPLICELOG_MOVE || kind == SPLICELOG_NEXT;
-    const size_t head = both ? 6 : 4;
-    uint8_t *at = calls->bytes + calls->length;
-    if (first_len > 0x7000 || second_len > 0x7000 || calls->room - calls->length < head + first_len + second_len)
-        return 0;
-    const size_t numbers[3] = {head - 4 + first_len + second_len, (size_t)kind, first_len};
-    for (size_t i = 0; i < head / 2; i++) {
-        *at++ = (uint8_t)(numbers[i] & 0xFF);
-        *at++ = (uint8_t)(numbers[i] >> 8);
+/* How many arrays a call of this kind takes; 3: the number of a node; 4: it is no kind. */
+SPLICELOG_INLINE int splicelog_internal_takes(unsigned kind) {
+    switch (kind) {
+    case SPLICELOG_SETTLE: case SPLICELOG_TIDY: return 0;
+    case SPLICELOG_DROP: case SPLICELOG_CLEAR: case SPLICELOG_GET: return 1;
+    case SPLICELOG_PUT: case SPLICELOG_MOVE: case SPLICELOG_NEXT: return 2;
+    case SPLICELOG_FLUSH: case SPLICELOG_HEAL: return 3;
+    default: return 4;
     }
-    for (size_t i = 0; i < first_len; i++)
-        *at++ = first[i];
-    for (size_t i = 0; i < second_len; i++)
-        *at++ = second[i];
-    calls->length += head + first_len + second_len;
+}
+
+/* Calls for a batch, in an array of the caller's: `count` calls in `length` of its `room` bytes. */
+struct splicelog_calls {
+    uint8_t *bytes;
+    size_t room;
+    size_t length;
+    size_t count;
+};
+
+/* No call yet, in an array of `room` bytes. */
+SPLICELOG_INLINE struct splicelog_calls splicelog_begin_calls(uint8_t *bytes, size_t room) {
+    const struct splicelog_calls calls = {bytes, room, 0, 0};
+    return calls;
+}
+
+/* These bytes behind the calls, which have room for them. */
+static inline void splicelog_internal_append(struct splicelog_calls *calls, const uint8_t *bytes, size_t length) {
+    for (size_t i = 0; i < length; i++)
+        calls->bytes[calls->length++] = bytes[i];
+}
+
+/* A call behind those that are there already. Put takes a path and its value; move both paths; next
+ * the path and the one after which to look, which may be empty; drop, clear and get a path; settle
+ * and tidy nothing: what a call does not take has length 0. Gives 1; or 0 where there is no room for
+ * it or the kind does not take this, and then nothing is added. */
+SPLICELOG_INLINE int splicelog_add(struct splicelog_calls *calls, enum splicelog_kind kind,
+                                   const uint8_t *first, size_t first_len, const uint8_t *second,
+                                   size_t second_len) {
+    const int takes = splicelog_internal_takes(kind);
+    const size_t rest = (takes == 2 ? 2 : 0) + first_len + second_len;
+    const uint8_t head[6] = {SPLICELOG_CAST(uint8_t, rest & 0xFF), SPLICELOG_CAST(uint8_t, rest >> 8 & 0xFF),
+                             SPLICELOG_CAST(uint8_t, kind), 0, SPLICELOG_CAST(uint8_t, first_len & 0xFF),
+                             SPLICELOG_CAST(uint8_t, first_len >> 8 & 0xFF)};
+    if (takes == 4 || (takes == 3 && first_len != 2) || (takes == 0 && first_len != 0) || (takes != 2 && second_len != 0))
+        return 0;
+    if (first_len > 0x7000 || second_len > 0x7000 || calls->length > calls->room
+        || calls->room - calls->length < 4 + rest)
+        return 0;
+    splicelog_internal_append(calls, head, takes == 2 ? 6 : 4);
+    splicelog_internal_append(calls, first, first_len);
+    splicelog_internal_append(calls, second, second_len);
+    calls->count++;
     return 1;
 }
 
-/* The same for a flush or a heal of a node: a number of 65,536 or more is no node's, and is not added. */
-static inline int splicelog_add_node(struct splicelog_calls *calls, enum splicelog_kind kind, size_t node) {
-    const uint8_t number[2] = {(uint8_t)(node & 0xFF), (uint8_t)(node >> 8 & 0xFF)};
-    return node > 0xFFFF ? 0 : splicelog_add(calls, kind, number, sizeof number, 0, 0);
+/* The same for a flush or a heal of a node. A number over 65,535 is no node's, and is not added. */
+SPLICELOG_INLINE int splicelog_add_node(struct splicelog_calls *calls, enum splicelog_kind kind, size_t node) {
+    const uint8_t number[2] = {SPLICELOG_CAST(uint8_t, node & 0xFF), SPLICELOG_CAST(uint8_t, node >> 8 & 0xFF)};
+    if (node > 0xFFFF || splicelog_internal_takes(kind) != 3)
+        return 0;
+    return splicelog_add(calls, kind, number, sizeof number, number, 0);
 }
 
-/* One answer of a batch: its number, and what a get or a next found, which stands in the array of the answers. */
+/* How many bytes of the calls the first `done` of them take: a batch that stopped goes on behind
+ * these. Never more than there are. */
+SPLICELOG_INLINE size_t splicelog_skip(const uint8_t *calls, size_t calls_len, size_t done) {
+    size_t at = 0;
+    for (; done > 0 && calls_len - at >= 4; done--) {
+        const size_t length = splicelog_internal_number(calls + at);
+        if (calls_len - at - 4 < length)
+            return at;
+        at += 4 + length;
+    }
+    return at;
+}
+
+/* Whether the bytes begin with a call that reads. */
+SPLICELOG_INLINE int splicelog_internal_reads(const uint8_t *calls, size_t calls_len) {
+    if (calls_len < 4 || calls_len - 4 < splicelog_internal_number(calls))
+        return 0;
+    const size_t length = splicelog_internal_number(calls);
+    switch (splicelog_internal_takes(splicelog_internal_number(calls + 2))) {
+    case 0: return length == 0;
+    case 1: return 1;
+    case 2: return length >= 2 && splicelog_internal_number(calls + 4) <= length - 2;
+    case 3: return length == 2;
+    default: return 0;
+    }
+}
+
+/* Why a batch stopped. */
+enum splicelog_stop {
+    SPLICELOG_STOP_END,        /* all calls were made */
+    SPLICELOG_STOP_UNREADABLE, /* the next bytes do not read as a call */
+    SPLICELOG_STOP_NO_ROOM,    /* the next answer might not fit: go on with the calls that are left */
+    SPLICELOG_STOP_REFUSED     /* the batch itself was refused, and no call was made */
+};
+
+/* Why the batch of these calls, which gave this answer, stopped. */
+SPLICELOG_INLINE enum splicelog_stop splicelog_batch_stop(const uint8_t *calls, size_t calls_len,
+                                                          uint64_t answer) {
+    const size_t at = splicelog_skip(calls, calls_len, splicelog_batch_done(answer));
+    if (splicelog_batch_number(answer) != SPLICELOG_OK)
+        return SPLICELOG_STOP_REFUSED;
+    if (at == calls_len)
+        return SPLICELOG_STOP_END;
+    return splicelog_internal_reads(calls + at, calls_len - at) ? SPLICELOG_STOP_NO_ROOM : SPLICELOG_STOP_UNREADABLE;
+}
+
+/* One answer of a batch: its number, and what a get or a next found, which stands in the array of the
+ * answers. */
 struct splicelog_answer {
     uint32_t number;
     const uint8_t *bytes;
     size_t length;
 };
 
-/* The answer at a place among the bytes written, and the place moved on behind it; gives 0 where there is none.
+/* The answer at a place among the bytes written, and the place moved on behind it; gives 0 where
+ * there is none.
  *
  *   size_t place = 0;
  *   struct splicelog_answer answer;
  *   while (splicelog_read_answer(answers, splicelog_batch_written(done), &place, &answer))
  *       use(answer.number, answer.bytes, answer.length);
  */
-static inline int splicelog_read_answer(const uint8_t *answers, size_t written, size_t *place, struct splicelog_answer *answer) {
+SPLICELOG_INLINE int splicelog_read_answer(const uint8_t *answers, size_t written, size_t *place,
+                                           struct splicelog_answer *answer) {
     if (written < *place || written - *place < 4)
         return 0;
     const uint8_t *const at = answers + *place;
-    const size_t length = at[0] + 256 * (size_t)at[1];
+    const size_t length = splicelog_internal_number(at);
     if (written - *place - 4 < length)
         return 0;
-    answer->number = at[2] + 256 * (uint32_t)at[3];
+    answer->number = splicelog_internal_number(at + 2);
     answer->bytes = at + 4;
     answer->length = length;
     *place += 4 + length;

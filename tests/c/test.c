@@ -1,31 +1,23 @@
-/* Calls the store as firmware does, through include/splicelog.h: `test IMAGE TABLE`. It makes stores, causes each refusal that a caller can
- * cause, writes to a store, moves, heals and reads it back, makes a list of calls as one, and reads IMAGE, whose paths and values TABLE lists (both written by the second
- * program), by get, by next and by the listing. Every call is made on arrays of exactly the lengths that it is told, from malloc, so that
- * valgrind sees a read or a write outside.
+/* SPDX-License-Identifier: MIT
+ *
+ * Calls the store as firmware does, through include/splicelog.h: `test IMAGE TABLE`. It makes stores, causes each refusal that a caller can
+ * cause, writes to a store, moves, heals and reads it back, makes a list of calls as one, and reads IMAGE, whose paths and values TABLE
+ * lists (both written by the second program), by get, by next and by the listing. Every call is made on arrays of exactly the lengths that
+ * it is told, from malloc, so that valgrind sees a read or a write outside.
  */
+#include "check.h"
 #include "splicelog.h"
 
 #include <stdio.h>
 #include <stdlib.h>
 #include <string.h>
 
-enum { NODE = 1024, NODES = 32, VALUE_MOST = 32, PATH_MOST = 64, LATER = 0xA5 };
+enum { NODE = SPLICELOG_NODE_SIZE, NODES = 32, VALUE_MOST = SPLICELOG_VALUE_LIMIT, PATH_MOST = SPLICELOG_PATH_LIMIT, LATER = 0xA5 };
 
 typedef struct {
     uint8_t *at;
     size_t len;
 } bytes;
-
-static unsigned checks;
-
-#define CHECK(holds)                                                                                                                       \
-    do {                                                                                                                                   \
-        checks++;                                                                                                                          \
-        if (!(holds)) {                                                                                                                    \
-            fprintf(stderr, "%s:%d: not so: %s\n", __FILE__, __LINE__, #holds);                                                            \
-            exit(1);                                                                                                                       \
-        }                                                                                                                                  \
-    } while (0)
 
 /* An array of its own; malloc gives no null pointer for a length of 0. */
 static bytes filled(size_t len, uint8_t byte) {
@@ -75,12 +67,22 @@ static void refuse_next(bytes store, bytes of, bytes after, size_t room, uint32_
     ask(store, of, &after, room, number, filled(0, 0));
 }
 
+/* Is the image sound, and how many paths does it hold? No byte of it changes. */
+static void judge(bytes store, uint32_t number, size_t live) {
+    bytes before = copy(store.at, store.len);
+    uint64_t answer = splicelog_check(store.at, store.len);
+    CHECK(splicelog_number(answer) == number && splicelog_beside(answer) == live);
+    CHECK(equal(store, before));
+    free(before.at);
+}
+
 static void test_make(void) {
     static const size_t wrong[] = {0, 1, NODE, (NODES - 1) * NODE, NODES * NODE - 1, NODES * NODE + 1, 1025 * NODE};
     for (size_t i = 0; i < sizeof wrong / sizeof *wrong; i++) {
         bytes store = filled(wrong[i], LATER), before = filled(wrong[i], LATER);
         CHECK(splicelog_make(store.at, store.len) == 1);
         CHECK(equal(store, before));
+        judge(store, 1, 0);
         refuse_get(store, path("a"), VALUE_MOST, 1);
         refuse_next(store, path("a"), filled(0, 0), PATH_MOST, 1);
         free(store.at), free(before.at);
@@ -88,7 +90,9 @@ static void test_make(void) {
     for (size_t n = NODES; n <= 1024; n *= 2) {
         bytes store = filled(n * NODE, LATER);
         refuse_get(store, path("a"), VALUE_MOST, 2);
+        judge(store, 2, 0);
         CHECK(splicelog_make(store.at, store.len) == 0);
+        judge(store, 0, 0);
         refuse_get(store, path("a"), VALUE_MOST, 8);
         refuse_next(store, path("a"), filled(0, 0), PATH_MOST, 8);
         free(store.at);
@@ -160,6 +164,8 @@ static void step(bytes store, const char *below, struct splicelog_place *place, 
         CHECK(place->length == was.length && memcmp(place->bytes, was.bytes, sizeof was.bytes) == 0);
     else
         CHECK(place->length == expected.len && memcmp(place->bytes, expected.at, expected.len) == 0);
+    if (number == 0) /* the bytes behind the path stay */
+        CHECK(memcmp(place->bytes + expected.len, was.bytes + expected.len, sizeof was.bytes - expected.len) == 0);
     CHECK(equal(store, before));
     free(before.at), free(of.at), free(expected.at);
 }
@@ -180,6 +186,7 @@ static void test_image(const char *image, const char *table) {
     bytes store = file(image);
     char text[PATH_MOST + 1], digits[2 * VALUE_MOST + 1], last[PATH_MOST + 1] = "", top[PATH_MOST + 1] = "";
     struct splicelog_place *place = start();
+    size_t live = 0;
     FILE *rows = fopen(table, "r");
     CHECK(rows != NULL);
     while (fscanf(rows, "%64s %64s", text, digits) == 2) {
@@ -199,7 +206,9 @@ static void test_image(const char *image, const char *table) {
         ask(store, path(text), NULL, VALUE_MOST, 0, value(digits));
         free(of_last.at);
         strcpy(last, text);
+        live++;
     }
+    judge(store, 0, live);
     if (*last) {
         refuse_next(store, first(last), path(last), PATH_MOST, 8);
         step(store, top, place, 8, "");
@@ -225,13 +234,10 @@ static int cleared(bytes work) {
     return 1;
 }
 
-/* The number of the root, in node 0. */
-static size_t root_of(bytes store) { return store.at[6] + 256u * store.at[7]; }
-
 /* No number of a node that is no interior node is taken, nor one of which only some of the bits are such a node's. */
 static void refuse_node(bytes store, bytes work, size_t interior) {
-    const size_t numbers[] = {0,        NODES,         UINT16_MAX,    interior + 0x10000, UINT32_MAX, interior + ((size_t)1 << 32),
-                              SIZE_MAX, SIZE_MAX - 31, SIZE_MAX / 2 + 1 + interior};
+    const splicelog_size numbers[] = {0, NODES, UINT16_MAX, interior + 0x10000, UINT32_MAX, interior + ((splicelog_size)1 << 32),
+                                      UINT64_MAX, UINT64_MAX - 31, UINT64_MAX / 2 + 1 + interior};
     bytes before = copy(store.at, store.len), lent = copy(work.at, work.len);
     for (size_t i = 0; i < sizeof numbers / sizeof *numbers; i++) {
         CHECK(splicelog_flush(store.at, store.len, work.at, work.len, numbers[i]) == 6);
@@ -255,7 +261,7 @@ static void test_writes(void) {
     CHECK(splicelog_number(same) == 0 && splicelog_beside(same) == 1);
     same = splicelog_same(store.at, store.len, other.at, other.len);
     CHECK(splicelog_number(same) == 0 && splicelog_beside(same) == 0);
-    size_t root = root_of(store);
+    size_t root = splicelog_root(store.at, store.len);
     CHECK(splicelog_flush(store.at, store.len, work.at, work.len, root) == 0 && cleared(work));
     refuse_node(store, work, root);
     CHECK(splicelog_settle(store.at, store.len, work.at, work.len) == 0 && cleared(work));
@@ -276,6 +282,7 @@ static void test_writes(void) {
         CHECK(put(store, work, path(text), copy("x", 1)) == 0);
     }
     CHECK(put(store, work, path("one-more"), copy("x", 1)) == 10 && put(store, work, path("p3"), copy("y", 1)) == 0);
+    judge(store, 0, NODES);
     free(store.at);
     free(work.at);
     free(other.at);
@@ -342,7 +349,7 @@ static void test_heal(void) {
     }
     memcpy(other.at, store.at, store.len);
     memset(work.at, 7, NODES * 128);
-    size_t root = root_of(store);
+    size_t root = splicelog_root(store.at, store.len);
     CHECK(splicelog_heal(store.at, store.len, work.at, work.len, root) == 0 && cleared(work));
     CHECK(splicelog_beside(splicelog_same(store.at, store.len, other.at, other.len)) == 1);
     refuse_node(store, work, root);
@@ -386,7 +393,7 @@ static void test_listing(void) {
 /* A pointer may be NULL where its length is 0: an empty value, nothing before the first path, and every length that is too short. */
 static void test_null(void) {
     bytes store = filled(NODES * NODE, 1), work = filled(NODES * 128, LATER), of = path("r1"), buffer = filled(PATH_MOST, LATER);
-    CHECK(splicelog_make(NULL, 0) == 1 && splicelog_make(store.at, store.len) == 0);
+    CHECK(splicelog_make(NULL, 0) == 1 && splicelog_check(NULL, 0) == 1 && splicelog_make(store.at, store.len) == 0);
     CHECK(splicelog_put(store.at, store.len, work.at, work.len, of.at, of.len, NULL, 0) == 0);
     CHECK(splicelog_get(store.at, store.len, of.at, of.len, buffer.at, buffer.len) == 0 && buffer.at[0] == LATER);
     uint64_t found = splicelog_next(store.at, store.len, of.at, of.len, NULL, 0, buffer.at, buffer.len);
@@ -410,7 +417,7 @@ static void test_null(void) {
 static void test_batch(void) {
     bytes store = filled(NODES * NODE, 1), work = filled(NODES * 128 + 3, LATER), room = filled(400, 0), answers = filled(300, LATER);
     bytes tray = path("r1/c7/t1"), from = path("r1/c7"), to = path("r1/c9"), there = path("r1/c9/t1"), top = path("r1");
-    struct splicelog_calls calls = {room.at, room.len, 0};
+    struct splicelog_calls calls = splicelog_begin_calls(room.at, room.len);
     struct splicelog_answer answer;
     size_t place = 0;
     CHECK(splicelog_make(store.at, store.len) == 0);
@@ -426,7 +433,8 @@ static void test_batch(void) {
     CHECK(splicelog_add(&calls, SPLICELOG_GET, there.at, there.len, 0, 0));
     bytes exactly = copy(room.at, calls.length);
     uint64_t done = splicelog_batch(store.at, store.len, work.at, work.len, exactly.at, exactly.len, answers.at, answers.len);
-    CHECK(splicelog_batch_number(done) == 0 && splicelog_batch_done(done) == 9);
+    CHECK(splicelog_batch_number(done) == 0 && splicelog_batch_done(done) == 9 && calls.count == 9);
+    CHECK(splicelog_batch_stop(exactly.at, exactly.len, done) == SPLICELOG_STOP_END);
     static const uint32_t numbers[9] = {0, 0, 8, 0, 0, 6, 0, 0, 8};
     for (size_t i = 0; i < 9; i++) {
         CHECK(splicelog_read_answer(answers.at, splicelog_batch_written(done), &place, &answer));
@@ -443,6 +451,7 @@ static void test_batch(void) {
     /* No room for the first get's answer: the batch stops in front of it. */
     done = splicelog_batch(store.at, store.len, work.at, work.len, exactly.at, exactly.len, answers.at, 8 + 35);
     CHECK(splicelog_batch_number(done) == 0 && splicelog_batch_done(done) == 2 && splicelog_batch_written(done) == 8);
+    CHECK(splicelog_batch_stop(exactly.at, exactly.len, done) == SPLICELOG_STOP_NO_ROOM);
     /* A work area that is too short, and a store that is not sound. */
     done = splicelog_batch(store.at, store.len, work.at, NODES * 128 - 1, exactly.at, exactly.len, answers.at, answers.len);
     CHECK(splicelog_batch_number(done) == 1 && splicelog_batch_done(done) == 0 && splicelog_batch_written(done) == 0);

@@ -1,10 +1,11 @@
 -- The requests of a batch one by one, their calls and answers one after another, and a run of calls with one more at its end.
--- Relies on the definitions of image's Batch and Contract.
-use Rattle.image.specs.Prelude.{ℕ, zero, suc, _+_, _≤_, _≡_, refl, sym, ap, _∙_, List, [], _∷_, _++_, append-assoc, none, some, arith, length, length-drop}
+-- Relies on the definitions of image's Batch and Contract, and on demands' BatchOutcome for the room behind an answer.
+use Rattle.image.specs.Prelude.{ℕ, zero, suc, _+_, _-_, _≤_, _≡_, refl, sym, ap, subst, _∙_, List, [], _∷_, _++_, append-assoc, none, some, arith, length, length-drop}
 use Rattle.image.specs.Bytes.{u16}
 use Rattle.image.specs.Calls.{Call, Answer}
 use Rattle.image.specs.Contract.{Meets, Run, stop, call}
-use Rattle.image.specs.Batch.{Request, firstRequest, behind, requestThen, requestsIn, requestsOf, callOf, callsOf, answerBytes, answersBytes}
+use Rattle.image.specs.Batch.{Request, firstRequest, behind, requestThen, requestsIn, requestsOf, callOf, callsOf, answerBytes, answersBytes, mostBytes, HadRoom}
+use Rattle.demands.specs.BatchOutcome.{room-behind}
 
 -- no bytes, no request
 none-first : firstRequest [] ≡ none
@@ -57,3 +58,10 @@ pub run-more : {s s′ s″ w′ : List ℕ} {cs : List Call} {given : List Answ
     → Run s (cs ++ (c ∷ [])) (given ++ (a ∷ [])) s″
 run-more stop m = call m stop
 run-more (call k r) m = call k (run-more r m)
+
+pub room-more : (work : List ℕ) (rs : List Request) {s s′ : List ℕ} {given : List Answer} (room : ℕ) (r : Request) (a : Answer) → Run s (callsOf work rs) given s′ → HadRoom rs given room
+    → mostBytes r ≤ room - length (answersBytes given) → HadRoom (rs ++ (r ∷ [])) (given ++ (a ∷ [])) room
+unfolding callsOf answersBytes HadRoom
+room-more work [] room r a stop h k = (omega arith, tt)
+room-more work (q ∷ rs) room r a (call {a = b} {later = later} m run) h k =
+    (h .0, room-more work rs (room - length (answerBytes b)) r a run (h .1) (subst (λ n. mostBytes r ≤ n) (room-behind room b later) k))

@@ -5,7 +5,7 @@ use Rattle.image.specs.Image.{nodesOf}
 use Rattle.image.specs.Calls.{Answer}
 use Rattle.image.specs.Contract.{Meets, Run}
 use Rattle.image.specs.Answers.{outcomeAnswer}
-use Rattle.image.specs.Batch.{Request, firstRequest, behind, requestsOf, callOf, callsOf, answerBytes, answersBytes, mostBytes, zeroed, BatchRuns}
+use Rattle.image.specs.Batch.{Request, firstRequest, behind, requestsOf, callOf, callsOf, answerBytes, answersBytes, mostBytes, HadRoom, zeroed, BatchRuns}
 use Rattle.image.specs.declared.Outcome.{Outcome}
 use Rattle.octets.specs.Put.{put}
 use Rattle.questions.specs.Acted.{Passed}
@@ -41,6 +41,7 @@ pub record Goes (s w calls : List ℕ) (at : ℕ) (out : List ℕ) (written : �
   pub high : end ≤ length calls
   pub met : Meets s (callOf w request) given s′ area
   pub kept : w′ ≡ w
+  pub had-room : mostBytes request ≤ length out - written
   pub bytes : out′ ≡ put out written (answerBytes given)
   pub ends : written′ ≡ written + length (answerBytes given)
   pub fits : written′ ≤ length out
@@ -67,6 +68,7 @@ pub record SoFar (s₀ w₀ calls out₀ s w out : List ℕ) (at done written : 
   pub bytes : out ≡ put out₀ 0 (answersBytes given)
   pub length-is : written ≡ length (answersBytes given)
   pub fits : written ≤ length out₀
+  pub had-room : HadRoom before given (length out₀)
   pub place : at ≤ length calls
   pub few : done ≤ at
 

@@ -2,7 +2,7 @@
 -- Relies on questions (Acted), requests (what was read) and image's Batch.
 use Rattle.image.specs.Prelude.{ℕ, zero, suc, _+_, _-_, _<_, _≤_, _≡_, refl, sym, ap, subst, _∙_, List, [], _++_, some, arith, length, take, drop, length-append, length-take}
 use Rattle.image.specs.Bytes.{u16Bytes}
-use Rattle.image.specs.Path.{valueLimit}
+use Rattle.image.specs.Path.{pathLimit, valueLimit}
 use Rattle.image.specs.Image.{nodesOf}
 use Rattle.image.specs.Calls as calls
 use Rattle.image.specs.Calls.{Act, Upkeep, acts, keeps, asks}
@@ -126,7 +126,7 @@ module _ (s b out out′ buffer : List ℕ) (at end : ℕ) (found : Found) (q : 
         fits = (let z : queryMost q ≡ 4 + valueLimit = ap queryMost e ∙ unfold queryMost in refl in let y = bytes-short found buffer in omega (arith, written .1));
       }
 
-  pub stepped : (p p′ : Place) → q ≡ Query.Next p p′ → foundLength found ≤ 64 → Meets s (asks (calls.next (part b p) (part b p′)) freshBuffer) (foundAnswer found buffer) s []
+  pub stepped : (p p′ : Place) → q ≡ Query.Next p p′ → foundLength found ≤ pathLimit → Meets s (asks (calls.next (part b p) (part b p′)) freshBuffer) (foundAnswer found buffer) s []
       → Written s (queryIn b q) out at out′ end
   stepped p p′ e short m =
       record {
@@ -134,7 +134,7 @@ module _ (s b out out′ buffer : List ℕ) (at end : ℕ) (found : Found) (q : 
         met = λ w. unfold callOf queryIn in rw e m;
         bytes = written .0;
         ends = written .1;
-        fits = (let z : queryMost q ≡ 68 = ap queryMost e ∙ unfold queryMost in refl in let y = bytes-short found buffer in omega (arith, written .1));
+        fits = (let z : queryMost q ≡ 4 + pathLimit = ap queryMost e ∙ unfold queryMost in refl in let y = bytes-short found buffer in omega (arith, written .1));
       }
 
 pub get-within : (n : ℕ) (q : Query) (p : Place) → QueryWithin n q → q ≡ Query.Get p → Within 0 n p
@@ -219,15 +219,17 @@ module _ (b : List ℕ) (at : ℕ) (r : Reading) (reads : Reads b at r) where
           high = reads .high;
           met = m .met;
           kept = m .area;
+          had-room = (let z = most-change b c in omega arith);
           bytes = x .0;
           ends = x .1;
           fits = omega (arith, x .1);
         }
 
-    pub turn-query : (q : Query) → r .piece ≡ Piece.Query q → (out′ : List ℕ) (end : ℕ) → Written s (queryIn b q) out written out′ end
+    pub turn-query : (q : Query) → r .piece ≡ Piece.Query q → (most : ℕ) → most ≡ queryMost q → most ≤ length out - written → (out′ : List ℕ) (end : ℕ)
+        → Written s (queryIn b q) out written out′ end
         → Turned s w b at out written s w out′ (Turn.Goes (r .end) end)
     unfolding Turned
-    turn-query q e out′ end m =
+    turn-query q e most l h out′ end m =
         let y = behind-is (Piece.Query q) (queryIn b q) e (unfold requestIn in refl) in
         record {
           request = queryIn b q;
@@ -239,6 +241,7 @@ module _ (b : List ℕ) (at : ℕ) (r : Reading) (reads : Reads b at r) where
           high = reads .high;
           met = m .met w;
           kept = refl;
+          had-room = (let z = most-query b q in omega arith);
           bytes = m .bytes;
           ends = m .ends;
           fits = m .fits;

@@ -5,7 +5,7 @@ use Rattle.image.specs.Sound.{sound}
 use Rattle.image.specs.Calls.{acts, settle, workPerNode, workLong, questions, actQuestions}
 use Rattle.image.specs.Contract.{nodeQuestions, firstNoOn, Meets, Run, stop}
 use Rattle.image.specs.Answers.{refusalNumber}
-use Rattle.image.specs.Batch.{Request, firstRequest, requestsOf, callOf, callsOf, answerBytes, answersBytes, Stopped, batchNo, zeroed, BatchRuns, BatchMeets}
+use Rattle.image.specs.Batch.{Request, firstRequest, requestsOf, callOf, callsOf, answerBytes, answersBytes, mostBytes, Stopped, HadRoom, batchNo, zeroed, BatchRuns, BatchMeets}
 use Rattle.image.specs.declared.Refusal.{Refusal}
 use Rattle.octets.specs.Put.{put, put-put, put-size, put-nil}
 use Rattle.demands.specs.Contracts.{stays-sound}
@@ -20,12 +20,12 @@ use Rattle.questions.specs.Acted.{passed}
 use Rattle.tree_check.specs.declared.Tally.{Tally}
 use Rattle.batch.specs.declared.Turn.{Turn}
 use Rattle.batch.specs.declared.Batched.{Batched}
-use Rattle.batch.specs.Requests.{requests-end, requests-more, calls-more, bytes-more, run-more}
+use Rattle.batch.specs.Requests.{requests-end, requests-more, calls-more, bytes-more, run-more, room-more}
 use Rattle.batch.specs.Served.{Fresh, Goes, Halts, Turned, SoFar, Batching}
 
 -- THE LOOP
 pub begins : (s w calls out : List ℕ) → Fresh s w → SoFar s w calls out s w out 0 0 0
-unfolding callsOf answersBytes
+unfolding callsOf answersBytes HadRoom
 begins s w calls out f =
     record {
       before = [];
@@ -39,6 +39,7 @@ begins s w calls out f =
       bytes = sym (put-nil out 0);
       length-is = refl;
       fits = omega arith;
+      had-room = tt;
       place = omega arith;
       few = omega arith;
     }
@@ -74,6 +75,7 @@ module _ (s₀ w₀ calls out₀ s w out : List ℕ) (at done written : ℕ) (f 
           bytes = bytes-are;
           length-is = length-more;
           fits = (let z = out-size in omega (arith, g .fits));
+          had-room = room-more w₀ (f .before) (length out₀) (g .request) (g .given) (f .run) (f .had-room) room-left;
           place = g .high;
           few = (let a = f .few in let b = g .moves in omega arith);
         }
@@ -101,6 +103,9 @@ module _ (s₀ w₀ calls out₀ s w out : List ℕ) (at done written : ℕ) (f 
                   };
               zero-area = subst (λ k. w₀ ≡ zeroed (nodesOf k) w₀) (sym (g .met .size)) (f .fresh .zero-area);
             }
+
+        room-left : mostBytes (g .request) ≤ length out₀ - length (answersBytes (f .given))
+        room-left = let a = f .length-is in let b = out-size in omega (arith, g .had-room)
 
         whole-length : length (answersBytes (f .given)) + length (answerBytes (g .given)) ≤ length out₀
         whole-length = let a = f .length-is in let b = g .ends in let c = g .fits in let z = out-size in omega arith
@@ -138,6 +143,7 @@ module _ (s₀ w₀ calls out₀ s w out : List ℕ) (at done written : ℕ) (f 
             length-is = f .length-is;
             fits = f .fits;
             among = (let z = ap length (f .split) ∙ length-append (f .before) (requestsOf (drop at calls)) in let y = f .count in omega arith);
+            had-room = subst (λ l. HadRoom l (f .given) (length out₀)) (sym done-are) (f .had-room);
             stopped = subst (λ l. Stopped l (length out₀ - written)) (sym rest-is) why;
           },
         )
@@ -232,5 +238,6 @@ module _ (s w calls out seen : List ℕ) (r : Admission) (a : Asked s w seen r) 
                 length-is = y .length-is;
                 fits = y .fits;
                 among = y .among;
+                had-room = y .had-room;
                 stopped = y .stopped;
               }

@@ -282,7 +282,7 @@ fn take_turn(
     match piece {
         Piece::None => Turn::Stop,
         Piece::Change(change) => {
-            if answers.len() - written < 4 {
+            if answers.len() - written < requests::ANSWER_HEAD {
                 return Turn::Stop;
             }
             let waiting = waiting_of(change, calls, end, store.len() / image::NODE_SIZE);

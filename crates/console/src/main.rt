@@ -1,5 +1,7 @@
-// The program: makes a 64-node store, reads standard input, and prints what each line says. Script has the work; here are the reads, the
-// writes and the loop. With a file's name as its one argument, it leaves the image there at the end. Relies on: script, make, io, os and libc.
+// The program: reads lines from standard input and prints what each says, on a store just made or on the one that an argument names. Script
+// has the work; here are the reads, the writes and the loop. Relies on: script, files, io and libc.
+mod files;
+
 ghost use Rattle.image.specs.Prelude.{_≤_, length};
 ghost use Rattle.script.specs.Answered.{Held};
 
@@ -32,19 +34,17 @@ fn write_text(text: &[u8]) -> bool {
     true
 }
 
-// Reads some bytes: how many, 0 at the end of the input or where every try fails.
-fn read_some(chunk: &mut [u8]) -> usize
-    ensures { λ r. ⌜ r ≤ length (now (chunk .exit)) ⌝ }
-{
+// Reads some bytes: how many, 0 at the end of the input, -1 where every try fails.
+fn read_some(chunk: &mut [u8]) -> isize {
     let mut tries: usize = 65536;
     while 0 < tries {
         let got = libc::read(0, chunk);
         if 0 <= got {
-            return io::count(got, chunk);
+            return got;
         }
         tries -= 1;
     }
-    0
+    -1
 }
 
 // Feeds the bytes one by one and prints what each says: how much of the line buffer is used then, or 257 where printing failed.
@@ -73,44 +73,30 @@ fn feed_all(
     used
 }
 
-// Reads to the end of the input. A proved loop has to end, and nothing says that an input does: so it counts its turns down, from a number
-// that no run uses up.
-fn run(store: &mut [u8], work: &mut [u8], line: &mut [u8], chunk: &mut [u8], out: &mut [u8])
+// Reads to the end of the input; false where not all of it was read or not every answer printed. A proved loop has to end, and nothing says
+// that an input does: so it counts its turns down, from a number that no run uses up.
+fn run(store: &mut [u8], work: &mut [u8], line: &mut [u8], chunk: &mut [u8], out: &mut [u8]) -> bool
     requires { ⌜ Held (now store) (now out) × (8192 ≤ length (now work)) × (256 ≤ length (now line)) ⌝ }
 {
     let mut used = 0;
     let mut turns = u64::MAX;
     while 0 < turns {
-        let n = read_some(chunk);
+        let got = read_some(chunk);
+        if got < 0 {
+            return false;
+        }
+        let n = io::count(got, chunk);
         if n == 0 {
             let count = script::finish(store, work, line, used, out);
-            write_text(&out[0..count]);
-            return;
+            return write_text(&out[0..count]);
         }
         used = feed_all(store, work, line, used, &chunk[0..n], out);
         if 256 < used {
-            return;
+            return false;
         }
         turns -= 1;
     }
-}
-
-// Leaves the image in the file that the one argument names, if there is one, so that it can be looked at.
-fn keep_image(store: &[u8]) {
-    if os::arg_count() != 2 {
-        return;
-    }
-    let mut name = io::buffer();
-    let n = os::arg(1, &mut name);
-    let file = os::open_overwrite(&name[0..n]);
-    if file < 0 {
-        os::fail(b"the image's file");
-        return;
-    }
-    if !io::write_all(file, store) {
-        os::fail(b"the image's file");
-    }
-    libc::close(file);
+    false
 }
 
 fn main() {
@@ -119,7 +105,10 @@ fn main() {
     let mut line = io::buffer();
     let mut chunk = io::large_buffer();
     let mut out = io::large_buffer();
-    make::make(&mut store);
-    run(&mut store, &mut work, &mut line, &mut chunk, &mut out);
-    keep_image(&store);
+    if !files::begin(&mut store) {
+        return;
+    }
+    if run(&mut store, &mut work, &mut line, &mut chunk, &mut out) {
+        files::end(&store);
+    }
 }

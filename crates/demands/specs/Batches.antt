@@ -54,8 +54,15 @@ both-yes true true e = (refl, refl)
 both-yes true false e = absurd (omega arith)
 both-yes false b e = absurd (omega arith)
 
+-- the store of an accepted batch goes with the plain map of its own table
+pub batch-starts : (s work : List ℕ) → batchNo s work ≡ 0 → Represents (nodesOf (length s)) (tableOf s) s
+batch-starts s work none = record { whole = and-left _ _ (yes .0); is-sound = yes .1; nodes = refl; table = refl }
+  where
+    yes : (wholeNodes (length s) && leb (workPerNode * nodesOf (length s)) (length work) ≡ true) × (sound s ≡ true)
+    yes = both-yes _ _ (unfold batchNo in none)
+
 -- where the plain map answers every call, all answers are reported
-all-reported : (work : List ℕ) (rs : List Request) {s s′ : List ℕ} {given : List Answer} → noUpkeep rs ≡ true → Run s (callsOf work rs) given s′
+pub all-reported : (work : List ℕ) (rs : List Request) {s s′ : List ℕ} {given : List Answer} → noUpkeep rs ≡ true → Run s (callsOf work rs) given s′
     → reportedOf (callsOf work rs) given ≡ given
 unfolding noUpkeep callsOf callOf reportedOf reported
 all-reported work [] e stop = refl
@@ -67,7 +74,7 @@ pub batch-agrees : {s work calls out s′ work′ out′ : List ℕ} {done writt
     → BatchAgrees s work calls out done written s′ out′
 batch-agrees {s} {work} {calls} {out} {s′} {work′} {out′} {done} {written} m =
     record {
-      was-sound = yes .1;
+      was-sound = before .is-sound;
       among = r .among;
       given = r .given;
       run = r .run;
@@ -84,14 +91,11 @@ batch-agrees {s} {work} {calls} {out} {s′} {work′} {out′} {done} {written}
     none : batchNo s work ≡ 0
     none = sym (m .answer)
 
-    yes : (wholeNodes (length s) && leb (workPerNode * nodesOf (length s)) (length work) ≡ true) × (sound s ≡ true)
-    yes = both-yes _ _ (unfold batchNo in none)
-
     r : BatchRuns s work (requestsOf calls) out done written s′ work′ out′
     r = m .runs none
 
     before : Represents (nodesOf (length s)) (tableOf s) s
-    before = record { whole = and-left _ _ (yes .0); is-sound = yes .1; nodes = refl; table = refl }
+    before = batch-starts s work none
 
     same-answers : reportedOf (callsDone s work calls done) (r .given) ≡ answersOn (nodesOf (length s)) (callsDone s work calls done) (tableOf s)
     same-answers = run-answers (nodesOf (length s)) (tableOf s) before (r .run)

@@ -47,7 +47,7 @@ module _ (n : ℕ) (t : List Row) (s : List ℕ) (g : Represents n t s) where
   no-node-table : (c : Call) {a : Answer} {s′ w′ : List ℕ} → Meets s c a s′ w′ → nodeQuestions c s ≡ [] → tableOf s′ ≡ tableAt (plainFirstNo n c t) c t
   no-node-table c m e = m .table ∙ rw (same-no n t s c g e, g .table)
 
-  no-node-answer : (c : Call) {a : Answer} {s′ w′ : List ℕ} → Meets s c a s′ w′ → nodeQuestions c s ≡ [] → a ≡ answerAt (plainFirstNo n c t) c t
+  pub no-node-answer : (c : Call) {a : Answer} {s′ w′ : List ℕ} → Meets s c a s′ w′ → nodeQuestions c s ≡ [] → a ≡ answerAt (plainFirstNo n c t) c t
   no-node-answer c m e = m .answer ∙ rw (same-no n t s c g e, g .table)
 
   -- what a call leaves goes with what the plain map then holds
@@ -64,7 +64,7 @@ module _ (n : ℕ) (t : List Row) (s : List ℕ) (g : Represents n t s) where
   answer-goes (keeps u i work) later m = refl
   answer-goes (asks q buffer) later m = ap (λ b. b ∷ later) (no-node-answer (asks q buffer) m refl)
 
-  goes-on : (c : Call) {a : Answer} {s′ w′ : List ℕ} → Meets s c a s′ w′ → Represents n (tableAt (plainFirstNo n c t) c t) s′
+  pub goes-on : (c : Call) {a : Answer} {s′ w′ : List ℕ} → Meets s c a s′ w′ → Represents n (tableAt (plainFirstNo n c t) c t) s′
   goes-on c m =
       record {
         whole = rw (m .size) (g .whole);

@@ -6,3 +6,4 @@ pub mod Demand
 pub mod Kept
 pub mod Brought
 pub mod Batches
+pub mod BatchOutcome

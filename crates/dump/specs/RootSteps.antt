@@ -1,5 +1,5 @@
 -- The steps of the dump from the root: what the first call asks, and that its rows are the table of the store.
--- Relies on what a sound image is (laws: ButLive) and on the steps of the count from the root (live: RootSteps).
+-- Relies on what a sound image is (laws: ButLive) and on the steps of the count from the root (live_count: RootSteps).
 use Rattle.image.specs.Prelude.{ℕ, _*_, _≤_, _≡_, sym, ap, ap₂, _∙_, List, [], _++_, true, arith, length, eqb-true}
 use Rattle.image.specs.Bytes.{u16}
 use Rattle.image.specs.Table.{Row}

@@ -13,10 +13,10 @@ use live_count::visibility::Trail;
 use node::Cursor;
 use node::Entry;
 use node::Message;
+use node::PairStep;
 use node::PathBuffer;
 use node::Place;
 use node::Step;
-use node::search::PairStep;
 use node::search::Pending;
 use node::search::Run;
 ghost use Rattle.image.specs.Prelude.{_≡_, true, _∷_, [], _++_, _*_, _-_, _≤_, length};
@@ -112,7 +112,7 @@ fn append_pairs(
     let mut c = start;
     let mut m = first;
     while c.at < end {
-        let PairStep::Read(key, value, next) = node::search::step_pair(store, c) else {
+        let PairStep::Read(key, value, next) = c.step_pair(store) else {
             return m;
         };
         m = append_pair(store, area, m, here, Pair { key, value }, notes);

@@ -1,5 +1,5 @@
 // The end of a move: the live count, counted anew, is written, and the work area zeroed. Its laws serve the other calls that change the map.
-// Relies on live (the count), append (the count written) and packed (the area zeroed).
+// Relies on live_count (the count), append (the count written) and packed (the area zeroed).
 ghost use Rattle.image.specs.Prelude.{_≡_, true, _*_, _≤_, length};
 ghost use Rattle.image.specs.Image.{nodesOf, wholeNodes};
 ghost use Rattle.image.specs.Sound.{tableOf};

@@ -6,6 +6,7 @@ use Rattle.image.specs.declared.Refusal.{Refusal}
 use Rattle.image.specs.declared.Outcome.{Outcome}
 use Rattle.image.specs.declared.Found.{Found}
 use Rattle.image.specs.declared.Sameness.{Sameness}
+use Rattle.image.specs.declared.Verdict.{Verdict}
 
 -- the number of the question that got a no
 unfoldable pub refusalNumber : Refusal → ℕ
@@ -19,6 +20,10 @@ refusalNumber Refusal.Nested = 7
 refusalNumber Refusal.Absent = 8
 refusalNumber Refusal.BecomesMalformed = 9
 refusalNumber Refusal.Full = 10
+
+-- the highest of these numbers
+abbrev pub refusalLimit : ℕ
+refusalLimit = 10
 
 -- "Accepted calls give 0 in its place"
 unfoldable pub outcomeNumber : Outcome → ℕ
@@ -44,3 +49,12 @@ unfoldable pub samenessVerdict : Sameness → ℕ
 samenessVerdict Sameness.Same = 1
 samenessVerdict Sameness.Different = 0
 samenessVerdict (Sameness.Refused r) = 0
+
+-- check: the number, and how many paths there are beside it, 0 in a refusal
+unfoldable pub verdictNumber : Verdict → ℕ
+verdictNumber (Verdict.Sound n) = 0
+verdictNumber (Verdict.Refused r) = refusalNumber r
+
+unfoldable pub verdictPaths : Verdict → ℕ
+verdictPaths (Verdict.Sound n) = n
+verdictPaths (Verdict.Refused r) = 0

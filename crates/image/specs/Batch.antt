@@ -29,13 +29,14 @@ nodeOf u r = cond (eqb (length r) 2) (some (keeping u (u16 r 0))) none
 unfoldable pub plainOf : Act → List ℕ → Option Request
 plainOf a r = cond (eqb (length r) 0) (some (acting a)) none
 
--- The request of this kind whose rest is r. The kinds are hexadecimal; put, drop and clear have those of the messages.
+-- The request of this kind whose rest is r. The kinds are hexadecimal; put, drop and clear have those of the messages. 0023 does not read: it is
+-- kept for the message that request S-11 brings.
 unfoldable pub requestOf : ℕ → List ℕ → Option Request
 requestOf kind r =
     cond (eqb kind 0x0020) (twoOf (λ p v. acting (put p v)) r)
     (cond (eqb kind 0x0021) (some (acting (drops r)))
     (cond (eqb kind 0x0022) (some (acting (clear r)))
-    (cond (eqb kind 0x0023) (twoOf (λ p q. acting (move p q)) r)
+    (cond (eqb kind 0x0024) (twoOf (λ p q. acting (move p q)) r)
     (cond (eqb kind 0x0030) (some (asking (get r)))
     (cond (eqb kind 0x0031) (twoOf (λ p q. asking (next p q)) r)
     (cond (eqb kind 0x0040) (plainOf settle r)
@@ -100,6 +101,12 @@ unfoldable pub Stopped : List Request → ℕ → Type 0
 Stopped [] room = Unit {0}
 Stopped (r ∷ rs) room = room < mostBytes r
 
+-- why a batch went as far as it did: each call done had room for the longest answer of its request, the room falling by each answer written
+unfoldable pub HadRoom : List Request → List Answer → ℕ → Type 0
+HadRoom [] given room = Unit {0}
+HadRoom (r ∷ rs) [] room = ⊥
+HadRoom (r ∷ rs) (a ∷ given) room = (mostBytes r ≤ room) × HadRoom rs given (room - length (answerBytes a))
+
 -- THE CONTRACT
 -- questions 1 and 2, asked once: the number of the first no, or 0
 unfoldable pub batchNo : List ℕ → List ℕ → ℕ
@@ -121,6 +128,7 @@ pub record BatchRuns (s work : List ℕ) (rs : List Request) (out : List ℕ) (d
   pub length-is : written ≡ length (answersBytes given)
   pub fits : written ≤ length out
   pub among : done ≤ length rs
+  pub had-room : HadRoom (take done rs) given (length out)
   pub stopped : Stopped (drop done rs) (length out - written)
 
 -- The contract of batch. A refusal changes nothing; refusals of calls inside the list are answers like any other.

@@ -24,11 +24,11 @@ pub record BatchExamples : Type 0 where
   a-put : read (piece 0x20 (2 ∷ 0 ∷ a ++ (7 ∷ []))) (acting (put a (7 ∷ [])) ∷ [])
   an-empty-value : read (piece 0x20 (2 ∷ 0 ∷ a)) (acting (put a []) ∷ [])
   three : read (piece 0x21 a ++ piece 0x30 b ++ piece 0x40 []) (acting (drops a) ∷ asking (get b) ∷ acting settle ∷ [])
-  clear-move : read (piece 0x22 a ++ piece 0x23 (2 ∷ 0 ∷ a ++ b)) (acting (clear a) ∷ acting (move a b) ∷ [])
+  clear-move : read (piece 0x22 a ++ piece 0x24 (2 ∷ 0 ∷ a ++ b)) (acting (clear a) ∷ acting (move a b) ∷ [])
   list-step : read (piece 0x31 (2 ∷ 0 ∷ a)) (asking (next a []) ∷ [])
   upkeep : read (piece 0x41 [] ++ piece 0x42 (3 ∷ 1 ∷ []) ++ piece 0x43 (0 ∷ 0 ∷ [])) (acting tidy ∷ keeping flush 259 ∷ keeping heal 0 ∷ [])
   -- what does not read: an unknown kind, a length past the bytes or past the rest, a settle with a byte, a flush with one
-  unknown : read (piece 0x21 a ++ piece 0x24 a ++ piece 0x21 b) (acting (drops a) ∷ [])
+  unknown : read (piece 0x21 a ++ piece 0x23 (2 ∷ 0 ∷ a ++ b) ++ piece 0x21 b) (acting (drops a) ∷ [])
   cut-short : read (piece 0x21 a ++ (2 ∷ 0 ∷ 0x21 ∷ 0 ∷ 0x61 ∷ [])) (acting (drops a) ∷ [])
   three-bytes : read (piece 0x40 [] ++ (0 ∷ 0 ∷ 0x40 ∷ [])) (acting settle ∷ [])
   long-path : read (piece 0x20 (3 ∷ 0 ∷ a)) []

@@ -1,5 +1,5 @@
 -- The contract of each call: what holds of the store before, the call, its answer, and the store and the work area after it; and lists
--- of calls. Every public function's promise is one of the records Meets, MakeMeets and SameMeets.
+-- of calls. Every public function's promise is one of the records Meets, MakeMeets, SameMeets and CheckMeets, or a record of Listing or Batch.
 use Rattle.image.specs.Prelude.{ℕ, zero, suc, _+_, _*_, _≤_, _≡_, List, [], _∷_, _++_, Bool, true, false, _&&_, cond, Option, none, some, length, drop, replicate}
 use Rattle.image.specs.Bytes.{same}
 use Rattle.image.specs.Table.{Row}
@@ -113,6 +113,18 @@ sameAt (suc k) s t = 0
 pub record SameMeets (s t : List ℕ) (number verdict : ℕ) : Type 0 where
   pub answer : number ≡ sameNo s t
   pub beside : verdict ≡ sameAt (sameNo s t) s t
+
+-- The contract of check, which is ours and not document 01's: questions 1 and 2 alone; beside a 0, how many paths the store holds.
+unfoldable pub checkNo : List ℕ → ℕ
+checkNo s = firstNo (ask 1 (wholeNodes (length s)) ∷ ask 2 (sound s) ∷ [])
+
+unfoldable pub checkAt : ℕ → List ℕ → ℕ
+checkAt zero s = length (tableOf s)
+checkAt (suc k) s = 0
+
+pub record CheckMeets (s : List ℕ) (number paths : ℕ) : Type 0 where
+  pub answer : number ≡ checkNo s
+  pub beside : paths ≡ checkAt (checkNo s) s
 
 -- a list of calls, each on the store as the last one left it, with the answers and the store at the end
 pub data Run : List ℕ → List Call → List Answer → List ℕ → Type 0 where

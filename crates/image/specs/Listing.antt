@@ -1,6 +1,6 @@
 -- Document 01: "A listing holds its place, the last path given. The place is lent to each step, which moves it on. A refused step does not
 -- change it." The definitions that the listing's contracts cite. Relies on: the questions and answers of next.
-use Rattle.image.specs.Prelude.{ℕ, zero, suc, _≡_, List, [], _∷_, true, cond, Option, some, take, replicate, leb}
+use Rattle.image.specs.Prelude.{ℕ, zero, suc, _≡_, List, [], _∷_, true, cond, Option, some, take, drop, replicate, leb}
 use Rattle.image.specs.Bytes.{before}
 use Rattle.image.specs.Path.{pathLimit}
 use Rattle.image.specs.Table.{Row, leastAfter}
@@ -27,10 +27,11 @@ unfoldable pub pathAt : ℕ → List ℕ → List ℕ → List Row → Option (L
 pathAt zero below q t = leastAfter below q t
 pathAt (suc k) below q t = some q
 
--- The contract of a step on the store s, with its place p before and p′ after. Left free: the bytes of an accepted step's place behind
--- its path.
+-- The contract of a step on the store s, with its place p before and p′ after. An accepted step writes the path alone: as with next's buffer, the
+-- later bytes of the place keep what they had.
 pub record Steps (s below : List ℕ) (p : Listing) (number : ℕ) (p′ : Listing) : Type 0 where
   pub answer : number ≡ stepNo s below p
   pub path : some (lastPath p′) ≡ pathAt (stepNo s below p) below (lastPath p) (tableOf s)
+  pub behind : stepNo s below p ≡ 0 → drop (p′ .len) (p′ .last) ≡ drop (p′ .len) (p .last)
   pub rises : stepNo s below p ≡ 0 → before (lastPath p) (lastPath p′) ≡ true
   pub stays : (k : ℕ) → stepNo s below p ≡ suc k → p′ ≡ p

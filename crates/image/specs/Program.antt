@@ -81,9 +81,9 @@ exchanged a b [] = []
 exchanged a b (c ∷ l) = cond (eqb c a) b c ∷ exchanged a b l
 
 -- "Paths use / between components": each / is the 00 of a component, and a last 00 follows. A byte 00 in the text is no separator: such a
--- text is that of no path, here the empty one, which is malformed.
+-- text is that of no path. It stands for the single byte 00, which is malformed and, unlike the empty path, will never be taken by any call.
 unfoldable pub pathOf : List ℕ → List ℕ
-pathOf text = cond (isIn 0 text) [] (exchanged slash 0 text ++ (0 ∷ []))
+pathOf text = cond (isIn 0 text) (0 ∷ []) (exchanged slash 0 text ++ (0 ∷ []))
 
 -- a path as the program prints it: without its last 00, and / for each other
 unfoldable pub pathText : List ℕ → List ℕ
@@ -236,9 +236,22 @@ unfoldable pub saidOn : ℕ → List (List ℕ) → List Row → List ℕ
 saidOn n [] t = []
 saidOn n (line ∷ lines) t = said n line t ++ saidOn n lines (afterLine n line t)
 
--- "It makes a 64-node store and reads lines from standard input": all that is printed for all that is read
+-- and the table after them
+unfoldable pub afterLines : ℕ → List (List ℕ) → List Row → List Row
+afterLines n [] t = t
+afterLines n (line ∷ lines) t = afterLines n lines (afterLine n line t)
+
+-- a 64-node store
 abbrev pub programNodes : ℕ
 programNodes = 64
 
+-- all that is printed for all that is read, and the table at the end, where the store means the table t at the start
+unfoldable pub printedFrom : List Row → List ℕ → List ℕ
+printedFrom t input = saidOn programNodes (linesOf input) t
+
+unfoldable pub tableFrom : List Row → List ℕ → List Row
+tableFrom t input = afterLines programNodes (linesOf input) t
+
+-- "It makes a 64-node store and reads lines from standard input"
 unfoldable pub printedFor : List ℕ → List ℕ
-printedFor input = saidOn programNodes (linesOf input) []
+printedFor input = printedFrom [] input

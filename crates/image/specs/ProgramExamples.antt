@@ -7,7 +7,7 @@ use Rattle.image.specs.Table.{Row, find, isSome, withRow, without, rowsB
 use Rattle.image.specs.Sound.{isIn}
 use Rattle.image.specs.Calls.{firstNo, workLong, isEmpty, actQuestions, queryQuestions, questions, actTable, tableAfter, tableAt, foundBy, fill, accepted, refused, answerAt}
 use Rattle.image.specs.PlainMap.{plainFirstNo}
-use Rattle.image.specs.Program.{lastLine, linesFrom, linesOf, withByte, fieldsOf, someEmpty, exchanged, pathOf, pathText, digitOf, behind, bytesOf, valueOf, digitText, hexText, valueText, putting, wordAlone, wordAndPath, wordAndTwo, readFields, commandOf, badText, okText, endText, decimal, refusedText, textAt, answerText, rowText, rowsText, listText, area, valueBuffer, callText, commandText, commandTable, said, afterLine, saidOn, programNodes, printedFor}
+use Rattle.image.specs.Program.{lastLine, linesFrom, linesOf, withByte, fieldsOf, someEmpty, exchanged, pathOf, pathText, digitOf, behind, bytesOf, valueOf, digitText, hexText, valueText, putting, wordAlone, wordAndPath, wordAndTwo, readFields, commandOf, badText, okText, endText, decimal, refusedText, textAt, answerText, rowText, rowsText, listText, area, valueBuffer, callText, commandText, commandTable, said, afterLine, saidOn, afterLines, programNodes, printedFrom, tableFrom, printedFor}
 
 -- tables: none, one of two paths, and one of 64
 abbrev empty : List Row
@@ -46,6 +46,8 @@ pub record Lines : Type 0 where
   slash-alone : said programNodes (0x67 ∷ 0x65 ∷ 0x74 ∷ 0x20 ∷ 0x2F ∷ []) empty ≡ 0x72 ∷ 0x65 ∷ 0x66 ∷ 0x75 ∷ 0x73 ∷ 0x65 ∷ 0x64 ∷ 0x20 ∷ 0x33 ∷ 0x0A ∷ []
   slash-last : said programNodes (0x67 ∷ 0x65 ∷ 0x74 ∷ 0x20 ∷ 0x61 ∷ 0x2F ∷ []) empty ≡ 0x72 ∷ 0x65 ∷ 0x66 ∷ 0x75 ∷ 0x73 ∷ 0x65 ∷ 0x64 ∷ 0x20 ∷ 0x33 ∷ 0x0A ∷ []
   zero-within : said programNodes (0x67 ∷ 0x65 ∷ 0x74 ∷ 0x20 ∷ 0x61 ∷ 0x00 ∷ 0x62 ∷ []) empty ≡ 0x72 ∷ 0x65 ∷ 0x66 ∷ 0x75 ∷ 0x73 ∷ 0x65 ∷ 0x64 ∷ 0x20 ∷ 0x33 ∷ 0x0A ∷ []
+  zero-not-empty : pathOf (0x61 ∷ 0x00 ∷ 0x62 ∷ []) ≡ 0x00 ∷ []
+  zero-clears-nothing : afterLine programNodes (0x63 ∷ 0x6C ∷ 0x65 ∷ 0x61 ∷ 0x72 ∷ 0x20 ∷ 0x61 ∷ 0x00 ∷ 0x62 ∷ []) two ≡ two
   absent : said programNodes (0x67 ∷ 0x65 ∷ 0x74 ∷ 0x20 ∷ 0x61 ∷ []) empty ≡ 0x72 ∷ 0x65 ∷ 0x66 ∷ 0x75 ∷ 0x73 ∷ 0x65 ∷ 0x64 ∷ 0x20 ∷ 0x38 ∷ 0x0A ∷ []
   present : said programNodes (0x67 ∷ 0x65 ∷ 0x74 ∷ 0x20 ∷ 0x61 ∷ []) two ≡ 0x61 ∷ 0x62 ∷ 0x30 ∷ 0x66 ∷ 0x0A ∷ []
   empty-value : said programNodes (0x67 ∷ 0x65 ∷ 0x74 ∷ 0x20 ∷ 0x61 ∷ 0x2F ∷ 0x62 ∷ []) two ≡ 0x2D ∷ 0x0A ∷ []
@@ -61,13 +63,15 @@ pub record Lines : Type 0 where
   put-table : afterLine programNodes (0x70 ∷ 0x75 ∷ 0x74 ∷ 0x20 ∷ 0x61 ∷ 0x20 ∷ 0x41 ∷ 0x62 ∷ []) empty ≡ record { key = 0x61 ∷ 0 ∷ []; value = 0xAB ∷ [] } ∷ []
   refused-table : afterLine programNodes (0x70 ∷ 0x75 ∷ 0x74 ∷ 0x20 ∷ 0x2F ∷ 0x20 ∷ 0x30 ∷ 0x30 ∷ []) two ≡ two
   no-line : printedFor [] ≡ []
+  gone-on-with : printedFrom two (0x67 ∷ 0x65 ∷ 0x74 ∷ 0x20 ∷ 0x61 ∷ []) ≡ 0x61 ∷ 0x62 ∷ 0x30 ∷ 0x66 ∷ 0x0A ∷ []
+  left-at-end : tableFrom two (0x64 ∷ 0x72 ∷ 0x6F ∷ 0x70 ∷ 0x20 ∷ 0x61 ∷ []) ≡ record { key = 0x61 ∷ 0 ∷ 0x62 ∷ 0 ∷ []; value = [] } ∷ []
   one-feed : printedFor (0x0A ∷ []) ≡ 0x62 ∷ 0x61 ∷ 0x64 ∷ 0x0A ∷ []
   no-last-feed : printedFor (0x74 ∷ 0x69 ∷ 0x64 ∷ 0x79 ∷ 0x0A ∷ 0x67 ∷ 0x65 ∷ 0x74 ∷ 0x20 ∷ 0x61 ∷ []) ≡ 0x6F ∷ 0x6B ∷ 0x0A ∷ 0x72 ∷ 0x65 ∷ 0x66 ∷ 0x75 ∷ 0x73 ∷ 0x65 ∷ 0x64 ∷ 0x20 ∷ 0x38 ∷ 0x0A ∷ []
   paper : printedFor (0x70 ∷ 0x75 ∷ 0x74 ∷ 0x20 ∷ 0x72 ∷ 0x31 ∷ 0x2F ∷ 0x63 ∷ 0x37 ∷ 0x2F ∷ 0x74 ∷ 0x31 ∷ 0x20 ∷ 0x30 ∷ 0x61 ∷ 0x0A ∷ 0x70 ∷ 0x75 ∷ 0x74 ∷ 0x20 ∷ 0x72 ∷ 0x31 ∷ 0x2F ∷ 0x63 ∷ 0x37 ∷ 0x2F ∷ 0x74 ∷ 0x32 ∷ 0x20 ∷ 0x2D ∷ 0x0A ∷ 0x6D ∷ 0x6F ∷ 0x76 ∷ 0x65 ∷ 0x20 ∷ 0x72 ∷ 0x31 ∷ 0x2F ∷ 0x63 ∷ 0x37 ∷ 0x20 ∷ 0x72 ∷ 0x31 ∷ 0x2F ∷ 0x63 ∷ 0x39 ∷ 0x0A ∷ 0x67 ∷ 0x65 ∷ 0x74 ∷ 0x20 ∷ 0x72 ∷ 0x31 ∷ 0x2F ∷ 0x63 ∷ 0x37 ∷ 0x2F ∷ 0x74 ∷ 0x31 ∷ 0x0A ∷ 0x6C ∷ 0x69 ∷ 0x73 ∷ 0x74 ∷ 0x20 ∷ 0x72 ∷ 0x31 ∷ 0x0A ∷ [])
       ≡ 0x6F ∷ 0x6B ∷ 0x0A ∷ 0x6F ∷ 0x6B ∷ 0x0A ∷ 0x6F ∷ 0x6B ∷ 0x0A ∷ 0x72 ∷ 0x65 ∷ 0x66 ∷ 0x75 ∷ 0x73 ∷ 0x65 ∷ 0x64 ∷ 0x20 ∷ 0x38 ∷ 0x0A ∷ 0x72 ∷ 0x31 ∷ 0x2F ∷ 0x63 ∷ 0x39 ∷ 0x2F ∷ 0x74 ∷ 0x31 ∷ 0x20 ∷ 0x30 ∷ 0x61 ∷ 0x0A ∷ 0x72 ∷ 0x31 ∷ 0x2F ∷ 0x63 ∷ 0x39 ∷ 0x2F ∷ 0x74 ∷ 0x32 ∷ 0x20 ∷ 0x2D ∷ 0x0A ∷ 0x65 ∷ 0x6E ∷ 0x64 ∷ 0x0A ∷ []
 
 pub lines : Lines
-unfolding same before begins letter readsOn wellFormed below properBeginning mayMove valueFits find isSome withRow without rowsBelow withoutBelow renamed putAll moved everyKey isIn firstNo workLong isEmpty actQuestions queryQuestions questions actTable tableAfter tableAt foundBy fill accepted refused answerAt plainFirstNo lastLine linesFrom linesOf withByte fieldsOf someEmpty exchanged pathOf pathText digitOf behind bytesOf valueOf digitText hexText valueText putting wordAlone wordAndPath wordAndTwo readFields commandOf badText okText endText decimal refusedText textAt answerText rowText rowsText listText area valueBuffer callText commandText commandTable said afterLine saidOn printedFor
+unfolding same before begins letter readsOn wellFormed below properBeginning mayMove valueFits find isSome withRow without rowsBelow withoutBelow renamed putAll moved everyKey isIn firstNo workLong isEmpty actQuestions queryQuestions questions actTable tableAfter tableAt foundBy fill accepted refused answerAt plainFirstNo lastLine linesFrom linesOf withByte fieldsOf someEmpty exchanged pathOf pathText digitOf behind bytesOf valueOf digitText hexText valueText putting wordAlone wordAndPath wordAndTwo readFields commandOf badText okText endText decimal refusedText textAt answerText rowText rowsText listText area valueBuffer callText commandText commandTable said afterLine saidOn afterLines printedFrom tableFrom printedFor
 lines =
     record {
       empty-line = refl;
@@ -92,6 +96,8 @@ lines =
       slash-alone = refl;
       slash-last = refl;
       zero-within = refl;
+      zero-not-empty = refl;
+      zero-clears-nothing = refl;
       absent = refl;
       present = refl;
       empty-value = refl;
@@ -107,6 +113,8 @@ lines =
       put-table = refl;
       refused-table = refl;
       no-line = refl;
+      gone-on-with = refl;
+      left-at-end = refl;
       one-feed = refl;
       no-last-feed = refl;
       paper = refl;

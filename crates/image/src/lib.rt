@@ -1,8 +1,8 @@
 // The answers of the store's calls as types, and the place of a listing. specs/Answers.antt gives each case its number; the other files of
 // specs/ hold the paper's definitions, which every contract of the crates above cites.
 
-// The numbers of the image, each as document 01 gives it. Code cites them by name; the definitions of specs/ have their own, and a proof
-// that meets them holds only while the two agree.
+// The numbers of the image, as document 01 gives them, and the kinds of a batch, which are ours. Code cites them by name; the definitions of
+// specs/ have their own, and a proof that meets them holds only while the two agree.
 pub const VALUE_LIMIT: usize = 32;
 
 pub const PATH_LIMIT: usize = 64;
@@ -48,8 +48,8 @@ pub const PUT: usize = 0x0020;
 pub const DROP: usize = 0x0021;
 
 pub const CLEAR: usize = 0x0022;
-// Kinds of the further pieces of a batch, specs/Batch.antt.
-pub const MOVE: usize = 0x0023;
+// Kinds of the further pieces of a batch, specs/Batch.antt. 0023 is kept for request S-11's message.
+pub const MOVE: usize = 0x0024;
 
 pub const GET: usize = 0x0030;
 
@@ -103,6 +103,12 @@ pub enum Found {
 pub enum Sameness {
     Same,
     Different,
+    Refused(Refusal),
+}
+
+// The answer of check: a sound image, with how many paths it holds.
+pub enum Verdict {
+    Sound(usize),
     Refused(Refusal),
 }
 

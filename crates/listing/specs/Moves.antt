@@ -1,16 +1,18 @@
 -- What an answer of next says of a step: an accepted one moves the place on, a refused one leaves it. One law for each.
--- Relies on: what a contract tells at once (demands), successor's law of the path that next finds.
-use Rattle.image.specs.Prelude.{ℕ, zero, suc, _-_, _≤_, _<_, _≡_, refl, sym, ap, subst, _∙_, List, [], _∷_, _++_, true, false≢true, Option, none, some, arith, length, take, drop, take-at, le-leb, lt-leb}
+-- Relies on: what a contract tells at once (demands), query's laws of its questions and of a filled buffer, successor's of the path that next finds.
+use Rattle.image.specs.Prelude.{ℕ, zero, suc, _-_, _≤_, _<_, _≡_, refl, sym, ap, subst, _∙_, List, [], _∷_, some, arith, length, take, drop, le-leb, lt-leb}
 use Rattle.image.specs.Bytes.{before}
-use Rattle.image.specs.Table.{Row, isSome, leastAfter}
+use Rattle.image.specs.Table.{Row, leastAfter}
 use Rattle.image.specs.Sound.{tableOf}
-use Rattle.image.specs.Calls.{asks, next, Answer, filled, numberOf, foundBy, fill, accepted, answerAt}
+use Rattle.image.specs.Calls.{asks, next, Answer, numberOf, foundBy}
 use Rattle.image.specs.Contract.{firstNoOn, Meets}
 use Rattle.image.specs.Answers.{refusalNumber, outcomeNumber, foundAnswer}
 use Rattle.image.specs.declared.Refusal.{Refusal}
 use Rattle.image.specs.declared.Outcome.{Outcome}
 use Rattle.image.specs.declared.Found.{Found}
-use Rattle.demands.specs.Contracts.{number-is, was-found}
+use Rattle.demands.specs.Contracts.{number-is, Answered, query-answered}
+use Rattle.query.specs.Asked.{number-by-length}
+use Rattle.query.specs.Front.{Front, front-filled}
 use Rattle.successor.specs.Present.{Next, next-found}
 use Rattle.image.specs.declared.Listing.{Listing}
 use Rattle.image.specs.Listing.{lastPath, blank, stepNo, pathAt, Steps}
@@ -36,17 +38,6 @@ module _ (s below : List ℕ) (p : Listing) (buffer : List ℕ) (a : Answer) whe
       let z : p .len - 0 ≡ p .len = omega arith in
       subst (λ (q : List ℕ). Meets s (asks (next below q) buffer) a s []) (ap (λ (k : ℕ). take k (p .last)) z ∙ sym (last-fits p h)) m
 
--- what stands at the front of a filled buffer is what was found
-front-is : (buffer : List ℕ) (o : Option (List ℕ)) (n : ℕ) (buffer′ : List ℕ) → isSome o ≡ true → filled 0 n buffer′ ≡ fill buffer o
-    → (o ≡ some (take n buffer′)) × (length (take n buffer′) ≡ n)
-unfolding isSome fill
-front-is buffer none n buffer′ h e = absurd (false≢true h)
-front-is buffer (some v) n buffer′ h e =
-    let size : n ≡ length v = cc in
-    let bytes : buffer′ ≡ v ++ drop (length v) buffer = cc in
-    let front : take n buffer′ ≡ v = ap (take n) bytes ∙ take-at v (drop (length v) buffer) n (sym size) in
-    (ap some (sym front), ap length front ∙ sym size)
-
 -- the number of each of next's answers
 length-number : (n : ℕ) (buffer : List ℕ) → numberOf (foundAnswer (Found.Length n) buffer) ≡ 0
 unfolding foundAnswer numberOf
@@ -61,39 +52,33 @@ unfolding pathAt
 path-kept zero below q t h = absurd (h refl)
 path-kept (suc k) below q t h = refl
 
-module _ (s below : List ℕ) (p : Listing) (buffer : List ℕ) (clean : buffer ≡ blank) (r : Found) (buffer′ : List ℕ)
-    (m : Meets s (asks (next below (lastPath p)) buffer) (foundAnswer r buffer′) s []) where
-  no-is : firstNoOn s (asks (next below (lastPath p)) buffer) ≡ stepNo s below p
-  unfolding stepNo
-  no-is = ap (λ (b : List ℕ). firstNoOn s (asks (next below (lastPath p)) b)) clean
-
+-- next was lent the place's own bytes
+module _ (s below : List ℕ) (p : Listing) (long : length (p .last) ≡ 64) (r : Found) (buffer′ : List ℕ)
+    (m : Meets s (asks (next below (lastPath p)) (p .last)) (foundAnswer r buffer′) s []) where
   number-told : numberOf (foundAnswer r buffer′) ≡ stepNo s below p
-  number-told = number-is m ∙ no-is
+  unfolding stepNo blank
+  number-told = number-is m ∙ number-by-length s (next below (lastPath p)) (p .last) blank long
 
-  answer-told : (n : ℕ) → r ≡ Found.Length n → firstNoOn s (asks (next below (lastPath p)) buffer) ≡ 0
-      → filled 0 n buffer′ ≡ fill buffer (leastAfter below (lastPath p) (tableOf s))
-  unfolding foundAnswer answerAt accepted foundBy
-  answer-told n e z =
-      sym (ap (λ (x : Found). foundAnswer x buffer′) e) ∙ m .answer
-      ∙ ap (λ (k : ℕ). answerAt k (asks (next below (lastPath p)) buffer) (tableOf s)) z
-
-  there-is : firstNoOn s (asks (next below (lastPath p)) buffer) ≡ 0 → isSome (leastAfter below (lastPath p) (tableOf s)) ≡ true
-  unfolding foundBy
-  there-is z = was-found s (next below (lastPath p)) buffer z
+  answered : (n : ℕ) → r ≡ Found.Length n → Answered s (next below (lastPath p)) (p .last) n buffer′
+  unfolding foundAnswer
+  answered n e = query-answered (rw e at m)
 
   -- next found a path: the place moves on to it
   pub moves-on : (n : ℕ) → r ≡ Found.Length n → Steps s below p (outcomeNumber Outcome.Done) (record { last = buffer′; len = n })
-  unfolding outcomeNumber pathAt
+  unfolding outcomeNumber pathAt foundBy
   moves-on n e =
       let number : 0 ≡ stepNo s below p = sym (length-number n buffer′) ∙ ap (λ (x : Found). numberOf (foundAnswer x buffer′)) (sym e) ∙ number-told in
-      let no-no : firstNoOn s (asks (next below (lastPath p)) buffer) ≡ 0 = no-is ∙ sym number in
-      let front = front-is buffer (leastAfter below (lastPath p) (tableOf s)) n buffer′ (there-is no-no) (answer-told n e no-no) in
-      let found : Next s below (lastPath p) (take n buffer′) = next-found s below (lastPath p) (take n buffer′) (m .leaves no-no) (front .0) in
-      let short : n ≤ 64 = omega (arith, found .short, front .1) in
+      let no-no : firstNoOn s (asks (next below (lastPath p)) (p .last)) ≡ 0 = sym (number-is m) ∙ number-told ∙ sym number in
+      let a : Answered s (next below (lastPath p)) (p .last) n buffer′ = answered n e in
+      let f : Front (a .bytes) (p .last) n buffer′ = front-filled (a .bytes) (p .last) n buffer′ (a .len-is) (a .out-is) in
+      let least : leastAfter below (lastPath p) (tableOf s) ≡ some (take n buffer′) = a .found ∙ ap some (sym (f .front)) in
+      let found : Next s below (lastPath p) (take n buffer′) = next-found s below (lastPath p) (take n buffer′) (m .leaves no-no) least in
+      let short : n ≤ 64 = omega (arith, found .short, ap length (f .front), f .size) in
       let path : lastPath (record { last = buffer′; len = n }) ≡ take n buffer′ = last-fits (record { last = buffer′; len = n }) short in
       record {
         answer = number;
-        path = ap some path ∙ sym (front .0) ∙ ap (λ (k : ℕ). pathAt k below (lastPath p) (tableOf s)) number;
+        path = ap some path ∙ sym least ∙ ap (λ (k : ℕ). pathAt k below (lastPath p) (tableOf s)) number;
+        behind = λ h. f .behind;
         rises = λ h. ap (before (lastPath p)) path ∙ found .after;
         stays = λ k h. absurd (omega (arith, number, h));
       }
@@ -107,6 +92,7 @@ module _ (s below : List ℕ) (p : Listing) (buffer : List ℕ) (clean : buffer 
       record {
         answer = number;
         path = path-kept (stepNo s below p) below (lastPath p) (tableOf s) some-no;
+        behind = λ h. refl;
         rises = λ h. absurd (some-no h);
         stays = λ k h. refl;
       }

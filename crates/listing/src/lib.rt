@@ -42,7 +42,7 @@ fn next_after(store: &[u8], below: &[u8], place: Listing, path: &mut [u8]) -> Fo
 pub fn advance(store: &[u8], below: &[u8], place: Listing) -> Advanced
     ensures { λ r. ⌜ Steps (now (store .entry)) (now (below .entry)) place (outcomeNumber (r .outcome)) (r .place) ⌝ }
 {
-    let mut path = [0u8; 64];
+    let mut path = place.last; // what stands behind the path found stays
     let found = next_after(store, below, place, &mut path);
     match found {
         Found::Length(len) => Advanced {

@@ -1,5 +1,5 @@
 -- The entries that decide a path are as many as the rows of a sound tree's table.
--- Relies on the laws of tables and of sound trees (laws: RowsRising, LookupTable, Filter; reading: Seek, SeekHere) and on KeepLaws.
+-- Relies on the laws of tables and of sound trees (laws: RowsRising, LookupTable, Filter, Reading's Seek and SeekHere) and on KeepLaws.
 use Rattle.image.specs.Prelude.{ℕ, _+_, _<_, _≡_, refl, sym, ap, _∙_, List, [], _∷_, _++_, Bool, true, false, _&&_, cond, Option, none, some, arith, length, drop, length-append, drop-append-seam, drop-append-add}
 use Rattle.image.specs.Bytes.{begins, shared}
 use Rattle.image.specs.Path.{wellFormed, owns}

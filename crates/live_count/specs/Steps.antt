@@ -1,5 +1,5 @@
 -- Step lemmas of the functions that look at one entry: what each exit of the code owes, over plain lists and numbers.
--- Relies on the definitions of Walk and on the contracts of node and search.
+-- Relies on the definitions of Walk and on the contracts of node and its search.
 use Rattle.image.specs.Prelude.{ℕ, zero, suc, _+_, _-_, _<_, _≤_, _≡_, refl, sym, ap, _∙_, List, [], _∷_, _++_, Bool, true, false, _&&_, not, true≢false, and-true, arith, length, take, drop, getD, set, length-append, getD-set-same, getD-set-other, leb, le-leb, lt-leb, leb-true, leb-false, not-true, not-false, add-one}
 use Rattle.image.specs.Entry as defined
 use Rattle.octets.specs.Order.{and-false}

@@ -4,8 +4,8 @@
 use node::Cursor;
 use node::Entry;
 use node::Message;
+use node::PairStep;
 use node::Step;
-use node::search::PairStep;
 ghost use Rattle.image.specs.Prelude.{_≡_, not, _++_, _+_, _*_, _/_, _%_, _<_, _≤_, length};
 ghost use Rattle.node.specs.Cut.{cut};
 ghost use Rattle.node.specs.Places.{EntryWithin, MessageWithin, entryIn, messageIn};
@@ -300,7 +300,7 @@ pub fn count_pairs(s: &[u8], from: usize, end: usize, notes: &[usize; 64], count
     let mut c = Cursor { at: from, end };
     let mut n: usize = 0;
     while c.at < end {
-        let PairStep::Read(p, _, next) = node::search::step_pair(s, c) else {
+        let PairStep::Read(p, _, next) = c.step_pair(s) else {
             return n;
         };
         let a = p.start;

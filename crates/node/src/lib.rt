@@ -5,9 +5,11 @@ pub mod header;
 pub mod search;
 pub mod writer;
 
+use search::Pair;
 ghost use Rattle.image.specs.Prelude.{_≡_, _≤_, length};
 ghost use Rattle.node.specs.Places.{SplitAs, GotAs, Stepped, cursorOf};
 ghost use Rattle.node.specs.Whole.{HasNode};
+ghost use Rattle.node.specs.Search.PairSteps.{Stands, PairStepped};
 ghost use Rattle.image.specs.Image.{wholeNodes};
 
 // Whether a store of this length is a whole number of nodes, 32 to 1,024: question 1.
@@ -66,6 +68,12 @@ pub struct Cursor {
 pub enum Step {
     Read(Entry, Cursor),
     Bad,
+}
+
+// A pair at a cursor: its key, its value, and the cursor past it; or no pair stands there.
+pub enum PairStep {
+    Read(Place, Place, Cursor),
+    Other,
 }
 
 // The cursor over the entries of a node, before the first of them.
@@ -180,5 +188,66 @@ impl Cursor {
             return Step::Bad;
         };
         Step::Read(e, Cursor { at: stop, end })
+    }
+
+    // The pair at the cursor, where the numbers in front of it show one; what else stands there is not told apart.
+    fn quick_pair(self, s: &[u8]) -> PairStep
+        requires { ⌜ self .end ≤ length (now s) ⌝ }
+        ensures { λ r. ⌜ Stands (now (s .entry)) (self .at) (self .end) r ⌝ }
+    {
+        let at = self.at;
+        let end = self.end;
+        if end <= at {
+            return PairStep::Other;
+        }
+        if end - at < 4 {
+            return PairStep::Other;
+        }
+        let len = octets::u16_at(s, at);
+        if octets::u16_at(s, at + 2) != image::PAIR {
+            return PairStep::Other;
+        }
+        let start = at + 4;
+        if end - start < len {
+            return PairStep::Other;
+        }
+        let stop = start + len;
+        let Split::At(m) = parted(s, start, stop) else {
+            return PairStep::Other;
+        };
+        PairStep::Read(
+            Place {
+                start: start + 2,
+                stop: m,
+            },
+            Place { start: m, stop },
+            Cursor { at: stop, end },
+        )
+    }
+
+    // The entry at the cursor, if it is a pair.
+    fn any_pair(self, s: &[u8]) -> PairStep
+        requires { ⌜ self .end ≤ length (now s) ⌝ }
+        ensures { λ r. ⌜ PairStepped (now (s .entry)) (self .at) (self .end) r ⌝ }
+    {
+        let Step::Read(e, next) = self.step(s) else {
+            return PairStep::Other;
+        };
+        let Pair::Of(p, v) = search::pair_of(e) else {
+            return PairStep::Other;
+        };
+        PairStep::Read(p, v, next)
+    }
+
+    // The pair at the cursor, and the cursor past it: `step` for a leaf's entries. A pair is told by its own numbers, with no look at what other
+    // kinds of entry there are: `step` hands its answer back through memory, which a leaf's pairs, the most of an image, need not.
+    pub fn step_pair(self, s: &[u8]) -> PairStep
+        requires { ⌜ self .end ≤ length (now s) ⌝ }
+        ensures { λ r. ⌜ PairStepped (now (s .entry)) (self .at) (self .end) r ⌝ }
+    {
+        let PairStep::Read(p, v, next) = self.quick_pair(s) else {
+            return self.any_pair(s);
+        };
+        PairStep::Read(p, v, next)
     }
 }

@@ -5,7 +5,6 @@ use crate::Cursor;
 use crate::Entry;
 use crate::Message;
 use crate::Place;
-use crate::Split;
 use crate::Step;
 ghost use Rattle.image.specs.Prelude.{_≡_, ℕ, _≤_, length, List, [], _∷_};
 ghost use Rattle.node.specs.Places.{EntryWithin, MessageWithin, Within, part, entryIn, messageIn};
@@ -16,7 +15,6 @@ ghost use Rattle.node.specs.Entries.{listed};
 ghost use Rattle.node.specs.Search.Latest.{LatestIs, LatestFits, said, saidBy, entrySays, newestAmong, covers};
 ghost use Rattle.node.specs.Search.Messages.{isMessage, hasMessage, messagesAmong};
 ghost use Rattle.node.specs.Search.Pairs.{Finds, findAmong, pairIs};
-ghost use Rattle.node.specs.Search.PairSteps.{Stands, PairStepped};
 
 // The latest word of a node's messages on a path.
 pub enum Latest {
@@ -312,70 +310,6 @@ pub fn owner_of(s: &[u8], from: usize, end: usize, hi: &[u8], rest: &[u8]) -> Ow
         return Owner::Nobody;
     };
     owner_after(s, k, p, next, hi, rest)
-}
-
-// A pair at a cursor: its key, its value, and the cursor past it; or no pair stands there.
-pub enum PairStep {
-    Read(Place, Place, Cursor),
-    Other,
-}
-
-// The pair at a place, where the numbers in front of it show one; what else stands there is not told apart.
-fn pair_at(s: &[u8], at: usize, end: usize) -> PairStep
-    requires { ⌜ end ≤ length (now s) ⌝ }
-    ensures { λ r. ⌜ Stands (now (s .entry)) at end r ⌝ }
-{
-    if end <= at {
-        return PairStep::Other;
-    }
-    if end - at < 4 {
-        return PairStep::Other;
-    }
-    let len = octets::u16_at(s, at);
-    if octets::u16_at(s, at + 2) != 1 {
-        return PairStep::Other;
-    }
-    let start = at + 4;
-    if end - start < len {
-        return PairStep::Other;
-    }
-    let stop = start + len;
-    let Split::At(m) = crate::parted(s, start, stop) else {
-        return PairStep::Other;
-    };
-    PairStep::Read(
-        Place {
-            start: start + 2,
-            stop: m,
-        },
-        Place { start: m, stop },
-        Cursor { at: stop, end },
-    )
-}
-
-// The same by way of any entry.
-fn step_any(s: &[u8], c: Cursor) -> PairStep
-    requires { ⌜ c .end ≤ length (now s) ⌝ }
-    ensures { λ r. ⌜ PairStepped (now (s .entry)) (c .at) (c .end) r ⌝ }
-{
-    let Step::Read(e, next) = c.step(s) else {
-        return PairStep::Other;
-    };
-    let Pair::Of(p, v) = pair_of(e) else {
-        return PairStep::Other;
-    };
-    PairStep::Read(p, v, next)
-}
-
-// The pair at a cursor. A pair is told by its own numbers, with no look at what other kinds of entry there are.
-pub fn step_pair(s: &[u8], c: Cursor) -> PairStep
-    requires { ⌜ c .end ≤ length (now s) ⌝ }
-    ensures { λ r. ⌜ PairStepped (now (s .entry)) (c .at) (c .end) r ⌝ }
-{
-    let PairStep::Read(p, v, next) = pair_at(s, c.at, c.end) else {
-        return step_any(s, c);
-    };
-    PairStep::Read(p, v, next)
 }
 
 // The next child of an interior node, and the cursor after it.

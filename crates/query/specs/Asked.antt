@@ -34,6 +34,10 @@ unfolding firstNoOn workLong nodeQuestions questions
 number-is s q buffer =
     ap₂ (λ x qs. firstNo (ask 1 x ∷ ask 2 (sound s) ∷ qs)) (and-true (wholeNodes (length s))) (questions-are q buffer (tableOf s))
 
+-- of the buffer only the length is asked
+pub number-by-length : (s : List ℕ) (q : Query) (buffer other : List ℕ) → length buffer ≡ length other → firstNoOn s (asks q buffer) ≡ firstNoOn s (asks q other)
+number-by-length s q buffer other e = number-is s q buffer ∙ rw e (sym (number-is s q other))
+
 -- a query leaves the store, and is lent no work area: its answer is all that there is to show
 pub answer-meets : (s : List ℕ) (q : Query) (buffer : List ℕ) (a : Answer) → a ≡ answerAt (firstNoOn s (asks q buffer)) (asks q buffer) (tableOf s)
     → Meets s (asks q buffer) a s []

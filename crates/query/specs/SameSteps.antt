@@ -1,5 +1,5 @@
 -- The steps of same: the counts, the walk, and the questions in order.
--- Relies on: SamePaths (when two tables have the same keys), and on what inclusion and the check of soundness promise.
+-- Relies on: SamePaths (when two tables have the same keys), CheckSteps (the live count), and on what inclusion promises.
 use Rattle.image.specs.Prelude.{ℕ, suc, _≡_, refl, sym, _∙_, List, Bool, true, false, length}
 use Rattle.image.specs.Bytes.{u16}
 use Rattle.image.specs.Image.{wholeNodes}
@@ -9,19 +9,13 @@ use Rattle.image.specs.Contract.{sameKeys, sameNo, sameAt, SameMeets}
 use Rattle.image.specs.Answers.{refusalNumber, samenessNumber, samenessVerdict}
 use Rattle.image.specs.declared.Refusal.{Refusal}
 use Rattle.image.specs.declared.Sameness.{Sameness}
-use Rattle.laws.specs.ButLive.{live-is}
 use Rattle.laws.specs.Follow.{table-rises}
-use Rattle.lookup.specs.Root.{long-enough}
 use Rattle.inclusion.specs.Held.{included}
-use Rattle.soundness.specs.Judged.{told-live}
+use Rattle.query.specs.CheckSteps.{count-is}
 use Rattle.query.specs.SamePaths.{other-length, same-length}
 
 -- THE PATHS
 module _ (s t : List ℕ) (s-sound : sound s ≡ true) (t-sound : sound t ≡ true) (m n : ℕ) (m-is : m ≡ u16 s 10) (n-is : n ≡ u16 t 10) where
-  -- the live count of a sound store is how many rows its table has
-  count-is : (s : List ℕ) (m : ℕ) → sound s ≡ true → m ≡ u16 s 10 → m ≡ length (tableOf s)
-  count-is s m e h = told-live s m (long-enough s e) h ∙ live-is s e
-
   pub counts-differ : (m ≡ n → ⊥) → false ≡ sameKeys (tableOf s) (tableOf t)
   counts-differ h = other-length (tableOf s) (tableOf t) (λ e. h (count-is s m s-sound m-is ∙ e ∙ sym (count-is t n t-sound n-is)))
 

@@ -1,16 +1,17 @@
-// get, next and same: the calls that read a store. Each asks the paper's questions in order and refuses at the first no; a refusal changes
+// get, next, same and check: the calls that read a store. Each asks the paper's questions in order and refuses at the first no; a refusal changes
 // no byte. get_fit and next_fit are the parts from question 3 on, for a store that is known to be sound.
-// Relies on: soundness (question 2), path (question 3), lookup and seek for what is found, inclusion for same.
+// Relies on: soundness (question 2), path (question 3), lookup and successor for what is found, inclusion for same.
 use image::Found;
 use image::Refusal;
 use image::Sameness;
+use image::Verdict;
 ghost use Rattle.image.specs.Prelude.{_≡_, true, [], _≤_, length};
-ghost use Rattle.image.specs.Path.{valueLimit};
-ghost use Rattle.image.specs.Image.{wholeNodes};
+ghost use Rattle.image.specs.Path.{valueLimit, pathLimit};
+ghost use Rattle.image.specs.Image.{wholeNodes, mostNodes};
 ghost use Rattle.image.specs.Calls.{asks, get, next};
 ghost use Rattle.image.specs.Sound.{sound, tableOf};
-ghost use Rattle.image.specs.Contract.{Meets, sameKeys, SameMeets};
-ghost use Rattle.image.specs.Answers.{foundAnswer, samenessNumber, samenessVerdict};
+ghost use Rattle.image.specs.Contract.{Meets, sameKeys, SameMeets, CheckMeets};
+ghost use Rattle.image.specs.Answers.{foundAnswer, samenessNumber, samenessVerdict, verdictNumber, verdictPaths};
 ghost use Rattle.query.specs.Asked.{pathsFit, foundLength};
 
 // get, on a store that is fit.
@@ -38,7 +39,7 @@ pub fn get_fit(store: &[u8], path: &[u8], buffer: &mut [u8]) -> Found
 // The value of a path, at the front of the buffer.
 pub fn get(store: &[u8], path: &[u8], buffer: &mut [u8]) -> Found
     ensures { λ r. ⌜ Meets (now (store .entry)) (asks (get (now (path .entry))) (now (buffer .entry))) (foundAnswer r (now (buffer .exit))) (now (store .entry)) [] ⌝ }
-    ensures short { λ r. ⌜ foundLength r ≤ 64 ⌝ }
+    ensures short { λ r. ⌜ foundLength r ≤ pathLimit ⌝ }
 {
     if !node::whole_nodes(store.len()) {
         return Found::Refused(Refusal::Length);
@@ -66,7 +67,7 @@ fn paths_fit(path: &[u8], after: &[u8]) -> bool
 pub fn next_fit(store: &[u8], path: &[u8], after: &[u8], buffer: &mut [u8]) -> Found
     requires { ⌜ (wholeNodes (length (now store)) ≡ true) × (sound (now store) ≡ true) ⌝ }
     ensures { λ r. ⌜ Meets (now (store .entry)) (asks (next (now (path .entry)) (now (after .entry))) (now (buffer .entry))) (foundAnswer r (now (buffer .exit))) (now (store .entry)) [] ⌝ }
-    ensures short { λ r. ⌜ foundLength r ≤ 64 ⌝ }
+    ensures short { λ r. ⌜ foundLength r ≤ pathLimit ⌝ }
 {
     if !paths_fit(path, after) {
         return Found::Refused(Refusal::Malformed);
@@ -87,7 +88,7 @@ pub fn next_fit(store: &[u8], path: &[u8], after: &[u8], buffer: &mut [u8]) -> F
 // The least path below the first and greater than the second, at the front of the buffer.
 pub fn next(store: &[u8], path: &[u8], after: &[u8], buffer: &mut [u8]) -> Found
     ensures { λ r. ⌜ Meets (now (store .entry)) (asks (next (now (path .entry)) (now (after .entry))) (now (buffer .entry))) (foundAnswer r (now (buffer .exit))) (now (store .entry)) [] ⌝ }
-    ensures short { λ r. ⌜ foundLength r ≤ 64 ⌝ }
+    ensures short { λ r. ⌜ foundLength r ≤ pathLimit ⌝ }
 {
     if !node::whole_nodes(store.len()) {
         return Found::Refused(Refusal::Length);
@@ -131,4 +132,19 @@ pub fn same(store: &[u8], other: &[u8]) -> Sameness
         return Sameness::Same;
     }
     Sameness::Different
+}
+
+// Whether a store is a sound image, and how many paths it holds.
+pub fn check(store: &[u8]) -> Verdict
+    ensures { λ r. ⌜ CheckMeets (now (store .entry)) (verdictNumber r) (verdictPaths r) ⌝ }
+    ensures few { λ r. ⌜ verdictPaths r ≤ mostNodes ⌝ }
+{
+    if !node::whole_nodes(store.len()) {
+        return Verdict::Refused(Refusal::Length);
+    }
+    if !soundness::is_sound(store) {
+        return Verdict::Refused(Refusal::Unsound);
+    }
+    let live = node::header::read_live(store);
+    Verdict::Sound(live)
 }

@@ -1,11 +1,11 @@
 -- The reader of a piece and the writer of an answer: one law for each way out of the code.
 use Rattle.image.specs.Prelude.{ℕ, _+_, _-_, _<_, _≤_, _≡_, refl, sym, ap, ap₂, subst, _∙_, List, _++_, Bool, true, false, _&&_, cond, Option, none, some, arith, length, take, drop, getD, length-drop, length-append, drop-drop, getD-drop, length-take-le, leb, eqb, le-leb, lt-leb, eq-eqb, ne-eqb}
-use Rattle.image.specs.Path.{valueLimit}
+use Rattle.image.specs.Path.{valueLimit, pathLimit}
 use Rattle.image.specs.Bytes.{u16, u16Bytes}
 use Rattle.image.specs.Entry.{pair, keyed}
 use Rattle.image.specs.Calls as calls
 use Rattle.image.specs.Calls.{Act, Upkeep}
-use Rattle.image.specs.Answers.{refusalNumber, outcomeNumber, outcomeAnswer, foundAnswer}
+use Rattle.image.specs.Answers.{refusalLimit, refusalNumber, outcomeNumber, outcomeAnswer, foundAnswer}
 use Rattle.image.specs.Batch.{Request, acting, keeping, asking, twoOf, plainOf, nodeOf, requestOf, firstRequest, behind, answerBytes}
 use Rattle.image.specs.declared.Refusal.{Refusal}
 use Rattle.image.specs.declared.Outcome.{Outcome}
@@ -144,7 +144,7 @@ module _ (s : List ℕ) (kind start stop : ℕ) (low : start ≤ stop) (high : s
             ne-eqb kind 32 (λ e. omega arith),
             ne-eqb kind 33 (λ e. omega arith),
             ne-eqb kind 34 (λ e. omega arith),
-            ne-eqb kind 35 (λ e. omega arith),
+            ne-eqb kind 36 (λ e. omega arith),
             ne-eqb kind 48 (λ e. omega arith),
             ne-eqb kind 49 (λ e. omega arith),
           ) refl
@@ -161,7 +161,7 @@ module _ (s : List ℕ) (kind start stop : ℕ) (low : start ≤ stop) (high : s
         request-none =
             unfold requestOf in
             rw (ne-eqb kind 33 not-drop, ne-eqb kind 34 not-clear, ne-eqb kind 48 not-get, bad (λ p v. acting (calls.put p v)), bad (λ p q. acting (calls.move p q)), bad (λ p q. asking (calls.next p q)))
-            (cond-none (eqb kind 32) refl (cond-none (eqb kind 35) refl (cond-none (eqb kind 49) refl (unfold upkeepOf in upkeep-low kind (cut s start stop) small))))
+            (cond-none (eqb kind 32) refl (cond-none (eqb kind 36) refl (cond-none (eqb kind 49) refl (unfold upkeepOf in upkeep-low kind (cut s start stop) small))))
 
     module _ (m : ℕ) (e : split ≡ Split.At m) where
       places : (start + 2 ≤ m) × (m ≤ stop) × (keyed pair (cut s start stop) ≡ some (pair (cut s (start + 2) m) (cut s m stop)))
@@ -177,7 +177,7 @@ module _ (s : List ℕ) (kind start stop : ℕ) (low : start ≤ stop) (high : s
       unfolding requestOf requestIn changeIn PieceWithin ChangeWithin
       put-at q = record { reads = rw q (two-some _ _ _ _ (places .2)); within = (first-within, second-within) }
 
-      pub move-at : kind ≡ 35 → PieceIs s (requestOf kind (cut s start stop)) (Piece.Change (Change.Move (record { start = start + 2; stop = m }) (record { start = m; stop = stop })))
+      pub move-at : kind ≡ 36 → PieceIs s (requestOf kind (cut s start stop)) (Piece.Change (Change.Move (record { start = start + 2; stop = m }) (record { start = m; stop = stop })))
       unfolding requestOf requestIn changeIn PieceWithin ChangeWithin
       move-at q = record { reads = rw q (two-some _ _ _ _ (places .2)); within = (first-within, second-within) }
 
@@ -185,12 +185,12 @@ module _ (s : List ℕ) (kind start stop : ℕ) (low : start ≤ stop) (high : s
       unfolding requestOf requestIn queryIn PieceWithin QueryWithin
       next-at q = record { reads = rw q (two-some _ _ _ _ (places .2)); within = (first-within, second-within) }
 
-    pub none-at : (kind ≡ 32 → ⊥) → (kind ≡ 35 → ⊥) → (kind ≡ 49 → ⊥) → PieceIs s (requestOf kind (cut s start stop)) Piece.None
+    pub none-at : (kind ≡ 32 → ⊥) → (kind ≡ 36 → ⊥) → (kind ≡ 49 → ⊥) → PieceIs s (requestOf kind (cut s start stop)) Piece.None
     unfolding requestOf requestIn PieceWithin
     none-at a b c =
         record {
           reads =
-              rw (ne-eqb kind 32 a, ne-eqb kind 33 not-drop, ne-eqb kind 34 not-clear, ne-eqb kind 35 b, ne-eqb kind 48 not-get, ne-eqb kind 49 c)
+              rw (ne-eqb kind 32 a, ne-eqb kind 33 not-drop, ne-eqb kind 34 not-clear, ne-eqb kind 36 b, ne-eqb kind 48 not-get, ne-eqb kind 49 c)
               (unfold upkeepOf in upkeep-low kind (cut s start stop) small);
           within = tt;
         }
@@ -290,13 +290,13 @@ pub most-get : (q : Query) (p : Place) → q ≡ Query.Get p → 4 + valueLimit 
 unfolding queryMost
 most-get q p e = rw e refl
 
-pub most-next : (q : Query) (p p′ : Place) → q ≡ Query.Next p p′ → 68 ≡ queryMost q
+pub most-next : (q : Query) (p p′ : Place) → q ≡ Query.Next p p′ → 4 + pathLimit ≡ queryMost q
 unfolding queryMost
 most-next q p p′ e = rw e refl
 
 -- how far the bytes of an answer reach
-pub found-room : (found : Found) (n at long held : ℕ) → found ≡ Found.Length n → at + 4 + foundLength found ≤ long → foundLength found ≤ held → foundLength found ≤ 64
-    → (at + 4 + n ≤ long) × (n ≤ held) × (n ≤ 64)
+pub found-room : (found : Found) (n at long held : ℕ) → found ≡ Found.Length n → at + 4 + foundLength found ≤ long → foundLength found ≤ held → foundLength found ≤ pathLimit
+    → (at + 4 + n ≤ long) × (n ≤ held) × (n ≤ pathLimit)
 found-room found n at long held e h k m = let z = size-found found n e in (omega arith, omega arith, omega arith)
 
 pub copy-room : (page page₁ buffer : List ℕ) (at n : ℕ) → at + 4 + n ≤ length page → n ≤ length buffer → page₁ ≡ put page at (headBytes n 0)
@@ -312,10 +312,10 @@ pub numbered : (x y : Refusal) (k : ℕ) → x ≡ y → k ≡ refusalNumber y �
 numbered x y k e f = f ∙ ap refusalNumber (sym e)
 
 -- the arms of outcome_number
-pub done-number : (o : Outcome) → o ≡ Outcome.Done → (0 ≡ outcomeNumber o) × (0 ≤ 10)
+pub done-number : (o : Outcome) → o ≡ Outcome.Done → (0 ≡ outcomeNumber o) × (0 ≤ refusalLimit)
 unfolding outcomeNumber
 done-number o e = (rw e, omega arith)
 
-pub refused-number : (o : Outcome) (r : Refusal) (k : ℕ) → o ≡ Outcome.Refused r → k ≡ refusalNumber r → k ≤ 10 → (k ≡ outcomeNumber o) × (k ≤ 10)
+pub refused-number : (o : Outcome) (r : Refusal) (k : ℕ) → o ≡ Outcome.Refused r → k ≡ refusalNumber r → k ≤ refusalLimit → (k ≡ outcomeNumber o) × (k ≤ refusalLimit)
 unfolding outcomeNumber
 refused-number o r k e f h = (rw e f, h)

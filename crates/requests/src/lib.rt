@@ -6,12 +6,16 @@ use image::Refusal;
 use node::Place;
 use node::Split;
 ghost use Rattle.image.specs.Prelude.{_≡_, _+_, _≤_, length};
+ghost use Rattle.image.specs.Path.{pathLimit};
 ghost use Rattle.image.specs.Batch.{requestOf, answerBytes};
-ghost use Rattle.image.specs.Answers.{refusalNumber, outcomeNumber, outcomeAnswer, foundAnswer};
+ghost use Rattle.image.specs.Answers.{refusalLimit, refusalNumber, outcomeNumber, outcomeAnswer, foundAnswer};
 ghost use Rattle.octets.specs.Put.{put};
 ghost use Rattle.node.specs.Cut.{cut};
 ghost use Rattle.query.specs.Asked.{foundLength};
 ghost use Rattle.requests.specs.Pieces.{PieceIs, Reads, upkeepOf, queryMost, headBytes};
+
+// The length of an answer's head: two bytes for how many follow it, two for its number. The answer of a change is its head alone.
+pub const ANSWER_HEAD: usize = 4;
 
 // A request that changes the store, or keeps it up.
 pub enum Change {
@@ -139,13 +143,13 @@ pub fn most_bytes(query: Query) -> usize
     ensures { λ r. ⌜ r ≡ queryMost query ⌝ }
 {
     match query {
-        Query::Get(_) => 4 + image::VALUE_LIMIT,
-        Query::Next(_, _) => 4 + image::PATH_LIMIT,
+        Query::Get(_) => ANSWER_HEAD + image::VALUE_LIMIT,
+        Query::Next(_, _) => ANSWER_HEAD + image::PATH_LIMIT,
     }
 }
 
 pub fn refusal_number(refusal: Refusal) -> u32
-    ensures { λ r. ⌜ (r ≡ refusalNumber refusal) × (r ≤ 10) ⌝ }
+    ensures { λ r. ⌜ (r ≡ refusalNumber refusal) × (r ≤ refusalLimit) ⌝ }
 {
     match refusal {
         Refusal::Length => 1,
@@ -162,7 +166,7 @@ pub fn refusal_number(refusal: Refusal) -> u32
 }
 
 pub fn outcome_number(outcome: Outcome) -> u32
-    ensures { λ r. ⌜ (r ≡ outcomeNumber outcome) × (r ≤ 10) ⌝ }
+    ensures { λ r. ⌜ (r ≡ outcomeNumber outcome) × (r ≤ refusalLimit) ⌝ }
 {
     match outcome {
         Outcome::Done => 0,
@@ -170,9 +174,9 @@ pub fn outcome_number(outcome: Outcome) -> u32
     }
 }
 
-// The first four bytes of an answer: how many bytes follow, and its number.
+// The head of an answer: how many bytes follow it, and its number.
 fn write_head(answers: &mut [u8], at: usize, len: usize, number: u32)
-    requires { ⌜ (at + 4 ≤ length (now answers)) × (len ≤ 64) × (number ≤ 10) ⌝ }
+    requires { ⌜ (at + 4 ≤ length (now answers)) × (len ≤ pathLimit) × (number ≤ refusalLimit) ⌝ }
     ensures { λ _. ⌜ now (answers .exit) ≡ put (now (answers .entry)) at (headBytes len number) ⌝ }
 {
     octets::put_u16(answers, at, len);
@@ -185,24 +189,24 @@ pub fn write_outcome(answers: &mut [u8], at: usize, outcome: Outcome) -> usize
     ensures { λ r. ⌜ (now (answers .exit) ≡ put (now (answers .entry)) at (answerBytes (outcomeAnswer outcome))) × (r ≡ at + length (answerBytes (outcomeAnswer outcome))) ⌝ }
 {
     write_head(answers, at, 0, outcome_number(outcome));
-    at + 4
+    at + ANSWER_HEAD
 }
 
 // The answer of a query, whose bytes stand at the front of its buffer; answers the place behind it.
 pub fn write_found(answers: &mut [u8], at: usize, found: Found, buffer: &[u8]) -> usize
-    requires { ⌜ (at + 4 + foundLength found ≤ length (now answers)) × (foundLength found ≤ length (now buffer)) × (foundLength found ≤ 64) ⌝ }
+    requires { ⌜ (at + 4 + foundLength found ≤ length (now answers)) × (foundLength found ≤ length (now buffer)) × (foundLength found ≤ pathLimit) ⌝ }
     ensures { λ r. ⌜ (now (answers .exit) ≡ put (now (answers .entry)) at (answerBytes (foundAnswer found (now (buffer .entry)))))
         × (r ≡ at + length (answerBytes (foundAnswer found (now (buffer .entry))))) ⌝ }
 {
     match found {
         Found::Length(n) => {
             write_head(answers, at, n, 0);
-            octets::copy_at(answers, at + 4, &buffer[0..n]);
-            at + 4 + n
+            octets::copy_at(answers, at + ANSWER_HEAD, &buffer[0..n]);
+            at + ANSWER_HEAD + n
         }
         Found::Refused(refusal) => {
             write_head(answers, at, 0, refusal_number(refusal));
-            at + 4
+            at + ANSWER_HEAD
         }
     }
 }

@@ -35,12 +35,13 @@ pub record Held (store out : List ℕ) : Type 0 where
 pub held-on : (store out out′ : List ℕ) → Held store out → length out′ ≡ length out → Held store out′
 held-on store out out′ h e = record { nodes = h .nodes; is-sound = h .is-sound; page = omega (arith, h .page) }
 
--- what a command leaves: its text in the first r bytes of the page, and its table in the store, which is sound again
+-- what a command leaves: its text in the first r bytes of the page, and its table in the store, which is sound again and of its size
 pub record Answered (s : List ℕ) (c : Command) (r : ℕ) (out′ s′ : List ℕ) : Type 0 where
   pub text : take r out′ ≡ commandText programNodes c (tableOf s)
   pub fits : r ≤ length out′
   pub table : tableOf s′ ≡ commandTable programNodes c (tableOf s)
   pub still-sound : sound s′ ≡ true
+  pub size : length s′ ≡ length s
 
 -- the same, of a line
 pub record Says (s line : List ℕ) (r : ℕ) (out′ s′ : List ℕ) : Type 0 where
@@ -48,6 +49,7 @@ pub record Says (s line : List ℕ) (r : ℕ) (out′ s′ : List ℕ) : Type 0 
   pub fits : r ≤ length out′
   pub table : tableOf s′ ≡ afterLine programNodes line (tableOf s)
   pub still-sound : sound s′ ≡ true
+  pub size : length s′ ≡ length s
 
 pub says : (s line : List ℕ) (c : Command) (r : ℕ) (out′ s′ : List ℕ) → commandOf line ≡ c → Answered s c r out′ s′ → Says s line r out′ s′
 unfolding said afterLine
@@ -57,6 +59,7 @@ says s line c r out′ s′ e a =
       fits = a .fits;
       table = a .table ∙ ap (λ x. commandTable programNodes x (tableOf s)) (sym e);
       still-sound = a .still-sound;
+      size = a .size;
     }
 
 pub answered-as : (s : List ℕ) (c d : Command) (r : ℕ) (out′ s′ : List ℕ) → c ≡ d → Answered s c r out′ s′ → Answered s d r out′ s′
@@ -93,9 +96,13 @@ unfolding answerText foundAnswer
 absent-text f r k buffer e g = rw (e, g) (sym (refused-at r (valueText (take 0 buffer) ++ (lineFeed ∷ []))))
 
 -- THE STORE'S ANSWERS ARE THE PLAIN MAP'S
-nodes-64 : (n : ℕ) → n ≡ 65536 → (wholeNodes n ≡ true) × (nodesOf n ≡ 64)
+pub whole-64 : (n : ℕ) → n ≡ 65536 → wholeNodes n ≡ true
 unfolding wholeNodes nodesOf
-nodes-64 n e = rw e (refl, refl)
+whole-64 n e = rw e refl
+
+nodes-64 : (n : ℕ) → n ≡ 65536 → nodesOf n ≡ 64
+unfolding nodesOf
+nodes-64 n e = rw e refl
 
 skip-two : (qs : List Question) → firstNo (ask 1 (true && true) ∷ ask 2 true ∷ qs) ≡ firstNo (ask 1 true ∷ qs)
 unfolding firstNo
@@ -120,8 +127,8 @@ module _ (s out : List ℕ) (h : Held s out) where
   act-no : (a : Act) (work : List ℕ) → 8192 ≤ length work → firstNoOn s (acts a work) ≡ plainFirstNo 64 (acts a (area 64)) (tableOf s)
   unfolding firstNoOn plainFirstNo nodeQuestions questions workLong
   act-no a work l =
-      let w : wholeNodes (length s) ≡ true = nodes-64 (length s) (h .nodes) .0 in
-      let n : nodesOf (length s) ≡ 64 = nodes-64 (length s) (h .nodes) .1 in
+      let w : wholeNodes (length s) ≡ true = whole-64 (length s) (h .nodes) in
+      let n : nodesOf (length s) ≡ 64 = nodes-64 (length s) (h .nodes) in
       let long : leb (workPerNode * 64) (length work) ≡ true = le-leb (workPerNode * 64) (length work) (omega arith) in
       rw (w, n, h .is-sound, long, area-long) (skip-two _)
 
@@ -148,13 +155,14 @@ module _ (s out : List ℕ) (h : Held s out) where
             m .table ∙ table-alike (firstNoOn s (acts a work)) a work (area 64) (tableOf s)
             ∙ ap (λ k. tableAt k (acts a (area 64)) (tableOf s)) no;
         still-sound = after-sound (acts a work) (outcomeAnswer o) s′ w′ m;
+        size = m .size;
       }
 
   -- get
   get-no : (p buffer : List ℕ) → firstNoOn s (asks (get p) buffer) ≡ plainFirstNo 64 (asks (get p) buffer) (tableOf s)
   unfolding firstNoOn plainFirstNo nodeQuestions questions workLong
   get-no p buffer =
-      let w : wholeNodes (length s) ≡ true = nodes-64 (length s) (h .nodes) .0 in
+      let w : wholeNodes (length s) ≡ true = whole-64 (length s) (h .nodes) in
       rw (w, h .is-sound) (skip-two _)
 
   pub get-answered : (p : List ℕ) (f : Found) (buffer′ out₁ : List ℕ) (r : ℕ) (out′ : List ℕ)
@@ -166,19 +174,20 @@ module _ (s out : List ℕ) (h : Held s out) where
         fits = wrote-within out₁ (answerText (foundAnswer f buffer′)) r out′ w;
         table = refl;
         still-sound = h .is-sound;
+        size = refl;
       }
 
   -- a line that is bad, and a list with a malformed path
   pub bad-answered : (out₁ : List ℕ) (r : ℕ) (out′ : List ℕ) → Wrote out₁ 0 badText r out′ → Answered s bad r out′ s
   unfolding commandText commandTable
-  bad-answered out₁ r out′ w = record { text = w .bytes; fits = wrote-within out₁ badText r out′ w; table = refl; still-sound = h .is-sound }
+  bad-answered out₁ r out′ w = record { text = w .bytes; fits = wrote-within out₁ badText r out′ w; table = refl; still-sound = h .is-sound; size = refl }
 
   -- WHAT A QUERY FINDS
   query-no : (q : Query) (buffer : List ℕ) → pathsFit q ≡ true → bufferLimit q ≤ length buffer
       → firstNoOn s (asks q buffer) ≡ firstNo (ask 8 (isSome (foundBy q (tableOf s))) ∷ [])
   unfolding firstNo
   query-no q buffer e l =
-      let w : wholeNodes (length s) ≡ true = nodes-64 (length s) (h .nodes) .0 in
+      let w : wholeNodes (length s) ≡ true = whole-64 (length s) (h .nodes) in
       number-is s q buffer ∙ rw (w, h .is-sound, e, le-leb (bufferLimit q) (length buffer) l) refl
 
   module _ (q : Query) (buffer : List ℕ) (formed : pathsFit q ≡ true) (room : bufferLimit q ≤ length buffer) (f : Found) (buffer′ : List ℕ)

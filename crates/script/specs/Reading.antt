@@ -14,11 +14,12 @@ pub record Front (bytes : List ℕ) (r : ℕ) (buffer : List ℕ) : Type 0 where
   pub within : r ≤ length buffer
 
 -- A PATH
-pub no-path : (text : List ℕ) (k : ℕ) (buffer : List ℕ) → k ≡ upTo 0 text → k < length text → Front (pathOf text) 0 buffer
+pub no-path : (text : List ℕ) (k : ℕ) (buffer : List ℕ) → k ≡ upTo 0 text → k < length text → length text < length buffer → Front (pathOf text) 1 (set buffer 0 0)
 unfolding pathOf
-no-path text k buffer e h =
+no-path text k buffer e h l =
     let z : isIn 0 text ≡ true = in-found 0 text (omega arith) in
-    record { is = rw z refl; within = omega arith }
+    let n = length-set buffer 0 0 in
+    record { is = set-next buffer 0 0 (omega arith) ∙ rw z refl; within = omega arith }
 
 pub path-read : (text : List ℕ) (k : ℕ) (buffer : List ℕ) (end : ℕ) (buffer₁ : List ℕ) → k ≡ upTo 0 text → length text ≤ k
     → Wrote buffer 0 (exchanged slash 0 text) end buffer₁ → end < length buffer₁ → Front (pathOf text) (end + 1) (set buffer₁ end 0)

@@ -286,9 +286,9 @@ row-refused s path out buffer f buffer′ r h x l m e =
 pub list-answered : (s p out₁ : List ℕ) (r : ℕ) (out′ out : List ℕ) → Held s out → wellFormed p ≡ true → Wrote out₁ 0 (rowsText (rowsBelow p (tableOf s))) r out′ → Answered s (listing p) r out′ s
 unfolding commandText commandTable listText
 list-answered s p out₁ r out′ out h f w =
-    record { text = w .bytes ∙ rw f refl; fits = wrote-within out₁ (rowsText (rowsBelow p (tableOf s))) r out′ w; table = refl; still-sound = h .is-sound }
+    record { text = w .bytes ∙ rw f refl; fits = wrote-within out₁ (rowsText (rowsBelow p (tableOf s))) r out′ w; table = refl; still-sound = h .is-sound; size = refl }
 
 pub list-refused : (s p out₁ : List ℕ) (r : ℕ) (out′ out : List ℕ) → Held s out → wellFormed p ≡ false → Wrote out₁ 0 (refusedText 3) r out′ → Answered s (listing p) r out′ s
 unfolding commandText commandTable listText
 list-refused s p out₁ r out′ out h f w =
-    record { text = w .bytes ∙ rw f refl; fits = wrote-within out₁ (refusedText 3) r out′ w; table = refl; still-sound = h .is-sound }
+    record { text = w .bytes ∙ rw f refl; fits = wrote-within out₁ (refusedText 3) r out′ w; table = refl; still-sound = h .is-sound; size = refl }

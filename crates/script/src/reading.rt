@@ -25,7 +25,8 @@ pub fn read_path(text: &[u8], path: &mut [u8]) -> usize
     ensures { λ r. ⌜ Front (pathOf (now (text .entry))) r (now (path .exit)) ⌝ }
 {
     if find_byte(text, 0) < text.len() {
-        return 0; // a byte 00 in the text: the empty path, which no call takes
+        path[0] = 0; // a byte 00 in the text: the path of that byte alone, which no call takes
+        return 1;
     }
     let end = crate::writing::put_exchanged(text, 47, 0, path, 0);
     path[end] = 0;

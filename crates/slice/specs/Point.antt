@@ -1,5 +1,5 @@
 -- Where a cut falls among the children of an interior node, and the bytes of the parts' entries. Definitions only: pivots, cut and keys are
--- told without what the node lifts. Relies on node's and search's lists of entries and children.
+-- told without what the node lifts. Relies on node's lists of entries and children.
 use Rattle.image.specs.Prelude.{ℕ, zero, suc, _+_, _*_, _≡_, List, [], _∷_, _++_, Bool, true, false, not, cond, length, drop}
 use Rattle.image.specs.Bytes.{before, u16}
 use Rattle.image.specs.Entry as defined

@@ -1,4 +1,4 @@
--- The parts of a node over its children as they are read, by the point where the cut falls. Relies on slicing (leftIn, leftWriteIn).
+-- The parts of a node over its children as they are read, by the point where the cut falls. Relies on Slicing (leftIn, leftWriteIn).
 use Rattle.image.specs.Prelude.{ℕ, suc, _+_, _≡_, refl, sym, ap, ap₂, _∙_, List, [], _∷_, _++_, append-assoc, append-nil, Bool, true, false, cond, false≢true, Option, none, some, arith, length, drop, cases}
 use Rattle.image.specs.Bytes.{before}
 use Rattle.image.specs.Entry as defined

@@ -3,6 +3,7 @@
 use Rattle.image.specs.Prelude.{ℕ, zero, suc, _/_, _%_, _-_, _≤_, _<_, _≡_, refl, sym, ap, _∙_, List, [], _∷_, _++_, Bool, true, false, cond, arith, length, take, drop, length-append, length-drop, length-take-le, take-at, drop-at, leb, le-leb, lt-leb, leb-true, leb-false}
 use Rattle.image.specs.Calls.{Call, Answer, number, filled, ask, firstNo}
 use Rattle.image.specs.Contract.{Run, stop, call}
+use Rattle.image.specs.Answers.{refusalLimit}
 use Rattle.image.specs.Batch.{Request, callsOf, answerBytes, answersBytes, requestsOf, batchNo, zeroed, BatchRuns, BatchMeets}
 use Rattle.image.specs.Image.{nodesOf}
 
@@ -62,7 +63,7 @@ bytes-least [] = omega arith
 bytes-least (a ∷ given) = let h = some-bytes a in let k = bytes-least given in let l = length-append (answerBytes a) (answersBytes given) in omega arith
 
 module _ (s work calls out : List ℕ) (n done written : ℕ) (s′ work′ out′ : List ℕ) (m : BatchMeets s work calls out n done written s′ work′ out′) where
-  pub batch-small : length out ≤ 268435455 → (n ≤ 10) × (done ≤ 268435455) × (written ≤ 268435455)
+  pub batch-small : length out ≤ 268435455 → (n ≤ refusalLimit) × (done ≤ 268435455) × (written ≤ 268435455)
   batch-small h = let k = number-small s work in let a = m .answer in let q = by-number (batchNo s work) refl in (omega arith, q .0, q .1)
     where
       by-number : (k : ℕ) → batchNo s work ≡ k → (done ≤ 268435455) × (written ≤ 268435455)

@@ -1,36 +1,55 @@
 // The calls for C, whose prototypes stand in include/splicelog.h. Each hands its slices to the call of the same name and turns the answer
-// into numbers. Relies on: make, query, edit, rename, maintain and batch for the calls; pieces for the numbers of answers.
+// into numbers. Relies on: make, query, edit, rename, maintain and batch for the calls; requests for the numbers of answers.
 use batch::Batched;
 use image::Found;
 use image::Sameness;
-ghost use Rattle.image.specs.Prelude.{_≤_, _/_, _%_, _≡_, []};
-ghost use Rattle.image.specs.Answers.{samenessNumber, samenessVerdict};
+use image::Verdict;
+ghost use Rattle.image.specs.Prelude.{_≤_, _<_, _/_, _%_, _≡_, []};
+ghost use Rattle.image.specs.Path.{pathLimit};
+ghost use Rattle.image.specs.Image.{mostNodes};
+ghost use Rattle.image.specs.Answers.{refusalLimit, samenessNumber, samenessVerdict, verdictNumber, verdictPaths};
 ghost use Rattle.image.specs.Calls.{asks, get, next, filled, acts, keeps, put, drops, clear, move, settle, tidy, flush, heal, number};
-ghost use Rattle.image.specs.Contract.{Meets, MakeMeets, SameMeets};
+ghost use Rattle.image.specs.Contract.{Meets, MakeMeets, SameMeets, CheckMeets};
 ghost use Rattle.image.specs.Batch.{BatchMeets};
 ghost use Rattle.query.specs.Asked.{foundLength};
-ghost use Rattle.splicelog.specs.Words.{foundNumber};
+ghost use Rattle.splicelog.specs.Words.{foundNumber, Holds};
 ghost use Rattle.splicelog.specs.BatchWord.{answersRoom, answersUsed, answersLeft};
 
-// The number in the low 32 bits, the length in the high 32.
+// The number in the low 32 bits, what stands beside it in the high 32.
+fn word(number: u32, beside: usize) -> u64
+    requires { ⌜ beside < 4294967296 ⌝ }
+    ensures { λ r. ⌜ Holds r number beside ⌝ }
+{
+    number as u64 + 4294967296 * (beside as u64)
+}
+
 fn found_word(found: Found) -> u64
-    requires { ⌜ foundLength found ≤ 64 ⌝ }
-    ensures { λ r. ⌜ (r % 4294967296 ≡ foundNumber found) × (r / 4294967296 ≡ foundLength found) ⌝ }
+    requires { ⌜ foundLength found ≤ pathLimit ⌝ }
+    ensures { λ r. ⌜ Holds r (foundNumber found) (foundLength found) ⌝ }
 {
     match found {
-        Found::Length(n) => (n as u64) * 4294967296,
-        Found::Refused(refusal) => requests::refusal_number(refusal) as u64,
+        Found::Length(n) => word(0, n),
+        Found::Refused(refusal) => word(requests::refusal_number(refusal), 0),
     }
 }
 
-// The number in the low 32 bits, 1 or 0 in the high 32.
 fn sameness_word(sameness: Sameness) -> u64
-    ensures { λ r. ⌜ (r % 4294967296 ≡ samenessNumber sameness) × (r / 4294967296 ≡ samenessVerdict sameness) ⌝ }
+    ensures { λ r. ⌜ Holds r (samenessNumber sameness) (samenessVerdict sameness) ⌝ }
 {
     match sameness {
-        Sameness::Same => 4294967296,
-        Sameness::Different => 0,
-        Sameness::Refused(refusal) => requests::refusal_number(refusal) as u64,
+        Sameness::Same => word(0, 1),
+        Sameness::Different => word(0, 0),
+        Sameness::Refused(refusal) => word(requests::refusal_number(refusal), 0),
+    }
+}
+
+fn verdict_word(verdict: Verdict) -> u64
+    requires { ⌜ verdictPaths verdict ≤ mostNodes ⌝ }
+    ensures { λ r. ⌜ Holds r (verdictNumber verdict) (verdictPaths verdict) ⌝ }
+{
+    match verdict {
+        Verdict::Sound(paths) => word(0, paths),
+        Verdict::Refused(refusal) => word(requests::refusal_number(refusal), 0),
     }
 }
 
@@ -46,7 +65,7 @@ fn answers_room(len: usize) -> usize
 
 // The number in the low 8 bits, the calls done in the next 28, the bytes written in the high 28.
 fn batch_word(batched: Batched) -> u64
-    requires { ⌜ (batched .number ≤ 10) × (batched .done ≤ 268435455) × (batched .written ≤ 268435455) ⌝ }
+    requires { ⌜ (batched .number ≤ refusalLimit) × (batched .done ≤ 268435455) × (batched .written ≤ 268435455) ⌝ }
     ensures { λ r. ⌜ (r % 256 ≡ batched .number) × (r / 256 % 268435456 ≡ batched .done) × (r / 68719476736 ≡ batched .written) ⌝ }
 {
     let done = batched.done as u64;
@@ -81,6 +100,13 @@ pub extern "C" fn splicelog_same(store: &[u8], other: &[u8]) -> u64
     ensures { λ r. ⌜ SameMeets (now (store .entry)) (now (other .entry)) (r % 4294967296) (r / 4294967296) ⌝ }
 {
     sameness_word(query::same(store, other))
+}
+
+#[no_mangle]
+pub extern "C" fn splicelog_check(store: &[u8]) -> u64
+    ensures { λ r. ⌜ CheckMeets (now (store .entry)) (r % 4294967296) (r / 4294967296) ⌝ }
+{
+    verdict_word(query::check(store))
 }
 
 #[no_mangle]

@@ -1,5 +1,5 @@
 -- The paths that a walk comes to, whatever it asks of them: those of a child, of a run of children and of a node, in pieces; and what is ready
--- of a node is ready of its children. Relies on: the keys of a tree (Seek, SeekHere), the nodes of lookup (leaf-at, interior-at), tree's branches.
+-- of a node is ready of its children. Relies on: the keys of a tree (Seek, SeekHere), the nodes of lookup (leaf-at, interior-at), node's branches.
 use Rattle.image.specs.Prelude.{ℕ, _-_, _<_, _≤_, _≡_, refl, sym, ap, ap₂, subst, _∙_, List, [], _∷_, _++_, append-nil, append-assoc, true, Option, none, some, arith, length, take, drop, length-append, take-at}
 use Rattle.image.specs.Bytes.{shared}
 use Rattle.image.specs.Entry as defined

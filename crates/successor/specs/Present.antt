@@ -1,6 +1,6 @@
 -- Present paths of a sound image are well formed, and so at most 64 bytes; the walk from the root over all paths is next, of those that are
 -- unfit for a shape; all are for the dead one.
--- Relies on: the walk of reading (Seek, SeekHere), the root of lookup.
+-- Relies on: the walk of laws/Reading (Seek, SeekHere), the root of lookup.
 use Rattle.image.specs.Prelude.{ℕ, _<_, _≤_, _≡_, refl, sym, ap, subst, _∙_, List, [], _∷_, Bool, true, false, _&&_, none, some, arith, length, drop}
 use Rattle.image.specs.Bytes.{before, begins, shared, u16}
 use Rattle.image.specs.Path.{wellFormed, owns}

@@ -1,5 +1,5 @@
 -- The walk in pieces: no path, one path, two lists of paths; a child that is skipped.
--- Relies on: the walk of reading (Seek, SeekHere).
+-- Relies on: the walk of laws/Reading (Seek, SeekHere).
 use Rattle.image.specs.Prelude.{ℕ, _≡_, refl, sym, ap, _∙_, List, [], _∷_, _++_, true, Option}
 use Rattle.image.specs.Image.{treeAt}
 use Rattle.path.specs.Shape.{Shape}

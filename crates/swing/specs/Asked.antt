@@ -1,4 +1,4 @@
--- The plan of a swing from what it asks: the laws of moving, with the list of free nodes as the code reads it; and its image as `swungWith`.
+-- The plan of a swing from what it asks: the laws of slice/Moving, with the list of free nodes as the code reads it; and its image as `swungWith`.
 -- Relies on slice/Moving's laws of the supply of free nodes.
 use Rattle.image.specs.Prelude.{ℕ, zero, suc, _+_, _*_, _-_, _/_, _≤_, _<_, _≡_, refl, sym, ap, ap₂, subst, _∙_, List, [], Bool, true, false, arith, length, getD, take, drop, take-at, leb, leb-true, leb-false}
 use Rattle.image.specs.Bytes.{u16, before}

@@ -1,5 +1,5 @@
 // The free nodes of a store, listed from the marks of the nodes in use: rising, two bytes each.
-// Relies on octets for the two-byte numbers; the marks are those of tree_check, and specs/Spare joins them to the free nodes of moving.
+// Relies on octets for the two-byte numbers; the marks are those of tree_check, and specs/Spare joins them to the free nodes of slice/Moving.
 ghost use Rattle.image.specs.Prelude.{_≡_, _++_, _+_, _*_, _-_, _<_, _≤_, length};
 ghost use Rattle.packed.specs.Build.Handed.{listed};
 ghost use Rattle.swing.specs.Spare.Spare.{unmarked};

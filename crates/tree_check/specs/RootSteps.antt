@@ -1,5 +1,5 @@
 -- The exits of the check of node 0 and of the check of an image.
--- Relies on Whole, and on reading's law of the walk from the root with no mark set (`visit-root`).
+-- Relies on Whole, and on laws/Reading's law of the walk from the root with no mark set (`visit-root`).
 use Rattle.image.specs.Prelude.{ℕ, _+_, _*_, _<_, _≤_, _≡_, refl, sym, ap, ap₂, subst, _∙_, List, [], _∷_, Bool, true, false, _&&_, _||_, cond, and-true, none, some, arith, length, drop, getD, set, length-set, length-replicate, getD-set-same, getD-set-other, ext-getD, ltb, leb, eqb, lt-ltb, le-ltb, le-leb, lt-leb, eq-eqb, ne-eqb, eqb-true, eqb-false, ltb-true}
 use Rattle.image.specs.Bytes.{u16, zeros}
 use Rattle.image.specs.Image.{Tree, nodeBytes, nodesOf, header, headerOf, headerLaidOut, treeAt, treeOf}

@@ -1,11 +1,11 @@
 // Whether a leaf, and the messages of an interior node, are sound, and how many entries each has: one walk tells both.
-// Relies on node and search for the entries, on octets for their order and on path for the shape of their keys.
+// Relies on node for the entries, on octets for their order and on path for the shape of their keys.
 use node::Cursor;
 use node::Entry;
 use node::Message;
+use node::PairStep;
 use node::Place;
 use node::Step;
-use node::search::PairStep;
 use path::Shape;
 ghost use Rattle.image.specs.Prelude.{_≡_, _≤_, length, none};
 ghost use Rattle.node.specs.Places.{Within, MessageWithin, part, messageIn};
@@ -83,7 +83,7 @@ pub fn check_leaf(s: &[u8], from: usize, end: usize, lo: &[u8], hi: &[u8], sh: S
     let mut prev = Prev::Start;
     let mut n: usize = 0;
     while c.at < end {
-        let PairStep::Read(p, v, next) = node::search::step_pair(s, c) else {
+        let PairStep::Read(p, v, next) = c.step_pair(s) else {
             return Counted::Bad;
         };
         if !row_good(s, prev, p, v, lo, sh) {

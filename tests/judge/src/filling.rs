@@ -69,8 +69,12 @@ impl Filling {
         (0..n).try_for_each(|index| self.put(&path(index), &[byte; 32], 0))
     }
 
-    /// The second program finds so many paths, all with this byte.
-    fn holds(&self, count: usize, byte: u8) -> Result<(), String> {
+    /// The library counts and the second program finds so many paths, all with this byte.
+    fn holds(&mut self, count: usize, byte: u8) -> Result<(), String> {
+        let counted = Library.check(&mut self.store);
+        if counted != (0, count as u32) {
+            return Err(format!("check answers {counted:?}, {count} paths expected"));
+        }
         let sound = judge(&self.store).map_err(|rule| format!("unsound: {}", rule.name()))?;
         let right = sound.table.values().all(|value| value == &[byte; 32]);
         match sound.table.len() == count && right {

@@ -2,9 +2,14 @@
 // program can judge it. The library takes any bytes, so a wrapper has nothing to test; it only takes the answer apart.
 
 pub mod batches;
+pub mod damage;
+pub mod deep;
 pub mod filling;
+pub mod guarded;
 pub mod images;
+pub mod lengths;
 pub mod moving;
+pub mod overlaps;
 pub mod reading;
 pub mod stack;
 
@@ -12,7 +17,7 @@ use second::subject::{Capabilities, Numbers, Subject};
 
 extern "C" {
     fn splicelog_make(store: *mut u8, store_len: usize) -> u32;
-    fn splicelog_get(
+    pub(crate) fn splicelog_get(
         store: *const u8,
         store_len: usize,
         path: *const u8,
@@ -20,12 +25,13 @@ extern "C" {
         buffer: *mut u8,
         buffer_len: usize,
     ) -> u64;
-    fn splicelog_same(
+    pub(crate) fn splicelog_same(
         store: *const u8,
         store_len: usize,
         other: *const u8,
         other_len: usize,
     ) -> u64;
+    fn splicelog_check(store: *const u8, store_len: usize) -> u64;
     fn splicelog_put(
         store: *mut u8,
         store_len: usize,
@@ -78,7 +84,7 @@ extern "C" {
         work_len: usize,
         node: usize,
     ) -> u32;
-    fn splicelog_next(
+    pub(crate) fn splicelog_next(
         store: *const u8,
         store_len: usize,
         path: *const u8,
@@ -91,7 +97,7 @@ extern "C" {
 }
 
 /// The number in the low 32 bits, what stands beside it in the high 32.
-fn apart(answer: u64) -> Numbers {
+pub(crate) fn apart(answer: u64) -> Numbers {
     (answer as u32, (answer >> 32) as u32)
 }
 
@@ -100,7 +106,7 @@ fn alone(number: u32) -> Numbers {
     (number, 0)
 }
 
-/// A node number as C passes it: no bit of it is lost on x86-64, for which alone the library is.
+/// A node number as C passes it: the judge runs on x86-64, where no bit of it is lost.
 fn whole(node: u64) -> usize {
     const { assert!(usize::BITS == u64::BITS) };
     node as usize
@@ -152,6 +158,11 @@ impl Subject for Library {
     fn same(&mut self, a: &mut [u8], b: &mut [u8]) -> Numbers {
         // SAFETY: as above.
         apart(unsafe { splicelog_same(a.as_ptr(), a.len(), b.as_ptr(), b.len()) })
+    }
+
+    fn check(&mut self, store: &mut [u8]) -> Numbers {
+        // SAFETY: as above.
+        apart(unsafe { splicelog_check(store.as_ptr(), store.len()) })
     }
 
     fn put(&mut self, store: &mut [u8], path: &[u8], value: &[u8], work: &mut [u8]) -> Numbers {

@@ -1,11 +1,15 @@
-// Judges the static library: `judge [long] [SEED [CASES]]`, or `judge stack` for the stack alone. First by lists of calls, then in every
-// corner of the grid, then by reading whole images, by batches beside the same calls one by one, by filling stores to the last path and by moves on full ones, then the stack. It
-// prints what was tried, and fails where anything was not. A failure names the seed and the case.
+// Judges the static library: `judge [long] [SEED [CASES]]`, or `judge stack` for the stack alone. By the paper's cases, every combination
+// of arguments, lists of calls, every corner of the grid, full stores, the deepest images and the lengths that are just allowed; by reading
+// whole images and changing every byte of small ones; by batches beside the same calls one by one; by arrays that overlap and arrays
+// between guard pages; by filling stores to the last path; then the stack. It prints what was tried, and fails where anything was not. A
+// failure names the seed and the case.
 #![deny(warnings)]
 
-use judge::{batches, filling, moving, reading, stack, Library};
-use second::grid;
+use judge::guarded::Guarded;
+use judge::{damage, deep, filling, lengths, moving, overlaps, reading, stack, Library};
+use second::stats::Stats;
 use second::subject::Subject;
+use second::{batches, grid, paper, questions};
 use std::process::ExitCode;
 
 const SEED: u64 = 20261115;
@@ -13,8 +17,12 @@ const SEED: u64 = 20261115;
 const CASES: usize = 2400;
 const CASES_A_GRID: usize = 400;
 const CASES_A_READING: usize = 800;
-/// How many lists of calls for each batch store.
+/// How many lists of calls for each batch store, for each list on a deep image, and for each image with arrays that overlap.
 const CASES_A_BATCH: usize = 4;
+const CASES_A_DEEP_LIST: usize = 200;
+const CASES_AN_OVERLAP: usize = 40;
+/// How many lists of calls for each one that is made again between guard pages.
+const CASES_A_GUARDED: usize = 8;
 /// How many times as much a long run does.
 const LONG: usize = 10;
 
@@ -54,18 +62,20 @@ impl Extent {
 
 fn judged(extent: &Extent) -> Result<(), String> {
     let &Extent { seed, cases } = extent;
-    let mut stats = second::judge::run(&mut Library, seed, cases)?;
-    stats += &grid::run(&mut Library, seed, cases.div_ceil(CASES_A_GRID))?;
-    for n in [32, 64, 300, 1024] {
-        stats += &moving::run(&mut Library, seed, n)?;
-    }
+    let stats = calls_judged(extent)?;
     println!("{}", stats.table());
     let images = reading::run(&mut Library, seed, cases.div_ceil(CASES_A_READING))?;
     println!("whole images read: {images:?}");
-    println!("batches: {:?}", batches::run(seed, cases / CASES_A_BATCH)?);
+    let damaged = damage::run(&mut Library)?;
+    println!("images with one byte changed: {damaged:?}");
+    let batches = batches::run(&mut Library, seed, cases / CASES_A_BATCH)?;
+    println!("batches: {batches:?}");
+    let overlaps = overlaps::run(seed, cases.div_ceil(CASES_AN_OVERLAP))?;
+    println!("calls with arrays that overlap: {overlaps}");
     for n in [32, 64, 1024] {
         println!("{n} nodes filled twice: {} calls", filling::run(n)?);
     }
+    guarded_judged(seed, cases.div_ceil(CASES_A_GUARDED))?;
     stack_judged()?;
     match &stats.missing(Library.capabilities())[..] {
         [] => Ok(()),
@@ -73,6 +83,36 @@ fn judged(extent: &Extent) -> Result<(), String> {
         _ if cases < CASES => Ok(()),
         missing => Err(format!("not tried:\n  {}", missing.join("\n  "))),
     }
+}
+
+/// Single calls, each judged by the contract.
+fn calls_judged(extent: &Extent) -> Result<Stats, String> {
+    let &Extent { seed, cases } = extent;
+    for (number, case) in paper::CASES {
+        case(&mut Library).map_err(|what| format!("the paper's case {number}: {what}"))?;
+    }
+    let mut stats = questions::run(&mut Library)?;
+    stats += &second::judge::run(&mut Library, seed, cases)?;
+    stats += &grid::run(&mut Library, seed, cases.div_ceil(CASES_A_GRID))?;
+    for n in [32, 64, 300, 1024] {
+        stats += &moving::run(&mut Library, seed, n)?;
+    }
+    stats += &deep::run(&mut Library, seed, cases.div_ceil(CASES_A_DEEP_LIST))?;
+    stats += &lengths::run(&mut Library)?;
+    Ok(stats)
+}
+
+/// Calls and batches between guard pages. A byte touched outside ends the run here by a signal.
+fn guarded_judged(seed: u64, cases: usize) -> Result<(), String> {
+    println!("between guard pages, seed {seed}, {cases} lists:");
+    let mut guarded = Guarded::default();
+    let mut stats = second::judge::run(&mut guarded, !seed, cases)?;
+    stats += &lengths::run(&mut guarded)?;
+    let read = reading::run(&mut guarded, !seed, cases.div_ceil(CASES_A_READING))?;
+    let batches = batches::run(&mut guarded, !seed, cases / CASES_A_BATCH)?;
+    let calls = stats.calls + read.calls;
+    println!("  {calls} calls, {} batches", batches.batches);
+    Ok(())
 }
 
 fn stack_judged() -> Result<(), String> {

@@ -28,7 +28,7 @@ pub fn run(subject: &mut dyn Subject, seed: u64, n: usize) -> Result<Stats, Stri
         let work = rng.bytes(call.work().unwrap_or(0));
         let made = witnessed(subject, &mut store, &call, &work)
             .map_err(|what| format!("{n} nodes, seed {seed}, call {index}: {what}"))?;
-        stats.count_call(&call, made.answer, made.facts.as_ref());
+        stats.count_made(&call, &made);
     }
     Ok(stats)
 }

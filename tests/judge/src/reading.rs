@@ -1,5 +1,6 @@
-// Reads whole images: every value by get and every path by next must be those of the second program's table, and an image must be refused
-// by 2 exactly when the second program finds it unsound. Lists of calls seldom hit a present path; this hits them all.
+// Reads whole images: every value by get and every path by next must be those of the second program's table, check must count them, and
+// an image must be refused by 2 exactly when the second program finds it unsound. Lists of calls seldom hit a present path; this hits
+// them all.
 
 use second::feature::Feature;
 use second::limits::{GET_BUFFER, NEXT_BUFFER};
@@ -50,16 +51,13 @@ fn read(subject: &mut dyn Subject, image: &[u8], stats: &mut Stats) -> Result<()
     match sound::judge(image) {
         Ok(sound) => {
             stats.sound += 1;
+            reader.check((0, sound.table.len() as u32))?;
             reader.all(&sound.table)?;
         }
         Err(rule) => {
             stats.unsound += 1;
-            let number = match rule {
-                Rule::StoreSize => plain::NO_LENGTHS,
-                _ => plain::NO_SOUND,
-            };
             reader
-                .get(b"a\0", (number, 0), None)
+                .refused(rule)
                 .map_err(|what| format!("{what} ({})", rule.name()))?;
         }
     }
@@ -79,11 +77,34 @@ struct Reader<'a> {
 type Judged = Result<(), String>;
 
 impl Reader<'_> {
-    /// Every path of the table by get, and all below its first component by next.
+    /// An image with a broken rule, by every call that only reads.
+    fn refused(&mut self, rule: Rule) -> Judged {
+        let number = match rule {
+            Rule::StoreSize => plain::NO_LENGTHS,
+            _ => plain::NO_SOUND,
+        };
+        self.check((number, 0))?;
+        self.get(b"a\0", (number, 0), None)?;
+        self.next(b"a\0", &[], (number, 0), None)
+    }
+
+    fn check(&mut self, expected: Numbers) -> Judged {
+        self.calls += 1;
+        match self.subject.check(&mut self.store) {
+            found if found == expected => Ok(()),
+            found => Err(format!("check: {found:?}, expected {expected:?}")),
+        }
+    }
+
+    /// Every path of the table by get, all below its first component by next, and the first below each of its beginnings.
     fn all(&mut self, table: &Table) -> Judged {
         let mut top: &[u8] = &[];
         for (path, value) in table {
             self.get(path, (0, value.len() as u32), Some(value))?;
+            for beginning in beginnings(path) {
+                let found = plain::next(table, beginning, &[]).unwrap_or(path);
+                self.next(beginning, &[], (0, found.len() as u32), Some(found))?;
+            }
             let first = beginnings(path).next().unwrap_or(path);
             if first != top {
                 top = first;

@@ -65,7 +65,7 @@ pub fn run() -> Result<BTreeMap<&'static str, usize>, String> {
 }
 
 /// Deep, wide and full: where a call that keeps something for each level, child or message keeps the most.
-fn deep_images() -> Vec<(&'static str, Vec<u8>)> {
+pub fn deep_images() -> Vec<(&'static str, Vec<u8>)> {
     vec![
         ("the deepest image", images::deepest()),
         ("the deepest image with room", images::roomy()),
@@ -90,6 +90,7 @@ const CALLS: &[(&str, Make)] = &[
         Library.next(c.store, c.top, &[], &mut [0; NEXT_BUFFER]).0
     }),
     ("same", |c| Library.same(c.store, c.other).0),
+    ("check", |c| Library.check(c.store).0),
     ("put", |c| {
         Library.put(c.store, c.path, &[1; VALUE_LIMIT], c.work).0
     }),
@@ -174,7 +175,7 @@ impl Case {
 }
 
 /// The first, the last and the longest path: one of them lies on the way down that has the widest nodes.
-fn some_paths(sound: &Sound) -> Vec<Vec<u8>> {
+pub fn some_paths(sound: &Sound) -> Vec<Vec<u8>> {
     let paths: Vec<&Vec<u8>> = sound.table.keys().collect();
     let longest = paths.iter().max_by_key(|path| path.len());
     let some = [paths.first(), paths.last(), longest];
@@ -187,7 +188,7 @@ fn some_paths(sound: &Sound) -> Vec<Vec<u8>> {
 const NODES_TRIED: usize = 6;
 
 /// The interior nodes with the most entries.
-fn widest_nodes(sound: &Sound) -> Vec<u64> {
+pub fn widest_nodes(sound: &Sound) -> Vec<u64> {
     let walk = sound.tree.walk();
     let mut nodes: Vec<_> = walk.iter().filter(|v| v.node.is_interior()).collect();
     let entries = |v: &&second::tree::Visit<'_>| v.node.children().len() + v.node.messages().len();

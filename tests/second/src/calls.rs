@@ -131,6 +131,7 @@ fn random_next(rng: &mut Rng, known: &Known) -> Call {
 
 pub fn path(rng: &mut Rng, known: &Known) -> Vec<u8> {
     match rng.below(16) {
+        0 if rng.chance(1, 8) => words::overlong(rng),
         0 => words::malformed(rng),
         1..=8 => words::near(rng, &known.paths),
         _ => words::path(rng),
@@ -140,8 +141,11 @@ pub fn path(rng: &mut Rng, known: &Known) -> Vec<u8> {
 fn value(rng: &mut Rng) -> Vec<u8> {
     match rng.below(20) {
         0 => {
-            let more = rng.between(1, 300);
-            rng.bytes(VALUE_LIMIT + more)
+            let length = match rng.chance(1, 4) {
+                true => words::TWO_BYTES + rng.below(VALUE_LIMIT + 1),
+                false => VALUE_LIMIT + rng.between(1, 300),
+            };
+            rng.bytes(length)
         }
         _ => words::value(rng),
     }
@@ -152,7 +156,8 @@ fn buffer(rng: &mut Rng, enough: usize) -> Vec<u8> {
     let length = match rng.below(16) {
         0 => enough - 1,
         1 => rng.below(enough),
-        2..=8 => enough,
+        2 => words::TWO_BYTES + rng.below(enough),
+        3..=8 => enough,
         _ => enough + rng.below(40),
     };
     rng.bytes(length)

@@ -15,6 +15,9 @@ pub struct Seen<'a> {
     pub store_before: &'a [u8],
     pub call: &'a Call,
     pub work_before: &'a [u8],
+    /// What check answered of the store before the call and after it.
+    pub checked_before: Answer,
+    pub checked_after: Answer,
     pub answer: Answer,
     pub buffer_after: &'a [u8],
     pub work_after: &'a [u8],
@@ -67,7 +70,10 @@ pub fn check(seen: &Seen<'_>, held: Held) -> Verdict {
 
 /// The same, with facts of an accepted call that may write nodes.
 pub fn examine(seen: &Seen<'_>, held: Held) -> Result<Option<Facts>, String> {
-    let asked = ask_of_bytes(seen);
+    let judged = image_judged(seen.store_before);
+    let checked = check_answer(&judged);
+    equal("answer of check", &seen.checked_before, &checked)?;
+    let asked = ask_of_bytes(seen, judged);
     let expected = match &asked {
         Err(number) => Outcome {
             answer: Answer::refused(*number),
@@ -82,23 +88,45 @@ pub fn examine(seen: &Seen<'_>, held: Held) -> Result<Option<Facts>, String> {
     same_bytes("work area", seen.work_after, &work)?;
     match asked {
         Ok(before) if expected.answer.accepted() => accepted(seen, &before, held),
-        _ => same_bytes(
-            "store of a refused call",
-            seen.store_after,
-            seen.store_before,
-        )
-        .map(|_| None),
+        _ => unchanged("store of a refused call", seen),
     }
 }
 
-/// Questions 1 and 2, of the bytes alone.
-fn ask_of_bytes(seen: &Seen<'_>) -> Result<Sound, u32> {
-    let n = image::nodes_of(seen.store_before.len()).ok_or(plain::NO_LENGTHS)?;
-    let lent = seen.call.work().map(|_| seen.work_before.len());
-    if lent.is_some_and(|length| length < WORK_PER_NODE * n) {
-        return Err(plain::NO_LENGTHS);
+/// Not a byte of the store changed, and check answers as before.
+fn unchanged(what: &str, seen: &Seen<'_>) -> Result<Option<Facts>, String> {
+    same_bytes(what, seen.store_after, seen.store_before)?;
+    let (found, before) = (&seen.checked_after, &seen.checked_before);
+    equal("answer of check after the call", found, before).map(|_| None)
+}
+
+/// Questions 1 and 2, of a store alone.
+pub fn image_judged(store: &[u8]) -> Result<Sound, u32> {
+    image::nodes_of(store.len()).ok_or(plain::NO_LENGTHS)?;
+    sound::judge(store).map_err(|_| plain::NO_SOUND)
+}
+
+/// The answer that check must give of a store that was judged so.
+pub fn check_answer(judged: &Result<Sound, u32>) -> Answer {
+    match judged {
+        Ok(sound) => live_answer(sound),
+        Err(number) => Answer::refused(*number),
     }
-    sound::judge(seen.store_before).map_err(|_| plain::NO_SOUND)
+}
+
+fn live_answer(sound: &Sound) -> Answer {
+    Answer {
+        number: 0,
+        beside: sound.table.len() as u32,
+    }
+}
+
+/// Questions 1 and 2, of the store and the work area.
+fn ask_of_bytes(seen: &Seen<'_>, judged: Result<Sound, u32>) -> Result<Sound, u32> {
+    let area = WORK_PER_NODE * (seen.store_before.len() / NODE);
+    match seen.call.work() {
+        Some(_) if seen.work_before.len() < area => Err(plain::NO_LENGTHS),
+        _ => judged,
+    }
 }
 
 /// The answer and the buffer that a call must give on a sound image.
@@ -130,10 +158,16 @@ fn accepted(seen: &Seen<'_>, before: &Sound, held: Held) -> Result<Option<Facts>
         call => call.only_reads(),
     };
     if stays {
-        return same_bytes("store", seen.store_after, seen.store_before).map(|_| None);
+        return unchanged("store", seen);
     }
     let after = sound::judge(seen.store_after)
         .map_err(|rule| format!("the store is unsound after the call: {}", rule.name()))?;
+    let checked = live_answer(&after);
+    equal(
+        "answer of check after the call",
+        &seen.checked_after,
+        &checked,
+    )?;
     map_follows(seen.call, before, &after)?;
     let facts = Facts {
         corner: Corner::of(before),

@@ -18,6 +18,13 @@ pub fn random(seed: u64) -> Vec<u8> {
     by_plan(&plan, &mut rng)
 }
 
+/// Any sound image of n nodes.
+pub fn of_nodes(n: usize, seed: u64) -> Vec<u8> {
+    let mut rng = Rng::new(seed);
+    let plan = Plan::of_nodes(n, &mut rng);
+    by_plan(&plan, &mut rng)
+}
+
 const ATTEMPTS: usize = 500;
 
 /// A sound image that shows the feature.

@@ -62,7 +62,7 @@ fn hard_moves(subject: &mut dyn Subject, stats: &mut Stats, hard: &Hard) -> Judg
         };
         if subject.capabilities().has(&call) {
             let made = witnessed(subject, &mut hard.image.clone(), &call, &work)?;
-            stats.count_call(&call, made.answer, made.facts.as_ref());
+            stats.count_made(&call, &made);
         }
     }
     Ok(())
@@ -165,8 +165,7 @@ impl Visit<'_> {
         }
         let work = self.rng.bytes(call.work().unwrap_or(0));
         let made = witnessed(self.subject, store, call, &work)?;
-        self.stats
-            .count_call(call, made.answer, made.facts.as_ref());
+        self.stats.count_made(call, &made);
         Ok(Some(made.answer))
     }
 }

@@ -188,8 +188,7 @@ impl Session<'_> {
         }
         let work = self.rng.bytes(call.work().unwrap_or(0));
         let made = witnessed(self.subject, store, call, &work)?;
-        self.stats
-            .count_call(call, made.answer, made.facts.as_ref());
+        self.stats.count_made(call, &made);
         self.as_plain(call, made.answer, &made.buffer)
             .map_err(|what| format!("{}: {what}", call.told()))
     }

@@ -259,6 +259,10 @@ impl Subject for Lazy {
         Reference::default().same(a, b)
     }
 
+    fn check(&mut self, store: &mut [u8]) -> Numbers {
+        Reference::default().check(store)
+    }
+
     fn put(&mut self, store: &mut [u8], path: &[u8], value: &[u8], work: &mut [u8]) -> Numbers {
         let (path, value) = (path.to_vec(), value.to_vec());
         let call = Call::Put { path, value, work: work.len() };

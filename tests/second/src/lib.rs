@@ -6,22 +6,24 @@
 //   sound, meaning                is an image sound, and what does it mean
 //   plain, program                the plain path map, and the line language over it
 //   contract, upkeep              is one call right, from what is seen of it
-//   batch                         a list of calls as bytes, and whether it went as the calls one by one
+//   pieces, batch                 a list of calls as bytes, and whether it went as the calls one by one
 //   subject, script, calls, moves a store under test, and calls for it
-//   judge, grid, stats            lists of calls, corners with aimed calls, and what they tried
+//   judge, grid, questions        lists of calls, corners with aimed calls, every combination of arguments
+//   batches, stats                batches, and what was tried
 //   paper                         the paper's thirteen cases
 //   rng, words, feature, corner   what images and calls are made of, and what they are to show
 //   plan, generate, cuts          sound images from a seed, and some that are hard to cut
 //   lines                         scripts for the program from a seed
 //   mutate                        damaged images, one for each rule
 //   pack, reference, lazy, swing  simple stores to test the judge with, right or wrong
-//   wrong                         upkeep that only seems to be done
+//   wrong, listed                 upkeep that only seems to be done; batches, right or wrong
 //   examples, upkept, antt        small images and changes, printed for the proof checker
 #![forbid(unsafe_code)]
 #![deny(warnings)]
 
 pub mod antt;
 pub mod batch;
+pub mod batches;
 pub mod calls;
 pub mod contract;
 pub mod corner;
@@ -35,6 +37,7 @@ pub mod judge;
 pub mod lazy;
 pub mod limits;
 pub mod lines;
+pub mod listed;
 pub mod meaning;
 pub mod moves;
 pub mod mutate;
@@ -43,9 +46,11 @@ mod mutate_tree;
 pub mod pack;
 pub mod paper;
 pub mod path;
+pub mod pieces;
 pub mod plain;
 pub mod plan;
 pub mod program;
+pub mod questions;
 pub mod reference;
 pub mod rng;
 pub mod script;

@@ -5,10 +5,9 @@ use crate::path::to_text;
 use crate::rng::Rng;
 use crate::words;
 
-/// All that is read in one run of the program.
-pub fn script(seed: u64) -> Vec<u8> {
+/// All that is read in one run of the program, near the paths that its store holds at first.
+pub fn script(seed: u64, mut present: Vec<Vec<u8>>) -> Vec<u8> {
     let mut rng = Rng::new(seed);
-    let mut present: Vec<Vec<u8>> = Vec::new();
     let mut input = Vec::new();
     if rng.chance(1, 4) {
         input.extend(filling(&mut rng, &mut present));
@@ -65,11 +64,15 @@ fn good(rng: &mut Rng, present: &mut Vec<Vec<u8>>) -> Vec<u8> {
     }
 }
 
+/// Texts that are no path: a separator too many, a byte 00, a byte that no component may hold.
+const ODD: [&[u8]; 9] = [
+    b"/", b"a//b", b"/a", b"a/", b"a\0b", b"\0", b"a\0", b"\0a", b"a\x7F",
+];
+
 /// A path as text: most often a present one or near one, sometimes malformed.
 fn text(rng: &mut Rng, present: &mut Vec<Vec<u8>>) -> Vec<u8> {
     if rng.chance(1, 20) {
-        let odd: [&[u8]; 6] = [b"/", b"a//b", b"/a", b"a/", b"a\0b", b"a\x7F"];
-        return rng.pick(&odd).map_or(Vec::new(), |p| p.to_vec());
+        return rng.pick(&ODD).map_or(Vec::new(), |p| p.to_vec());
     }
     let path = if rng.chance(1, 20) {
         words::malformed(rng)

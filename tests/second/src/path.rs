@@ -51,16 +51,15 @@ pub fn lifted<'a>(low: &'a [u8], high: &[u8]) -> &'a [u8] {
 }
 
 /// The bytes of a path written with `/` between its components.
-/// A byte 00 in the text would read as a separator that nobody wrote: such a text gives the
-/// empty string, which no call takes for a path.
+/// A byte 00 in the text would read as a separator that nobody wrote. It becomes a `/`, which no
+/// component may hold: such a text is a malformed path, and never the empty one.
 pub fn from_text(text: &[u8]) -> Vec<u8> {
-    if text.contains(&0) {
-        return Vec::new();
-    }
-    let mut path: Vec<u8> = text
-        .iter()
-        .map(|b| if *b == b'/' { 0 } else { *b })
-        .collect();
+    let byte = |b: &u8| match *b {
+        b'/' => 0,
+        0 => b'/',
+        other => other,
+    };
+    let mut path: Vec<u8> = text.iter().map(byte).collect();
     path.push(0);
     path
 }
@@ -105,9 +104,25 @@ mod tests {
     fn text_and_bytes_agree() {
         assert_eq!(from_text(b"r1/c7"), b"r1\0c7\0");
         assert_eq!(to_text(b"r1\0c7\0"), b"r1/c7");
-        assert!(!well_formed(&from_text(b"a\0b")));
         assert!(!well_formed(&from_text(b"/a")));
         assert!(!well_formed(&from_text(b"a/")));
+    }
+
+    #[test]
+    fn a_byte_00_in_a_text_makes_a_malformed_path_that_is_not_empty() {
+        for text in [
+            &b"\0"[..],
+            b"\0\0",
+            b"a\0",
+            b"\0a",
+            b"a\0b",
+            b"a/b\0",
+            b"/\0",
+            b"\0/",
+        ] {
+            let path = from_text(text);
+            assert!(!path.is_empty() && !well_formed(&path), "{text:?}");
+        }
     }
 
     #[test]

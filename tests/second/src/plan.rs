@@ -40,6 +40,11 @@ impl Plan {
             6 => rng.between(NODES_LEAST, 300),
             _ => rng.between(NODES_LEAST, NODES_MOST),
         };
+        Plan::of_nodes(n, rng)
+    }
+
+    /// Any plan for a store of n nodes.
+    pub fn of_nodes(n: usize, rng: &mut Rng) -> Plan {
         let levels = rng.between(1, usize::from(LEVELS_MOST)) as u16;
         Plan {
             n,

@@ -1,22 +1,47 @@
-// The line language of the paper's program, with the plain map behind it:
-// a function from all that is read to all that is printed.
+// The line language of the paper's program, with the plain map behind it: a function from all that is read to all that is printed, on
+// a store just made or on the map of an image that it goes on with.
 
-use crate::limits::{GET_BUFFER, WORK_PER_NODE};
+use crate::contract::image_judged;
+use crate::limits::{GET_BUFFER, NODE, WORK_PER_NODE};
+use crate::pack;
 use crate::path::{below, from_text, to_text, well_formed};
-use crate::plain::{Call, Plain, NO_PATH};
+use crate::plain::{Call, Plain, NO_LENGTHS, NO_PATH};
 
-const PROGRAM_NODES: usize = 64;
+/// The nodes of the program's store.
+pub const PROGRAM_NODES: usize = 64;
 const LINE_LIMIT: usize = 255;
 const WORK: usize = WORK_PER_NODE * PROGRAM_NODES;
 
-/// What the program prints for this input.
+/// What the program prints for this input, on a store just made.
 pub fn run(input: &[u8]) -> Vec<u8> {
-    let mut map = Plain::new(PROGRAM_NODES);
+    run_on(&mut Plain::new(PROGRAM_NODES), input)
+}
+
+/// The same on a store with this map, which is left as the lines leave it.
+pub fn run_on(map: &mut Plain, input: &[u8]) -> Vec<u8> {
     let mut printed = Vec::new();
     for line in lines(input) {
-        printed.extend(answer(&mut map, line));
+        printed.extend(answer(map, line));
     }
     printed
+}
+
+/// The map of an image that the program goes on with: a sound one of its own number of nodes. Any other is refused by 1, where its
+/// length is another, or by 2.
+pub fn loaded(image: &[u8]) -> Result<Plain, u32> {
+    if image.len() != PROGRAM_NODES * NODE {
+        return Err(NO_LENGTHS);
+    }
+    let sound = image_judged(image)?;
+    Ok(Plain {
+        n: sound.n,
+        table: sound.table,
+    })
+}
+
+/// An image of the map: settled, and packed as no library need pack it.
+pub fn saved(map: &Plain) -> Option<Vec<u8>> {
+    pack::image(&map.table, map.n)
 }
 
 /// The lines; what follows the last line feed is a line unless it is empty.

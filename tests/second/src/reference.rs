@@ -2,8 +2,9 @@
 // the map reads the whole table, applies the rule and packs it again. It may be given a fault,
 // so that the checks can be seen to find one.
 
-use crate::image;
+use crate::image::{self, Header};
 use crate::limits::*;
+use crate::listed::BatchFault;
 use crate::meaning;
 use crate::pack;
 use crate::plain::{self, Answer, Call, Plain};
@@ -32,6 +33,9 @@ pub enum Fault {
     GetWipesBuffer,
     NextMayRepeat,
     SameComparesValues,
+    CheckBelievesNodeZero,
+    CheckCountsPairs,
+    CheckTellsWhenRefused,
     ClearTakesNamesakes,
     MoveKeepsDestination,
     MoveKeepsSource,
@@ -54,7 +58,8 @@ impl Fault {
         Fault::HealDoesNothing, Fault::HealAddsMessage, Fault::HealPacks,
         Fault::HealPutsLevelBetween, Fault::NarrowsNumbers,
         Fault::LiveOffByOne, Fault::GetIgnoresClears, Fault::GetWipesBuffer,
-        Fault::NextMayRepeat, Fault::SameComparesValues, Fault::ClearTakesNamesakes,
+        Fault::NextMayRepeat, Fault::SameComparesValues, Fault::CheckBelievesNodeZero,
+        Fault::CheckCountsPairs, Fault::CheckTellsWhenRefused, Fault::ClearTakesNamesakes,
         Fault::MoveKeepsDestination, Fault::MoveKeepsSource, Fault::MoveOntoItselfPacks,
         Fault::MoveForgetsComponents, Fault::WorkLeftDirty,
         Fault::WorkWipedWhole, Fault::RefusalWipesWork, Fault::RefusalTouchesStore,
@@ -65,6 +70,8 @@ impl Fault {
 #[derive(Clone, Copy, Debug, Default)]
 pub struct Reference {
     pub fault: Option<Fault>,
+    /// A fault of its batches.
+    pub batch_fault: Option<BatchFault>,
 }
 
 impl Reference {
@@ -224,6 +231,21 @@ impl Reference {
         }
     }
 
+    /// What check answers.
+    fn counted(&self, store: &[u8]) -> Numbers {
+        if image::nodes_of(store.len()).is_none() {
+            return (plain::NO_LENGTHS, 0);
+        }
+        let told = u32::from(Header::read(store).live);
+        match judge(store) {
+            _ if self.is(Fault::CheckBelievesNodeZero) => (0, told),
+            Ok(sound) if self.is(Fault::CheckCountsPairs) => (0, pairs(&sound)),
+            Ok(sound) => (0, sound.table.len() as u32),
+            Err(_) if self.is(Fault::CheckTellsWhenRefused) => (plain::NO_SOUND, told),
+            Err(_) => (plain::NO_SOUND, 0),
+        }
+    }
+
     fn try_read(&self, store: &[u8], buffer: &mut [u8], call: &Call) -> Result<Answer, u32> {
         image::nodes_of(store.len()).ok_or(plain::NO_LENGTHS)?;
         let mut before = judge(store).map_err(|_| plain::NO_SOUND)?;
@@ -245,6 +267,12 @@ impl Reference {
         }
         Ok(outcome.answer)
     }
+}
+
+/// How many pairs stand in the leaves, whatever waits above them.
+fn pairs(sound: &Sound) -> u32 {
+    let walk = sound.tree.walk();
+    walk.iter().map(|v| v.node.pairs().len() as u32).sum()
 }
 
 fn plain_of(before: &Sound) -> Plain {
@@ -375,6 +403,13 @@ impl Subject for Reference {
             (Ok(a), Ok(b)) => (0, plain::same(&a.table, &b.table).into()),
             _ => (plain::NO_SOUND, 0),
         }
+    }
+
+    fn check(&mut self, store: &mut [u8]) -> Numbers {
+        if self.is(Fault::ReadTouchesStore) {
+            touch(store);
+        }
+        self.counted(store)
     }
 
     fn get(&mut self, store: &mut [u8], path: &[u8], buffer: &mut [u8]) -> Numbers {

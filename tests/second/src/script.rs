@@ -7,14 +7,16 @@ use crate::path::from_text;
 use crate::plain::{Answer, Call};
 use crate::subject::{perform, Subject};
 
-/// One call as it went: its answer, the buffer after it, and what it did to the nodes.
+/// One call as it went: its answer, the buffer after it, and what it did to the nodes; and what check answered before it.
 pub struct Made {
+    pub checked: Answer,
     pub answer: Answer,
     pub buffer: Vec<u8>,
     pub facts: Option<Facts>,
 }
 
-/// Makes one call of the subject on a store, with a work area of these bytes, and judges it.
+/// Makes one call of the subject on a store, with a work area of these bytes, and judges it. A check is made before it and after
+/// it, and judged too.
 pub fn witnessed(
     subject: &mut dyn Subject,
     store: &mut [u8],
@@ -24,11 +26,15 @@ pub fn witnessed(
     let store_before = store.to_vec();
     let mut work_after = work.to_vec();
     let mut buffer = call.buffer().to_vec();
+    let checked_before = checked(subject, store)?;
     let answer = perform(subject, call, store, &mut work_after, &mut buffer);
+    let checked_after = checked(subject, store)?;
     let seen = Seen {
         store_before: &store_before,
         call,
         work_before: work,
+        checked_before,
+        checked_after,
         answer,
         buffer_after: &buffer,
         work_after: &work_after,
@@ -36,10 +42,21 @@ pub fn witnessed(
     };
     let facts = contract::examine(&seen, Held::by(subject.capabilities()));
     Ok(Made {
+        checked: checked_before,
         answer,
         facts: facts.map_err(|what| format!("{}: {what}", call.told()))?,
         buffer,
     })
+}
+
+/// What check answers of a store. It writes nothing.
+pub fn checked(subject: &mut dyn Subject, store: &mut [u8]) -> Result<Answer, String> {
+    let before = store.to_vec();
+    let (number, beside) = subject.check(store);
+    match store == before {
+        true => Ok(Answer { number, beside }),
+        false => Err("check changed the store".into()),
+    }
 }
 
 pub struct Script<'a> {

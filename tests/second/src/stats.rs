@@ -6,6 +6,7 @@ use crate::corner::{Corner, Room};
 use crate::limits::{LEAF_LEVEL, LEVELS_MOST};
 use crate::moves::Kind;
 use crate::plain::{Answer, Call};
+use crate::script::Made;
 use crate::subject::Capabilities;
 use std::collections::BTreeMap;
 use std::ops::AddAssign;
@@ -114,12 +115,14 @@ impl Stats {
         *self.answers.entry((name, answer.number)).or_default() += 1;
     }
 
-    pub fn count_call(&mut self, call: &Call, answer: Answer, facts: Option<&Facts>) {
-        self.count(call.name(), answer);
+    /// A call, and the check before it.
+    pub fn count_made(&mut self, call: &Call, made: &Made) {
+        self.count("check", made.checked);
+        self.count(call.name(), made.answer);
         if let Call::Flush { node, .. } | Call::Heal { node, .. } = call {
             self.large += usize::from(*node > u64::from(u32::MAX));
         }
-        match (call, facts) {
+        match (call, made.facts.as_ref()) {
             (Call::Move { .. }, Some(facts)) => {
                 *self.moves.entry(facts.corner).or_default() += Moves::one(facts);
             }
@@ -298,6 +301,7 @@ pub const ANSWERS: &[(&str, &[u32])] = &[
     ("get", &[0, 1, 2, 3, 5, 8]),
     ("next", &[0, 1, 2, 3, 5, 8]),
     ("same", &[0, 1, 2]),
+    ("check", &[0, 1, 2]),
     ("put", &[0, 1, 2, 3, 4, 10]),
     ("drop", &[0, 1, 2, 3]),
     ("clear", &[0, 1, 2, 3]),

@@ -14,6 +14,8 @@ pub trait Subject {
     fn get(&mut self, store: &mut [u8], path: &[u8], buffer: &mut [u8]) -> Numbers;
     fn next(&mut self, store: &mut [u8], path: &[u8], after: &[u8], buffer: &mut [u8]) -> Numbers;
     fn same(&mut self, a: &mut [u8], b: &mut [u8]) -> Numbers;
+    /// Questions 1 and 2 alone; beside the 0 the number of live paths.
+    fn check(&mut self, store: &mut [u8]) -> Numbers;
 
     fn put(&mut self, _store: &mut [u8], _path: &[u8], _value: &[u8], _work: &mut [u8]) -> Numbers {
         MISSING
@@ -73,7 +75,7 @@ impl Capabilities {
         waiting_bound: true,
     };
 
-    /// make, get, next and same only.
+    /// make, get, next, same and check only.
     pub const READS: Capabilities = Capabilities {
         put: false,
         drop: false,
@@ -91,7 +93,7 @@ impl Capabilities {
         self.named(call.name())
     }
 
-    /// The same by a call's name; make, get, next and same are never lacking.
+    /// The same by a call's name; make, get, next, same and check are never lacking.
     pub fn named(&self, name: &str) -> bool {
         match name {
             "put" => self.put,

@@ -12,6 +12,9 @@ const WIDE: [&[u8; COMPONENT_LIMIT]; 3] = [
     b"r1r1r1r1r1r1r1r1",
 ];
 
+/// One more than two bytes count.
+pub const TWO_BYTES: usize = 1 << 16;
+
 fn joined(components: &[&[u8]]) -> Vec<u8> {
     let mut path = Vec::new();
     for component in components {
@@ -114,6 +117,13 @@ pub fn malformed(rng: &mut Rng) -> Vec<u8> {
     path
 }
 
+/// A path with 65,536 bytes behind it: a subject that cuts its length to two bytes takes it for that path.
+pub fn overlong(rng: &mut Rng) -> Vec<u8> {
+    let mut path = path(rng);
+    path.resize(path.len() + TWO_BYTES, b'a');
+    path
+}
+
 /// A value that a store may hold.
 pub fn value(rng: &mut Rng) -> Vec<u8> {
     let length = match rng.below(6) {
@@ -136,6 +146,7 @@ mod tests {
         for _ in 0..500 {
             assert!(well_formed(&path(&mut rng)));
             assert!(!well_formed(&malformed(&mut rng)));
+            assert!(!well_formed(&overlong(&mut rng)));
             assert!(value(&mut rng).len() <= VALUE_LIMIT);
             let longest = longest(&mut rng);
             assert!(well_formed(&longest) && longest.len() == PATH_LIMIT);

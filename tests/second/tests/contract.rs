@@ -2,7 +2,8 @@
 // in the root, a move onto itself, and what a checker must not mistake for an error.
 
 use second::contract::{
-    changed_nodes, check, check_make, check_same, waiting_bound, Held, Seen, WAITING_MOST,
+    changed_nodes, check, check_answer, check_make, check_same, image_judged, waiting_bound, Held,
+    Seen, WAITING_MOST,
 };
 use second::feature::Feature;
 use second::generate;
@@ -35,6 +36,8 @@ fn seen_move(before: &[u8], after: &[u8], held: bool) -> Result<(), String> {
         store_before: before,
         call: &call,
         work_before: &vec![3; 128 * n],
+        checked_before: check_answer(&image_judged(before)),
+        checked_after: check_answer(&image_judged(after)),
         answer: Answer::DONE,
         buffer_after: &[],
         work_after: &vec![0; 128 * n],
@@ -136,6 +139,9 @@ impl Subject for Reader {
     fn same(&mut self, a: &mut [u8], b: &mut [u8]) -> Numbers {
         self.0.same(a, b)
     }
+    fn check(&mut self, store: &mut [u8]) -> Numbers {
+        self.0.check(store)
+    }
 }
 
 #[test]
@@ -169,6 +175,9 @@ impl Subject for Bound {
     }
     fn same(&mut self, a: &mut [u8], b: &mut [u8]) -> Numbers {
         self.0.same(a, b)
+    }
+    fn check(&mut self, store: &mut [u8]) -> Numbers {
+        self.0.check(store)
     }
     fn move_(&mut self, store: &mut [u8], from: &[u8], to: &[u8], work: &mut [u8]) -> Numbers {
         self.0.move_(store, from, to, work)

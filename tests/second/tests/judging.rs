@@ -2,13 +2,13 @@
 // variants, which the judge must find.
 
 use second::corner::Corner;
-use second::grid;
 use second::judge::{run, run_case};
 use second::lazy::{Lazy, Slip};
 use second::limits::LEVELS_MOST;
 use second::reference::{Fault, Reference};
 use second::stats::{Stats, ANSWERS};
 use second::subject::Capabilities;
+use second::{grid, questions};
 
 const SEED: u64 = 2026;
 
@@ -30,6 +30,7 @@ fn every_fault_is_found() {
     for fault in Fault::ALL {
         let mut subject = Reference {
             fault: Some(*fault),
+            batch_fault: None,
         };
         let mut stats = Stats::default();
         let found = (0..400)
@@ -60,12 +61,25 @@ fn every_corner_is_tried() {
     }
 }
 
+/// Every combination of arguments: each answer is met among them.
+#[test]
+fn every_question_is_asked_in_its_turn() {
+    let stats = questions::run(&mut Reference::default()).unwrap_or_else(|what| panic!("{what}"));
+    println!("{}", stats.table());
+    for (name, numbers) in ANSWERS.iter().filter(|(name, _)| *name != "make") {
+        for number in *numbers {
+            let met = stats.answers.contains_key(&(*name, *number));
+            assert!(met, "{name} never answered {number}");
+        }
+    }
+}
+
 /// A run that tries nothing misses everything.
 #[test]
 fn what_is_not_tried_is_missed() {
     let all = Stats::default().missing(Capabilities::ALL);
     let reads = Stats::default().missing(Capabilities::READS);
-    assert!(all.len() > 2 * Corner::all().len() && reads.len() == 17);
+    assert!(all.len() > 2 * Corner::all().len() && reads.len() == 20);
 }
 
 #[test]

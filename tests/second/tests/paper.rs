@@ -1,8 +1,10 @@
 // The paper's own table of cases and its example, and the corners of the line language.
 
 use second::paper::{reads_all, CASES};
-use second::program::run;
+use second::program::{loaded, run, run_on, saved};
 use second::reference::Reference;
+use second::sound::judge;
+use second::{generate, mutate, sound::Rule};
 
 #[test]
 fn the_thirteen_cases() {
@@ -79,6 +81,25 @@ fn refused_lines() {
     assert_eq!(printed(long.as_bytes()), "refused 4\n");
 }
 
+/// Every call refuses a path with a byte 00 in its text, and the map stays: it is not the empty path, nor the path up to the byte.
+#[test]
+fn a_byte_00_in_a_path_is_refused() {
+    for text in ["\0", "a\0b", "a\0", "\0a", "a/b\0/c", "/\0"] {
+        let lines = [
+            format!("put {text} 01"),
+            format!("drop {text}"),
+            format!("clear {text}"),
+            format!("get {text}"),
+            format!("list {text}"),
+            format!("move {text} c"),
+            format!("move a {text}"),
+        ];
+        let input = format!("put a 00\nput a/b 01\n{}\nlist a\n", lines.join("\n"));
+        let expected = format!("ok\nok\n{}a 00\na/b 01\nend\n", "refused 3\n".repeat(7));
+        assert_eq!(printed(input.as_bytes()), expected, "{text:?}");
+    }
+}
+
 #[test]
 fn lines_of_the_longest_length_are_taken() {
     let line = |length: usize| format!("get {}", "a".repeat(length - 4));
@@ -109,4 +130,38 @@ fn the_program_takes_64_paths() {
     );
     let again = input + "put p3 02\nget p3\n";
     assert!(printed(again.as_bytes()).ends_with("refused 10\nok\n02\n"));
+}
+
+/// Lines in two runs, with the image between them, print what they print in one.
+#[test]
+fn the_program_goes_on_with_an_image() {
+    let (first, later) = (
+        "put a/b 01\nput c -\n",
+        "get a/b\nmove a d\nlist d\nput c 02\n",
+    );
+    let mut map = loaded(&generate::of_nodes(64, 5)).expect("it is sound");
+    let before = map.clone();
+    let mut whole = before.clone();
+    let one = run_on(&mut whole, format!("clear a\n{first}{later}").as_bytes());
+    let mut two = run_on(&mut map, format!("clear a\n{first}").as_bytes());
+    let mut map = loaded(&saved(&map).expect("it fits")).expect("it is sound");
+    two.extend(run_on(&mut map, later.as_bytes()));
+    assert_eq!((one, whole), (two, map.clone()));
+    assert_eq!(
+        judge(&saved(&map).expect("it fits")).map(|s| s.table),
+        Ok(map.table)
+    );
+}
+
+#[test]
+fn the_program_goes_on_with_sound_images_of_its_own_size_alone() {
+    for seed in 0..20 {
+        let image = generate::of_nodes(64, seed);
+        assert!(loaded(&image).is_ok(), "{seed}");
+        let damaged = mutate::damage(Rule::LiveCount, &image, seed).expect("a place");
+        assert_eq!(loaded(&damaged).err(), Some(2), "{seed}");
+    }
+    assert_eq!(loaded(&generate::of_nodes(63, 1)).err(), Some(1));
+    assert_eq!(loaded(&generate::of_nodes(64, 1)[1..]).err(), Some(1));
+    assert_eq!(loaded(b"").err(), Some(1));
 }

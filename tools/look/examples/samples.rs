@@ -1,7 +1,7 @@
 // Writes the images that `browse` and the tests look at into a directory: one with messages
 // waiting, one before and one after a move, a large one and an unsound one.
-// They are built by hand on tests/second's tree; the pair of the move stands as a pointer swing
-// leaves it, until the library's own move is there to make it.
+// They are built by hand on tests/second's tree: small, and with the faults that a test needs.
+// tools/lesson makes a pair of images by the library itself.
 
 use look::samples;
 use std::path::Path;

@@ -21,7 +21,8 @@ pub struct Drawing<'d, 'a> {
     pub other: Option<(&'d Survey<'a>, &'static str)>,
     /// The entries to mark as not in the other image.
     pub fresh: Option<&'d BTreeSet<(u16, usize)>>,
-    /// With many nodes only the first level below the root, and what changed, begins open.
+    /// With many nodes only the root and what changed begins open; a new leaf, which holds
+    /// copies, does not.
     pub compact: bool,
     /// The nodes on the way to a changed one, which begin open in any case.
     pub opened: BTreeSet<u16>,
@@ -138,8 +139,9 @@ impl Drawing<'_, '_> {
     fn card(&self, node: &SeenNode<'_>, out: &mut String) {
         let change = self.change(node.number);
         let at_fault = self.survey.findings_in(node.number).next().is_some();
-        let open =
-            !self.compact || node.origin.is_none() || at_fault || change.changed || change.new;
+        let copied = change.new && node.is_leaf();
+        let told = at_fault || node.origin.is_none() || (change.changed && !copied);
+        let open = told || !self.compact;
         let hex = spell::hexadecimal;
         let kind = match node.is_leaf() {
             true => "leaf",

@@ -8,7 +8,7 @@
 //   report, way         the two text outputs
 //   page, card          the page
 //   arguments, run      the command line
-//   samples             small images for the tests and for the screenshots
+//   samples             small images, built by hand, for the tests
 #![forbid(unsafe_code)]
 #![deny(warnings)]
 

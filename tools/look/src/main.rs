@@ -4,12 +4,15 @@
 #![deny(warnings)]
 
 use look::{arguments, run};
+use std::ffi::OsStr;
 use std::io::Write;
+use std::path::Path;
 use std::process::ExitCode;
 
 fn main() -> ExitCode {
     let words: Vec<_> = std::env::args_os().skip(1).collect();
-    let outcome = arguments::parse(&words).and_then(|command| run::run(&command));
+    let is_file = |name: &OsStr| Path::new(name).is_file();
+    let outcome = arguments::parse(&words, is_file).and_then(|command| run::run(&command));
     match outcome {
         Ok(done) => {
             // A reader that has seen enough (`look IMAGE | head`) is no failure.

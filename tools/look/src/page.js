@@ -3,7 +3,7 @@
 (function () {
   'use strict';
   const one = (id) => document.getElementById(id);
-  const input = one('path'), body = document.body;
+  const input = one('path'), follow = one('follow'), body = document.body;
   const sides = [...document.querySelectorAll('.image')].map((image) => {
     const id = image.id.slice('image-'.length);
     return { id, image, answer: one('answer-' + id), root: image.querySelector('.tree > .branch > .node') };
@@ -21,6 +21,13 @@
     if (parts.some((p) => p.length > 16)) return 'a component has more than 16 bytes';
     if (parts.length > 8) return 'it has more than 8 components';
     return text.length + 1 > 64 ? 'it has more than 64 bytes' : '';
+  }
+
+  // After a move a record is asked for by its new name, where the page knows the move.
+  function nameOn(side, text) {
+    if (side.id !== 'b' || !follow || !follow.checked) return text;
+    const { from, to } = follow.dataset;
+    return text === from || text.startsWith(from + '/') ? to + text.slice(from.length) : text;
   }
 
   // ---- the lookup
@@ -108,7 +115,7 @@
       const older = step.spoken.length > 1 ? ' It is newer than the others that do.' : '';
       return nameOf(newest) + ' speaks of this path and decides.' + older;
     }
-    if (step.leaf) return step.pair ? nameOf(step.pair) + ' has this path and decides.' : 'No pair has this path: it is absent.';
+    if (step.leaf) return step.pair ? nameOf(step.pair) + ' has this path and decides.' : 'No pair has this path: it has no value.';
     return (step.messages.length ? 'No message here speaks of this path. ' : 'No message waits here. ') + (down ? upper(down) : '');
   }
 
@@ -137,10 +144,12 @@
     const word = side.answer.dataset.word;
     const value = valueOf(found.decided && found.decided.entry);
     const verdict = make('p', 'verdict', make('span', 'side', word ? word + ': ' : ''), make('code', '', text));
-    if (value === null) verdict.append(' is absent. ');
-    else verdict.append(' has the value ', make('code', 'has', value), '. ');
+    const records = make('span', 'has', under === 1 ? '1 record' : under + ' records');
+    if (value !== null) verdict.append(' has the value ', make('code', 'has', value), '. ');
+    else if (under > 0) verdict.append(' has ', records, ' below it, and no value of its own. ');
+    else verdict.append(' is absent. ');
     verdict.append(make('span', 'reason', reason(found)));
-    if (under > 0) verdict.append(make('span', 'reason', ' Below it ' + (under === 1 ? '1 path is' : under + ' paths are') + ' present, marked in the tree.'));
+    if (under > 0) verdict.append(make('span', 'reason', ' What is below it is marked in the tree.'));
     side.answer.append(verdict);
     if (found.decided && (found.decided.entry || under > 0)) side.answer.append(pieces(found, text));
   }
@@ -204,18 +213,20 @@
 
   function ask(text, scroll) {
     dark();
-    const why = text && fault(text);
-    if (why) sides.forEach((s) => s.answer.append(make('p', 'reason', 'No path yet: ' + why + '.')));
-    if (!text || why) return measure();
-    const hex = hexOf(text);
-    for (const side of sides.filter((s) => s.root)) {
-      const found = lookup(side, hex);
-      side.image.classList.add('asking');
-      found.steps.forEach((step) => lightStep(step, found));
-      tellAnswer(side, text, found, lightUnder(side, hex));
-    }
+    if (!text) return measure();
+    for (const side of sides.filter((s) => s.root)) askSide(side, nameOn(side, text));
     measure();
     if (scroll) goToDecider(scroll);
+  }
+
+  function askSide(side, text) {
+    const why = fault(text);
+    if (why) return side.answer.append(make('p', 'reason', 'No path yet: ' + why + '.'));
+    const hex = hexOf(text);
+    const found = lookup(side, hex);
+    side.image.classList.add('asking');
+    found.steps.forEach((step) => lightStep(step, found));
+    tellAnswer(side, text, found, lightUnder(side, hex));
   }
 
   function inSight(target) {
@@ -270,7 +281,8 @@
     if (node) return reveal(node);
     const found = new URLSearchParams(words.replace(/\+/g, '%2B'));
     if (found.has('only')) { one('only').checked = true; body.classList.add('only'); }
-    if (found.has('path')) { input.value = found.get('path'); ask(input.value, 'nearest'); }
+    if (found.has('path')) input.value = found.get('path');
+    if (input.value) ask(input.value, 'nearest');
   }
 
   function toAddress() {
@@ -280,6 +292,7 @@
 
   input.addEventListener('input', () => { ask(input.value, 'nearest'); toAddress(); });
   one('form').addEventListener('submit', (event) => { event.preventDefault(); ask(input.value, 'center'); });
+  if (follow) follow.addEventListener('change', () => ask(input.value, 'nearest'));
   one('only').addEventListener('change', (event) => body.classList.toggle('only', event.target.checked));
   one('layout').addEventListener('click', switchLayout);
   one('all').addEventListener('click', openAll);

@@ -1,6 +1,7 @@
 // The page: one file without outside resources, for one image or for two side by side.
 // It relies on `card` for the nodes; its style and script stand beside this file.
 
+use crate::arguments::Moved;
 use crate::card::{badges, change_classes, escape, Drawing};
 use crate::compare::Comparison;
 use crate::report;
@@ -18,8 +19,9 @@ const KEY: &str = "<p class=key><span class=l>Grey bytes</span> are lifted: the 
 const STYLE: &str = include_str!("page.css");
 const SCRIPT: &str = include_str!("page.js");
 
-/// With more reachable nodes than this the cards begin closed.
-const OPEN_LIMIT: usize = 40;
+/// With more reachable nodes than this, or more entries in them, the cards begin closed.
+const OPEN_NODES: usize = 40;
+const OPEN_ENTRIES: usize = 200;
 /// With more levels than this columns get too wide to be the first choice, as does a lone leaf.
 const COLUMN_LEVELS: u16 = 4;
 
@@ -28,11 +30,19 @@ pub struct Side<'s, 'a> {
     pub survey: &'s Survey<'a>,
 }
 
-pub fn one(side: &Side<'_, '_>) -> String {
+/// What a page shows first: a path in its field, and the move along which paths are followed.
+#[derive(Default)]
+pub struct Opening<'o> {
+    pub path: Option<&'o str>,
+    pub moved: Option<&'o Moved>,
+}
+
+pub fn one(side: &Side<'_, '_>, path: Option<&str>) -> String {
     let drawing = drawing(side.survey, "a", None);
     let columns = (2..=COLUMN_LEVELS).contains(&side.survey.header.levels);
     let mut out = head(side.name, columns, 1);
-    bar(&mut out, side.name, &[("a", "")], &paths(&[side]), false);
+    let opening = Opening { path, moved: None };
+    bar(&mut out, &[side], &opening);
     let _ = write!(out, "<main class=one>{KEY}</p>");
     section(&mut out, side, "a", "", &drawing);
     out.push_str("</main>");
@@ -40,20 +50,12 @@ pub fn one(side: &Side<'_, '_>) -> String {
     out
 }
 
-pub fn two(sides: &[Side<'_, '_>; 2], comparison: &Comparison) -> String {
-    let title = format!("{} and {}", sides[0].name, sides[1].name);
-    let mut out = head(&title, false, 2);
-    let both = [&sides[0], &sides[1]];
-    bar(
-        &mut out,
-        &title,
-        &[("a", "before"), ("b", "after")],
-        &paths(&both),
-        true,
-    );
+pub fn two(sides: &[Side<'_, '_>; 2], comparison: &Comparison, opening: &Opening<'_>) -> String {
+    let [before, after] = sides;
+    let mut out = head(&title(&[before, after]), false, 2);
+    bar(&mut out, &[before, after], opening);
     legend(&mut out, comparison);
     out.push_str("<main class=two>");
-    let [before, after] = sides;
     let mut was = drawing(before.survey, "a", Some(comparison));
     was.fresh = Some(&comparison.fresh_before);
     was.other = Some((after.survey, "moves to"));
@@ -72,13 +74,14 @@ fn drawing<'d, 'a>(
     id: &'static str,
     comparison: Option<&'d Comparison>,
 ) -> Drawing<'d, 'a> {
+    let entries: usize = survey.nodes.iter().map(|node| node.entries.len()).sum();
     Drawing {
         survey,
         id,
         comparison,
         other: None,
         fresh: None,
-        compact: survey.nodes.len() > OPEN_LIMIT,
+        compact: survey.nodes.len() > OPEN_NODES || entries > OPEN_ENTRIES,
         opened: opened(survey, comparison),
     }
 }
@@ -127,38 +130,57 @@ fn paths(sides: &[&Side<'_, '_>]) -> BTreeSet<Vec<u8>> {
     paths
 }
 
-fn bar(
-    out: &mut String,
-    title: &str,
-    answers: &[(&str, &str)],
-    paths: &BTreeSet<Vec<u8>>,
-    changes: bool,
-) {
-    let title = escape(title);
+fn title(sides: &[&Side<'_, '_>]) -> String {
+    let names: Vec<&str> = sides.iter().map(|side| side.name).collect();
+    names.join(" and ")
+}
+
+/// The bar on top: the field for a path, the switches, and a place for the answer of each side.
+fn bar(out: &mut String, sides: &[&Side<'_, '_>], opening: &Opening<'_>) {
+    let (title, paths) = (escape(&title(sides)), paths(sides));
     let _ = write!(out, "<header class=bar><form id=form><h1>{title}</h1>");
-    controls(out, paths, changes);
+    field(out, &paths, opening.path);
+    switches(out, sides.len() == 2, opening.moved);
     out.push_str("</form><datalist id=paths>");
-    for path in paths {
+    for path in &paths {
         let _ = write!(out, "<option value=\"{}\">", escape(&spell::path(path)));
     }
     out.push_str("</datalist><div class=answers aria-live=polite>");
-    for (id, word) in answers {
+    let words = match sides.len() {
+        1 => ["", ""],
+        _ => ["before", "after"],
+    };
+    for (id, word) in ["a", "b"].iter().zip(words).take(sides.len()) {
         let id = format!("id=answer-{id} data-word=\"{word}\"");
         let _ = write!(out, "<div class=answer {id}></div>");
     }
     out.push_str("</div></header>\n");
 }
 
-/// The field for a path and the switches, each with its key.
-fn controls(out: &mut String, paths: &BTreeSet<Vec<u8>>, changes: bool) {
+/// The field for a path, with the one that the page opens at.
+fn field(out: &mut String, paths: &BTreeSet<Vec<u8>>, path: Option<&str>) {
     let example = paths.first().map_or("r1/c7/t1".into(), |p| spell::path(p));
     let _ = write!(
         out,
         "<label class=field>Path <input id=path list=paths autocomplete=off spellcheck=false \
-         placeholder=\"{}\" title=\"the key / comes here, Escape clears, Enter goes to what \
-         decides\"></label>",
+         value=\"{}\" placeholder=\"{}\" title=\"the key / comes here, Escape clears, Enter goes \
+         to what decides\"></label>",
+        escape(path.unwrap_or("")),
         escape(&example)
     );
+}
+
+/// The switches, each with its key.
+fn switches(out: &mut String, changes: bool, moved: Option<&Moved>) {
+    if let Some(Moved { from, to }) = moved {
+        let (from, to) = (escape(from), escape(to));
+        let _ = write!(
+            out,
+            "<label class=check title=\"before, the path as it is typed; after, its name since the \
+             move\"><input type=checkbox id=follow checked data-from=\"{from}\" data-to=\"{to}\"> \
+             follow <code>{from}</code> to <code>{to}</code></label>"
+        );
+    }
     out.push_str(
         "<label class=check><input type=checkbox id=only> only the way</label>\
          <button type=button id=layout title=\"columns or outline (l)\">Layout</button>\

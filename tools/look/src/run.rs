@@ -1,14 +1,13 @@
 // Runs a command: reads the images, makes the text or the page, and says the status.
 // It relies on the file system; an image is never written.
 
-use crate::arguments::{Command, USAGE};
+use crate::arguments::{Command, Moved, USAGE};
 use crate::compare::Comparison;
-use crate::page::{self, Side};
+use crate::page::{self, Opening, Side};
 use crate::report;
 use crate::spell;
 use crate::survey::Survey;
-use crate::trace::Trace;
-use crate::way;
+use crate::way::{self, Asked};
 use second::limits::{NODE, NODES_MOST};
 use std::fs::File;
 use std::io::Read;
@@ -35,12 +34,20 @@ pub fn run(command: &Command) -> Result<Done, String> {
             Ok(done(report::report(&name(image), &survey), survey.sound()))
         }
         Command::Lookup { image, path } => lookup(image, path),
-        Command::Page { image, page } => one_page(image, page),
+        Command::Page { image, path, page } => one_page(image, path.as_deref(), page),
         Command::Compare {
             before,
             after,
+            path,
+            moved,
             page,
-        } => two_images(before, after, page),
+        } => {
+            let opening = Opening {
+                path: path.as_deref(),
+                moved: moved.as_ref(),
+            };
+            two_images(before, after, &opening, page)
+        }
     }
 }
 
@@ -60,38 +67,49 @@ fn lookup(image: &Path, text: &str) -> Result<Done, String> {
     let path = spell::parse(text).map_err(|why| why + &hint)?;
     let bytes = read(image)?;
     let survey = Survey::take(&bytes);
-    let trace = Trace::take(&survey, &path);
-    let fine = survey.sound() && trace.value.is_some();
-    let mut told = way::tell(&name(image), &survey, &trace);
+    let asked = Asked::of(&survey, &path);
+    let mut told = way::tell(&name(image), &survey, &asked);
     if !hint.is_empty() {
         told += &format!("\n{}\n", hint.trim());
     }
-    Ok(done(told, fine))
+    Ok(done(told, survey.sound() && asked.found()))
 }
 
-fn one_page(image: &Path, file: &Path) -> Result<Done, String> {
+fn one_page(image: &Path, path: Option<&str>, file: &Path) -> Result<Done, String> {
     let bytes = read(image)?;
     let survey = Survey::take(&bytes);
-    write(
-        file,
-        &page::one(&Side {
-            name: &name(image),
-            survey: &survey,
-        }),
-    )?;
-    let text = report::summary(&name(image), &survey) + &report::findings(&survey);
-    Ok(done(text, survey.sound()))
+    let mut text = report::summary(&name(image), &survey) + &report::findings(&survey);
+    let mut fine = survey.sound();
+    if let Some(path) = path {
+        let bytes = spell::parse(path).map_err(|why| format!("{why} (nor is it a file)"))?;
+        let asked = Asked::of(&survey, &bytes);
+        text += &format!("{}\n", way::answer(&survey, &asked));
+        if !asked.found() {
+            text += &format!("({path} is no file, so it was taken for a path)\n");
+        }
+        fine = fine && asked.found();
+    }
+    let side = Side {
+        name: &name(image),
+        survey: &survey,
+    };
+    write(file, &page::one(&side, path))?;
+    Ok(done(text, fine))
 }
 
-fn two_images(before: &Path, after: &Path, file: &Path) -> Result<Done, String> {
+fn two_images(
+    before: &Path,
+    after: &Path,
+    opening: &Opening<'_>,
+    file: &Path,
+) -> Result<Done, String> {
     let (bytes_before, bytes_after) = (read(before)?, read(after)?);
-    if bytes_before.len() != bytes_after.len() {
+    let (length_before, length_after) = (bytes_before.len(), bytes_after.len());
+    if length_before != length_after {
+        let (before, after) = (before.display(), after.display());
         return Err(format!(
-            "{} has {} bytes and {} has {}: no call changes a store's length",
-            before.display(),
-            bytes_before.len(),
-            after.display(),
-            bytes_after.len()
+            "{before} has {length_before} bytes and {after} has {length_after}: no call changes a \
+             store's length"
         ));
     }
     let (was, is) = (Survey::take(&bytes_before), Survey::take(&bytes_after));
@@ -106,7 +124,8 @@ fn two_images(before: &Path, after: &Path, file: &Path) -> Result<Done, String> 
             survey: &is,
         },
     ];
-    write(file, &page::two(&sides, &comparison))?;
+    let answers = answers(&sides, opening)?;
+    write(file, &page::two(&sides, &comparison, opening))?;
     let mut text = String::new();
     for side in &sides {
         text += &report::summary(side.name, side.survey);
@@ -115,7 +134,30 @@ fn two_images(before: &Path, after: &Path, file: &Path) -> Result<Done, String> 
     for (heading, numbers) in comparison.words() {
         text += &format!("{heading}: {numbers}\n");
     }
-    Ok(done(text, was.sound() && is.sound()))
+    Ok(done(text + &answers, was.sound() && is.sound()))
+}
+
+/// What the path is before, and what it, or where it was moved, is after.
+fn answers(sides: &[Side<'_, '_>; 2], opening: &Opening<'_>) -> Result<String, String> {
+    if let Some(Moved { from, to }) = opening.moved {
+        spell::parse(from)?;
+        spell::parse(to)?;
+    }
+    let Some(path) = opening.path else {
+        return Ok(String::new());
+    };
+    let followed = opening
+        .moved
+        .map_or(path.into(), |moved| moved.follow(path));
+    let mut text = String::new();
+    for (side, word, path) in [
+        (&sides[0], "before", path),
+        (&sides[1], "after", &followed[..]),
+    ] {
+        let asked = Asked::of(side.survey, &spell::parse(path)?);
+        text += &format!("{word}: {}\n", way::answer(side.survey, &asked));
+    }
+    Ok(text)
 }
 
 fn name(file: &Path) -> String {

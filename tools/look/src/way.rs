@@ -11,32 +11,54 @@ use std::fmt::Write;
 /// The most paths below the one asked for that are listed.
 const LISTED: usize = 20;
 
-pub fn tell(name: &str, survey: &Survey<'_>, trace: &Trace) -> String {
+/// A path that was asked for: its lookup, and the records below it, itself left out.
+pub struct Asked {
+    pub trace: Trace,
+    pub below: Vec<Vec<u8>>,
+}
+
+impl Asked {
+    pub fn of(survey: &Survey<'_>, path: &[u8]) -> Asked {
+        let table = second::sound::judge(survey.image).map(|sound| sound.table);
+        Asked {
+            trace: Trace::take(survey, path),
+            below: table.map_or(Vec::new(), |table| rows_below(&table, path)),
+        }
+    }
+
+    /// Whether it has a value, or records below it as a closure has.
+    pub fn found(&self) -> bool {
+        self.trace.value.is_some() || !self.below.is_empty()
+    }
+}
+
+pub fn tell(name: &str, survey: &Survey<'_>, asked: &Asked) -> String {
     let mut out = report::summary(name, survey);
     if !survey.sound() {
         out.push_str(&report::findings(survey));
         out.push_str("Every call refuses this image (2). What its bytes would say:\n");
     }
-    let table = second::sound::judge(survey.image).map(|sound| sound.table);
-    let rows = table.map_or(Vec::new(), |table| rows_below(&table, &trace.path));
-    let _ = writeln!(out, "\n{}", answer(survey, trace));
-    pieces(survey, trace, !rows.is_empty(), &mut out);
+    let trace = &asked.trace;
+    let _ = writeln!(out, "\n{}", answer(survey, asked));
+    pieces(survey, trace, !asked.below.is_empty(), &mut out);
     let _ = writeln!(out, "\nthe way:");
     for (i, step) in trace.steps.iter().enumerate() {
         write_step(survey, trace, i, step, &mut out);
     }
-    below(survey, &rows, &mut out);
+    below(survey, &asked.below, &mut out);
     out
 }
 
-/// The value or its absence, and what decides it.
-pub fn answer(survey: &Survey<'_>, trace: &Trace) -> String {
-    let path = spell::path(&trace.path);
-    let told = match &trace.value {
-        Some(value) => format!("{path} has the value {}.", spell::value(value)),
-        None => format!("{path} is absent."),
+/// The value, the number of records below, or its absence; and what decides it.
+pub fn answer(survey: &Survey<'_>, asked: &Asked) -> String {
+    let path = spell::path(&asked.trace.path);
+    let records = count(asked.below.len(), "record", "records");
+    let told = match (&asked.trace.value, asked.below.len()) {
+        (Some(value), _) => format!("{path} has the value {}.", spell::value(value)),
+        (None, 0) => format!("{path} is absent."),
+        (None, _) => format!("{path} has {records} below it, and no value of its own."),
     };
-    format!("{told} {}", decision(survey, trace))
+    format!("{told} {}", decision(survey, &asked.trace))
 }
 
 fn decision(survey: &Survey<'_>, trace: &Trace) -> String {
@@ -162,7 +184,7 @@ fn ending(survey: &Survey<'_>, node: &SeenNode<'_>, step: &Step, overruled: bool
     }
 }
 
-/// The records that belong to the path: those that are present below it, itself left out.
+/// The paths that are present below the one asked for, itself left out.
 fn rows_below(table: &Table, path: &[u8]) -> Vec<Vec<u8>> {
     let from = table.range(path.to_vec()..).map(|(row, _)| row);
     let below = from.take_while(|row| row.starts_with(path));
@@ -173,7 +195,7 @@ fn below(survey: &Survey<'_>, rows: &[Vec<u8>], out: &mut String) {
     if rows.is_empty() {
         return;
     }
-    let told = count(rows.len(), "path is present", "paths are present");
+    let told = count(rows.len(), "record", "records");
     let _ = writeln!(out, "\nbelow it: {told}");
     for row in rows.iter().take(LISTED) {
         let found = Trace::take(survey, row);

@@ -65,7 +65,7 @@ same-length-5 : tie.Need-same-length-5
 same-length-5 c = search needs
 
 returns-5 : tie.Need-returns-5
-returns-5 c = turn-query (c .before .before .before .before .before .before .before .before .before .before .before .before .before .before .before .args .calls .now) _ _ (c .before .before .before .before .before .before .before .before .before .before .read-piece .ensures) _ _ _ _ _ (c .before .before .before .before .before .before .before .before .piece2 .given .1) _ _ (c .before .before .answer-query .ensures)
+returns-5 c = turn-query (c .before .before .before .before .before .before .before .before .before .before .before .before .before .before .before .args .calls .now) _ _ (c .before .before .before .before .before .before .before .before .before .before .read-piece .ensures) _ _ _ _ _ (c .before .before .before .before .before .before .before .before .piece2 .given .1) _ (c .before .before .before .before .before .before .most-bytes .ensures) (omega arith) _ _ (c .before .before .answer-query .ensures)
 
 pub take-turn-spec : {M : Type 1} → statement M
 take-turn-spec =

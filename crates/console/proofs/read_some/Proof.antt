@@ -15,9 +15,6 @@ loop-holds c = search needs
 read-requires : tie.Need-read-requires Inv-loop μ-loop
 read-requires c κs = search needs
 
-count-requires : tie.Need-count-requires Inv-loop μ-loop
-count-requires c κs = search needs
-
 same-length : tie.Need-same-length Inv-loop μ-loop
 same-length c = search needs
 
@@ -47,7 +44,6 @@ read-some-spec =
     μ-loop
     loop-holds
     read-requires
-    count-requires
     same-length
     returns
     sub-tries

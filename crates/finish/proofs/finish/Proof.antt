@@ -1,4 +1,4 @@
--- `finish` meets its contract: a count, and then conclude. Relies on the contract of live.
+-- `finish` meets its contract: a count, and then conclude. Relies on the contract of live_count.
 use Rattle.live_count.specs.RootSteps.{countable}
 use Rattle.image.specs.Prelude.{needs}
 use Rattle.finish.proofs.finish.Statement.{statement}

@@ -1,6 +1,5 @@
 -- `listing::advance` meets its contract: an accepted next moves the place on, a refused one leaves it. Relies on: Moves.
-use Rattle.image.specs.Prelude.{refl, needs}
-use Rattle.image.specs.Listing.{blank}
+use Rattle.image.specs.Prelude.{needs}
 use Rattle.listing.specs.Moves.{moves-on, stays-put}
 use Rattle.listing.proofs.advance.Statement.{statement}
 use Rattle.listing.proofs.advance.Tie as tie
@@ -18,12 +17,10 @@ enum-known-found-2 : tie.Need-enum-known-found-2
 enum-known-found-2 c = search needs
 
 returns : tie.Need-returns
-unfolding blank
-returns c = moves-on _ _ _ _ refl _ _ (c .before .before .before .before .next-after .ensures) _ (c .before .found .given .1)
+returns c = moves-on _ _ _ (search needs) _ _ (c .before .before .before .before .next-after .ensures) _ (c .before .found .given .1)
 
 returns-2 : tie.Need-returns-2
-unfolding blank
-returns-2 c = stays-put _ _ _ _ refl _ _ (c .before .before .before .before .next-after .ensures) _ (c .before .found2 .given .1)
+returns-2 c = stays-put _ _ _ (search needs) _ _ (c .before .before .before .before .next-after .ensures) _ (c .before .found2 .given .1)
 
 pub advance-spec : {M : Type 1} → statement M
 advance-spec =

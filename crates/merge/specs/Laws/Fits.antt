@@ -1,4 +1,4 @@
--- What two neighbouring children weigh is what upkeep's `wouldFit` counts, and what is written for both is the entries of `merged`.
+-- What two neighbouring children weigh is what image/Upkeep's `wouldFit` counts, and what is written for both is the entries of `merged`.
 use Rattle.image.specs.Prelude.{ℕ, zero, suc, _+_, _-_, _*_, _≤_, _<_, _≡_, refl, sym, ap, ap₂, subst, _∙_, List, [], _∷_, _++_, append-assoc, append-nil, Bool, true, false, _&&_, cond, false≢true, arith, length, drop, length-append, drop-append-add, drop-append-le, ltb, leb, leb-true, leb-false, le-leb, lt-leb, ltb-true, lt-ltb}
 use Rattle.image.specs.Bytes.{before, begins, shared, u16}
 use Rattle.image.specs.Entry.{Message, Entry, pair, child, message}

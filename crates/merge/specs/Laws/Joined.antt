@@ -1,5 +1,5 @@
 -- Two neighbouring children of a node as one, as the code weighs and writes them: pivots and suffixes are without what the node lifts.
--- Definitions only; the laws that join them to upkeep's `joinAt` stand beside.
+-- Definitions only; the laws that join them to `joinAt` of laws/Upkeep stand beside.
 use Rattle.image.specs.Prelude.{ℕ, _+_, _*_, List, [], _∷_, _++_, Bool, true, false, _&&_, cond, length, drop, ltb, leb, eqb}
 use Rattle.image.specs.Bytes.{u16, shared}
 use Rattle.image.specs.Entry.{Entry, pair, child, message}

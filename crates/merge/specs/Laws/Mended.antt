@@ -1,5 +1,5 @@
 -- Heal as the code takes it, a step at a time: the first two neighbours that fit are joined, the image stays sound with the same table, and
--- where there are none upkeep's rule holds. Relies on upkeep's HealWrite and Rules, and on Search for what the code finds and writes.
+-- where there are none heal's rule holds. Relies on laws/Upkeep's HealWrite and Rules, and on Search for what the code finds and writes.
 use Rattle.image.specs.Prelude.{ℕ, zero, suc, _+_, _*_, _≤_, _<_, _≡_, refl, sym, ap, ap₂, _∙_, List, [], _∷_, _++_, Bool, true, false, not, cond, true≢false, none, some, Option·some-injective, Option·none-ne-some, arith, length, lt-ltb}
 use Rattle.image.specs.Bytes.{shared, u16}
 use Rattle.image.specs.Entry.{Entry}

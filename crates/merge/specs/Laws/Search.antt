@@ -1,4 +1,4 @@
--- The first two neighbours that one node holds, and the store after they are joined: as upkeep's `firstPair` and `joinAt` tell them.
+-- The first two neighbours that one node holds, and the store after they are joined: as `firstPair` and `joinAt` of laws/Upkeep tell them.
 use Rattle.image.specs.Prelude.{ℕ, zero, suc, _+_, _*_, _≤_, _≡_, refl, sym, ap, ap₂, _∙_, List, [], _∷_, _++_, Bool, true, false, _&&_, not, cond, false≢true, true≢false, Option, none, some, arith, length, eqb, eqb-true, eq-eqb}
 use Rattle.image.specs.Bytes.{before, u16}
 use Rattle.image.specs.Entry.{Message, Entry, child, message}

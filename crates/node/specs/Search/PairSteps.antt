@@ -11,7 +11,7 @@ use Rattle.node.specs.declared.Cursor.{Cursor}
 use Rattle.node.specs.declared.Split.{Split}
 use Rattle.node.specs.declared.Step.{Step}
 use Rattle.node.specs.declared.search.Pair.{Pair}
-use Rattle.node.specs.declared.search.PairStep.{PairStep}
+use Rattle.node.specs.declared.PairStep.{PairStep}
 use Rattle.node.specs.Search.Pairs.{pairIs, pair-entry}
 
 -- no pair stands at a place: no entry does, or one that is no pair

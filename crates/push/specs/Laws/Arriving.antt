@@ -1,5 +1,5 @@
 -- What the messages of a node bring to one of its children: pivots and suffixes are without what the node lifts. Definitions only.
--- Relies on PushDown's `touches` and `lowered`; ArrivingLaws joins it to upkeep's `sentAll`.
+-- Relies on PushDown's `touches` and `lowered`; ArrivingLaws joins it to `sentAll` of laws/Upkeep.
 use Rattle.image.specs.Prelude.{ℕ, List, [], _∷_, _++_, cond, length, drop}
 use Rattle.image.specs.Bytes.{shared}
 use Rattle.image.specs.Entry.{Message, puts, drops, clears, Entry, pair, child, message}

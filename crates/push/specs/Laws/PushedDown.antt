@@ -1,5 +1,5 @@
--- A flush by one level as the code writes it keeps the image sound and its table, and meets upkeep's rule: `pushed-down`.
--- Relies on upkeep's site of a node and its bridge to the image, on TakesLaws for the children, and on HighLaws for the high pivot.
+-- A flush by one level as the code writes it keeps the image sound and its table, and meets flush's rule: `pushed-down`.
+-- Relies on laws/Upkeep's site of a node and its bridge to the image, on TakesLaws for the children, and on HighLaws for the high pivot.
 use Rattle.image.specs.Prelude.{ℕ, suc, _+_, _*_, _-_, _≤_, _<_, _≡_, refl, sym, ap, ap₂, subst, _∙_, List, [], _∷_, _++_, append-nil, Bool, true, false, _&&_, _||_, false≢true, Option, none, some, Option·some-injective, arith, length, leb, eqb, eqb-false, ne-eqb, leb-true, leb-false, ltb-true, lt-ltb}
 use Rattle.image.specs.Bytes.{u16, shared}
 use Rattle.image.specs.Entry.{Message, Entry, entriesOf}

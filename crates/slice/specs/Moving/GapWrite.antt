@@ -1,5 +1,5 @@
 -- The numbers that the slices of a move take, and the chain of empty nodes that stands where a range was cut out, written into an image.
--- Relies on the laws of slices (slicing) and of the move (MoveLaws).
+-- Relies on the laws of slices (Slicing) and of the move (MoveLaws).
 use Rattle.image.specs.Prelude.{ℕ, zero, suc, _+_, _*_, _-_, _≤_, _≡_, refl, sym, ap, subst, _∙_, List, [], Bool, true, false, false≢true, arith, length}
 use Rattle.image.specs.Entry.{pivotLimit}
 use Rattle.image.specs.Bytes.{before}

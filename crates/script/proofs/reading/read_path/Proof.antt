@@ -7,20 +7,26 @@ use Rattle.script.proofs.reading.read_path.Tie as tie
 find-byte-requires : tie.Need-find-byte-requires
 find-byte-requires c κs = search needs
 
+slice-write-path : tie.Need-slice-write-path
+slice-write-path c = omega arith
+
+same-length : tie.Need-same-length
+same-length c = search needs
+
 returns : tie.Need-returns
-returns c = no-path _ _ _ (c .before .find-byte .ensures .0) (c .if1 .taken)
+returns c = search (needs, no-path)
 
 put-exchanged-requires : tie.Need-put-exchanged-requires
 put-exchanged-requires c κs = search needs
 
-slice-write-path : tie.Need-slice-write-path
-slice-write-path c = omega (arith, path-end _ _ _ _ (c .before .before .put-exchanged .ensures))
+slice-write-path-2 : tie.Need-slice-write-path-2
+slice-write-path-2 c = omega (arith, path-end _ _ _ _ (c .before .before .put-exchanged .ensures))
 
 add-result : tie.Need-add-result
 add-result c = omega (arith, path-end _ _ _ _ (c .before .before .put-exchanged .ensures))
 
-same-length : tie.Need-same-length
-same-length c = search needs
+same-length-2 : tie.Need-same-length-2
+same-length-2 c = search needs
 
 returns-2 : tie.Need-returns-2
 returns-2 c = path-read _ _ _ _ _ (c .before .before .before .before .before .find-byte .ensures .0) (c .before .before .before .before .if1 .left) (c .before .before .put-exchanged .ensures) (omega (arith, path-end _ _ _ _ (c .before .before .put-exchanged .ensures)))
@@ -30,9 +36,11 @@ read-path-spec =
     tie.close
     (tie.spec
     find-byte-requires
+    slice-write-path
+    same-length
     returns
     put-exchanged-requires
-    slice-write-path
+    slice-write-path-2
     add-result
-    same-length
+    same-length-2
     returns-2)

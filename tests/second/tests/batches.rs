@@ -1,0 +1,121 @@
+// The judge of batches on the reference store's batches, which are right, and on its wrong ones, each of which it must find.
+
+use second::batch::{Batching, Done, Handed, Trace};
+use second::batches::{run, run_case, Tried};
+use second::contract::image_judged;
+use second::limits::*;
+use second::listed::BatchFault;
+use second::pieces::{laid, piece, two};
+use second::plain::Call;
+use second::reference::Reference;
+use second::rng::Rng;
+use second::subject::Subject;
+
+fn wrong(fault: BatchFault) -> Reference {
+    Reference {
+        fault: None,
+        batch_fault: Some(fault),
+    }
+}
+
+#[test]
+fn right_batches_are_right() {
+    let tried = run(&mut Reference::default(), 7, 120).unwrap_or_else(|what| panic!("{what}"));
+    println!("{tried:?}");
+}
+
+#[test]
+fn every_wrong_batch_is_found() {
+    for fault in BatchFault::ALL {
+        let mut rng = Rng::new(11);
+        let mut tried = Tried::default();
+        let found = (0..300)
+            .find_map(|_| run_case(&mut wrong(*fault), &mut rng, &mut tried).err())
+            .unwrap_or_else(|| panic!("{fault:?} was not found"));
+        println!("{fault:?} after {} batches: {found}", tried.batches);
+    }
+}
+
+fn get(path: &[u8]) -> Call {
+    Call::Get {
+        path: path.to_vec(),
+        buffer: Vec::new(),
+    }
+}
+
+fn put(path: &[u8]) -> Call {
+    Call::Put {
+        path: path.to_vec(),
+        value: vec![1],
+        work: 0,
+    }
+}
+
+fn made() -> Vec<u8> {
+    let mut store = vec![0; NODES_LEAST * NODE];
+    Reference::default().make(&mut store);
+    store
+}
+
+fn pieces(calls: &[Call]) -> Vec<u8> {
+    calls
+        .iter()
+        .flat_map(|c| piece(c).expect("short"))
+        .collect()
+}
+
+/// How a batch on an empty store must end with so much room.
+fn judged(calls: &[u8], room: usize) -> Done {
+    let sound = image_judged(&made()).expect("it is sound");
+    let trace = Trace::of(&mut Reference::default(), &made(), sound, calls).expect("it is right");
+    let handed = Handed {
+        calls,
+        work: &vec![9; WORK_PER_NODE * NODES_LEAST],
+        answers: &vec![7; room],
+    };
+    let checked = trace.check(&mut Reference::default(), &handed);
+    checked.expect("the reference store is right").0.done
+}
+
+/// A get of an absent path writes 4 bytes and needs 36; with 10 bytes for answers it stops the batch, and the put is not made.
+#[test]
+fn a_call_that_might_not_fit_is_not_made() {
+    let calls = pieces(&[get(b"p\0"), put(b"q\0")]);
+    let ends = |room: usize| (judged(&calls, room).calls, judged(&calls, room).written);
+    assert_eq!((ends(10), ends(35)), ((0, 0), (0, 0)));
+    assert_eq!((ends(36), ends(80)), ((2, 8), (2, 8)));
+    let mut store = made();
+    let mut work = vec![9; WORK_PER_NODE * NODES_LEAST];
+    let mut late = wrong(BatchFault::StopsByOwnLength);
+    let done = late.batch(&mut store, &mut work, &calls, &mut [0; 10]);
+    assert_eq!((done.calls, done.written), (2, 8), "the other outcome");
+}
+
+/// After the refused get there are 4 bytes less, and not 36: room for three answers of 4 more.
+#[test]
+fn the_room_falls_by_what_is_written() {
+    let calls = pieces(&[get(b"p\0"), put(b"q\0"), put(b"r\0"), get(b"q\0")]);
+    let calls_done = |room: usize| judged(&calls, room).calls;
+    assert_eq!(calls_done(12 + 35), 3);
+    assert_eq!(calls_done(12 + 36), 4);
+    assert_eq!(judged(&calls, 48).written, 4 + 4 + 4 + 5);
+}
+
+#[test]
+fn a_patch_is_no_piece_yet() {
+    let rest = two(b"q\0", b"r\0").expect("short");
+    let calls = [
+        pieces(&[put(b"q\0")]),
+        laid(0x0023, &rest),
+        pieces(&[put(b"s\0")]),
+    ]
+    .concat();
+    assert_eq!(judged(&calls, 100).calls, 1);
+    let calls = [
+        pieces(&[put(b"q\0")]),
+        laid(0x0024, &rest),
+        pieces(&[put(b"s\0")]),
+    ]
+    .concat();
+    assert_eq!(judged(&calls, 100).calls, 3);
+}

@@ -20,8 +20,8 @@ static struct path path(const char *text) {
 }
 
 int main(void) {
-    const struct path first = path("r1/c7/t1"), second = path("r1/c7/t2"), moved = path("r1/c9/t1");
-    const struct path old_closure = path("r1/c7"), new_closure = path("r1/c9");
+    const struct path first = path("r1/c7/k2/t1"), second = path("r1/c7/k2/t2"), moved = path("r1/c7/k5/t1");
+    const struct path old_closure = path("r1/c7/k2"), new_closure = path("r1/c7/k5");
     const uint8_t loss[] = {0x28};
     struct splicelog_calls calls = splicelog_begin_calls(bytes, sizeof bytes);
     const int fit = splicelog_add(&calls, SPLICELOG_PUT, first.bytes, first.length, loss, sizeof loss)

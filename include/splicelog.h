@@ -24,7 +24,7 @@
 #define SPLICELOG_VERSION_MAJOR 1
 #define SPLICELOG_VERSION_MINOR 1
 
-/* The limits. Sizes are in bytes; a path's bytes 00 count. */
+/* The limits. Sizes are in bytes; a path's bytes 00 count. The last number is the last refusal's. */
 #define SPLICELOG_VALUE_LIMIT 32
 #define SPLICELOG_PATH_LIMIT 64
 #define SPLICELOG_COMPONENT_LIMIT 16
@@ -33,9 +33,10 @@
 #define SPLICELOG_FEWEST_NODES 32
 #define SPLICELOG_MOST_NODES 1024
 #define SPLICELOG_WORK_PER_NODE 128
+#define SPLICELOG_LAST_NUMBER 10
 
 /* The compiler warns of an answer that is not looked at; gcc also of an array that is shorter than
- * the length told. An array is read, or written whatever its bytes were, or changed. */
+ * the length told, be it one that a call reads, writes, or reads and writes. */
 #ifdef __GNUC__
 #define SPLICELOG_RESULT __attribute__((warn_unused_result))
 #else
@@ -153,8 +154,8 @@ uint32_t splicelog_clear(uint8_t *store, splicelog_size store_len, uint8_t *work
                          const uint8_t *path, splicelog_size path_len);
 
 /* Every path below `from`, itself included, is below `to` with the same rest and value; what else was
- * below `to` is absent, and so is everything below `from`. If the two are equal, no byte of the store
- * changes. Refuses by 1, 2, 3, 7, 8, 9. */
+ * below `to` is absent: it is lost. Nothing is below `from` then. If the two are equal, no byte of the
+ * store changes. Refuses by 1, 2, 3, 7, 8, 9. */
 SPLICELOG_RESULT SPLICELOG_CHANGES(1, 2) SPLICELOG_WRITES(3, 4) SPLICELOG_READS(5, 6) SPLICELOG_READS(7, 8)
 uint32_t splicelog_move(uint8_t *store, splicelog_size store_len, uint8_t *work, splicelog_size work_len,
                         const uint8_t *from, splicelog_size from_len, const uint8_t *to, splicelog_size to_len);
@@ -169,8 +170,7 @@ uint32_t splicelog_settle(uint8_t *store, splicelog_size store_len, uint8_t *wor
 SPLICELOG_RESULT SPLICELOG_CHANGES(1, 2) SPLICELOG_WRITES(3, 4)
 uint32_t splicelog_tidy(uint8_t *store, splicelog_size store_len, uint8_t *work, splicelog_size work_len);
 
-/* The messages of a reachable interior node go down. A number that is no node's, however large, is
- * refused by 6. Refuses by 1, 2, 6. */
+/* The messages of a reachable interior node go down. Refuses by 1, 2, 6. */
 SPLICELOG_RESULT SPLICELOG_CHANGES(1, 2) SPLICELOG_WRITES(3, 4)
 uint32_t splicelog_flush(uint8_t *store, splicelog_size store_len, uint8_t *work, splicelog_size work_len,
                          splicelog_size node);
@@ -197,8 +197,7 @@ SPLICELOG_INLINE uint32_t splicelog_check_store(const uint8_t *store, size_t sto
 
 /* splicelog_get: `*length` becomes the value's length. */
 SPLICELOG_INLINE uint32_t splicelog_get_value(const uint8_t *store, size_t store_len, const uint8_t *path,
-                                              size_t path_len, uint8_t *buffer, size_t buffer_len,
-                                              size_t *length) {
+                                              size_t path_len, uint8_t *buffer, size_t buffer_len, size_t *length) {
     const uint64_t answer = splicelog_get(store, store_len, path, path_len, buffer, buffer_len);
     *length = splicelog_beside(answer);
     return splicelog_number(answer);
@@ -265,7 +264,7 @@ SPLICELOG_INLINE uint32_t splicelog_path_text(const uint8_t *path, size_t path_l
 }
 
 /* A place in a listing: the last path given. A listing begins at a place of length 0, whatever its
- * bytes. */
+ * bytes. It can hold any path. */
 struct splicelog_place {
     uint8_t bytes[SPLICELOG_PATH_LIMIT];
     size_t length;
@@ -276,8 +275,11 @@ struct splicelog_place {
  * path, else 1, 2 or 3. A place of more than 64 bytes is no path: 3.
  *
  *   struct splicelog_place place = {{0}, 0};
- *   while (splicelog_step(store, store_len, path, path_len, &place) == SPLICELOG_OK)
+ *   uint32_t number;
+ *   while ((number = splicelog_step(store, store_len, path, path_len, &place)) == SPLICELOG_OK)
  *       use(place.bytes, place.length);
+ *   if (number != SPLICELOG_NOT_FOUND)
+ *       fail(number); // the listing is not whole
  */
 SPLICELOG_INLINE uint32_t splicelog_step(const uint8_t *store, size_t store_len, const uint8_t *path,
                                          size_t path_len, struct splicelog_place *place) {
@@ -445,7 +447,7 @@ SPLICELOG_INLINE int splicelog_internal_reads(const uint8_t *calls, size_t calls
 enum splicelog_stop {
     SPLICELOG_STOP_END,        /* all calls were made */
     SPLICELOG_STOP_UNREADABLE, /* the next bytes do not read as a call */
-    SPLICELOG_STOP_NO_ROOM,    /* the next answer might not fit: go on with the calls that are left */
+    SPLICELOG_STOP_NO_ROOM,    /* the next answer might not fit: go on with the rest, in 68 bytes or more */
     SPLICELOG_STOP_REFUSED     /* the batch itself was refused, and no call was made */
 };
 

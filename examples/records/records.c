@@ -1,137 +1,108 @@
 /* SPDX-License-Identifier: MIT
- * Keeps splice records in a file; written from splicelog.h and splicelog(3) alone. cc records.c $(pkg-config --cflags --libs splicelog)
- *   records fill IMAGE LINES         makes an image of lines, each a path and a value in hexadecimal, - for none
- *   records renumber IMAGE OLD NEW   all below OLD goes below NEW
- *   records list IMAGE PATH          prints what is below PATH, in such lines
- *   records numbers                  prints each number of a refusal with its text
- */
+ * Keeps splice records in a file with libsplicelog: see splicelog(3). A line of text is a path, a space and a value in
+ * hexadecimal, as "r1/c2/k7/t1/f12 0a1f", or "-" for an empty value. Exit status: 0 done; 1 refused or not saved (the
+ * image is then as it was) or not printed; 2 usage. One run at a time: a save writes IMAGE.new and may leave it behind.
+ * Build: gcc -std=c99 -O1 -Wall -Wextra -Wpedantic -Wconversion -Werror records.c -lsplicelog -o records */
+#define _POSIX_C_SOURCE 200809L /* fileno and fsync */
+#include <errno.h>
 #include <splicelog.h>
 #include <stdio.h>
 #include <string.h>
+#include <unistd.h>
 
-enum { NODES = 32, LINE_MOST = 255 }; /* a store of 32 nodes holds up to 32 records */
+static uint8_t store[SPLICELOG_MOST_NODES * SPLICELOG_NODE_SIZE + 1]; /* one more: a longer file is seen and refused */
+static uint8_t work[SPLICELOG_MOST_NODES * SPLICELOG_WORK_PER_NODE];
+static size_t size = 256 * SPLICELOG_NODE_SIZE; /* the store's; a new one has 256 nodes, and room for 256 records */
 
-static uint8_t store[NODES * SPLICELOG_NODE_SIZE], work[NODES * SPLICELOG_WORK_PER_NODE];
-
-/* Was it accepted? A refusal is told, and nothing has changed. */
-static int accepted(const char *what, uint32_t number) {
-    if (number != SPLICELOG_OK)
-        printf("%s: refused %u: %s\n", what, (unsigned)number, splicelog_text(number));
-    return number == SPLICELOG_OK;
+/* Each function gives 0, or tells what went wrong and gives 1. What the library refuses is told by number and text. */
+static int failed(const char *what, const char *why) { fprintf(stderr, "records: %s: %s\n", what, why); return 1; }
+static int refused(const char *what, unsigned number) {
+    if (number != SPLICELOG_OK) fprintf(stderr, "records: %s: refused %u: %s\n", what, number, splicelog_text(number));
+    return number != SPLICELOG_OK;
 }
 
-/* The image from the file, judged: a file that this library has not written is never worked on. */
-static int load(const char *name) {
-    FILE *file = fopen(name, "rb");
-    if (!file)
-        return perror(name), 0;
-    const size_t length = fread(store, 1, sizeof store, file);
-    const int is_longer = fgetc(file) != EOF;
-    fclose(file);
-    size_t live = 0;
-    if (!accepted(name, is_longer ? SPLICELOG_WRONG_LENGTH : splicelog_check_store(store, length, &live)))
-        return 0;
-    printf("%s: %u records\n", name, (unsigned)live);
-    return 1;
+/* Reads an image and has it judged before use, as anyone may have written it. Where no file is, fill makes a store. */
+static int load(const char *image, int make) {
+    size_t live;
+    FILE *const file = fopen(image, "rb");
+    if (file == NULL && errno == ENOENT && make) return refused(image, splicelog_make(store, size));
+    if (file != NULL) size = fread(store, 1, sizeof store, file);
+    if (file == NULL || ferror(file) || fclose(file) != 0) return failed(image, strerror(errno));
+    return refused(image, splicelog_check_store(store, size, &live));
 }
 
-/* The image into a new file, which then takes the old one's name: a full disk leaves the old image. */
-static int save(const char *name) {
-    char beside[FILENAME_MAX];
-    if (snprintf(beside, sizeof beside, "%s.new", name) >= (int)sizeof beside)
-        return fprintf(stderr, "%s: too long a name\n", name), 0;
-    FILE *file = fopen(beside, "wb");
-    const int written = file && fwrite(store, 1, sizeof store, file) == sizeof store;
-    if (!file || fclose(file) != 0 || !written || rename(beside, name) != 0)
-        return perror(name), 0;
-    return 1;
+/* Writes a new file, which takes the image's name once all of it is on the disk: until then the old image stays. */
+static int save(const char *image) {
+    char name[4096];
+    if (snprintf(name, sizeof name, "%s.new", image) >= (int)sizeof name) return failed(image, "too long a name");
+    FILE *const out = fopen(name, "wb");
+    const int whole = out != NULL && fwrite(store, 1, size, out) == size && fflush(out) == 0 && fsync(fileno(out)) == 0;
+    if (out != NULL && fclose(out) == 0 && whole && rename(name, image) == 0) return 0;
+    return failed("not saved", strerror(errno));
 }
 
-/* The bytes of a value, two digits for each; gives how many there are, or -1 where the text has something else. */
-static int read_value(const char *text, uint8_t value[LINE_MOST]) {
-    const size_t digits = strcmp(text, "-") == 0 ? 0 : strlen(text);
-    if (digits % 2 != 0 || strspn(text, "0123456789abcdefABCDEF") < digits)
-        return -1;
-    for (size_t i = 0; i < digits / 2; i++) {
-        unsigned byte = 0;
-        sscanf(text + 2 * i, "%2x", &byte);
-        value[i] = (uint8_t)byte;
+/* Puts the record of a line. Only the line's form is judged here: its path and its value are the library's to judge. */
+static int put_line(const char *where, char *line) {
+    struct splicelog_place path; /* bytes and their length */
+    uint8_t value[2048];         /* enough, as a line has at most 4,095 characters */
+    char *const space = strchr(line, ' ');
+    const size_t digits = space == NULL ? 0 : strspn(space + 1, "0123456789abcdefABCDEF");
+    if (space == NULL || (strcmp(space, " -\n") != 0 && (digits == 0 || digits % 2 != 0 || space[1 + digits] != '\n')))
+        return failed(where, "is not a path, a space and pairs of hexadecimal digits or -");
+    *space = 0; /* here the path's text ends */
+    for (size_t i = 0; i < digits / 2; i++) sscanf(space + 1 + 2 * i, "%2hhx", &value[i]);
+    return refused(where, splicelog_path(line, path.bytes, &path.length)) ||
+           refused(where, splicelog_put(store, size, work, sizeof work, path.bytes, path.length, value, digits / 2));
+}
+
+/* Puts all lines or none: it goes on after a refusal, so that the user is told all of them, but nothing is saved. */
+static int fill(const char *lines) {
+    char line[4096], where[32];
+    int status = 0;
+    FILE *const file = fopen(lines, "r");
+    for (unsigned long count = 1; file != NULL && fgets(line, sizeof line, file) != NULL; count++) {
+        snprintf(where, sizeof where, "line %lu", count);
+        if (strchr(line, '\n') == NULL) { status = failed(where, "is too long, or cut, or not text"); break; }
+        if (put_line(where, line)) status = 1;
     }
-    return (int)(digits / 2);
+    return file == NULL || ferror(file) || fclose(file) != 0 ? failed(lines, strerror(errno)) : status;
 }
 
-static int put(const char *line) {
-    char text[LINE_MOST + 1], digits[LINE_MOST + 1];
-    uint8_t path[SPLICELOG_PATH_LIMIT], value[LINE_MOST];
-    size_t path_len;
-    if (sscanf(line, "%255s %255s", text, digits) != 2)
-        return printf("%s: not a path and a value\n", line), 0;
-    const int length = read_value(digits, value);
-    if (length < 0)
-        return printf("%s: not hexadecimal\n", line), 0;
-    return accepted(line, splicelog_path(text, path, &path_len)) &&
-           accepted(line, splicelog_put(store, sizeof store, work, sizeof work, path, path_len, value, (size_t)length));
+/* A move replaces all that is below its second path. So it is not made where there are records: they would be lost. */
+static int renumber(const char *old, const char *new) {
+    struct splicelog_place from, to, at = {{0}, 0};
+    if (refused(old, splicelog_path(old, from.bytes, &from.length))) return 1;
+    if (refused(new, splicelog_path(new, to.bytes, &to.length))) return 1;
+    if (splicelog_step(store, size, to.bytes, to.length, &at) == SPLICELOG_OK) return failed(new, "is in use already");
+    return refused(old, splicelog_move(store, size, work, sizeof work, from.bytes, from.length, to.bytes, to.length));
 }
 
-/* Lines that are refused are told and left out; a line that is too long ends it. */
-static int fill(const char *name) {
-    char line[LINE_MOST + 2];
-    size_t length = 0;
-    unsigned count = 0;
-    FILE *file = fopen(name, "r");
-    if (!file)
-        return perror(name), 0;
-    while (length <= LINE_MOST && fgets(line, sizeof line, file)) {
-        length = strcspn(line, "\n");
-        line[length] = 0;
-        count += length <= LINE_MOST && put(line) ? 1 : 0;
+/* Prints the records below a path. After the last one the library answers 8: that is told only where none came. */
+static int list(const char *top) {
+    struct splicelog_place path, at = {{0}, 0};
+    char name[SPLICELOG_PATH_LIMIT];
+    uint8_t value[SPLICELOG_VALUE_LIMIT];
+    size_t length;
+    uint32_t number;
+    if (refused(top, splicelog_path(top, path.bytes, &path.length))) return 1;
+    while ((number = splicelog_step(store, size, path.bytes, path.length, &at)) == SPLICELOG_OK) {
+        if (refused(top, splicelog_path_text(at.bytes, at.length, name))) return 1;
+        if (refused(top, splicelog_get_value(store, size, at.bytes, at.length, value, sizeof value, &length))) return 1;
+        printf("%s ", name);
+        for (size_t i = 0; i < length; i++) printf("%02x", value[i]);
+        puts(length == 0 ? "-" : "");
     }
-    fclose(file);
-    printf("%u lines taken\n", count);
-    return length <= LINE_MOST || (printf("%.20s..: over %d bytes\n", line, LINE_MOST), 0);
+    return number == SPLICELOG_NOT_FOUND && at.length > 0 ? 0 : refused(top, number);
 }
 
-static int renumber(const char *old_text, const char *new_text) {
-    uint8_t from[SPLICELOG_PATH_LIMIT], to[SPLICELOG_PATH_LIMIT];
-    size_t from_len, to_len;
-    return accepted(old_text, splicelog_path(old_text, from, &from_len)) && accepted(new_text, splicelog_path(new_text, to, &to_len)) &&
-           accepted(old_text, splicelog_move(store, sizeof store, work, sizeof work, from, from_len, to, to_len));
-}
-
-static int list(const char *text) {
-    uint8_t below[SPLICELOG_PATH_LIMIT], value[SPLICELOG_VALUE_LIMIT];
-    size_t below_len, length;
-    struct splicelog_place at = {{0}, 0};
-    uint32_t number = splicelog_path(text, below, &below_len);
-    while (number == SPLICELOG_OK && (number = splicelog_step(store, sizeof store, below, below_len, &at)) == SPLICELOG_OK) {
-        char path[SPLICELOG_PATH_LIMIT];
-        if (!accepted(text, splicelog_path_text(at.bytes, at.length, path)) ||
-            !accepted(path, splicelog_get_value(store, sizeof store, at.bytes, at.length, value, sizeof value, &length)))
-            return 0;
-        printf("%s %s", path, length == 0 ? "-" : "");
-        for (size_t i = 0; i < length; i++)
-            printf("%02x", (unsigned)value[i]);
-        putchar('\n');
-    }
-    return number == SPLICELOG_NOT_FOUND || accepted(text, number); /* 8 comes after the last path */
-}
-
-static int print_numbers(void) {
-    for (uint32_t number = SPLICELOG_OK; number <= SPLICELOG_FULL; number++)
-        printf("%u %s\n", (unsigned)number, splicelog_text(number));
-    return 1;
-}
-
-int main(int count, char **words) {
-    const char *const word = count > 1 ? words[1] : "";
-    if (count == 4 && strcmp(word, "fill") == 0)
-        return accepted(words[2], splicelog_make(store, sizeof store)) && fill(words[3]) && save(words[2]) ? 0 : 1;
-    if (count == 5 && strcmp(word, "renumber") == 0)
-        return load(words[2]) && renumber(words[3], words[4]) && save(words[2]) ? 0 : 1;
-    if (count == 4 && strcmp(word, "list") == 0)
-        return load(words[2]) && list(words[3]) ? 0 : 1;
-    if (count == 2 && strcmp(word, "numbers") == 0)
-        return print_numbers() ? 0 : 1;
-    fputs("usage: records fill IMAGE LINES | renumber IMAGE OLD NEW | list IMAGE PATH | numbers\n", stderr);
-    return 2;
+int main(int argc, char **argv) {
+    int status = 2;
+    if (argc == 4 && strcmp(argv[1], "fill") == 0) status = load(argv[2], 1) || fill(argv[3]) || save(argv[2]);
+    else if (argc == 5 && strcmp(argv[1], "renumber") == 0)
+        status = load(argv[2], 0) || renumber(argv[3], argv[4]) || save(argv[2]);
+    else if (argc == 4 && strcmp(argv[1], "list") == 0) status = load(argv[2], 0) || list(argv[3]);
+    else if (argc == 2 && strcmp(argv[1], "numbers") == 0)
+        for (unsigned n = 0; n <= SPLICELOG_LAST_NUMBER; n++) status = printf("%u %s\n", n, splicelog_text(n)) < 0;
+    else fputs("usage: records fill IMAGE LINES | renumber IMAGE OLD NEW | list IMAGE PATH | numbers\n", stderr);
+    return fflush(stdout) == 0 && !ferror(stdout) ? status : failed("standard output", strerror(errno));
 }

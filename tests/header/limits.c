@@ -111,7 +111,8 @@ static void test_texts(void) {
         for (uint32_t j = 0; j < i; j++)
             CHECK(strcmp(splicelog_text(i), splicelog_text(j)) != 0);
     }
-    CHECK(strcmp(splicelog_text(UINT32_MAX), splicelog_text(SPLICELOG_FULL + 1)) == 0);
+    CHECK(strcmp(splicelog_text(UINT32_MAX), splicelog_text(SPLICELOG_LAST_NUMBER + 1)) == 0);
+    CHECK(strcmp(splicelog_text(UINT32_MAX), splicelog_text(SPLICELOG_LAST_NUMBER)) != 0);
     sprintf(digits, "%d to %d", SPLICELOG_FEWEST_NODES, SPLICELOG_MOST_NODES);
     CHECK(strstr(splicelog_text(SPLICELOG_WRONG_LENGTH), digits));
     sprintf(digits, "%d bytes", SPLICELOG_VALUE_LIMIT);

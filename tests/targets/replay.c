@@ -17,7 +17,8 @@ static const char *const kind_names[KINDS] = {"make", "get",    "next", "same", 
                                               "move", "settle", "tidy", "flush", "heal", "batch", "check"};
 
 enum { STORE, OTHER, WORK, BUFFER, FIRST, SECOND, ARRAYS };
-static const char *const array_names[ARRAYS] = {"the store", "the other store", "the work area", "the buffer", "the first argument", "the second argument"};
+static const char *const array_names[ARRAYS] = {"the store",  "the other store",    "the work area",
+                                                "the buffer", "the first argument", "the second argument"};
 
 /* As MOST in recorder.rs. Behind the bytes that a call is told of stand others, which must stay. Each array begins at an odd address, since a
  * caller's may: an aligned load of several bytes would fault or read elsewhere on some processors. */

@@ -1,5 +1,6 @@
-// put, drop and clear as one message at the root: appended where it has room, or held by a new root above the old one.
-// The root lifts nothing, so a message there has the full path as its suffix. The laws of what is written are in specs/Laws.
+// put, drop and clear as one message at the root: appended where it has room, or held by a new root above the old one. The root lifts nothing, so a
+// message there has the full path as its suffix. The laws of what is written are in specs/Laws.
+// Relies on node (the header, the search, the writer) and on octets (a number of two bytes).
 use node::writer;
 ghost use Rattle.image.specs.Prelude.{_≡_, true, _+_, _*_, _<_, _≤_, length};
 ghost use Rattle.image.specs.Bytes.{u16Bytes};

@@ -1,6 +1,6 @@
-// A batch: a list of calls as one call. Questions 1 and 2 are asked once; then call after call by the parts of the calls that follow these
-// questions, each on the store as the last one left it, with no second judgement: after each the store is sound again, which is proved.
-// Relies on questions, tree_check (the marks), requests (the requests read, the answers written), query, edit, maintain and rename.
+// A batch: a list of calls as one call. Questions 1 and 2 are asked once; then call after call by the parts of the calls that follow these questions,
+// each on the store as the last one left it, with no second judgement: after each the store is sound again, which is proved. Relies on questions,
+// tree_check (the marks), requests (requests read, answers written), query, edit, maintain, rename, packed (the area zeroed) and node (places).
 use edit::Terms;
 use image::Outcome;
 use node::Place;

@@ -1,19 +1,21 @@
-// The program's files, `console [NEW [OLD]]`: it goes on with the image in the file OLD and leaves its own in the file NEW. A file that is not
-// taken or not written is told of on standard error. tools/splicelog-wrapper.sh names both files, and gives NEW the old one's name only where
-// the program has left an image in it. Relies on: make, soundness, io, os and libc.
+// The program's files, `console [DONE [NEW [OLD]]]`: how many words there are says which of the descriptors 3, 4 and 5 tools/splicelog.c has
+// opened; the words are their names for messages. The program goes on with the image on OLD and leaves its own on NEW, and a byte on DONE
+// says that all is done. Nothing is opened or removed here. Relies on: make, soundness, io, os and libc.
 ghost use Rattle.image.specs.Prelude.{_≡_, zero, true, length};
 ghost use Rattle.image.specs.Sound.{sound};
 
-// Tells what failed with the file, by errno.
-fn tell_failure(name: &[u8]) {
-    io::write_all(2, b"splicelog: ");
-    os::fail(name);
-}
+const DONE: i32 = 3;
 
-// Tells which question the file's image got a no to, as document 01 counts them.
-fn tell_refusal(name: &[u8], number: usize) {
+const NEW: i32 = 4;
+
+const OLD: i32 = 5;
+
+// Tells which question the image on OLD got a no to, as document 01 counts them.
+fn tell_refusal(number: usize) {
+    let mut name = io::buffer();
+    let n = os::arg(3, &mut name);
     io::write_all(2, b"splicelog: ");
-    io::write_all(2, name);
+    io::write_all(2, &name[0..n]);
     if number == 1 {
         io::write_all(2, b": refused 1, it has not the 65536 bytes of 64 nodes\n");
         return;
@@ -21,18 +23,18 @@ fn tell_refusal(name: &[u8], number: usize) {
     io::write_all(2, b": refused 2, its image is not sound\n");
 }
 
-// Reads the file into the store: 0, or the number of the first question that its image gets a no to. One byte more is asked for, since a
-// longer file begins with as many.
-fn read_image(file: i32, store: &mut [u8]) -> usize
+// Reads OLD into the store: 0, or the number of the first question that its image gets a no to. One byte more is asked for, since a longer
+// file begins with as many.
+fn read_image(store: &mut [u8]) -> usize
     requires { ⌜ length (now store) ≡ 65536 ⌝ }
     ensures { λ r. ⌜ (r ≡ 0 → sound (now (store .exit)) ≡ true) ⌝ }
 {
-    let count = io::read_full(file, store);
+    let count = io::read_full(OLD, store);
     if count < store.len() {
         return 1;
     }
     let mut more = [0u8; 1];
-    if 0 < io::read_full(file, &mut more) {
+    if 0 < io::read_full(OLD, &mut more) {
         return 1;
     }
     if !soundness::is_sound(store) {
@@ -41,62 +43,52 @@ fn read_image(file: i32, store: &mut [u8]) -> usize
     0
 }
 
-// Loads the image of the file of this name; false where it is not taken.
-fn load_image(name: &[u8], store: &mut [u8]) -> bool
-    requires { ⌜ length (now store) ≡ 65536 ⌝ }
-    ensures { λ r. ⌜ (r ≡ true → sound (now (store .exit)) ≡ true) ⌝ }
-{
-    let file = os::open_read(name);
-    if file < 0 {
-        tell_failure(name);
-        return false;
-    }
-    let number = read_image(file, store);
-    libc::close(file);
-    if number == 0 {
-        return true;
-    }
-    tell_refusal(name, number);
-    false
-}
-
-// The store to begin with: the image of the file OLD, or where none is named a store just made. False where that image is not taken.
+// The store to begin with: the image on OLD, or where there is none a store just made. False where that image is not taken.
 pub fn begin(store: &mut [u8]) -> bool
     requires { ⌜ length (now store) ≡ 65536 ⌝ }
     ensures { λ r. ⌜ (r ≡ true → sound (now (store .exit)) ≡ true) ⌝ }
 {
-    if os::arg_count() < 3 {
+    if os::arg_count() < 4 {
         make::make(store);
+        return true;
+    }
+    let number = read_image(store);
+    if number == 0 {
+        return true;
+    }
+    tell_refusal(number);
+    false
+}
+
+// Writes the image to NEW, if that is there, and has it brought to the disk; false where either fails, which is told.
+fn write_image(store: &[u8]) -> bool {
+    if os::arg_count() < 3 {
         return true;
     }
     let mut name = io::buffer();
     let n = os::arg(2, &mut name);
-    load_image(&name[0..n], store)
-}
-
-// Writes the image into the file and has it brought to the disk; false where either fails.
-fn write_image(file: i32, store: &[u8]) -> bool {
-    if !io::write_all(file, store) {
-        return false;
+    if io::write_all(NEW, store) && libc::fsync(NEW) == 0 {
+        return true;
     }
-    libc::fsync(file) == 0
+    io::write_all(2, b"splicelog: ");
+    os::fail(&name[0..n]);
+    false
 }
 
-// Leaves the image in the file NEW, if one is named. Where not all of it is on the disk, there is no such file afterwards.
+// After every line was read and every answer printed: leaves the image on NEW, and says on DONE that all is done.
 pub fn end(store: &[u8]) {
     if os::arg_count() < 2 {
         return;
     }
-    let mut name = io::buffer();
-    let n = os::arg(1, &mut name);
-    let file = os::open_overwrite(&name[0..n]);
-    if file < 0 {
-        tell_failure(&name[0..n]);
+    if write_image(store) {
+        io::write_all(DONE, b"\n");
+    }
+}
+
+// Tells, by errno, why not all of the input was read or not every answer printed.
+pub fn tell_failure() {
+    if os::arg_count() < 2 {
         return;
     }
-    if !write_image(file, store) {
-        tell_failure(&name[0..n]);
-        os::unlink(&name[0..n]);
-    }
-    libc::close(file);
+    os::fail(b"splicelog: input or output");
 }

@@ -1,4 +1,4 @@
-// The program: reads lines from standard input and prints what each says, on a store just made or on the one that an argument names. Script
+// The program: reads lines from standard input and prints what each says, on a store just made or on the one that files begins with. Script
 // has the work; here are the reads, the writes and the loop. Relies on: script, files, io and libc.
 mod files;
 
@@ -110,5 +110,7 @@ fn main() {
     }
     if run(&mut store, &mut work, &mut line, &mut chunk, &mut out) {
         files::end(&store);
+    } else {
+        files::tell_failure();
     }
 }

@@ -1,6 +1,6 @@
 -- What the contract of a call tells at once: its answer's number is its first no, so of an accepted call every question is a yes; a call,
 -- and a list of calls, keeps the store's size and its soundness; a get of a path that is there reads it.
--- For the other files of this crate. Relies on the contracts (image) alone.
+-- For the other files of this crate, and for batch and listing. Relies on the contracts (image) and on octets' Order.
 use Rattle.image.specs.Prelude.{ℕ, zero, suc, _≤_, _≡_, refl, sym, ap, _∙_, List, _∷_, _++_, Bool, true, false, false≢true, Option, none, some, arith, length, drop, le-leb}
 use Rattle.image.specs.Path.{wellFormed, valueLimit}
 use Rattle.image.specs.Table.{Row, find, isSome}

@@ -1,5 +1,5 @@
--- The steps of the append: one pair's row, and the loop over a leaf's entries. Relies on what put_row promises (build: RowPut) and on
--- what the tests of `live_count` promise.
+-- The steps of the append: one pair's row, and the loop over a leaf's entries. Relies on what put_row promises (packed: RowPut) and on what the
+-- tests of `live_count` promise.
 use Rattle.image.specs.Prelude.{ℕ, _+_, _*_, _-_, _≤_, _≡_, refl, sym, ap, subst, _∙_, List, [], _∷_, _++_, append-nil, append-assoc, Bool, true, false, _&&_, not, true≢false, arith, length, take, drop, length-append, leb, not-true, not-false, leb-true, leb-false}
 use Rattle.image.specs.Path.{valueFits, owns}
 use Rattle.image.specs.Entry as defined

@@ -1,5 +1,5 @@
--- The steps of the insertion: a put that decides its path is not among the rows yet, and goes in at its place; the loop over the entries of
--- an interior node. Relies on what insert_row promises (insertion: Inserted) and on the laws of tables.
+-- The steps of the insertion: a put that decides its path is not among the rows yet, and goes in at its place; the loop over the entries of an
+-- interior node. Relies on what insert_row promises (specs/Insertion: Inserted) and on the laws of tables.
 use Rattle.image.specs.Prelude.{ℕ, suc, _+_, _*_, _-_, _≤_, _≡_, refl, sym, ap, subst, _∙_, List, [], _∷_, _++_, Bool, true, false, _&&_, not, cond, true≢false, none, arith, length, take, drop, drop-append-seam, not-true, not-false}
 use Rattle.image.specs.Path.{valueFits}
 use Rattle.image.specs.Entry as defined

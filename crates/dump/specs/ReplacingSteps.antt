@@ -1,5 +1,5 @@
 -- The steps of the puts that go into the rows of the root's children: an entry by its kind, one put, and the loop over the entries.
--- Relies on what set_row promises (insertion: Laid) and on the laws of tables.
+-- Relies on what set_row promises (specs/Insertion: Laid) and on the laws of tables.
 use Rattle.image.specs.Prelude.{ℕ, _*_, _≤_, _≡_, refl, sym, ap, subst, _∙_, List, [], _∷_, _++_, Bool, true, false, _&&_, not, arith, length, leb-true, not-true, not-false}
 use Rattle.image.specs.Bytes.{same, before}
 use Rattle.image.specs.Path.{pathLimit, valueFits}

@@ -1,5 +1,5 @@
-// Rows put at their places among rows of the work area that rise: one row, the place by halving and then a move of the rows behind it, or
-// in the place of its path's row; or rows that rise too, merged in one pass. Relies on the layout of a row and on the writer of one (packed).
+// Rows put at their places among rows of the work area that rise: one row, the place by halving and then a move of the rows behind it, or in the
+// place of its path's row; or rows that rise too, merged in one pass. Relies on packed (the layout of a row, and its writer) and on octets.
 ghost use Rattle.image.specs.Prelude.{_≡_, true, none, _+_, _*_, _-_, _<_, _≤_, length, take, drop, getD};
 ghost use Rattle.image.specs.Bytes.{before, same};
 ghost use Rattle.image.specs.Table.{rising, find, withRow};

@@ -1,7 +1,6 @@
-// Every row of a sound store's map, rising, in the rows of the work area, by one walk over the tree: a leaf's pairs are appended in their
-// order, and a node's waiting puts are merged into the rows of its children. Only what decides a path is written, so that there are never
-// more rows than live paths. Where the root's messages are all puts, the usual state, they go into its children's rows as they are.
-// Relies on the tests of `live_count` and its notes, `packed` (one row), `insertion` and `replacing`; the caller has checked the store.
+// Every row of a sound store's map, rising, in the work area, by one walk: a leaf's pairs are appended, and a node's waiting puts merged into its
+// children's rows. Only what decides a path is written, so there are never more rows than live paths. Where the root's messages are all puts they go
+// into the rows as they are. Relies on live_count (tests, notes), node, packed (one row), insertion and replacing; the caller has checked the store.
 pub mod insertion;
 pub mod replacing;
 

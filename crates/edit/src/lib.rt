@@ -1,8 +1,6 @@
-// put, drop and clear: each becomes one message at the root. Where the root takes no more, a new root is put above an old one that holds no
-// message; where that cannot be, the store is rebuilt first, and then it always can. The live count follows by one lookup; after a clear it is
-// counted anew. Each call is questions 1 and 2, its part on a store that is fit (put_fit, drop_fit, clear_fit), which takes a free node off the
-// marks of question 2, uses the work area for a rebuild alone and leaves it zero then, and the area zeroed.
-// Relies on: questions, append (the message), rebuild, live (the count), tree_check (the marks, where none are lent).
+// put, drop and clear: each is one message at the root, appended, held by a new root above, or added after a rebuild, which leaves room. A call is
+// questions 1 and 2, its part on a store that is fit (put_fit, drop_fit, clear_fit), and the work area zeroed. Relies on: questions, path (3), lookup
+// (the count after it), live_count (after a clear), tree_check (marks, where none are lent), append (the message), rebuild, node (node 0).
 use image::Outcome;
 use image::Refusal;
 use node::search::Found;

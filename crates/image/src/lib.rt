@@ -1,5 +1,5 @@
-// The answers of the store's calls as types, and the place of a listing. specs/Answers.antt gives each case its number; the other files of
-// specs/ hold the paper's definitions, which every contract of the crates above cites.
+// The numbers of the format, the answers of the store's calls as types, and the place of a listing. specs/Answers.antt gives each case of an answer
+// its number; the other files of specs/ hold the paper's definitions, which the contracts of the crates above cite. Relies on no other crate.
 
 // The numbers of the image, as document 01 gives them, and the kinds of a batch, which are ours. Code cites them by name; the definitions of
 // specs/ have their own, and a proof that meets them holds only while the two agree.

@@ -1,5 +1,5 @@
 -- What the walk asks of each path that it comes to, and what it decides: every path of one image is in another.
--- Relies on: what is present in an image (successor/specs/Walk) and in a table (Reading/Seek).
+-- Relies on: what is present in an image (successor/specs/Walk) and in a table (laws/Reading/Seek).
 use Rattle.image.specs.Prelude.{ℕ, List, Bool, _||_, not}
 use Rattle.image.specs.Table.{Row, everyKey}
 use Rattle.laws.specs.Reading.Seek.{every, present}

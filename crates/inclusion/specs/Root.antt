@@ -1,5 +1,5 @@
 -- The walk from the root decides inclusion: it comes to every path that is present, and asks nothing of those that are not.
--- Relies on: Held, that every present path stands in an entry (Reading/Seek), and that lookup is the table (successor/specs/Present).
+-- Relies on: Held, that every present path stands in an entry (laws/Reading/Seek), and that lookup is the table (successor/specs/Present).
 use Rattle.image.specs.Prelude.{ℕ, _≡_, refl, sym, ap, _∙_, List, [], _∷_, Bool, true, false, _||_, not, Option, none, some}
 use Rattle.image.specs.Bytes.{shared, u16}
 use Rattle.image.specs.Table.{Row, find, isSome, everyKey}

@@ -1,6 +1,6 @@
-// Whether every path of one store is in another: one walk over the first, which looks up each pair's and each put's path in the second. The
-// first is asked only for a path that the second lacks: a message may have removed it.
-// Relies on: two sound stores (the caller has checked them), the cursor over a node's entries, the lookup, successor's paths of entries and children.
+// Whether every path of one store is in another: one walk over the first, which looks up each pair's and each put's path in the second. The first is
+// asked only for a path that the second lacks: a message may have removed it. Relies on: two sound stores (the caller has checked them), the cursor
+// of node, lookup, octets, successor's paths of entries and children.
 use node::Cursor;
 use node::Entry;
 use node::Step;

@@ -1,4 +1,5 @@
--- A tree under other bytes: with `prefix` in front of both pivots, its table has `prefix` in front of each path. (A pointer swing from `prefix` to `another`.)
+-- A tree under other bytes: with `prefix` in front of both pivots, its table has `prefix` in front of each path. (A pointer swing from `prefix` to
+-- `another`.)
 use Rattle.image.specs.Prelude.{ℕ, _≡_, refl, ap, ap₂, _∙_, List, [], _∷_, _++_, append-assoc, Bool, true, false, cond, length, drop, length-append, drop-append-add, cases}
 use Rattle.image.specs.Bytes.{same, before, begins, shared}
 use Rattle.image.specs.Path.{below, owns}

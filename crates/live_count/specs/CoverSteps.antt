@@ -1,5 +1,5 @@
 -- Past one entry that is not on a rest, to the entries behind it: what the readers of `none_covers` promise, and the laws of each way out.
--- Relies on node's Next (an entry in front of the others) and on notes' noneCovers.
+-- Relies on Next of node's Places (an entry in front of the others), on noneCovers of specs/Notes and on NotedSteps.
 use Rattle.image.specs.Prelude.{ℕ, _+_, _-_, _<_, _≤_, _≡_, refl, sym, ap, _∙_, List, [], Bool, true, false, arith, length}
 use Rattle.image.specs.Bytes.{u16, same}
 use Rattle.image.specs.Entry as defined

@@ -1,5 +1,5 @@
 -- Step lemmas of the count by notes that are handed down, and that the tree stays sound on the way down.
--- Relies on the definitions of Noted, on the contracts of notes, and on the laws of sound trees (laws: LookupTable, Reading's SeekHere).
+-- Relies on the definitions of Noted, on the contracts of notes, and on the laws of sound trees (laws: LookupTable, Filter, Reading's Relative).
 use Rattle.image.specs.Prelude.{ℕ, zero, suc, _+_, _-_, _<_, _≤_, _≡_, refl, sym, ap, ap₂, _∙_, List, [], _∷_, _++_, append-assoc, Bool, true, false, _&&_, not, true≢false, false≢true, and-true, Option, none, some, arith, length, take, drop, getD, length-append, drop-append-le, drop-at}
 use Rattle.image.specs.Bytes.{shared}
 use Rattle.image.specs.Path.{wellFormed, owns}

@@ -1,5 +1,5 @@
 -- What the walk counts at a node, and over its children, is what Live defines of the tree under the node.
--- Relies on the laws that join the bytes of a node to its tree (lookup: Look) and on LiveLaws.
+-- Relies on the laws that join the bytes of a node to its tree (lookup: Look) and on octets' laws of capped sums (Cap).
 use Rattle.image.specs.Prelude.{ℕ, _+_, _-_, _≤_, _≡_, refl, sym, ap, ap₂, _∙_, List, [], _∷_, _++_, Bool, true, false, _&&_, and-comm, Option, none, some, arith, length, drop}
 use Rattle.image.specs.Bytes.{shared}
 use Rattle.image.specs.Entry as defined

@@ -1,6 +1,6 @@
-// The number of paths present in an image that may have waiting messages, counted in one walk over its nodes: each entry that decides
-// its path counts once. How a walk comes to a node (arrive) and to its children (enter) serves the dump too.
-// Relies on the readers of nodes (node) and on `usable` (laws/Reading); specs/Live says what is counted.
+// The number of paths present in an image that may have waiting messages, counted in one walk over its nodes: each entry that decides its path counts
+// once. How a walk comes to a node (arrive) and to its children (enter) serves the dump too. Relies on the readers of nodes (node) and on octets;
+// specs/Live says what is counted, specs/Walk what is asked of a node.
 pub mod notes;
 pub mod path_buffer;
 pub mod visibility;

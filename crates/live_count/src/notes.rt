@@ -1,6 +1,6 @@
-// The messages above a node that can be on one of its keys, as notes: a node's are made of its parent's and of the parent's own messages, and
-// each pair of a leaf is held against the leaf's alone.
-// A note is a number: where the suffix begins past what the leaf lifts, whether the message clears, and how long what is left of it is.
+// The messages above a node that can be on one of its keys, as notes: a node's are made of its parent's and of the parent's own messages, and each
+// pair of a leaf is held against the leaf's alone. A note is a number: where the suffix begins past what the leaf lifts, whether the message clears,
+// and how long what is left of it is. Relies on node (the cursor) and on octets.
 use node::Cursor;
 use node::Entry;
 use node::Message;

@@ -1,5 +1,5 @@
-// Which paths the messages of the nodes above leave visible, and which entries decide their path: no later entry of the node and no node of
-// the trail says anything of it. Relies on the readers of nodes (node); specs/Walk says what passes a trail and what decides.
+// Which paths the messages of the nodes above leave visible, and which entries decide their path: no later entry of the node and no node of the
+// trail says anything of it. Relies on the readers of nodes (node) and on octets; specs/Walk says what passes a trail and what decides.
 use crate::path_buffer;
 use node::Cursor;
 use node::Entry;

@@ -1,5 +1,5 @@
 // The value of a path, looked up one level at a time: a node's newest message on it decides, else the child that owns it answers for the rest.
-// Relies on node's search; the caller knows that the store is sound.
+// Relies on node's search and on octets; the caller knows that the store is sound.
 use node::search::Found;
 use node::search::Latest;
 use node::search::Owner;

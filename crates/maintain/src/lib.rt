@@ -1,7 +1,6 @@
-// settle, tidy, flush and heal: the public upkeep calls. Each asks the paper's questions in order and refuses at the first no; a refusal
-// changes no byte, and an accepted call leaves the first 128 bytes for each node of the work area zero. settle_fit, tidy_fit, flush_fit and
-// heal_fit are the parts after questions 1 and 2.
-// Relies on questions (questions 1 and 2), on rebuild, which leaves the same map in packed form, with no message anywhere, on push and on merge.
+// settle, tidy, flush and heal: each asks the paper's questions in order; a refusal changes no byte, and an accepted call leaves the first 128 bytes
+// for each node of the work area zero. settle_fit, tidy_fit, flush_fit and heal_fit are the parts after questions 1 and 2. Relies on questions (1 and
+// 2), node (question 6), rebuild (the same map in packed form, with no message), push (a flush), merge (a heal) and packed (the area zeroed).
 use image::Outcome;
 use image::Refusal;
 use push::Pushed;

@@ -1,5 +1,5 @@
 // make: an empty store. The image that it leaves is `made-image` of crate laws: node 0, one empty leaf as the root, and zeros, which is
-// the packed form of the empty map.
+// the packed form of the empty map. Relies on node (question 1, the writer) and on octets (zeros).
 use image::Outcome;
 use image::Refusal;
 ghost use Rattle.image.specs.Prelude.{_≡_, _*_, _≤_, length};

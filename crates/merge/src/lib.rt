@@ -1,6 +1,6 @@
-// Heal: two neighbouring children of a node that hold no message and fit in one node are joined, the first such two again and again until
-// there are none. Everything is told from inside the node: suffixes and pivots are without what the node lifts. Relies on specs/Laws and
-// push's high; weigh says whether one node holds both, emit writes entries.
+// Heal: two neighbouring children of a node that hold no message and fit in one node are joined, the first such two again and again until there are
+// none. Everything is told from inside the node: suffixes and pivots are without what the node lifts. Relies on weigh (whether one node holds both),
+// emit (the entries written), push's high (the node's high pivot), node and octets; specs/Laws has the laws.
 pub mod emit;
 pub mod weigh;
 

@@ -1,5 +1,5 @@
 // How many bytes the entries of two neighbours take in one node. Only reads.
-// Relies on the readers of nodes and on octets; Laws/Joined says what an entry weighs.
+// Relies on the readers of nodes (node) and on octets; Laws/Joined says what an entry weighs.
 use node::Cursor;
 use node::Entry;
 use node::Step;

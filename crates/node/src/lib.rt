@@ -1,6 +1,6 @@
-// The nodes of a store: how many there are, the numbers of their headers (module header), the entries of a node, read one by one by a cursor, and
-// (module writer) how they are written.
-// Every reader answers places in the slice that it was lent, and promises that they lie inside it.
+// The nodes of a store: how many there are, the numbers of their headers (module header), the entries of a node, read one by one by a cursor, what a
+// node says of a path (module search), and (module writer) how nodes are written. Every reader answers places in the slice that it was lent, and
+// promises that they lie inside it. Relies on octets and on the numbers of image.
 pub mod header;
 pub mod search;
 pub mod writer;

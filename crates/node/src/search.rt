@@ -1,6 +1,5 @@
-// What one node says of a path: its newest message on it, the pair of a leaf, the child that owns it; its children one by one; and whether it
-// holds messages, and how many.
-// Relies on the cursor; specs/Search joins each reader to the definitions.
+// What one node says of a path: its newest message on it, the pair of a leaf, the child that owns it; its children one by one; and whether it holds
+// messages, and how many. Relies on the cursor and on octets; specs/Search joins each reader to the definitions.
 use crate::Cursor;
 use crate::Entry;
 use crate::Message;

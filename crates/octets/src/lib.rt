@@ -1,5 +1,5 @@
-// Strings of bytes and the numbers in them: what every other crate reads, compares and writes bytes with.
-// One loop compares from the front, `common_length`, and the orders follow from it by laws; `equal` compares from the end.
+// Strings of bytes and the numbers in them: what the other crates read, compare and write bytes with. One loop compares from the front,
+// `common_length`, and the orders follow from it by laws; `equal` compares from the end. Relies on no other code.
 ghost use Rattle.image.specs.Prelude.{_≡_, _+_, _<_, _≤_, length, replicate};
 ghost use Rattle.image.specs.Bytes.{same, before, begins, shared, u16, u16Bytes};
 ghost use Rattle.image.specs.Path.{owns};

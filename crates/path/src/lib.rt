@@ -1,5 +1,5 @@
-// Whether bytes are a well-formed path: a small state machine that is fed slice by slice, so that a suffix can be judged after a prefix
-// that is not stored. specs/Shape.antt proves it equal to the definition of the paper.
+// Whether bytes are a well-formed path: a small state machine that is fed slice by slice, so that a suffix can be judged after a prefix that is not
+// stored. specs/Shape.antt proves it equal to the definition of the paper. Relies on no other code.
 ghost use Rattle.image.specs.Prelude.{_≡_, _<_, _≤_, length};
 ghost use Rattle.path.specs.Shape as defined;
 ghost use Rattle.path.specs.Fed.{shapeIs};

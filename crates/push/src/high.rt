@@ -1,5 +1,5 @@
 // The high pivot of an interior node without what the node lifts: only its parent knows it, so it is sought from the root down.
-// Relies on the readers of nodes (node) and on `usable` (laws/Reading); Laws/High says what is found.
+// Relies on the readers of nodes (node), on octets and on `usable` (laws/Reading); Laws/High says what is found.
 use node::Cursor;
 use node::Place;
 use node::search::Pending;

@@ -1,5 +1,5 @@
 // What a leaf takes: each message that touches it, oldest first, is applied to its pairs, and the pairs that stay are written anew.
-// Relies on room, and on node's cursor and writer; specs/Sides says which pairs stay.
+// Relies on room, on node's cursor and writer and on octets; specs/Sides says which pairs stay.
 use crate::room;
 use node::Cursor;
 use node::Entry;

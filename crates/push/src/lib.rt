@@ -1,6 +1,6 @@
-// A flush by one level: all messages of an interior node go, oldest first, to the children that they touch, if all these have room.
-// Everything is told from inside the node: suffixes and pivots are without what the node lifts. Relies on specs/Laws and high; room
-// says whether the children have room, message and leaf what an interior child and a leaf take.
+// A flush by one level: all messages of an interior node go, oldest first, to the children that they touch, if all these have room. Everything is
+// told from inside the node: suffixes and pivots are without what the node lifts. Relies on high, room (whether the children have room), message and
+// leaf (what an interior child and a leaf take), node and octets; specs/Laws has the laws.
 pub mod high;
 mod leaf;
 pub mod message;

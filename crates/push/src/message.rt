@@ -1,5 +1,5 @@
 // What an interior child takes: the messages that touch it, without what it lifts, behind its own entries.
-// Relies on room, which says what touches a child, and on node's cursor and writer.
+// Relies on room, which says what touches a child, on node's cursor and writer and on octets.
 use crate::room;
 use node::Cursor;
 use node::Entry;

@@ -1,6 +1,6 @@
-// get, next, same and check: the calls that read a store. Each asks the paper's questions in order and refuses at the first no; a refusal changes
-// no byte. get_fit and next_fit are the parts from question 3 on, for a store that is known to be sound.
-// Relies on: soundness (question 2), path (question 3), lookup and successor for what is found, inclusion for same.
+// get, next, same and check: the calls that read a store. Each asks the paper's questions in order; a refusal changes no byte. get_fit and next_fit
+// are the parts from question 3 on, for a store that is known to be sound. Relies on: node (question 1, the live count), soundness (2), path (3),
+// lookup and successor for what is found, octets for its copy, inclusion for same.
 use image::Found;
 use image::Refusal;
 use image::Sameness;

@@ -1,5 +1,5 @@
 -- What questions 1 and 2 leave, by the answer, and what a caller reads off it.
--- Relies on soundness (Holds) and on questions' Callers (Lent: the call is lent the work area).
+-- Relies on tree_check's Callers (Established: what a yes says of the image) and on questions' Callers (Lent: the call is lent the work area).
 use Rattle.image.specs.Prelude.{ℕ, _*_, _≤_, _≡_, subst, List, true, length}
 use Rattle.image.specs.Image.{nodesOf, wholeNodes}
 use Rattle.image.specs.Sound.{sound}

@@ -1,5 +1,5 @@
 -- What a rebuild promises: the same map in packed form, and the work area as an accepted call must leave it.
--- Relies on the paper's definitions only.
+-- Relies on the paper's definitions (image) and on packed's table and rows (Tidy, Area).
 use Rattle.image.specs.Prelude.{ℕ, _+_, _*_, _-_, _/_, _≤_, _≡_, List, _++_, true, false, length, drop, replicate}
 use Rattle.image.specs.Table.{Row}
 use Rattle.image.specs.Image.{nodesOf, wholeNodes, headerOf, treeOf}

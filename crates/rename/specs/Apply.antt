@@ -1,4 +1,4 @@
--- What the act of a move asks, and one law for each way out of the call. Relies on prepare's Moved (the contract from the steps).
+-- What the act of a move asks, and one law for each way out of the call. Relies on Prepare/Moved (the contract from the steps).
 use Rattle.image.specs.Prelude.{ℕ, _*_, _-_, _/_, _≤_, _≡_, refl, sym, ap, subst, _∙_, List, _++_, Bool, true, false, length, take, drop}
 use Rattle.image.specs.Bytes.{same}
 use Rattle.image.specs.Image.{nodesOf, wholeNodes, headerOf}

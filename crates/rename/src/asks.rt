@@ -1,5 +1,5 @@
-// Questions 7, 8 and 9 of a move. They read the store and both paths, and touch neither the store nor the work area.
-// Relies on path (the shape of a path, fed in pieces) and successor (the next path below a path, or the next whose rest does not fit a shape).
+// Questions 7, 8 and 9 of a move. They read the store and both paths, and touch neither the store nor the work area. Relies on octets, path (the
+// shape of a path, fed in pieces) and successor (the next path below a path, or the next whose rest does not fit a shape).
 use path::Shape;
 ghost use Rattle.image.specs.Prelude.{_≡_, true, not};
 ghost use Rattle.image.specs.Path.{wellFormed, properBeginning, mayMove};

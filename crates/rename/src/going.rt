@@ -1,5 +1,5 @@
 // The questions of move from 3 on, in order, and what is to be done when all are a yes. Nothing is written here.
-// Relies on path (3) and asks (7, 8 and 9).
+// Relies on path (3), asks (7, 8 and 9) and octets.
 use image::Refusal;
 ghost use Rattle.image.specs.Prelude.{_≡_, true};
 ghost use Rattle.image.specs.Sound.{sound, tableOf};

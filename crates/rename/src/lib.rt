@@ -1,6 +1,6 @@
-// move: what is below one path comes below another. The public call: the questions in order, and then the swing of a store made ready for it.
-// (Document 003 calls it a range rename.) A refusal changes no byte; an accepted move zeroes the first 128 bytes for each node of the work area.
-// Relies on questions (questions 1 and 2), going (the later ones), prepare (a settled store with free nodes), swing (the act) and finish (the live count).
+// move: what is below one path comes below another (document 003 calls it a range rename). Questions in order, then the swing of a store made ready
+// for it. A refusal changes no byte; an accepted move zeroes the first 128 bytes for each node of the work area. Relies on questions (1 and 2), going
+// (the later ones), prepare (a settled store with free nodes), swing (the act), finish (the live count) and packed (the area, where a path stays).
 pub mod asks;
 pub mod going;
 pub mod prepare;

@@ -1,1 +1,1 @@
-// Images made outside Rattle, judged by the definitions: see specs/.
+// No code: specs/ has images made outside Rattle, by the second program (tests/second), and judges them by the paper's definitions. Relies on image.

@@ -1,5 +1,6 @@
-// The lines of the program: each is read, its call is made, and its text is put into a page that is lent. Relies on: edit, rename, maintain
-// and query for the calls, reading for the fields, writing for the texts. What a line says is defined in image, Program.
+// The lines of the program: each is read, its call is made, and its text is put into a page that is lent. What a line says is defined in image,
+// Program. Relies on: edit, rename, maintain and query for the calls, reading for the fields, writing for the texts, path (question 3 of a list),
+// octets.
 pub mod reading;
 pub mod writing;
 

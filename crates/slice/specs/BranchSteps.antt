@@ -1,4 +1,5 @@
--- Step lemmas of an interior node's part: the entries of children put into a page one after the other. Relies on push's WriteSteps.
+-- Step lemmas of an interior node's part: the entries of children put into a page one after the other. Relies on Point, on octets' Put and on laws'
+-- Encode.
 use Rattle.image.specs.Prelude.{ℕ, zero, suc, _+_, _-_, _<_, _≤_, _≡_, refl, sym, ap, ap₂, _∙_, List, [], _∷_, _++_, append-nil, arith, length, drop, length-append}
 use Rattle.image.specs.Entry as defined
 use Rattle.image.specs.Image.{Branch}

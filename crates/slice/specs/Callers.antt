@@ -1,5 +1,5 @@
--- What a caller has in hand is what the slices ask: of a tree that is read from the image, sound and settled, cut by a short cut strictly inside
--- its range, whose low pivot is empty. And the list of free nodes as the laws of the move have it. Relies on specs/Slicing's `cut-fits` and `read-fits`.
+-- What a caller has in hand is what the slices ask: of a tree that is read from the image, sound and settled, cut by a short cut strictly inside its
+-- range, whose low pivot is empty. And the list of free nodes as the laws of the move have it. Relies on specs/Slicing's `cut-fits` and `read-fits`.
 use Rattle.image.specs.Prelude.{ℕ, _+_, _*_, _<_, _≤_, _≡_, refl, List, [], Bool, true, _||_, length}
 use Rattle.image.specs.Bytes.{before, begins, shared}
 use Rattle.image.specs.Entry.{pivotLimit}

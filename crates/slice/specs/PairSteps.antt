@@ -1,4 +1,4 @@
--- Step lemmas of a leaf's part: which entries are written, one after the other, and the page. Relies on push's step lemmas of writers.
+-- Step lemmas of a leaf's part: which entries are written, one after the other, and the page. Relies on Point and on laws' Encode.
 use Rattle.image.specs.Prelude.{ℕ, _≡_, refl, sym, ap, _∙_, List, [], _∷_, _++_, append-nil, Bool, true, false, not, cond, drop}
 use Rattle.image.specs.Bytes.{before}
 use Rattle.image.specs.Entry as defined

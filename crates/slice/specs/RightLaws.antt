@@ -1,4 +1,4 @@
--- The right parts of a node over its children as they are read. Relies on Slicing (edgeIn, restIn, packed, rightWrite).
+-- The right parts of a node over its children as they are read. Relies on Slicing (edgeIn, restIn, edgeWrite, overWrite).
 use Rattle.image.specs.Prelude.{ℕ, zero, suc, _+_, _*_, _≤_, _≡_, refl, sym, ap, ap₂, _∙_, List, [], _∷_, _++_, append-assoc, Bool, true, false, _&&_, cond, arith, length, drop, length-append, leb, leb-true, ne-eqb, cases}
 use Rattle.image.specs.Bytes.{before, shared}
 use Rattle.image.specs.Entry as defined

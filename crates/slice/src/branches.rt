@@ -1,5 +1,5 @@
-// The page of a part of an interior node: its children's entries, each pivot without its first bytes. Relies on node's reader of children
-// and on node's writer; specs/Point says what stands in the page.
+// The page of a part of an interior node: its children's entries, each pivot without its first bytes. Relies on node's reader of children and writer
+// and on push's room (a part without its first bytes); specs/Point says what stands in the page.
 use crate::Cut;
 use node::Cursor;
 use node::Place;

@@ -1,5 +1,5 @@
-// The chain of empty nodes that stands where a range was cut out: one node a level, the deepest written first. The pivots are whole here:
-// each node of the chain has the same. Relies on specs/Moving's `gapWrite` and on node's writer.
+// The chain of empty nodes that stands where a range was cut out: one node a level, the deepest written first. The pivots are whole here: each node
+// of the chain has the same. Relies on node's writer and on octets; specs/Moving's `gapWrite` says what is written.
 use node::writer;
 ghost use Rattle.image.specs.Prelude.{_≡_};
 ghost use Rattle.slice.specs.Moving.GapWrite.{gapWrite};

@@ -1,6 +1,6 @@
-// The slices of a settled tree at a cut, written into free nodes, the deepest first. Everything is told from inside a node: pivots and cut
-// are without what the node lifts. A node takes the number of its place in the list of free nodes, its child the next one. Relies on
-// specs/Slicing's `leftWrite`; pairs, point and branches compose the page of one node.
+// The slices of a settled tree at a cut, written into free nodes, the deepest first. Everything is told from inside a node: pivots and cut are
+// without what the node lifts. A node takes the number of its place in the list of free nodes, its child the next one. Relies on pairs, point and
+// branches (the page of one node), on node's writer and on octets; specs/Slicing's `leftWrite` says what is written.
 mod branches;
 pub mod gap;
 mod pairs;

@@ -1,5 +1,5 @@
-// The part of a leaf on one side of a cut: its pairs there, each key without its first bytes. Relies on node's writer;
-// specs/Point says which pairs they are.
+// The part of a leaf on one side of a cut: its pairs there, each key without its first bytes; specs/Point says which pairs they are.
+// Relies on node's cursor and writer, on push's room (a part without its first bytes) and on octets.
 use node::Cursor;
 use node::Entry;
 use node::Step;

@@ -1,5 +1,5 @@
-// The pages of a right part: the pieces of the child that held the cut, and the children after it. Relies on branches and on node's
-// writer; specs/Right says what stands in the pages.
+// The pages of a right part: the pieces of the child that held the cut, and the children after it. Relies on branches and on node's reader of
+// children and writer; specs/Right says what stands in the pages.
 use crate::Cut;
 use crate::Parts;
 use crate::branches;

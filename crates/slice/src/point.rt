@@ -1,4 +1,4 @@
-// Where a cut falls among the children of a node. Relies on node's reader of children; specs/Point says what is sought.
+// Where a cut falls among the children of a node. Relies on node's reader of children and on octets; specs/Point says what is sought.
 use crate::Cut;
 use node::Place;
 use node::search::Pending;

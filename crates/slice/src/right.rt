@@ -1,5 +1,5 @@
-// The part of a tree from a cut on: wide, an edge and a rest a level; narrow, one node a level. Everything is told from inside a node.
-// Relies on `rightWrite` of specs/Slicing and on pieces, which writes the pages.
+// The part of a tree from a cut on: wide, an edge and a rest a level; narrow, one node a level. Everything is told from inside a node. Relies on
+// pieces and pairs (which write the pages), on point, on node's reader of children and on octets; `rightWrite` of specs/Slicing says what is written.
 use crate::Cut;
 use crate::Parts;
 use crate::pairs;

@@ -1,5 +1,5 @@
-// Question 2 whole: is the image sound? The tree by one marking walk (tree_check), then the live count: with no message anywhere it is the
-// number of pairs, which the walk has counted; else one more walk counts the entries that decide (live_count).
+// Question 2 whole: is the image sound? The tree by one marking walk, then the live count: with no message anywhere it is the number of pairs, which
+// the walk has counted; else one more walk counts the entries that decide. Relies on tree_check (the first walk), live_count (the second) and node.
 use tree_check::Checked;
 ghost use Rattle.image.specs.Prelude.{_≡_, true, length};
 ghost use Rattle.image.specs.Image.{wholeNodes};

@@ -1,6 +1,6 @@
-// Next as one walk over the tree: the best path so far is carried along, and a child that can hold no better one is not entered. The walk
-// may ask one thing more of a path: that what follows `below` does not go on from a shape. Every path is unfit so for the dead shape.
-// Relies on: a sound store (the caller has checked it), the cursor over a node's entries, and the lookup from the root.
+// Next as one walk over the tree: the best path so far is carried along, and a child that can hold no better one is not entered. The walk may ask one
+// thing more of a path: that what follows `below` does not go on from a shape. Every path is unfit so for the dead shape. Relies on: a sound store
+// (the caller has checked it), node (the cursor over a node's entries), lookup (from the root), path (shapes) and octets.
 use node::Cursor;
 use node::Entry;
 use node::Message;

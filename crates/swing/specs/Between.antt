@@ -1,5 +1,5 @@
 -- The swing from its steps: what each call in it asks, and that the image at its end is slice/Moving's.
--- Relies on Steps (what the plan gives), RootLaws (the new root's page) and Head (node 0).
+-- Relies on Steps (what the plan gives), RootLaws (the new root's page) and laws' Page (node 0).
 use Rattle.image.specs.Prelude.{ℕ, suc, _+_, _*_, _-_, _/_, _≤_, _<_, _≡_, refl, sym, ap, ap₂, subst, _∙_, List, [], Bool, arith, length}
 use Rattle.image.specs.Bytes.{u16}
 use Rattle.image.specs.Image.{nodesOf, headerOf, treeOf}

@@ -1,4 +1,4 @@
--- The steps of the code of a swing, one law for each call and each way out. Relies on Steps (what the plan gives) and on RootLaws.
+-- The steps of the code of a swing, one law for each call and each way out. Relies on Cuts and Root (what is asked and written) and on octets' Put.
 use Rattle.image.specs.Prelude.{ℕ, _+_, _*_, _-_, _≤_, _<_, _≡_, refl, sym, ap, ap₂, subst, _∙_, List, [], _∷_, _++_, Bool, true, false, arith, length, take, drop, set, length-append}
 use Rattle.image.specs.Bytes.{u16, u16Bytes}
 use Rattle.image.specs.Entry.{child}

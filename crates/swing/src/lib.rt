@@ -1,6 +1,6 @@
-// The swing of a move on a settled store: its tree is cut at the ends of two ranges, the largest cut first, each next one on what lies left of
-// the last; the pieces go under a new root, those of `from` in the place of `to`; node 0 is written last. Every other node that is written
-// was free. Relies on slice (the cuts and the empty chain), on root (the new root's page) and on node's writer (node 0).
+// The swing of a move on a settled store: its tree is cut at the ends of two ranges, the largest cut first, each next one on what lies left of the
+// last; the pieces go under a new root, those of `from` in the place of `to`; node 0 is written last. Every other node that is written was free.
+// Relies on slice (the cuts and the empty chain), root (the new root's page), node (node 0) and octets.
 mod root;
 pub mod spare;
 

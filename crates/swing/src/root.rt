@@ -1,5 +1,5 @@
 // The new root of a move: what lies left of both ranges, then for each range the node under its path and the pieces behind it. It knows ends of
-// ranges and numbers only: the same for a move up and a move down. Relies on slice (the pieces) and on node's writer.
+// ranges and numbers only: the same for a move up and a move down. Relies on slice (the pieces), node's writer and octets.
 use node::writer;
 use slice::Parts;
 use slice::pieces::Numbered;

@@ -1,5 +1,5 @@
 -- The exits of the check of a child, of the children that follow it, and of the messages after them.
--- Relies on guard's walk over an interior node's entries (Inside) and on Sequence.
+-- Relies on the walk over an interior node's entries (Node/Inside) and on Sequence.
 use Rattle.image.specs.Prelude.{ℕ, _-_, _<_, _≤_, _≡_, refl, sym, ap, ap₂, _∙_, List, [], _∷_, Bool, true, false, cond, Option, none, some, arith, length, take, drop}
 use Rattle.image.specs.Bytes.{before, shared}
 use Rattle.image.specs.Path.{owns}

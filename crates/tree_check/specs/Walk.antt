@@ -1,5 +1,5 @@
 -- The check of one node by its entries: what the walk of laws/Reading (Visit) is for a leaf and for an interior node of an image.
--- Relies on guard's walks over pairs (Leaf) and over children and messages (Inside).
+-- Relies on the walks over pairs (Node/Leaf) and over children and messages (Node/Inside).
 use Rattle.image.specs.Prelude.{ℕ, zero, suc, _<_, _≤_, _≡_, refl, sym, ap, _∙_, List, [], _∷_, Bool, true, false, _&&_, cond, Option, none, some, arith, length, getD, set, ltb, leb, eqb, lt-ltb, le-ltb, le-leb, lt-leb, eq-eqb, ne-eqb}
 use Rattle.image.specs.Bytes.{same}
 use Rattle.image.specs.Entry as defined

@@ -1,5 +1,5 @@
 // What the check of a list of children is lent as plain numbers: the tally so far, and what the children's parent shares with them.
-// Relies on nothing but the walk's own structs; specs/Held says what the numbers stand for.
+// Relies on the walk's own structs, on node's Place and on path's Shape; specs/Held says what the numbers stand for.
 use crate::Checked;
 use crate::Tally;
 use node::Place;

@@ -1,5 +1,6 @@
-// Question 2 but for the live count: one marking walk over the tree, in which the check of a node and that of its children call each other.
-// It reads any store of at least one node, and counts pairs and messages. Relies on header and node_check for what one node holds, and on path.
+// Question 2 but for the live count: one marking walk over the tree, in which the check of a node and that of its children call each other. It reads
+// any store of at least one node, and counts pairs and messages. Relies on header and node_check for what one node holds, lent (what a list of
+// children is lent), node (the cursor), path and octets.
 pub mod header;
 pub mod lent;
 pub mod marks;

@@ -21,8 +21,10 @@ oldest first. Values are in hexadecimal, - for the empty one. Words after -- are
 
 The page takes a path in its field or in its address: FILE#path=r1/c7/t1
 
-Status: 0; 1 for an unsound image, or a path that has no value and nothing below it; 2 for bad
-usage or an unreadable file.
+FILE is replaced where it is a page of look. What else stands there stays, and images always do.
+
+Status: 0; 1 for an unsound image, or a path that has no value and nothing below it, with two
+images in neither; 2 for bad usage, an unreadable file, or a FILE that is refused.
 ";
 
 #[derive(Clone, Debug, PartialEq, Eq)]

@@ -1,6 +1,7 @@
 // One node as a card of the page, and the branch of all under it.
 // The attributes are what the page's script reads: data-s is an entry's suffix in hexadecimal,
-// data-l a node's lifted prefix, data-low and data-high its pivots.
+// data-l a node's lifted prefix, data-low and data-high its pivots, data-unread the first entry
+// that was not read, counted from 1; data-lost stands on a child that leads to no node.
 
 use crate::compare::{Change, Comparison};
 use crate::spell::{self, count, Glyph};
@@ -143,15 +144,25 @@ impl Drawing<'_, '_> {
         let told = at_fault || node.origin.is_none() || (change.changed && !copied);
         let open = told || !self.compact;
         let hex = spell::hexadecimal;
+        let unread = node.unread_from();
+        let unread = unread.map_or(String::new(), |entry| format!(" data-unread={entry}"));
         let kind = match node.is_leaf() {
             true => "leaf",
             false => "interior",
         };
         let _ = write!(
             out,
-            "<article class=\"node {kind}{}\" id={}{} data-n={} data-level={} data-low=\"{}\" data-high=\"{}\" data-l=\"{}\"><details{}><summary>",
-            change_classes(change), self.id, node.number, node.number, node.level,
-            hex(&node.low), hex(&node.high), hex(node.lifted()), open_word(open),
+            "<article class=\"node {kind}{}\" id={}{} data-n={} data-level={} data-low=\"{}\" \
+             data-high=\"{}\" data-l=\"{}\"{unread}><details{}><summary>",
+            change_classes(change),
+            self.id,
+            node.number,
+            node.number,
+            node.level,
+            hex(&node.low),
+            hex(&node.high),
+            hex(node.lifted()),
+            open_word(open),
         );
         self.title(node, change, out);
         out.push_str("</summary>");
@@ -234,11 +245,13 @@ impl Drawing<'_, '_> {
             Entry::Message(_) => format!("<span class=kind>{kind}</span> "),
             _ => String::new(),
         };
+        let is_lost = matches!(entry, Entry::Child { .. }) && self.survey.child(node, at).is_none();
+        let lost = if is_lost { " data-lost" } else { "" };
         let classes = self.entry_classes(node.number, at, kind);
         let hex = spell::hexadecimal(suffix_of(&entry));
         let _ = write!(
             out,
-            "<li class=\"{classes}\" data-s=\"{hex}\">{word}<span class=c>{shown}</span></li>"
+            "<li class=\"{classes}\" data-s=\"{hex}\"{lost}>{word}<span class=c>{shown}</span></li>"
         );
     }
 

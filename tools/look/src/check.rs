@@ -2,6 +2,7 @@
 // What the rules ask is as in tests/second's `sound`; here every broken rule is told, not the
 // first alone.
 
+use crate::report;
 use crate::spell;
 use crate::survey::{Finding, SeenNode};
 use second::image::{self, Entry, Header, RawMessage, Unreadable};
@@ -10,11 +11,11 @@ use second::path::{owns, well_formed};
 use second::sound::Rule;
 
 pub fn store_size(length: usize) -> Finding {
-    let most = NODES_MOST * NODE;
-    let told = match length > most {
-        true => format!("more than {most} bytes"),
+    let size = report::size(length);
+    let told = match length > NODES_MOST * NODE {
+        true => size,
         false => format!(
-            "{length} bytes: {} nodes and {} bytes",
+            "{size}: {} nodes and {} bytes",
             length / NODE,
             length % NODE
         ),

@@ -27,6 +27,9 @@ pub struct Comparison {
     pub fresh_after: BTreeSet<(u16, usize)>,
 }
 
+/// The numbers under a heading that no node stands under.
+pub const NONE: &str = "none";
+
 /// A heading, and which changes stand under it.
 type Row = (&'static str, fn(&Change) -> bool);
 
@@ -62,7 +65,7 @@ impl Comparison {
         let told = rows.iter().map(|(heading, wanted)| {
             let numbers = self.numbers(*wanted);
             let listed = match numbers.is_empty() {
-                true => "none".into(),
+                true => NONE.into(),
                 false => format!("{} ({})", spell::runs(&numbers), numbers.len()),
             };
             (*heading, listed)

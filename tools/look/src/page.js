@@ -1,4 +1,4 @@
-// The lookup on the page, as the paper's "Meaning" tells it, and the few keys and switches.
+// The lookup on the page, as the paper's "Meaning" tells it, and the few keys and switches. What it says is what way.rs, below.rs and gap.rs say.
 // Relies on the attributes of card.rs; strings are compared in hexadecimal, which keeps their order.
 (function () {
   'use strict';
@@ -41,7 +41,7 @@
 
   function stepAt(node, hex) {
     const lifted = node.dataset.l;
-    if (!hex.startsWith(lifted)) return { node, messages: [], spoken: [], stopped: true };
+    if (!hex.startsWith(lifted)) return { node, messages: [], spoken: [] };
     const rest = hex.slice(lifted.length);
     const messages = entries(node, 'messages');
     return {
@@ -53,11 +53,11 @@
     };
   }
 
-  // The node that a child entry leads to, if it is drawn under this node.
-  function childOf(node, owner) {
-    const child = owner && one(owner.querySelector('.to').getAttribute('href').slice(1));
-    return child && child.parentNode.parentNode.closest('.branch') === node.parentNode ? child : null;
-  }
+  // The node that a child entry leads to, if it is reached by this entry.
+  const childOf = (owner) => (owner && !('lost' in owner.dataset) ? one(owner.querySelector('.to').getAttribute('href').slice(1)) : null);
+
+  // The entry from which on a node was not read, where what decides may stand there: in a leaf the pair, in an interior node a newer message.
+  const unreadAt = (step, newest) => (step.leaf && (newest || step.pair) ? undefined : step.node.dataset.unread);
 
   function lookup(side, hex) {
     const steps = [];
@@ -66,10 +66,11 @@
       const step = stepAt(node, hex);
       const newest = step.spoken[step.spoken.length - 1];
       step.past = decided !== null;
-      const ends = newest || step.leaf;
-      if (!decided && ends && !step.stopped) decided = { step, entry: newest || step.pair || null };
+      step.unread = unreadAt(step, newest);
+      const ends = (newest || step.leaf) && !step.unread;
+      if (!decided && ends) decided = { step, entry: newest || step.pair || null };
       steps.push(step);
-      node = childOf(node, step.owner);
+      node = step.unread ? null : childOf(step.owner);
     }
     return { steps, decided };
   }
@@ -94,8 +95,54 @@
   const upper = (text) => text.replace(/^./, (c) => c.toUpperCase());
   const nodeName = (node) => 'node ' + node.dataset.n;
 
+  // ---- what a damaged image does not tell
+
+  const unreadWords = (node) => nodeName(node) + ' was not read from entry ' + node.dataset.unread + ' on';
+  const nowhereWords = (entry) => nameOf(entry) + ' of ' + nodeName(entry.closest('.node')) + ' leads to no node that can be read there';
+
+  // Why the lookup decided nothing, where it did not.
+  function gapOnWay(found) {
+    if (found.decided) return '';
+    const last = found.steps[found.steps.length - 1];
+    if (!last) return 'node 0 leads to no root that can be read';
+    if (last.unread) return unreadWords(last.node);
+    return last.owner ? nowhereWords(last.owner) : 'no child of ' + nodeName(last.node) + ' owns it';
+  }
+
+  // The part of a range that lies below the path, or null.
+  function common(low, high, hex) {
+    const wanted = { low: low > hex ? low : hex, high: high < hex + 'ff' ? high : hex + 'ff' };
+    return wanted.low < wanted.high ? wanted : null;
+  }
+
+  const meets = (node, hex) => common(node.dataset.low, node.dataset.high, hex) !== null;
+  const parentOf = (node) => { const above = node.parentNode.parentNode.closest('.branch'); return above && above.querySelector('.node'); };
+
+  // Whether a clear in this node or above it makes the whole range absent: what stands further down is older and does not matter.
+  function isCleared(node, wanted) {
+    if (!node) return false;
+    const clears = (suffix) => suffix === '' || (node.dataset.l + suffix <= wanted.low && wanted.high <= node.dataset.l + suffix + 'ff');
+    const messages = entries(node, 'messages').filter((m) => m.classList.contains('clear'));
+    return messages.some((m) => clears(m.dataset.s)) || isCleared(parentOf(node), wanted);
+  }
+
+  function gapIn(node, hex) {
+    const isOpen = (low, high, above) => { const wanted = common(low, high, hex); return wanted && !isCleared(above, wanted); };
+    if (node.dataset.unread) return isOpen(node.dataset.low, node.dataset.high, parentOf(node)) ? unreadWords(node) : '';
+    const children = node.dataset.level === '1' ? [] : entries(node, 'children');
+    const pivot = (i) => (children[i] ? node.dataset.l + children[i].dataset.s : node.dataset.high);
+    const lost = children.find((child, i) => !childOf(child) && isOpen(pivot(i), pivot(i + 1), node));
+    return lost ? nowhereWords(lost) : '';
+  }
+
+  // The first place that was not read and may hold records below the path.
+  function gapBelow(side, hex) {
+    return [...side.image.querySelectorAll('.node')].map((node) => gapIn(node, hex)).find((gap) => gap) || '';
+  }
+
+  // ---- why, and how on
+
   function reason(found) {
-    if (!found.decided) return 'The way stops before anything decides: the image is unsound there.';
     const { step, entry } = found.decided;
     if (!entry) return 'Decided by ' + nodeName(step.node) + ', the leaf that owns it: no pair there has this path.';
     if (step.leaf) return 'Decided by ' + nameOf(entry) + ' of the leaf ' + nodeName(step.node) + '.';
@@ -109,7 +156,8 @@
       const told = step.pair || step.spoken[0] ? ' What stands here is older and overruled.' : '';
       return 'Not asked any more: ' + nodeName(found.decided.step.node) + ' has decided.' + told;
     }
-    if (step.stopped) return 'The way cannot be followed here.';
+    if (step.unread) return 'Not read from entry ' + step.unread + ' on: the way ends.';
+    if (!found.decided && step === found.steps[found.steps.length - 1]) return 'The way cannot be followed: the image is unsound here.';
     const newest = step.spoken[step.spoken.length - 1];
     if (newest) {
       const older = step.spoken.length > 1 ? ' It is newer than the others that do.' : '';
@@ -126,7 +174,7 @@
   }
 
   // A node's lifted bytes stand in the pivots above it.
-  function pieces(found, text) {
+  function pieces(found) {
     const row = make('div', 'pieces', make('span', 'lead', 'Its bytes stand in'));
     for (const step of found.steps) {
       if (step === found.decided.step) break;
@@ -134,24 +182,78 @@
       if (front) row.append(pieceBox(front, step.node, step.owner, false));
     }
     const { step, entry } = found.decided;
-    const rest = (text + '/').slice(step.node.dataset.l.length / 2);
-    if (entry) row.append(pieceBox(entry.querySelector('.s'), step.node, entry, true));
-    else if (rest) row.append(make('div', 'piece', make('code', '', rest), 'each path', document.createElement('br'), 'below it'));
+    row.append(pieceBox(entry.querySelector('.s'), step.node, entry, true));
     return row;
   }
 
-  function tellAnswer(side, text, found, under) {
-    const word = side.answer.dataset.word;
+  function runs(numbers) {
+    const drawn = [];
+    for (const number of numbers) {
+      const last = drawn[drawn.length - 1];
+      if (last && last[1] + 1 === number) last[1] = number;
+      else drawn.push([number, number]);
+    }
+    return drawn.map(([from, to]) => (from === to ? '' + from : from + '-' + to)).join(', ');
+  }
+
+  // The records whose nodes lift equally much of the path, the most lifted first.
+  function sharesOf(records, length) {
+    const shares = new Map();
+    for (const entry of records) {
+      const node = entry.closest('.node');
+      const lifted = Math.min(node.dataset.l.length / 2, length);
+      const share = shares.get(lifted) || { lifted, nodes: new Set(), records: 0 };
+      share.nodes.add(Number(node.dataset.n));
+      share.records += 1;
+      shares.set(lifted, share);
+    }
+    return [...shares.values()].sort((a, b) => b.lifted - a.lifted);
+  }
+
+  const counted = (number) => (number === 1 ? '1 record' : number + ' records');
+
+  function shareLine(share, bytes) {
+    const nodes = [...share.nodes].sort((a, b) => a - b);
+    const front = make('code', 'l', bytes.slice(0, share.lifted)), rest = make('code', '', bytes.slice(share.lifted));
+    const line = make('p', 'share', (nodes.length === 1 ? 'node ' : 'nodes ') + runs(nodes) + ': ');
+    if (share.lifted === bytes.length) line.append('all of ', front, ' is lifted');
+    else line.append(...(share.lifted ? [front, ' is lifted, '] : ['nothing of it is lifted, ']), rest, ' is stored with each record');
+    line.append(' (' + counted(share.records) + ')');
+    return line;
+  }
+
+  // Of a path that only has records below it: what is true of those, since their nodes need not lift the same.
+  function sharesBelow(text, records) {
+    const lead = make('p', 'share', 'Where its bytes stand (lifted ones in the pivots above the node):');
+    const bytes = text + '/';
+    return make('div', 'shares', lead, ...sharesOf(records, bytes.length).map((share) => shareLine(share, bytes)));
+  }
+
+  // What the path has, or why that cannot be told.
+  function sayAnswer(verdict, found, records, gap) {
     const value = valueOf(found.decided && found.decided.entry);
+    const told = make('span', 'has', counted(records.length));
+    const own = found.decided ? ' has no value of its own, and at least ' : ' has at least ';
+    if (value !== null) verdict.append(' has the value ', make('code', 'has', value), '.');
+    else if (records.length && gap) verdict.append(own, told, ' below it; ' + gap + ', so whether there is more cannot be told.');
+    else if (records.length) verdict.append(' has ', told, ' below it, and no value of its own.');
+    else if (gap && found.decided) verdict.append(' has no value of its own; ' + gap + ', so what is below it cannot be told.');
+    else if (gap) verdict.append(': ' + gap + ', so this cannot be told.');
+    else verdict.append(' is absent.');
+    return value;
+  }
+
+  function tellAnswer(side, text, found, records) {
+    const { word } = side.answer.dataset, { refusal } = side.image.dataset;
+    if (refusal) side.answer.append(make('p', 'reason', refusal + '. What its bytes would say:'));
     const verdict = make('p', 'verdict', make('span', 'side', word ? word + ': ' : ''), make('code', '', text));
-    const records = make('span', 'has', under === 1 ? '1 record' : under + ' records');
-    if (value !== null) verdict.append(' has the value ', make('code', 'has', value), '. ');
-    else if (under > 0) verdict.append(' has ', records, ' below it, and no value of its own. ');
-    else verdict.append(' is absent. ');
-    verdict.append(make('span', 'reason', reason(found)));
-    if (under > 0) verdict.append(make('span', 'reason', ' What is below it is marked in the tree.'));
+    const gap = gapOnWay(found) || gapBelow(side, hexOf(text));
+    const value = sayAnswer(verdict, found, records, gap);
+    if (value !== null || !gap) verdict.append(make('span', 'reason', ' ' + reason(found)));
+    if (records.length) verdict.append(make('span', 'reason', ' What is below it is marked in the tree.'));
     side.answer.append(verdict);
-    if (found.decided && (found.decided.entry || under > 0)) side.answer.append(pieces(found, text));
+    if (value === null && records.length) side.answer.append(sharesBelow(text, records));
+    else if (found.decided && found.decided.entry) side.answer.append(pieces(found));
   }
 
   // ---- lighting
@@ -180,41 +282,43 @@
     open(branch.querySelector(':scope > .below'));
     const decider = found.decided && found.decided.entry;
     for (const entry of [...step.spoken, ...(step.pair ? [step.pair] : [])]) {
-      entry.classList.add('speaks', entry === decider ? 'decides' : 'overruled');
+      entry.classList.add('speaks');
+      if (found.decided) entry.classList.add(entry === decider ? 'decides' : 'overruled');
     }
-    if (step.owner && !(found.decided && found.decided.step === step)) step.owner.classList.add('owner');
+    if (step.owner && !step.unread && !(found.decided && found.decided.step === step)) step.owner.classList.add('owner');
     const word = step.node.querySelector('.word');
     word.textContent = upper(wordsFor(step, found));
     word.hidden = false;
     word.classList.toggle('end', Boolean(found.decided && found.decided.step === step));
   }
 
-  // Marks every present path below the one asked for, in the entry that decides it.
-  function lightUnder(side, hex) {
+  // The entries that decide the records below the path, itself left out.
+  function recordsBelow(side, hex) {
     const paths = new Set();
-    for (const node of side.image.querySelectorAll('.node')) {
-      if (!(node.dataset.low < hex + 'ff' && hex < node.dataset.high)) continue;
+    for (const node of [...side.image.querySelectorAll('.node')].filter((n) => meets(n, hex))) {
       for (const entry of node.querySelectorAll('.pair, .put')) {
         const path = node.dataset.l + entry.dataset.s;
         if (path.startsWith(hex) && path !== hex) paths.add(path);
       }
     }
-    let present = 0;
-    for (const path of paths) {
-      const found = lookup(side, path);
-      const entry = found.decided && found.decided.entry;
-      if (valueOf(entry) === null) continue;
-      present += 1;
-      entry.classList.add('under');
-      for (let b = entry.closest('.branch'); b; b = b.parentNode.closest('.branch')) b.classList.add('holds');
-    }
-    return present;
+    const found = [...paths].map((path) => lookup(side, path).decided);
+    return found.map((decided) => decided && decided.entry).filter((entry) => valueOf(entry) !== null);
+  }
+
+  function lightBelow(entry) {
+    entry.classList.add('under');
+    for (let b = entry.closest('.branch'); b; b = b.parentNode.closest('.branch')) b.classList.add('holds');
+  }
+
+  // The key names the marks that are there now.
+  function lightKey() {
+    document.querySelectorAll('.key [data-mark]').forEach((line) => { line.hidden = !document.querySelector('main ' + line.dataset.mark); });
   }
 
   function ask(text, scroll) {
     dark();
-    if (!text) return measure();
-    for (const side of sides.filter((s) => s.root)) askSide(side, nameOn(side, text));
+    if (text) sides.forEach((side) => askSide(side, nameOn(side, text)));
+    lightKey();
     measure();
     if (scroll) goToDecider(scroll);
   }
@@ -222,11 +326,13 @@
   function askSide(side, text) {
     const why = fault(text);
     if (why) return side.answer.append(make('p', 'reason', 'No path yet: ' + why + '.'));
+    if (side.image.dataset.nodes === '0') return side.answer.append(make('p', 'reason', side.image.dataset.refusal + '.'));
     const hex = hexOf(text);
-    const found = lookup(side, hex);
+    const found = lookup(side, hex), records = recordsBelow(side, hex);
     side.image.classList.add('asking');
     found.steps.forEach((step) => lightStep(step, found));
-    tellAnswer(side, text, found, lightUnder(side, hex));
+    records.forEach(lightBelow);
+    tellAnswer(side, text, found, records);
   }
 
   function inSight(target) {
@@ -251,13 +357,12 @@
   function reveal(node) {
     for (let d = node.querySelector('details'); d; d = d.parentNode.closest('details')) d.open = true;
     node.scrollIntoView({ block: 'center', inline: 'nearest' });
-    const summary = node.querySelector('summary');
-    if (summary) summary.focus({ preventScroll: true });
+    (node.querySelector('summary') || node).focus({ preventScroll: true });
   }
 
   let changeAt = -1;
   function nextChange() {
-    const changed = [...document.querySelectorAll('main .node.changed, main .node.new, main .node.gone, main .node.renamed')];
+    const changed = [...document.querySelectorAll('main .zero.changed, main .node.changed, main .free.changed')];
     changeAt = changed.length ? (changeAt + 1) % changed.length : -1;
     if (changeAt >= 0) reveal(changed[changeAt]);
   }

@@ -1,9 +1,11 @@
 // The page: one file without outside resources, for one image or for two side by side.
-// It relies on `card` for the nodes; its style and script stand beside this file.
+// It relies on `card` for the nodes and on `key`; its style and script stand beside this file.
 
 use crate::arguments::Moved;
 use crate::card::{badges, change_classes, escape, Drawing};
-use crate::compare::Comparison;
+use crate::compare::{Comparison, NONE};
+use crate::key::key;
+use crate::moving::Moving;
 use crate::report;
 use crate::rules;
 use crate::spell;
@@ -11,10 +13,9 @@ use crate::survey::Survey;
 use std::collections::BTreeSet;
 use std::fmt::Write;
 
-/// What the marks on every page mean.
-const KEY: &str = "<p class=key><span class=l>Grey bytes</span> are lifted: the node does not \
-    store them. A <span class=f>dotted</span> part of a pivot is what the child below it lifts: \
-    it is stored there and nowhere further down.";
+/// How every page begins, which is how a file is known to be one.
+pub const BEGINNING: &str = "<!DOCTYPE html>\n<html lang=en><head><meta charset=utf-8>\
+    <meta name=viewport content=\"width=device-width, initial-scale=1\"><title>";
 
 const STYLE: &str = include_str!("page.css");
 const SCRIPT: &str = include_str!("page.js");
@@ -43,9 +44,8 @@ pub fn one(side: &Side<'_, '_>, path: Option<&str>) -> String {
     let mut out = head(side.name, columns, 1);
     let opening = Opening { path, moved: None };
     bar(&mut out, &[side], &opening);
-    let _ = write!(out, "<main class=one>{KEY}</p>");
-    section(&mut out, side, "a", "", &drawing);
-    out.push_str("</main>");
+    let drawn = section(side, "a", "", &drawing);
+    let _ = write!(out, "<main class=one>{}{drawn}</main>", key(&drawn, false));
     tail(&mut out);
     out
 }
@@ -54,17 +54,17 @@ pub fn two(sides: &[Side<'_, '_>; 2], comparison: &Comparison, opening: &Opening
     let [before, after] = sides;
     let mut out = head(&title(&[before, after]), false, 2);
     bar(&mut out, &[before, after], opening);
-    legend(&mut out, comparison);
-    out.push_str("<main class=two>");
     let mut was = drawing(before.survey, "a", Some(comparison));
     was.fresh = Some(&comparison.fresh_before);
     was.other = Some((after.survey, "moves to"));
-    section(&mut out, before, "a", "before", &was);
     let mut is = drawing(after.survey, "b", Some(comparison));
     is.fresh = Some(&comparison.fresh_after);
     is.other = Some((before.survey, "moved from"));
-    section(&mut out, after, "b", "after", &is);
-    out.push_str("</main>");
+    let drawn = section(before, "a", "before", &was) + &section(after, "b", "after", &is);
+    legend(&mut out, comparison);
+    told(&mut out, sides, comparison, opening.moved);
+    let key = key(&drawn, opening.moved.is_some());
+    let _ = write!(out, "{key}<main class=two>{drawn}</main>");
     tail(&mut out);
     out
 }
@@ -107,9 +107,7 @@ fn head(title: &str, columns: bool, sides: usize) -> String {
         false => "outline",
     };
     format!(
-        "<!DOCTYPE html>\n<html lang=en><head><meta charset=utf-8>\
-         <meta name=viewport content=\"width=device-width, initial-scale=1\">\
-         <title>{} - splice log</title>\n<style>\n{STYLE}</style></head>\n\
+        "{BEGINNING}{} - splice log</title>\n<style>\n{STYLE}</style></head>\n\
          <body class=\"{layout} sides{sides}\">\n",
         escape(title)
     )
@@ -195,49 +193,71 @@ fn switches(out: &mut String, changes: bool, moved: Option<&Moved>) {
     }
 }
 
+/// Which nodes differ, and how; a mark that no node has is left out.
 fn legend(out: &mut String, comparison: &Comparison) {
     out.push_str("<dl class=legend>");
     let classes = ["changed", "new", "gone", "renamed"];
     for ((heading, numbers), class) in comparison.words().iter().zip(classes) {
+        if numbers == NONE {
+            continue;
+        }
         let _ = write!(
             out,
             "<div class={class}><dt>{heading}</dt><dd>{numbers}</dd></div>"
         );
     }
-    let framed =
-        "An entry in an <span class=box>orange frame</span> is not in the other image's node.";
-    let _ = writeln!(out, "</dl>{KEY} {framed}</p>");
+    if comparison.changes.is_empty() {
+        out.push_str("<div><dt>changed</dt><dd>no byte</dd></div>");
+    }
+    out.push_str("</dl>");
 }
 
-fn section(out: &mut String, side: &Side<'_, '_>, id: &str, word: &str, drawing: &Drawing<'_, '_>) {
-    let survey = side.survey;
+/// What became of the records that a move moved.
+fn told(
+    out: &mut String,
+    [before, after]: &[Side<'_, '_>; 2],
+    comparison: &Comparison,
+    moved: Option<&Moved>,
+) {
+    let sides = [before.survey, after.survey];
+    let moving = moved.and_then(|moved| Moving::of(sides, comparison, moved));
+    if let Some(moving) = moving {
+        let (records, remains) = (moving.records(), moving.remains().join(" "));
+        let (records, remains) = (escape(&records), escape(&remains));
+        let _ = write!(
+            out,
+            "<p class=told>{records}</p><p class=told>{remains}</p>"
+        );
+    }
+}
+
+fn section(side: &Side<'_, '_>, id: &str, word: &str, drawing: &Drawing<'_, '_>) -> String {
+    let (survey, mut out) = (side.survey, String::new());
     let heading = match word {
         "" => String::new(),
         _ => format!("<h2><b>{word}</b> {}</h2>", escape(side.name)),
     };
     let _ = write!(
         out,
-        "<section class=image id=image-{id} data-root={} data-levels={}>{heading}<p class=facts>{}</p>",
-        survey.header.root, survey.header.levels, escape(&report::facts(survey)),
+        "<section class=image id=image-{id} data-nodes={} data-refusal=\"{}\">{heading}<p class=facts>{}</p>",
+        survey.n, survey.refusal().unwrap_or(""), escape(&report::facts(survey)),
     );
-    findings(out, survey, id);
-    header_card(out, drawing);
+    findings(&mut out, survey, id);
+    header_card(&mut out, drawing);
     out.push_str("<div class=tree>");
     if let Some(root) = survey.nodes.first() {
-        drawing.branch(root, out);
+        drawing.branch(root, &mut out);
     }
     out.push_str("</div>");
-    free(out, drawing);
-    out.push_str("</section>\n");
+    free(&mut out, drawing);
+    out + "</section>\n"
 }
 
 fn findings(out: &mut String, survey: &Survey<'_>, id: &str) {
-    if survey.sound() {
+    let Some(refusal) = survey.refusal() else {
         return;
-    }
-    out.push_str(
-        "<div class=unsound><h3>This image is unsound: every call refuses it (2)</h3><ol>",
-    );
+    };
+    let _ = write!(out, "<div class=unsound><h3>{refusal}</h3><ol>");
     for finding in &survey.findings {
         let place = match survey.n {
             0 => "the store".into(),
@@ -265,7 +285,7 @@ fn header_card(out: &mut String, drawing: &Drawing<'_, '_>) {
     let h = &survey.header;
     let _ = write!(
         out,
-        "<article class=\"zero{}\" id={id}0><span class=name>Node 0</span> {} nodes · root \
+        "<article class=\"zero{}\" tabindex=-1 id={id}0><span class=name>Node 0</span> {} nodes · root \
          <a href=\"#{id}{}\">node {}</a> · levels {} · live paths {}{}",
         change_classes(change),
         h.n,
@@ -300,20 +320,22 @@ fn free(out: &mut String, drawing: &Drawing<'_, '_>) {
             free.len()
         ),
     };
-    let _ = write!(
-        out,
-        "<p class=free><span class=name>Free nodes</span> {listed}"
-    );
-    let is_changed = |number: &u16| {
+    let is_changed = |number: &&u16| {
         drawing
             .comparison
-            .is_some_and(|c| c.of_node(*number).changed)
+            .is_some_and(|c| c.of_node(**number).changed)
     };
-    let written: Vec<u16> = free.into_iter().filter(is_changed).collect();
+    let written: Vec<u16> = free.iter().filter(is_changed).copied().collect();
+    let class = if written.is_empty() { "" } else { " changed" };
+    let _ = write!(
+        out,
+        "<p class=\"free{class}\" tabindex=-1><span class=name>Free nodes</span> {listed}"
+    );
     if !written.is_empty() {
         let _ = write!(
             out,
-            " <span class=\"badge changed\">bytes differ: {}</span>",
+            " <span class=\"badge changed\" title=\"free here, and yet other bytes than in the other \
+             image: the call wrote there\">bytes differ: {}</span>",
             spell::runs(&written)
         );
     }

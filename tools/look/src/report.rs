@@ -6,6 +6,7 @@ use crate::rules;
 use crate::spell::{self, count};
 use crate::survey::{range_words, Finding, SeenNode, Survey};
 use second::image::{Entry, RawMessage};
+use second::limits::{NODE, NODES_MOST};
 use std::fmt::Write;
 
 pub fn report(name: &str, survey: &Survey<'_>) -> String {
@@ -40,7 +41,7 @@ pub fn summary(name: &str, survey: &Survey<'_>) -> String {
 /// What an image holds, in one phrase.
 pub fn facts(survey: &Survey<'_>) -> String {
     if survey.n == 0 {
-        return format!("{} bytes are no store", survey.image.len());
+        return format!("{} are no store", size(survey.image.len()));
     }
     format!(
         "{} nodes: node 0, {} reachable, {} free; {}, {}, {}",
@@ -51,6 +52,15 @@ pub fn facts(survey: &Survey<'_>) -> String {
         count(survey.header.live.into(), "live path", "live paths"),
         count(survey.waiting(), "message waiting", "messages waiting"),
     )
+}
+
+/// A file's size; of one that is too long for a store no more is read than shows that.
+pub fn size(length: usize) -> String {
+    let most = NODES_MOST * NODE;
+    match length > most {
+        true => format!("more than {most} bytes"),
+        false => count(length, "byte", "bytes"),
+    }
 }
 
 /// The broken rules in the paper's order; empty for a sound image.

@@ -1,10 +1,12 @@
 // Runs a command: reads the images, makes the text or the page, and says the status.
-// It relies on the file system; an image is never written.
+// It relies on the file system, and on `save` for the page: an image is never written.
 
 use crate::arguments::{Command, Moved, USAGE};
 use crate::compare::Comparison;
+use crate::moving::Moving;
 use crate::page::{self, Opening, Side};
 use crate::report;
+use crate::save::save;
 use crate::spell;
 use crate::survey::Survey;
 use crate::way::{self, Asked};
@@ -93,7 +95,7 @@ fn one_page(image: &Path, path: Option<&str>, file: &Path) -> Result<Done, Strin
         name: &name(image),
         survey: &survey,
     };
-    write(file, &page::one(&side, path))?;
+    save(file, &[image], &page::one(&side, path))?;
     Ok(done(text, fine))
 }
 
@@ -107,9 +109,10 @@ fn two_images(
     let (length_before, length_after) = (bytes_before.len(), bytes_after.len());
     if length_before != length_after {
         let (before, after) = (before.display(), after.display());
+        let (size_before, size_after) = (report::size(length_before), report::size(length_after));
         return Err(format!(
-            "{before} has {length_before} bytes and {after} has {length_after}: no call changes a \
-             store's length"
+            "{before} has {size_before} and {after} has {size_after}: no call changes a store's \
+             length"
         ));
     }
     let (was, is) = (Survey::take(&bytes_before), Survey::take(&bytes_after));
@@ -124,8 +127,12 @@ fn two_images(
             survey: &is,
         },
     ];
-    let answers = answers(&sides, opening)?;
-    write(file, &page::two(&sides, &comparison, opening))?;
+    let (answers, found) = answers(&sides, opening)?;
+    save(
+        file,
+        &[before, after],
+        &page::two(&sides, &comparison, opening),
+    )?;
     let mut text = String::new();
     for side in &sides {
         text += &report::summary(side.name, side.survey);
@@ -134,30 +141,36 @@ fn two_images(
     for (heading, numbers) in comparison.words() {
         text += &format!("{heading}: {numbers}\n");
     }
-    Ok(done(text + &answers, was.sound() && is.sound()))
+    let moving = opening
+        .moved
+        .and_then(|moved| Moving::of([&was, &is], &comparison, moved));
+    text += &moving.map_or(String::new(), |moving| moving.records() + "\n");
+    Ok(done(text + &answers, was.sound() && is.sound() && found))
 }
 
-/// What the path is before, and what it, or where it was moved, is after.
-fn answers(sides: &[Side<'_, '_>; 2], opening: &Opening<'_>) -> Result<String, String> {
+/// What the path is before, and what it, or where it was moved, is after; and whether there is
+/// anything there in either.
+fn answers(sides: &[Side<'_, '_>; 2], opening: &Opening<'_>) -> Result<(String, bool), String> {
     if let Some(Moved { from, to }) = opening.moved {
         spell::parse(from)?;
         spell::parse(to)?;
     }
     let Some(path) = opening.path else {
-        return Ok(String::new());
+        return Ok((String::new(), true));
     };
     let followed = opening
         .moved
         .map_or(path.into(), |moved| moved.follow(path));
-    let mut text = String::new();
+    let (mut text, mut found) = (String::new(), false);
     for (side, word, path) in [
         (&sides[0], "before", path),
         (&sides[1], "after", &followed[..]),
     ] {
         let asked = Asked::of(side.survey, &spell::parse(path)?);
         text += &format!("{word}: {}\n", way::answer(side.survey, &asked));
+        found = found || asked.found();
     }
-    Ok(text)
+    Ok((text, found))
 }
 
 fn name(file: &Path) -> String {
@@ -173,8 +186,4 @@ fn read(file: &Path) -> Result<Vec<u8>, String> {
     let opened = File::open(file).map_err(told)?;
     opened.take(most).read_to_end(&mut bytes).map_err(told)?;
     Ok(bytes)
-}
-
-fn write(file: &Path, page: &str) -> Result<(), String> {
-    std::fs::write(file, page).map_err(|error| format!("{}: {error}", file.display()))
 }

@@ -1,22 +1,28 @@
 // Small images to look at: a tree with messages waiting, the same log before and after a move of
-// a closure, a large one before and after, an unsound one and a generated one.
-// Built with tests/second's tree.
+// a closure, one whose ends lie inside leaves, a large one before and after, unsound ones and a
+// generated one. Built with tests/second's tree.
 
 use second::feature::Feature;
 use second::generate;
-use second::limits::NODE;
+use second::image;
+use second::limits::{ENTRY_HEAD, NODE, NODE_HEAD};
 use second::meaning;
 use second::mutate;
 use second::path::from_text;
-use second::sound::Rule;
+use second::sound::{judge, Rule};
+use second::swing;
 use second::tree::{Message, Node, Pair, Tree};
 
 const N: usize = 32;
+
+/// Where the live count stands.
+const LIVE_AT: usize = 10;
 
 /// Each with a file name.
 pub fn all() -> Vec<(&'static str, Vec<u8>)> {
     let (before, after) = moved();
     let (large, large_after) = large();
+    let (cut_before, cut_after) = cut();
     let unsound = mutate::damage(Rule::PutOwned, &waiting(), 3).unwrap_or_default();
     vec![
         ("waiting.img", waiting()),
@@ -24,7 +30,11 @@ pub fn all() -> Vec<(&'static str, Vec<u8>)> {
         ("after.img", after),
         ("large.img", large),
         ("large-after.img", large_after),
+        ("cut-before.img", cut_before),
+        ("cut-after.img", cut_after),
         ("unsound.img", unsound),
+        ("miscounted.img", miscounted()),
+        ("unreadable.img", unreadable(waiting(), 7, 2)),
         (
             "generated.img",
             generate::preset(Feature::WaitingEverywhere, 2),
@@ -55,7 +65,7 @@ fn put(text: &str, value: &[u8]) -> Message {
     Message::Put { path, value }
 }
 
-fn image(root: Node, numbers: &[u16]) -> Vec<u8> {
+fn image_of(root: Node, numbers: &[u16]) -> Vec<u8> {
     let mut image = vec![0; N * NODE];
     write(root, numbers, &mut image);
     image
@@ -134,7 +144,7 @@ pub fn waiting() -> Vec<u8> {
         vec![first_closures(), closure("r1/c7", in_closure), last],
         messages,
     );
-    image(root, &[1, 2, 3, 5, 6, 7, 9, 10, 11])
+    image_of(root, &[1, 2, 3, 5, 6, 7, 9, 10, 11])
 }
 
 /// The log before and after the move of r1/c7 to r1/c9.
@@ -149,7 +159,7 @@ pub fn moved() -> (Vec<u8>, Vec<u8>) {
         vec![first_closures(), closure("r1/c7", vec![]), last],
         vec![],
     );
-    let before = image(root, &[1, 2, 3, 5, 6, 7, 9, 10, 11]);
+    let before = image_of(root, &[1, 2, 3, 5, 6, 7, 9, 10, 11]);
 
     let left = Node::interior(&past, vec![leaf(&past, "", &eighth)], vec![]);
     let right = Node::interior(&next, vec![leaf(&next, "", &route)], vec![]);
@@ -157,6 +167,71 @@ pub fn moved() -> (Vec<u8>, Vec<u8>) {
     let root = Node::interior(b"", children, vec![]);
     let mut after = before.clone();
     write(root, &[1, 2, 3, 9, 10, 5, 6, 7, 12, 11], &mut after);
+    (before, after)
+}
+
+/// Node 0 counts a path too many; all else is sound.
+pub fn miscounted() -> Vec<u8> {
+    let mut image = waiting();
+    let live = u16::from_le_bytes([image[LIVE_AT], image[LIVE_AT + 1]]) + 1;
+    image[LIVE_AT..LIVE_AT + 2].copy_from_slice(&live.to_le_bytes());
+    image
+}
+
+/// An entry of a node, counted from 1, has a kind that no entry has.
+pub fn unreadable(mut image: Vec<u8>, number: u16, entry: usize) -> Vec<u8> {
+    let mut at = usize::from(number) * NODE + NODE_HEAD;
+    for _ in 1..entry {
+        at += ENTRY_HEAD + usize::from(image::word(&image, at));
+    }
+    image[at + 2..at + 4].fill(0xFF);
+    image
+}
+
+/// Two leaves: all below r1/k2 stands in the second, node 2.
+pub fn halves() -> Vec<u8> {
+    let leaves = vec![
+        leaf(b"", "r1/", &[("k1/t1", &[0x11])]),
+        leaf(
+            &path("r1/k2/t1"),
+            "r1/",
+            &[("k2/t1", &[0x21]), ("k2/t2", &[0x22])],
+        ),
+    ];
+    let mut image = vec![0; N * NODE];
+    let root = Node::interior(b"", leaves, vec![]);
+    write_levels(2, root, &[3, 1, 2], &mut image);
+    image
+}
+
+/// The log before and after the move of r1/k2 to r1/k7, by the second program's own swing: the
+/// leaf at each end of r1/k2 holds records of a neighbour too.
+pub fn cut() -> (Vec<u8>, Vec<u8>) {
+    let value: &[u8] = &[0x2a];
+    let (first, second) = (["1/t1", "1/t2", "2/t1"], ["2/t2", "2/t3"]);
+    let third = ["2/t5", "3/t1"];
+    let leaf_of = |low: &str, records: &[&'static str]| {
+        let low = if low.is_empty() {
+            Vec::new()
+        } else {
+            path(low)
+        };
+        let records: Vec<_> = records.iter().map(|rest| (*rest, value)).collect();
+        leaf(&low, "r1/k", &records)
+    };
+    let leaves = vec![
+        leaf_of("", &first),
+        leaf_of("r1/k2/t2", &second),
+        leaf_of("r1/k2/t5", &third),
+    ];
+    let root = Node::interior(b"", leaves, vec![]);
+    let mut before = vec![0; N * NODE];
+    write_levels(2, root, &[4, 1, 2, 3], &mut before);
+    let mut after = before.clone();
+    let sound = judge(&before).ok();
+    let tree = sound.and_then(|sound| swing::swung(&sound, &path("r1/k2"), &path("r1/k7")));
+    // A move that did not fit would leave the image as it was, which the tests would tell.
+    let _ = tree.and_then(|tree| tree.write(7, &mut after));
     (before, after)
 }
 

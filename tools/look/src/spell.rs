@@ -97,6 +97,13 @@ pub fn runs(numbers: &[u16]) -> String {
     written.collect::<Vec<_>>().join(", ")
 }
 
+/// Nodes by their numbers: `node 7`, `nodes 1-4, 7`.
+pub fn nodes<'n>(numbers: impl IntoIterator<Item = &'n u16>) -> String {
+    let numbers: Vec<u16> = numbers.into_iter().copied().collect();
+    let word = if numbers.len() == 1 { "node" } else { "nodes" };
+    format!("{word} {}", runs(&numbers))
+}
+
 /// `1 node`, `2 nodes`.
 pub fn count(number: usize, one: &str, more: &str) -> String {
     match number {

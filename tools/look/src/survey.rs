@@ -46,6 +46,8 @@ pub struct SeenNode<'a> {
     pub entries: Vec<Entry<'a>>,
     /// Why the entry after those does not read, if there is one.
     pub unread: Option<Unreadable>,
+    /// False where entries are left behind those: one does not read, or their length is none.
+    pub read_to_end: bool,
 }
 
 #[derive(Clone, Debug)]
@@ -78,6 +80,11 @@ impl SeenNode<'_> {
 
     pub fn is_leaf(&self) -> bool {
         self.level == 1
+    }
+
+    /// The first entry that was not read, counted from 1.
+    pub fn unread_from(&self) -> Option<usize> {
+        (!self.read_to_end).then_some(self.entries.len() + 1)
     }
 
     /// Its entries that are messages, oldest first, with their places among the entries.
@@ -146,6 +153,15 @@ impl<'a> Survey<'a> {
 
     pub fn sound(&self) -> bool {
         self.findings.is_empty()
+    }
+
+    /// Who refuses the image, and by which number: make asks for the length alone.
+    pub fn refusal(&self) -> Option<&'static str> {
+        match (self.n, self.sound()) {
+            (_, true) => None,
+            (0, false) => Some("Every call refuses this file (1)"),
+            (_, false) => Some("Every call but make refuses this image (2)"),
+        }
     }
 
     pub fn node(&self, number: u16) -> Option<&SeenNode<'a>> {
@@ -217,6 +233,7 @@ impl<'a> Survey<'a> {
             high: task.high,
             range_known: task.range_known,
             origin: task.origin,
+            read_to_end: unread.is_none() && has_length(bytes),
             entries,
             unread,
         };
@@ -345,8 +362,7 @@ impl<'a> Survey<'a> {
 /// The entries as far as they read. A length over the limit is no length, so none are read.
 fn entries_of(node: &[u8]) -> (Vec<Entry<'_>>, Option<Unreadable>) {
     let mut entries = Vec::new();
-    let length = usize::from(image::word(node, 0));
-    let mut left = match length <= ENTRY_BYTES_LIMIT {
+    let mut left = match has_length(node) {
         true => image::entry_bytes(node),
         false => &[],
     };
@@ -360,6 +376,10 @@ fn entries_of(node: &[u8]) -> (Vec<Entry<'_>>, Option<Unreadable>) {
         }
     }
     (entries, None)
+}
+
+fn has_length(node: &[u8]) -> bool {
+    usize::from(image::word(node, 0)) <= ENTRY_BYTES_LIMIT
 }
 
 /// The range of a node in words.

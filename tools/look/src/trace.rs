@@ -24,6 +24,9 @@ pub enum Ending {
     Down(usize),
     /// The image is unsound here and the way cannot be followed.
     Stopped,
+    /// The node was not read from this entry on, counted from 1, and what would decide may stand
+    /// there: in a leaf the pair, in an interior node a newer message or the child.
+    Unread(usize),
 }
 
 #[derive(Clone, Debug)]
@@ -58,7 +61,12 @@ pub struct Trace {
 impl Trace {
     pub fn take(survey: &Survey<'_>, path: &[u8]) -> Trace {
         let steps = steps(survey, path);
-        let decides = |step: &Step| !matches!(step.ending, Ending::Down(_) | Ending::Stopped);
+        let decides = |step: &Step| {
+            matches!(
+                step.ending,
+                Ending::Message(_) | Ending::Pair(_) | Ending::NoPair
+            )
+        };
         let decided = steps.iter().position(decides);
         let mut trace = Trace {
             path: path.to_vec(),
@@ -112,7 +120,10 @@ fn steps(survey: &Survey<'_>, path: &[u8]) -> Vec<Step> {
     let mut next = survey.nodes.first();
     while let Some(node) = next {
         let mut step = step_at(node, path);
-        next = step.owner.and_then(|entry| survey.child(node, entry));
+        next = match step.ending {
+            Ending::Unread(_) => None,
+            _ => step.owner.and_then(|entry| survey.child(node, entry)),
+        };
         if next.is_none() && matches!(step.ending, Ending::Down(_)) {
             step.ending = Ending::Stopped;
         }
@@ -142,10 +153,13 @@ fn step_at(node: &SeenNode<'_>, path: &[u8]) -> Step {
         .filter(|(_, _, pivot)| *pivot <= rest)
         .last();
     step.owner = owner.map(|(at, _, _)| at);
-    step.ending = match (newest, node.is_leaf()) {
-        (Some((at, _)), _) => Ending::Message(*at),
-        (None, true) => pair.map_or(Ending::NoPair, |(at, _, _)| Ending::Pair(at)),
-        (None, false) => step.owner.map_or(Ending::Stopped, Ending::Down),
+    step.ending = match (newest, pair, node.unread_from()) {
+        (_, _, Some(entry)) if !node.is_leaf() => Ending::Unread(entry),
+        (Some((at, _)), _, _) => Ending::Message(*at),
+        (None, _, _) if !node.is_leaf() => step.owner.map_or(Ending::Stopped, Ending::Down),
+        (None, Some((at, _, _)), _) => Ending::Pair(at),
+        (None, None, Some(entry)) => Ending::Unread(entry),
+        (None, None, None) => Ending::NoPair,
     };
     step
 }

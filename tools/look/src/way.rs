@@ -1,11 +1,13 @@
 // The text of one lookup: the answer, where its bytes stand, the way with what each message on
-// it says, and what lies below the path. It relies on a trace and on a sound image's table.
+// it says, and what lies below the path. It relies on a trace, on `below` for the records and on
+// `gap` for what a damaged image does not tell; the page's script says the same by the same rules.
 
+use crate::below::{self, Record};
+use crate::gap;
 use crate::report::{self, entry_words};
 use crate::spell::{self, count};
 use crate::survey::{SeenNode, Survey};
 use crate::trace::{Ending, Step, Trace, Word};
-use second::tree::Table;
 use std::fmt::Write;
 
 /// The most paths below the one asked for that are listed.
@@ -14,15 +16,18 @@ const LISTED: usize = 20;
 /// A path that was asked for: its lookup, and the records below it, itself left out.
 pub struct Asked {
     pub trace: Trace,
-    pub below: Vec<Vec<u8>>,
+    pub below: Vec<Record>,
+    /// Why the path, or what is below it, cannot be told whole.
+    pub gap: Option<String>,
 }
 
 impl Asked {
     pub fn of(survey: &Survey<'_>, path: &[u8]) -> Asked {
-        let table = second::sound::judge(survey.image).map(|sound| sound.table);
+        let trace = Trace::take(survey, path);
         Asked {
-            trace: Trace::take(survey, path),
-            below: table.map_or(Vec::new(), |table| rows_below(&table, path)),
+            below: below::records(survey, path),
+            gap: gap::on_way(survey, &trace).or_else(|| gap::below(survey, path)),
+            trace,
         }
     }
 
@@ -33,32 +38,66 @@ impl Asked {
 }
 
 pub fn tell(name: &str, survey: &Survey<'_>, asked: &Asked) -> String {
-    let mut out = report::summary(name, survey);
-    if !survey.sound() {
-        out.push_str(&report::findings(survey));
-        out.push_str("Every call refuses this image (2). What its bytes would say:\n");
+    let mut out = report::summary(name, survey) + &report::findings(survey) + &lead(survey);
+    if survey.n == 0 {
+        return out;
     }
-    let trace = &asked.trace;
-    let _ = writeln!(out, "\n{}", answer(survey, asked));
-    pieces(survey, trace, !asked.below.is_empty(), &mut out);
-    let _ = writeln!(out, "\nthe way:");
-    for (i, step) in trace.steps.iter().enumerate() {
-        write_step(survey, trace, i, step, &mut out);
+    let _ = writeln!(out, "\n{}", verdict(survey, asked));
+    pieces(survey, asked, &mut out);
+    if !asked.trace.steps.is_empty() {
+        let _ = writeln!(out, "\nthe way:");
     }
-    below(survey, &asked.below, &mut out);
+    for (i, step) in asked.trace.steps.iter().enumerate() {
+        write_step(survey, &asked.trace, i, step, &mut out);
+    }
+    list_below(survey, &asked.below, &mut out);
     out
 }
 
-/// The value, the number of records below, or its absence; and what decides it.
+/// The line before an answer that no call gives; empty for a sound image.
+fn lead(survey: &Survey<'_>) -> String {
+    match survey.refusal() {
+        None => String::new(),
+        Some(refusal) if survey.n == 0 => format!("{refusal}.\n"),
+        Some(refusal) => format!("{refusal}. What its bytes would say:\n"),
+    }
+}
+
+/// The answer in one line, after what an image that is no sound one says first.
 pub fn answer(survey: &Survey<'_>, asked: &Asked) -> String {
+    match survey.n {
+        0 => lead(survey).trim_end().into(),
+        _ => lead(survey).replace('\n', " ") + &verdict(survey, asked),
+    }
+}
+
+/// The value, the number of records below, its absence, or why none can be told; and what decides.
+fn verdict(survey: &Survey<'_>, asked: &Asked) -> String {
     let path = spell::path(&asked.trace.path);
     let records = count(asked.below.len(), "record", "records");
-    let told = match (&asked.trace.value, asked.below.len()) {
-        (Some(value), _) => format!("{path} has the value {}.", spell::value(value)),
-        (None, 0) => format!("{path} is absent."),
-        (None, _) => format!("{path} has {records} below it, and no value of its own."),
+    let is_decided = asked.trace.decided.is_some();
+    let told = match (&asked.trace.value, asked.below.len(), &asked.gap) {
+        (Some(value), _, _) => format!("{path} has the value {}.", spell::value(value)),
+        (None, 0, None) => format!("{path} is absent."),
+        (None, _, None) => format!("{path} has {records} below it, and no value of its own."),
+        (None, 0, Some(gap)) if is_decided => {
+            format!("{path} has no value of its own; {gap}, so what is below it cannot be told.")
+        }
+        (None, 0, Some(gap)) => format!("{path}: {gap}, so this cannot be told."),
+        (None, _, Some(gap)) => {
+            let own = if is_decided {
+                " no value of its own, and"
+            } else {
+                ""
+            };
+            let more = "so whether there is more cannot be told.";
+            format!("{path} has{own} at least {records} below it; {gap}, {more}")
+        }
     };
-    format!("{told} {}", decision(survey, &asked.trace))
+    match asked.trace.value.is_some() || asked.gap.is_none() {
+        true => format!("{told} {}", decision(survey, &asked.trace)),
+        false => told,
+    }
 }
 
 fn decision(survey: &Survey<'_>, trace: &Trace) -> String {
@@ -77,7 +116,7 @@ fn decision(survey: &Survey<'_>, trace: &Trace) -> String {
             "It is decided by node {}, the leaf that owns it: no pair there has this path.",
             step.number
         ),
-        None => "The way stops before anything decides.".into(),
+        None => String::new(),
     }
 }
 
@@ -86,13 +125,22 @@ fn tidy(text: &str) -> String {
     text.split_whitespace().collect::<Vec<_>>().join(" ")
 }
 
-/// An absent path that others lie below has no entry of its own, but its front may stand above.
-fn pieces(survey: &Survey<'_>, trace: &Trace, any_below: bool, out: &mut String) {
-    let has_entry = trace.decider(survey).is_some();
-    if !has_entry && !any_below {
-        return;
+/// The entries in which the bytes of a path stand; of a path that only has records below it, what
+/// is true of those, since their nodes need not lift the same.
+fn pieces(survey: &Survey<'_>, asked: &Asked, out: &mut String) {
+    let trace = &asked.trace;
+    if trace.value.is_none() && !asked.below.is_empty() {
+        out.push_str("\nwhere its bytes stand (lifted ones in the pivots above the node):\n");
+        for share in below::shares(survey, &trace.path, &asked.below) {
+            let _ = writeln!(out, "  {}", share.words(&trace.path));
+        }
+    } else if trace.decider(survey).is_some() {
+        out.push_str("\nwhere its bytes stand:\n");
+        entry_pieces(survey, trace, out);
     }
-    let _ = writeln!(out, "\nwhere its bytes stand:");
+}
+
+fn entry_pieces(survey: &Survey<'_>, trace: &Trace, out: &mut String) {
     for piece in &trace.pieces {
         let node = survey.node(piece.node);
         let name = node.map_or(String::new(), |n| n.entry_name(piece.entry));
@@ -101,13 +149,6 @@ fn pieces(survey: &Survey<'_>, trace: &Trace, any_below: bool, out: &mut String)
             false => spell::string(&piece.bytes),
         };
         let _ = writeln!(out, "  {bytes:16} in node {}, {name}", piece.node);
-    }
-    let told: usize = trace.pieces.iter().map(|piece| piece.bytes.len()).sum();
-    match trace.path.get(told..) {
-        Some(rest @ [_, ..]) if !has_entry => {
-            let _ = writeln!(out, "  {:16} in each path below it", spell::string(rest));
-        }
-        _ => {}
     }
 }
 
@@ -149,6 +190,7 @@ fn said(node: &SeenNode<'_>, step: &Step, at: usize, word: Word, overruled: bool
             format!("{told}, but {} is newer", node.entry_name(newest))
         }
         _ if overruled => format!("{told}, but a node above has decided"),
+        Ending::Unread(_) => format!("{told}, unless a newer one was not read"),
         _ => format!("{told}: the newest that speaks of it, DECIDES"),
     }
 }
@@ -181,35 +223,23 @@ fn ending(survey: &Survey<'_>, node: &SeenNode<'_>, step: &Step, overruled: bool
             true => "the way ends".into(),
             false => "the way cannot be followed: the image is unsound here".into(),
         },
+        Ending::Unread(entry) => format!("not read from entry {entry} on: the way ends"),
     }
 }
 
-/// The paths that are present below the one asked for, itself left out.
-fn rows_below(table: &Table, path: &[u8]) -> Vec<Vec<u8>> {
-    let from = table.range(path.to_vec()..).map(|(row, _)| row);
-    let below = from.take_while(|row| row.starts_with(path));
-    below.filter(|row| *row != path).cloned().collect()
-}
-
-fn below(survey: &Survey<'_>, rows: &[Vec<u8>], out: &mut String) {
-    if rows.is_empty() {
+fn list_below(survey: &Survey<'_>, records: &[Record], out: &mut String) {
+    if records.is_empty() {
         return;
     }
-    let told = count(rows.len(), "record", "records");
+    let told = count(records.len(), "record", "records");
     let _ = writeln!(out, "\nbelow it: {told}");
-    for row in rows.iter().take(LISTED) {
-        let found = Trace::take(survey, row);
-        if let Some((node, entry)) = found.decider(survey) {
-            let name = node.entry_name(entry);
-            let _ = writeln!(
-                out,
-                "  {:32} by {name} of node {}",
-                spell::path(row),
-                node.number
-            );
-        }
+    for record in records.iter().take(LISTED) {
+        let (path, number) = (spell::path(&record.path), record.node);
+        let node = survey.node(number);
+        let name = node.map_or(String::new(), |n| n.entry_name(record.entry));
+        let _ = writeln!(out, "  {path:32} by {name} of node {number}");
     }
-    if rows.len() > LISTED {
-        let _ = writeln!(out, "  and {} more", rows.len() - LISTED);
+    if records.len() > LISTED {
+        let _ = writeln!(out, "  and {} more", records.len() - LISTED);
     }
 }

@@ -1,6 +1,11 @@
 // The text of images, the broken rules of damaged ones, and the lookup's decisions, each held
 // against tests/second's own judgement.
 
+use look::arguments::Moved;
+use look::below::{self, Record};
+use look::compare::Comparison;
+use look::gap;
+use look::moving::Moving;
 use look::report::report;
 use look::samples;
 use look::survey::Survey;
@@ -9,6 +14,7 @@ use second::feature::Feature;
 use second::limits::NODE;
 use second::meaning;
 use second::mutate::{damage, flip, waivable};
+use second::path::beginnings;
 use second::rng::Rng;
 use second::sound::{judge, Rule};
 use second::{examples, generate, words};
@@ -68,8 +74,10 @@ fn lifted_bytes_and_odd_bytes_are_set_apart() {
 #[test]
 fn samples_are_what_they_say() {
     for (name, image) in samples::all() {
-        assert_eq!(judge(&image).is_ok(), name != "unsound.img", "{name}");
+        let is_sound = !["unsound.img", "miscounted.img", "unreadable.img"].contains(&name);
+        assert_eq!(judge(&image).is_ok(), is_sound, "{name}");
     }
+    assert!(judge(&samples::halves()).is_ok());
     let (before, after) = samples::moved();
     let renumbered = |path: Vec<u8>| match path.strip_prefix(b"r1\0c7\0") {
         Some(rest) => [&b"r1\0c9\0"[..], rest].concat(),
@@ -80,6 +88,64 @@ fn samples_are_what_they_say() {
         .map(|(path, value)| (renumbered(path), value))
         .collect();
     assert_eq!(judge(&after).unwrap().table, moved);
+}
+
+#[test]
+fn the_records_below_a_path_are_the_tables() {
+    for image in images() {
+        let survey = Survey::take(&image);
+        let table = judge(&image).unwrap().table;
+        let tops: BTreeSet<&[u8]> = table.keys().flat_map(|path| beginnings(path)).collect();
+        for top in tops {
+            let records = below::records(&survey, top);
+            let paths: Vec<&Vec<u8>> = records.iter().map(|record| &record.path).collect();
+            let below = table
+                .keys()
+                .filter(|path| path.starts_with(top) && *path != top);
+            assert_eq!(paths, below.collect::<Vec<_>>());
+            assert_eq!(gap::below(&survey, top), None);
+            shares_are_true(&survey, top, &records);
+        }
+    }
+}
+
+/// Each record's node lifts as much of the path above it as its share says.
+fn shares_are_true(survey: &Survey<'_>, top: &[u8], records: &[Record]) {
+    let shares = below::shares(survey, top, records);
+    let told: usize = shares.iter().map(|share| share.records).sum();
+    assert_eq!(told, records.len());
+    for record in records {
+        let mut mine = shares.iter().filter(|s| s.nodes.contains(&record.node));
+        let share = mine.next().expect("a share");
+        let node = survey.node(record.node).expect("a node");
+        assert!(record.path.starts_with(node.lifted()) && mine.next().is_none());
+        assert_eq!(share.lifted, node.lifted().len().min(top.len()));
+    }
+}
+
+#[test]
+fn what_a_move_did_is_told() {
+    let tell = |(before, after): (Vec<u8>, Vec<u8>), from: &str, to: &str| {
+        let (was, is) = (Survey::take(&before), Survey::take(&after));
+        let (from, to) = (from.into(), to.into());
+        Moving::of([&was, &is], &Comparison::of(&was, &is), &Moved { from, to })
+    };
+    let whole = tell(samples::moved(), "r1/c7", "r1/c9").expect("a move");
+    let told = "Of the 7 records that moved each keeps its bytes, in nodes 6-7. Nothing is copied";
+    assert!(whole.records().starts_with(told), "{}", whole.records());
+    let cut = tell(samples::cut(), "r1/k2", "r1/k7").expect("a move");
+    let told = "Of the 4 records that moved 2 keep their bytes, in node 2, and 2 were written anew";
+    assert!(cut.records().starts_with(told), "{}", cut.records());
+    let why = "The leaf at each end of r1/k2 (nodes 1, 3) also held its neighbours' records";
+    assert!(cut.records().contains(why), "{}", cut.records());
+    let place = "is an empty leaf: the place that r1/k2 left.";
+    assert!(
+        cut.remains().concat().contains(place),
+        "{:?}",
+        cut.remains()
+    );
+    assert!(tell(samples::cut(), "r1/k2", "r1/k8").is_none());
+    assert!(tell(samples::large(), "r1", "r2").is_none());
 }
 
 /// The nodes whose bytes the damage changed.

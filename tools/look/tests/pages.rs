@@ -8,6 +8,8 @@ use look::samples;
 use look::survey::Survey;
 use second::feature::Feature;
 use second::generate;
+use second::mutate;
+use second::sound::Rule;
 use std::path::{Path, PathBuf};
 use std::process::{Command, Output};
 
@@ -114,6 +116,7 @@ fn look(arguments: &[&str]) -> Output {
 /// One for each test, since tests run beside each other.
 fn directory(name: &str) -> PathBuf {
     let directory = Path::new(env!("CARGO_TARGET_TMPDIR")).join(name);
+    let _ = std::fs::remove_dir_all(&directory);
     std::fs::create_dir_all(&directory).expect("a directory");
     for (name, image) in samples::all() {
         std::fs::write(directory.join(name), image).expect("a sample");
@@ -221,4 +224,209 @@ fn an_error_is_one_line() {
     with(&[&good, &good, "--moved", "r1", "r//2"]);
     with(&[&good, &good, "r1", "r2"]);
     assert!(!Path::new(&never).exists());
+}
+
+/// Refused with status 2, and each file has the bytes that it had.
+fn expect_untouched(arguments: &[&str], told: &str, files: &[&str]) {
+    let read = |file: &&str| std::fs::read(file).ok();
+    let before: Vec<_> = files.iter().map(read).collect();
+    expect_error(arguments, told);
+    let after: Vec<_> = files.iter().map(read).collect();
+    assert!(before == after, "{arguments:?}");
+}
+
+#[test]
+fn no_image_and_no_strange_file_is_written_over() {
+    let file = files("over");
+    let (before, after) = (file("before.img"), file("after.img"));
+    let (strange, link) = (file("strange.html"), file("link.img"));
+    std::fs::write(&strange, "<!DOCTYPE html>\n<html lang=en>").expect("a file");
+    std::fs::hard_link(&before, &link).expect("a second name");
+    let all = [&before[..], &after, &strange, &link];
+    let no_page = "is there and is no page of look: it stays";
+    expect_untouched(&["--html", &before, &after], no_page, &all);
+    let image = "is an image, and no image is written over";
+    expect_untouched(&[&before, "--html", &before], image, &all);
+    expect_untouched(&[&before, "--html", &link], image, &all);
+    expect_untouched(&[&before, &after, "--html", &after], image, &all);
+    expect_untouched(&[&before, "--html", &after], no_page, &all);
+    expect_untouched(&[&before, "--html", &strange], no_page, &all);
+    expect_untouched(&[&before, "--html", &file("")], no_page, &all);
+    expect_untouched(&[&before, "--html", "/dev/null"], no_page, &all);
+    // A page may be replaced; but not where it is itself named as an image.
+    let page = file("page.html");
+    expect(&[&before, "--html", &page], 0, "sound");
+    expect(&[&after, "--html", &page], 0, "sound");
+    let written = std::fs::read_to_string(&page).expect("a page");
+    assert!(written.starts_with(page::BEGINNING) && written.contains("<h1>after.img</h1>"));
+    expect_untouched(&[&page, "--html", &page], image, &[&page]);
+}
+
+#[test]
+fn a_full_disk_leaves_the_old_page() {
+    let file = files("full");
+    let (good, page) = (file("waiting.img"), file("page.html"));
+    expect(&[&good, "--html", &page], 0, "sound");
+    let old = std::fs::read(&page).expect("a page");
+    // A limit on the size of files, which stands for a full disk: the write fails in the middle.
+    let limited = "trap '' XFSZ; ulimit -f 4; exec \"$@\"";
+    let output = Command::new("bash")
+        .args(["-c", limited, "bash", env!("CARGO_BIN_EXE_look")])
+        .args([&file("large.img"), "--html", &page])
+        .output()
+        .expect("bash runs");
+    assert_eq!(output.status.code(), Some(2));
+    assert!(String::from_utf8_lossy(&output.stderr).contains("page.html: "));
+    assert!(std::fs::read(&page).expect("a page") == old);
+    let left = std::fs::read_dir(file("")).expect("a directory");
+    let names = left.map(|entry| entry.expect("an entry").file_name());
+    assert!(names
+        .into_iter()
+        .all(|name| !name.to_string_lossy().ends_with(".new")));
+}
+
+#[test]
+fn a_damaged_image_says_what_it_can() {
+    let file = files("damaged");
+    let page = file("page.html");
+    let refused = "Every call but make refuses this image (2). What its bytes would say:";
+    let (miscounted, unreadable) = (file("miscounted.img"), file("unreadable.img"));
+    let unread = "node 7 was not read from entry 2 on, so";
+    for (image, path, told) in [
+        (
+            &miscounted,
+            "r1/c7",
+            "r1/c7 has 5 records below it, and no value",
+        ),
+        (&miscounted, "r1/c7/t1/f2", "r1/c7/t1/f2 has the value 77."),
+        (
+            &unreadable,
+            "r1/c7",
+            "r1/c7 has no value of its own, and at least 5 records below it; node 7 was",
+        ),
+        (
+            &unreadable,
+            "r1/c7/t4",
+            &format!("r1/c7/t4: {unread} this cannot be told."),
+        ),
+        (
+            &unreadable,
+            "r1/c7/t4/f1",
+            "r1/c7/t4/f1 has no value of its own; node 7 was",
+        ),
+    ] {
+        expect(&[image, path], 1, told);
+        expect(&[image, path], 1, refused);
+        expect(
+            &[image, path, "--html", &page],
+            1,
+            &format!("{refused} {told}"),
+        );
+        let both = [image, image, path, "--html", &page];
+        expect(&both, 1, &format!("before: {refused} {told}"));
+    }
+    let written = std::fs::read_to_string(&page).expect("a page");
+    assert!(written.contains("<h3>Every call but make refuses this image (2)</h3>"));
+}
+
+#[test]
+fn a_file_that_is_no_store_is_refused_by_1() {
+    let file = files("no-store");
+    let (text, empty, big) = (file("t.txt"), file("empty.img"), file("big.img"));
+    std::fs::write(&text, "twenty-six bytes of text..").expect("a file");
+    std::fs::write(&empty, "").expect("a file");
+    std::fs::write(&big, vec![0; 2_000_000]).expect("a file");
+    let page = file("page.html");
+    for (image, size) in [
+        (&text, "26 bytes are no store"),
+        (&empty, "0 bytes are no store"),
+        (&big, "more than 1048576 bytes are no store"),
+    ] {
+        let output = look(&[image, "r1"]);
+        let told = String::from_utf8_lossy(&output.stdout).into_owned();
+        assert_eq!(output.status.code(), Some(1));
+        assert!(
+            told.ends_with("Every call refuses this file (1).\n"),
+            "{told}"
+        );
+        assert!(told.contains(size) && !told.contains("the way") && !told.contains("absent"));
+        let refused = "Every call refuses this file (1).\n";
+        expect(&[image, "r1", "--html", &page], 1, refused);
+        let written = std::fs::read_to_string(&page).expect("a page");
+        assert!(written.contains("<h3>Every call refuses this file (1)</h3>"));
+    }
+    let sizes = "has more than 1048576 bytes and";
+    expect_error(&[&big, &text, "--html", &page], sizes);
+}
+
+#[test]
+fn with_two_images_absent_in_both_is_1() {
+    let file = files("both");
+    let (before, after, page) = (file("before.img"), file("after.img"), file("page.html"));
+    let with = |path| [&before[..], &after, path, "--html", &page].map(String::from);
+    for (path, status) in [("r9", 1), ("r1/c7", 0), ("r1/c9", 0), ("r1/c7/t1/f9", 1)] {
+        let words = with(path);
+        let words: Vec<&str> = words.iter().map(|word| &word[..]).collect();
+        expect(&words, status, "after: ");
+    }
+}
+
+#[test]
+fn a_closure_is_told_by_what_its_records_nodes_lift() {
+    let file = files("lift");
+    let cut = file("cut-before.img");
+    let all = "node 2: all of r1/k2/ is lifted (2 records)\n";
+    expect(&[&cut, "r1/k2"], 0, all);
+    let none = "nodes 1, 3: nothing of it is lifted, r1/k2/ is stored with each record (2 records)";
+    expect(&[&cut, "r1/k2"], 0, none);
+}
+
+/// The marks that are drawn on a page; each is in the key just where it is drawn.
+fn marks(page: &str) -> Vec<&'static str> {
+    let known = [
+        ("<span class=l>", "are lifted"),
+        ("<ol class=children>", "A <b>pivot</b> is"),
+        ("<span class=f>", "dotted"),
+        ("<span class=x>", "in a box"),
+        (" fresh", "on orange"),
+        (" faulty", "red frame"),
+        (" changed new\"", "new (reachable only after)"),
+        (" gone\"", "gone (reachable only before)"),
+        (" renamed\"", "not a byte changed"),
+    ];
+    let (_, rest) = page.split_once("</style>").expect("a style");
+    let (head, rest) = rest.split_once("<main").expect("images");
+    let (key, drawn) = rest.rsplit_once("</ul>").unwrap_or(("", rest));
+    let key = format!("{head}{key}");
+    assert!(key.contains("A <b>message</b> is"));
+    for (mark, words) in known {
+        assert_eq!(drawn.contains(mark), key.contains(words), "{mark}");
+    }
+    let drawn_ones = known.iter().filter(|(mark, _)| drawn.contains(mark));
+    drawn_ones.map(|(mark, _)| *mark).collect()
+}
+
+#[test]
+fn the_key_has_the_marks_of_its_page_and_lifted_bytes_look_lifted() {
+    let two = |(before, after): (Vec<u8>, Vec<u8>)| {
+        let (was, is) = (Survey::take(&before), Survey::take(&after));
+        let side = |survey| Side { name: "x", survey };
+        let comparison = Comparison::of(&was, &is);
+        page::two(&[side(&was), side(&is)], &comparison, &Opening::default())
+    };
+    let one = |image: Vec<u8>| {
+        let survey = &Survey::take(&image);
+        page::one(&Side { name: "x", survey }, None)
+    };
+    let cut = two(samples::cut());
+    assert!(marks(&cut).contains(&" fresh") && marks(&cut).contains(&" renamed\""));
+    assert!(!marks(&two(samples::moved())).contains(&" gone\""));
+    assert!(marks(&two((samples::waiting(), samples::waiting()))).len() == 4);
+    assert!(marks(&one(samples::unreadable(samples::waiting(), 1, 9))).len() == 4);
+    let faulty = mutate::damage(Rule::PutOwned, &samples::waiting(), 3).expect("damage");
+    assert!(marks(&one(faulty)).contains(&" faulty"));
+    // No rule of the style gives lifted bytes another look in some node.
+    let (style, _) = cut.split_once("</style>").expect("a style");
+    let others = [".renamed .l", ".decides .l", ".new .l", ".changed .l"];
+    assert!(others.iter().all(|rule| !style.contains(rule)));
 }

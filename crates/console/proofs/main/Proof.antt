@@ -51,6 +51,9 @@ slice-aggregate-end c = search needs
 end-requires : tie.Need-end-requires
 end-requires c κs = search needs
 
+tell-failure-requires : tie.Need-tell-failure-requires
+tell-failure-requires c κs = search needs
+
 returns-2 : tie.Need-returns-2
 returns-2 c = search needs
 
@@ -77,5 +80,6 @@ main-spec =
     run-requires
     slice-aggregate-end
     end-requires
+    tell-failure-requires
     returns-2
     returns-3)

@@ -1,5 +1,5 @@
 -- Steps of the insertion of a row: what the move leaves for the writer of the row, and what the two leave together.
--- Relies on the laws of slots and ranks, and on what the writer of one row promises (`build`).
+-- Relies on the laws of slots and ranks, and on what the writer of one row promises (`packed`).
 use Rattle.image.specs.Prelude.{ℕ, _+_, _*_, _-_, _≤_, _<_, _≡_, refl, sym, ap, ap₂, _∙_, List, [], _∷_, _++_, append-assoc, Bool, true, false, none, arith, length, take, drop, length-drop, length-take-le, leb, leb-true, leb-false}
 use Rattle.image.specs.Table.{find, withRow}
 use Rattle.octets.specs.Put.{put, put-size}

@@ -1,5 +1,6 @@
--- `inclusion::holds_child`, `inclusion::holds_children`, `inclusion::holds_last`, `inclusion::holds_node` meet the contract: one cycle of four functions. The level
--- falls from a node to its children; within a level, children come before last before child before node (specs/Steps, successor/specs/Candidates).
+-- `inclusion::holds_child`, `inclusion::holds_children`, `inclusion::holds_last`, `inclusion::holds_node` meet the contract: one cycle of four
+-- functions. The level falls from a node to its children; within a level, children come before last before child before node (specs/Steps,
+-- successor/specs/Candidates).
 use Rattle.inclusion.specs.Held.{allHeld}
 use Rattle.inclusion.specs.Steps.{held-along, held-nothing, first-fails, first-passes, run-alone}
 use Rattle.successor.specs.Walk.{runPaths, BranchesReady}

@@ -1,4 +1,5 @@
--- The check as one walk that marks the nodes it reaches: what the code of check does, and that it is soundness with every node in range and reached once.
+-- The check as one walk that marks the nodes it reaches: what the code of check does, and that it is soundness with every node in range and reached
+-- once.
 use Rattle.image.specs.Prelude.{ℕ, zero, suc, _<_, _≤_, _≡_, refl, sym, ap, ap₂, _∙_, List, [], _∷_, _++_, Bool, true, false, _&&_, not, cond, and-true, Option, none, some, arith, length, drop, getD, set, replicate, length-set, length-replicate, getD-set-same, getD-set-other, ltb, leb, eqb, eqb-true, eqb-false, ltb-true}
 use Rattle.image.specs.Bytes.{before, shared}
 use Rattle.image.specs.Path.{owns}

@@ -1,5 +1,5 @@
 -- A pair read at a cursor, or that none stands there: what step_pair answers, and the laws of each way out.
--- Relies on node's Next (an entry in front of the others) and on Pairs.
+-- Relies on Next of Places (an entry in front of the others) and on Pairs.
 use Rattle.image.specs.Prelude.{ℕ, _+_, _-_, _<_, _≤_, _≡_, refl, sym, subst, _∙_, List, [], none, arith, length}
 use Rattle.image.specs.Bytes.{u16}
 use Rattle.image.specs.Entry as defined

@@ -1,5 +1,5 @@
--- What the borrow checker leaves of `build` to prove.
--- Relies on specs/BuildSteps.
+-- `build` meets its contract.
+-- Relies on specs/Build/BuildSteps.
 use Rattle.packed.specs.Build.BuildSteps.{leaves-ready, empty-ready, ascent-first, build-last, build-empty}
 use Rattle.image.specs.Prelude.{arith, needs}
 use Rattle.packed.proofs.build.Statement.{statement}

@@ -1,5 +1,5 @@
--- What the borrow checker leaves of `clear_area` to prove.
--- Relies on specs/RowSteps.
+-- `clear_area` meets its contract.
+-- Relies on specs/Build/RowSteps.
 use Rattle.packed.specs.Build.RowSteps.{clear-first, clear-more}
 use Rattle.laws.specs.Page.{zerosOf}
 use Rattle.image.specs.Prelude.{drop, _++_, arith, length, length-set, _≡_, refl, ap, _∙_, _-_, _≤_, needs}

@@ -1,5 +1,5 @@
--- What the borrow checker leaves of `count_numbers` to prove.
--- Relies on specs/CountSteps.
+-- `count_numbers` meets its contract.
+-- Relies on specs/Build/CountSteps.
 use Rattle.packed.specs.Build.CountSteps.{count-first, count-next, count-last}
 use Rattle.packed.specs.Build.Handed.{listed}
 use Rattle.packed.specs.Form.Packed.{numbersFrom}

@@ -1,5 +1,5 @@
--- What the borrow checker leaves of `emit_row` to prove.
--- Relies on specs/PairLaws.
+-- `emit_row` meets its contract.
+-- Relies on specs/Build/PairLaws.
 use Rattle.packed.specs.Build.PairLaws.{parts, pair-one}
 use Rattle.octets.specs.Put.{put}
 use Rattle.laws.specs.Encode.{bytesOf, pair-size, pair-entry}

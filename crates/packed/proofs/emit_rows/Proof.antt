@@ -1,4 +1,4 @@
--- What the borrow checker leaves of `emit_rows` to prove.
+-- `emit_rows` meets its contract.
 -- Relies on specs/Pages/Emitting and on how the bytes of pairs follow each other (specs/Build/PairLaws).
 use Rattle.image.specs.Prelude.{needs, arith, _-_}
 use Rattle.packed.specs.Pages.Emitting.{Emits, emits-first, emits-next, emits-last, emits-room}

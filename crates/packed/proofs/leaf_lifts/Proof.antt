@@ -1,5 +1,5 @@
--- What the borrow checker leaves of `leaf_lifts` to prove.
--- Relies on specs/PairLaws.
+-- `leaf_lifts` meets its contract.
+-- Relies on specs/Build/PairLaws.
 use Rattle.packed.specs.Build.PairLaws.{high-end, high-low, lifts-are}
 use Rattle.packed.specs.Pages.Entries.{span}
 use Rattle.image.specs.Bytes.{shared}

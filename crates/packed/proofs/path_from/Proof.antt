@@ -1,5 +1,5 @@
--- What the borrow checker leaves of `path_from` to prove.
--- Relies on specs/PairLaws.
+-- `path_from` meets its contract.
+-- Relies on specs/Build/PairLaws.
 use Rattle.packed.specs.Build.PairLaws.{from-short, from-long}
 use Rattle.image.specs.Prelude.{arith, needs}
 use Rattle.packed.proofs.path_from.Statement.{statement}

@@ -1,5 +1,5 @@
--- What the borrow checker leaves of `put_joined` to prove.
--- Relies on specs/RowSteps.
+-- `put_joined` meets its contract.
+-- Relies on specs/Build/RowSteps.
 use Rattle.packed.specs.Build.RowSteps.{row-joined}
 use Rattle.image.specs.Prelude.{arith, length, set, length-set, refl, _+_, _*_, needs}
 use Rattle.packed.proofs.put_joined.Statement.{statement}

@@ -1,5 +1,5 @@
--- What the borrow checker leaves of `write_above` to prove.
--- Relies on specs/AboveSteps.
+-- `write_above` meets its contract.
+-- Relies on specs/Build/AboveSteps.
 use Rattle.packed.specs.Build.Passes.{treeAbove, pagesAbove, Ascends}
 use Rattle.packed.specs.Build.AboveSteps.{ascent-ready, ascent-next, ascent-last}
 use Rattle.packed.specs.Form.Tidy.{writeAll}

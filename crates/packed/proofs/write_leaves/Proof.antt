@@ -1,5 +1,5 @@
--- What the borrow checker leaves of `write_leaves` to prove.
--- Relies on specs/LeafSteps.
+-- `write_leaves` meets its contract.
+-- Relies on specs/Build/LeafSteps.
 use Rattle.packed.specs.Build.LeafSteps.{LeafTurns, leaf-first, leaf-ready, leaf-next, leaf-last}
 use Rattle.image.specs.Prelude.{needs, arith, _-_}
 use Rattle.packed.proofs.write_leaves.Statement.{statement}

@@ -1,5 +1,5 @@
--- What the borrow checker leaves of `write_level` to prove.
--- Relies on specs/LevelSteps.
+-- `write_level` meets its contract.
+-- Relies on specs/Build/LevelSteps.
 use Rattle.packed.specs.Build.LevelSteps.{NodeTurns, level-first, node-ready, level-next, level-last}
 use Rattle.image.specs.Prelude.{needs, arith, _-_}
 use Rattle.packed.proofs.write_level.Statement.{statement}

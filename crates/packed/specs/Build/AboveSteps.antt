@@ -1,5 +1,5 @@
 -- Steps of the loop over the levels: one pass makes the level above of the definitions, and one node is left at last.
--- Rely on packed/specs/Tower for how few nodes a level has, and on packed/specs/Marks for a level by its marks.
+-- Rely on specs/Form/Tower for how few nodes a level has, and on specs/Form/Marks for a level by its marks.
 use Rattle.image.specs.Prelude.{ℕ, zero, suc, _+_, _*_, _-_, _/_, _≤_, _<_, _≡_, refl, sym, ap, ap₂, subst, _∙_, List, [], _∷_, _++_, arith, length, drop}
 use Rattle.packed.specs.Form.Chunk.{groups}
 use Rattle.packed.specs.Form.Packed.{Item, Built, childWeight, raised, climb, topOf}

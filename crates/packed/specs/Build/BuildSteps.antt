@@ -1,5 +1,5 @@
 -- The steps of `build` put together: the leaves start the climb, node 0 ends it, and what is written is the promised image.
--- Rely on packed/specs/Ordered: pages written level by level give the packed image.
+-- Rely on specs/Form/Ordered: pages written level by level give the packed image.
 use Rattle.image.specs.Prelude.{ℕ, zero, suc, _+_, _*_, _-_, _/_, _≤_, _≡_, refl, sym, ap, ap₂, subst, _∙_, List, [], _++_, true, arith, length, drop, getD}
 use Rattle.image.specs.Bytes.{u16}
 use Rattle.image.specs.Table.{Row}

@@ -1,5 +1,5 @@
 -- Laws for the callers of `build`: what its contract gives, and when rows fit their places.
--- Rely on packed/specs/Tidy: the packed image is sound, means the table, and is tidied.
+-- Rely on specs/Form/Tidy: the packed image is sound, means the table, and is tidied.
 use Rattle.image.specs.Prelude.{ℕ, zero, suc, _+_, _*_, _-_, _/_, _≤_, _<_, _≡_, sym, ap, _∙_, refl, subst, List, [], _∷_, Bool, true, false, arith, length, take, drop, getD, length-drop, length-take-le, leb, leb-true, leb-false}
 use Rattle.image.specs.Path.{valueLimit}
 use Rattle.image.specs.Image.{nodesOf}

@@ -1,5 +1,5 @@
 -- Laws of the numbers that are handed in: one number and on, how many are left, and that each is in range.
--- Rely on the definitions of Handed alone.
+-- Rely on the definitions of Handed and of image (`inRange`), and on octets' Order.
 use Rattle.image.specs.Prelude.{ℕ, zero, suc, _+_, _*_, _-_, _/_, _≤_, _<_, _≡_, refl, ap, ap₂, _∙_, List, _∷_, Bool, true, false, _&&_, arith, length, drop, leb, ltb, eqb, leb-true, ltb-true, eqb-true, eqb-false, _≢_}
 use Rattle.image.specs.Bytes.{u16}
 use Rattle.image.specs.Sound.{inRange}

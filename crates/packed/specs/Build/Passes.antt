@@ -1,5 +1,5 @@
--- What the passes of `build` promise: the leaves, one level above, all levels above.
--- The code knows a level by its marks alone; the definitions of packed/specs say which level that is.
+-- What the passes of `build` promise: the leaves, one level above, all levels above. The code knows a level by its marks alone; the definitions of
+-- specs/Form say which level that is.
 use Rattle.image.specs.Prelude.{ℕ, _+_, _*_, _-_, _≤_, _≡_, List, [], length}
 use Rattle.image.specs.Image.{Branch}
 use Rattle.packed.specs.Form.Chunk.{groups}

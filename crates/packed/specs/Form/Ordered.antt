@@ -1,4 +1,6 @@
--- The image written level by level is the packed image; and a battery pulled while it is written loses nothing (request S-12).
+-- The image written level by level is the packed image. And where pages go to free nodes only, a store in which some of them are written and node 0
+-- is the old one still holds the old tree (request S-12).
+-- Relies on Sweep (the pages in order), Tidy and Stored (the packed image), and on laws' Frame and WriteNode.
 use Rattle.image.specs.Prelude.{_⊎_, inl, inr, ℕ, _+_, _*_, _/_, _≤_, _≡_, sym, _∙_, List, true, false, arith, length}
 use Rattle.image.specs.Table.{Row}
 use Rattle.image.specs.Image.{nodeBytes, headerOf, header, treeOf}

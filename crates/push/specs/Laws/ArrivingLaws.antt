@@ -1,5 +1,5 @@
 -- What arrives at the children, told from inside the node, is what the flush of laws/Upkeep sends them: `each-under`.
--- Relies on Flush and Room of laws/Upkeep, where pivots and messages are full; here the node's lifted prefix is left away.
+-- Relies on laws' PushDown and on Room of laws/Upkeep, where pivots and messages are full; here the node's lifted prefix is left away.
 use Rattle.image.specs.Prelude.{ℕ, _≡_, refl, sym, ap, ap₂, _∙_, List, [], _∷_, _++_, append-assoc, append-nil, Bool, true, false, _||_, cond, length, drop}
 use Rattle.image.specs.Bytes.{begins, shared}
 use Rattle.image.specs.Entry.{Message, puts, drops, clears, Entry, pair, child, message}

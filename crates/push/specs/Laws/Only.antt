@@ -1,5 +1,5 @@
 -- A store in which one node is written anew, and the room of the other nodes in it.
--- Relies on WriteNode's laws; the code's loop over the children and Flushed use it.
+-- Relies on WriteNode's laws; LeafRoom, TakesLaws and the code's loop over the children use it.
 use Rattle.image.specs.Prelude.{ℕ, _+_, _*_, _-_, _≤_, _≡_, refl, sym, ap, ap₂, _∙_, List, [], _∷_, _++_, true, false, _&&_, not, arith, length, drop, length-append, length-take, ltb, leb, eqb, leb-true, eqb-false}
 use Rattle.image.specs.Bytes.{u16}
 use Rattle.image.specs.Entry.{Entry}

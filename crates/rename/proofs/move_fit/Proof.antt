@@ -1,4 +1,4 @@
--- `rename::move_fit` meets its contract, by the answer of its questions. Relies on specs/Apply and going's GoingSteps.
+-- `rename::move_fit` meets its contract, by the answer of its questions. Relies on specs/Apply and specs/Going/GoingSteps.
 use Rattle.rename.specs.Going.GoingSteps.{is-fit}
 use Rattle.rename.specs.Apply.{refused, area-long, stays, goes}
 use Rattle.image.specs.Prelude.{needs, refl}

@@ -1,4 +1,4 @@
--- What the questions of a move decide, as a function of both paths and the table; and what a caller of ask_move is told.
+-- What the questions of a move decide, as a function of both paths and the table; and what a caller of ask_later is told.
 -- Relies on questions' Passed and on the paper's definitions.
 use Rattle.image.specs.Prelude.{ℕ, _≡_, List, true, false, not, cond}
 use Rattle.image.specs.Bytes.{same}

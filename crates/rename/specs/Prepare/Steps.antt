@@ -1,5 +1,5 @@
 -- The steps of make_ready.
--- Relies on swing's spare (the marks show the free nodes) and rebuild's Rebuilt.
+-- Relies on swing/specs/Spare (the marks show the free nodes) and rebuild's Rebuilt.
 use Rattle.image.specs.Prelude.{ℕ, zero, suc, _+_, _*_, _-_, _/_, _<_, _≤_, _≡_, refl, sym, ap, ap₂, subst, _∙_, List, _∷_, _++_, Bool, true, false, _&&_, false≢true, arith, length, take, drop, getD-take, length-take-le, take-append-seam, eqb, leb, le-leb, lt-leb, leb-true, eqb-true, cases}
 use Rattle.image.specs.Bytes.{u16}
 use Rattle.image.specs.Image.{nodesOf, wholeNodes, headerOf, treeOf}

@@ -1,4 +1,4 @@
--- `script::answer_get` meets its contract: the call's contract, as the text of a line (specs/Answered). Assumes nothing.
+-- `script::answer_get` meets its contract: the call's contract, as the text of a line (specs/Steps, specs/Answered). Assumes nothing.
 use Rattle.image.specs.Prelude.{needs, arith}
 use Rattle.script.specs.Steps.{get-found}
 use Rattle.script.specs.Answered.{get-short}

@@ -1,4 +1,4 @@
--- `script::answer_move` meets its contract: the call's contract, as the text of a line (specs/Answered). Assumes nothing.
+-- `script::answer_move` meets its contract: the call's contract, as the text of a line (specs/Steps). Assumes nothing.
 use Rattle.image.specs.Prelude.{needs}
 use Rattle.script.specs.Steps.{move-answered}
 use Rattle.script.proofs.answer_move.Statement.{statement}

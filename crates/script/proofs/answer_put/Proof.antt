@@ -1,4 +1,4 @@
--- `script::answer_put` meets its contract: the call's contract, as the text of a line (specs/Answered). Assumes nothing.
+-- `script::answer_put` meets its contract: the call's contract, as the text of a line (specs/Steps). Assumes nothing.
 use Rattle.image.specs.Prelude.{needs, arith}
 use Rattle.script.specs.Steps.{put-bad, put-answered, value-length}
 use Rattle.script.proofs.answer_put.Statement.{statement}

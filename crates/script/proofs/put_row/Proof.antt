@@ -1,4 +1,5 @@
--- `script::put_row` meets its contract: the path, the space, the value and the line feed, one after another; get finds the path, since it is there (specs/Steps). Assumes nothing.
+-- `script::put_row` meets its contract: the path, the space, the value and the line feed, one after another; get finds the path, since it is there
+-- (specs/Steps). Assumes nothing.
 use Rattle.image.specs.Prelude.{needs, arith, _-_, refl, length}
 use Rattle.script.specs.Steps.{part-short, value-ends, gap-ends, start-ends, row-absent, row-fits, row-wrote}
 use Rattle.script.proofs.put_row.Statement.{statement}

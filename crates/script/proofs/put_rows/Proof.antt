@@ -1,4 +1,5 @@
--- `script::put_rows` meets its contract: before each turn the text so far and the text of the rows ahead are the whole text (specs/Rows). The measure is how many rows are ahead. Assumes nothing.
+-- `script::put_rows` meets its contract: before each turn the text so far and the text of the rows ahead are the whole text (specs/Rows). The measure
+-- is how many rows are ahead. Assumes nothing.
 use Rattle.image.specs.Prelude.{needs, arith, _-_, _≤_, _≡_, refl, [], length, take, drop}
 use Rattle.script.specs.Rows.{ahead, Walk, walk-starts, walk-ends, key-short, row-room, part-present, part-shortens, part-goes-on}
 use Rattle.script.specs.Answered.{held-on}

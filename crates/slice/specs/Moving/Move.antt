@@ -1,4 +1,5 @@
--- The move: a settled tree cut at the ends of two ranges, and a new root over the parts. Cuts go from the right to the left, each on what lies left of the one before.
+-- The move: a settled tree cut at the ends of two ranges, and a new root over the parts. Cuts go from the right to the left, each on what lies left
+-- of the one before.
 use Rattle.image.specs.Prelude.{ℕ, _*_, List, [], true, cond}
 use Rattle.image.specs.Bytes.{before}
 use Rattle.image.specs.Image.{Tree, Forest, tree}

@@ -1,4 +1,5 @@
--- The move is right: a sound root of one level more, whose table is the moved table; every node fits; and no number stands in it oftener than in the old tree and among 10 × h + 1 new ones.
+-- The move is right: a sound root of one level more, whose table is the moved table; every node fits; and no number stands in it oftener than in the
+-- old tree and among 10 × h + 1 new ones.
 use Rattle.image.specs.Prelude.{ℕ, zero, suc, _+_, _*_, _-_, _≤_, _≡_, refl, sym, ap, ap₂, subst, _∙_, List, [], _++_, append-nil, true, false, false≢true, arith, length, length-append, le-leb, cases}
 use Rattle.image.specs.Bytes.{same, before, begins, shared}
 use Rattle.image.specs.Path.{owns, wellFormed}

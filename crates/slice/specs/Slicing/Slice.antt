@@ -1,4 +1,5 @@
--- The slices of a settled tree at a cut k strictly inside its range. New nodes take their numbers from `fresh`, the list of free nodes, from place `at` on.
+-- The slices of a settled tree at a cut k strictly inside its range. New nodes take their numbers from `fresh`, the list of free nodes, from place
+-- `at` on.
 use Rattle.image.specs.Prelude.{ℕ, suc, List, [], _++_, Bool, true, false, cond}
 use Rattle.image.specs.Bytes.{before, shared}
 use Rattle.image.specs.Table.{underPrefix}

@@ -1,5 +1,6 @@
--- `successor::seek_child`, `successor::seek_children`, `successor::seek_last`, `successor::seek_node` meet the contract: one cycle of four functions. The level falls from a node to its
--- children; within a level, children come before last before child before node (specs/NodeSteps, specs/Candidates).
+-- `successor::seek_child`, `successor::seek_children`, `successor::seek_last`, `successor::seek_node` meet the contract: one cycle of four functions.
+-- The level falls from a node to its children; within a level, children come before last before child before node (specs/NodeSteps,
+-- specs/Candidates).
 use Rattle.successor.specs.NodeSteps.{skips-child, long-child, enters-child, last-child, run-ends, run-step, node-leaf, node-childless, node-children}
 use Rattle.successor.specs.Candidates.{enters-ready, last-ready, inner-ready, later-ready, node-ready}
 use Rattle.successor.specs.Walk.{walkIn, runPaths, BranchesReady}

@@ -1,4 +1,5 @@
--- `successor::is_unfit` meets the contract: nothing goes on from the dead shape; else the rest begins in the second part or in the first (specs/Tests).
+-- `successor::is_unfit` meets the contract: nothing goes on from the dead shape; else the rest begins in the second part or in the first
+-- (specs/Tests).
 use Rattle.successor.specs.Tests.{unfit-dead, unfit-first, unfit-second}
 use Rattle.image.specs.Prelude.{arith, needs}
 use Rattle.successor.proofs.is_unfit.Statement.{statement}

@@ -1,5 +1,5 @@
--- `successor::try_path` meets the contract: the cheap tests, the shape of the rest, the length, the lookup (specs/Steps); a path that is
--- too long is not present, since present paths are well formed (specs/Present).
+-- `successor::try_path` meets the contract: the cheap tests, the shape of the rest, the length, the lookup; a path that is too long is not
+-- present, since present paths are well formed (specs/Steps).
 use Rattle.successor.specs.Steps.{wanted-long, try-unwanted, try-fit, try-long, try-absent, try-found}
 use Rattle.image.specs.Prelude.{length, _≡_, arith, needs}
 use Rattle.successor.proofs.try_path.Statement.{statement}

@@ -1,5 +1,5 @@
 -- The numbers of the nodes that are not marked; with the marks of the nodes in use they are the free nodes, rising.
--- Relies on tree_check's Marks (what the marks say) and on slice/Moving's free list.
+-- Relies on Marks of tree_check's Whole (what the marks say) and on slice/Moving's free list.
 use Rattle.image.specs.Prelude.{ℕ, zero, suc, _+_, _-_, _≤_, _<_, _≡_, refl, sym, ap, _∙_, List, [], _∷_, Bool, true, false, cond, arith, length, getD, eqb, eq-eqb, ne-eqb}
 use Rattle.image.specs.Image.{nodesOf, treeOf}
 use Rattle.image.specs.Sound.{isIn, numbers}

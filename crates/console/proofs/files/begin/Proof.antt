@@ -1,5 +1,5 @@
--- `console::files::begin` meets its contract: what make leaves is sound, and so is what load_image takes. Assumes nothing.
-use Rattle.image.specs.Prelude.{needs}
+-- `console::files::begin` meets its contract: what make leaves is sound, and so is what read_image answers 0 to. Assumes nothing.
+use Rattle.image.specs.Prelude.{needs, false≢true}
 use Rattle.script.specs.Input.{made-sound}
 use Rattle.console.proofs.files.begin.Statement.{statement}
 use Rattle.console.proofs.files.begin.Tie as tie
@@ -16,32 +16,23 @@ same-length c = search needs
 returns : tie.Need-returns
 returns c = λ e. search (needs, made-sound)
 
-buffer-requires : tie.Need-buffer-requires
-buffer-requires c κs = search needs
-
-slice-aggregate-arg : tie.Need-slice-aggregate-arg
-slice-aggregate-arg c = search needs
-
-arg-requires : tie.Need-arg-requires
-arg-requires c κs = search needs
-
-sub-load-image : tie.Need-sub-load-image
-sub-load-image c = search needs
-
-part-load-image-start : tie.Need-part-load-image-start
-part-load-image-start c = search needs
-
-part-load-image-end : tie.Need-part-load-image-end
-part-load-image-end c = search needs
-
-load-image-requires : tie.Need-load-image-requires
-load-image-requires c κs = search needs
+read-image-requires : tie.Need-read-image-requires
+read-image-requires c κs = search needs
 
 same-length-2 : tie.Need-same-length-2
 same-length-2 c = search needs
 
 returns-2 : tie.Need-returns-2
-returns-2 c = search needs
+returns-2 c = λ e. c .before .before .before .read-image .ensures (c .if2 .taken)
+
+tell-refusal-requires : tie.Need-tell-refusal-requires
+tell-refusal-requires c κs = search needs
+
+same-length-3 : tie.Need-same-length-3
+same-length-3 c = search needs
+
+returns-3 : tie.Need-returns-3
+returns-3 c = λ e. absurd (false≢true e)
 
 pub begin-spec : {M : Type 1} → statement M
 begin-spec =
@@ -51,12 +42,9 @@ begin-spec =
     make-requires
     same-length
     returns
-    buffer-requires
-    slice-aggregate-arg
-    arg-requires
-    sub-load-image
-    part-load-image-start
-    part-load-image-end
-    load-image-requires
+    read-image-requires
     same-length-2
-    returns-2)
+    returns-2
+    tell-refusal-requires
+    same-length-3
+    returns-3)

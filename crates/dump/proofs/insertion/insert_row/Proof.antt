@@ -1,5 +1,5 @@
 -- `insert_row` meets its contract: the place, the move and the new row make the table with the row put into it.
--- Relies on specs/InsertSteps and on the contracts of the three calls.
+-- Relies on specs/Insertion/InsertSteps and on the contracts of the three calls.
 use Rattle.dump.specs.Insertion.InsertSteps.{fit-front, inserted}
 use Rattle.image.specs.Prelude.{needs, arith}
 use Rattle.dump.proofs.insertion.insert_row.Statement.{statement}

@@ -1,5 +1,5 @@
 -- `place_of` meets its contract: the path's place stays between `low` and `high`, which close in on it.
--- Relies on specs/Ranks.
+-- Relies on specs/Insertion/Ranks.
 use Rattle.packed.specs.Rows.Area.{rowsOf}
 use Rattle.dump.specs.Insertion.Insertion.{rank}
 use Rattle.dump.specs.Insertion.Ranks.{place-most, place-behind, place-upto}

@@ -1,5 +1,5 @@
 -- `replace_row` meets its contract: the path's place is behind all rows, or its row has another path, or the row is written anew.
--- Relies on specs/ReplaceSteps and on the contracts of the three calls.
+-- Relies on specs/Insertion/ReplaceSteps and on the contracts of the three calls.
 use Rattle.dump.specs.Insertion.Slots.{fit-fewer}
 use Rattle.dump.specs.Insertion.ReplaceSteps.{replace-end, replace-other, replace-here}
 use Rattle.image.specs.Prelude.{needs, arith}

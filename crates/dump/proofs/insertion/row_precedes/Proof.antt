@@ -1,5 +1,5 @@
 -- `row_precedes` meets its contract: the part that it compares is the row's path.
--- Relies on specs/Slots.
+-- Relies on specs/Insertion/Slots.
 use Rattle.image.specs.Bytes.{before}
 use Rattle.dump.specs.Insertion.Slots.{row-key}
 use Rattle.image.specs.Prelude.{needs, arith, ap, _∙_}

@@ -1,5 +1,5 @@
 -- `set_row` meets its contract: the path is in the first part of the rows, or in the second, or comes new into the second.
--- Relies on specs/ReplaceSteps and on the contracts of the calls.
+-- Relies on specs/Insertion/ReplaceSteps and on the contracts of the calls.
 use Rattle.dump.specs.Insertion.Slots.{fit-fewer}
 use Rattle.dump.specs.Insertion.ReplaceSteps.{set-first, first-apart, set-second, second-apart, second-absent, new-room, set-new}
 use Rattle.image.specs.Prelude.{needs, arith}

@@ -1,4 +1,4 @@
--- `alike` meets its contract: two notes of one kind on the same bytes. Relies on specs/Steps.
+-- `alike` meets its contract: two notes of one kind on the same bytes. Relies on specs/Notes/Steps.
 use Rattle.live_count.specs.Notes.Steps.{unlike-told, alike-told}
 use Rattle.image.specs.Prelude.{needs, arith}
 use Rattle.live_count.proofs.notes.alike.Statement.{statement}

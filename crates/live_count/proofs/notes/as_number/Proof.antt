@@ -1,4 +1,4 @@
--- `as_number` meets its contract, by the two values of a test. Relies on specs/Steps.
+-- `as_number` meets its contract, by the two values of a test. Relies on specs/Notes/Steps.
 use Rattle.image.specs.Prelude.{arith}
 use Rattle.live_count.specs.Notes.Steps.{one-yes, one-not}
 use Rattle.live_count.proofs.notes.as_number.Statement.{statement}

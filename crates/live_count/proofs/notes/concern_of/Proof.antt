@@ -1,4 +1,4 @@
--- `concern_of` meets its contract, exit by exit. Relies on specs/Apart.
+-- `concern_of` meets its contract, exit by exit. Relies on specs/Notes/Apart.
 use Rattle.image.specs.Prelude.{arith, needs}
 use Rattle.node.specs.Cut.{cut-length}
 use Rattle.live_count.specs.Notes.Apart.{no-note, far, all-cleared, too-short, high-off, low-off, cleared, named}

@@ -1,4 +1,4 @@
--- `concern_of_message` meets its contract, by the kind of the message. Relies on specs/Steps.
+-- `concern_of_message` meets its contract, by the kind of the message. Relies on specs/Notes/Steps.
 use Rattle.image.specs.Prelude.{arith, needs}
 use Rattle.node.specs.Search.Latest.{put-places, drop-places, clear-places}
 use Rattle.live_count.specs.Notes.Steps.{put-concerned, drop-concerned, clear-concerned}

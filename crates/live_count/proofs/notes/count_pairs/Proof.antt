@@ -1,5 +1,5 @@
 -- `count_pairs` meets its contract: the count so far and that of the entries left make the count of all.
--- Relies on specs/Steps and on node's reader of pairs.
+-- Relies on specs/Notes/Steps and on node's reader of pairs.
 use Rattle.node.specs.Entries.{listed, listed-end}
 use Rattle.node.specs.Places.{Next}
 use Rattle.node.specs.declared.Entry.{Entry}

@@ -1,4 +1,4 @@
--- `is_quiet` meets its contract: from the last note up, those passed are not on the key. Relies on specs/Apart.
+-- `is_quiet` meets its contract: from the last note up, those passed are not on the key. Relies on specs/Notes/Apart.
 use Rattle.image.specs.Prelude.{needs, _≤_, _-_, _≡_, refl, arith}
 use Rattle.live_count.specs.Notes.Notes.{quiet}
 use Rattle.live_count.specs.Notes.Apart.{latest-one, passed-one, passed-all}

@@ -1,4 +1,4 @@
--- `keep` meets its contract, by what the message is to the keys. Relies on specs/Steps.
+-- `keep` meets its contract, by what the message is to the keys. Relies on specs/Notes/Steps.
 use Rattle.live_count.specs.Notes.Steps.{kept-none, kept-full, kept-one, kept-again}
 use Rattle.image.specs.Prelude.{needs, arith, refl}
 use Rattle.live_count.proofs.notes.keep.Statement.{statement}

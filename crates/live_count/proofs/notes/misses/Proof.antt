@@ -1,4 +1,4 @@
--- `misses` meets its contract, exit by exit. Relies on specs/Apart.
+-- `misses` meets its contract, exit by exit. Relies on specs/Notes/Apart.
 use Rattle.live_count.specs.Notes.Apart.{unmissed, low-clear, low-name}
 use Rattle.image.specs.Prelude.{needs}
 use Rattle.live_count.proofs.notes.misses.Statement.{statement}

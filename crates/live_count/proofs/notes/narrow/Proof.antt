@@ -1,4 +1,4 @@
--- `narrow` meets its contract: the notes of the node above one by one. Relies on specs/Steps.
+-- `narrow` meets its contract: the notes of the node above one by one. Relies on specs/Notes/Steps.
 use Rattle.live_count.specs.Notes.Steps.{Narrowing, narrowing-start, narrowing-full, narrowing-on, narrowing-end}
 use Rattle.image.specs.Prelude.{needs, arith, _-_, _≤_, _≡_, refl, length}
 use Rattle.live_count.proofs.notes.narrow.Statement.{statement}

@@ -1,4 +1,4 @@
--- `narrow_note` meets its contract: a note is a message of its own. Relies on specs/Steps.
+-- `narrow_note` meets its contract: a note is a message of its own. Relies on specs/Notes/Steps.
 use Rattle.live_count.specs.Notes.Steps.{kept-used, note-concerned}
 use Rattle.live_count.specs.Notes.Notes.{noteCovers}
 use Rattle.image.specs.Prelude.{not, refl, needs}

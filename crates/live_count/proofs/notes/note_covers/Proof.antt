@@ -1,4 +1,4 @@
--- `note_covers` meets its contract. Relies on specs/Apart.
+-- `note_covers` meets its contract. Relies on specs/Notes/Apart.
 use Rattle.image.specs.Prelude.{arith, needs}
 use Rattle.live_count.specs.Notes.Apart.{short-covers, clear-covers, name-covers}
 use Rattle.live_count.proofs.notes.note_covers.Statement.{statement}

@@ -1,5 +1,5 @@
 -- `note_entries` meets its contract: what is noted so far, and the entries left, tell what the notes before and all the entries do.
--- Relies on specs/Steps and on the contract of node's cursor.
+-- Relies on specs/Notes/Steps and on the contract of node's cursor.
 use Rattle.image.specs.Prelude.{needs, _-_, _≡_, refl, _∙_, arith, length}
 use Rattle.node.specs.Places.{Next, step-bad-is, step-read-is, entry-wider}
 use Rattle.node.specs.Entries.{listed, listed-end}

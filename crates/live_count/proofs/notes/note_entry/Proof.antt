@@ -1,4 +1,4 @@
--- `note_entry` meets its contract, by the kind of the entry. Relies on specs/Steps.
+-- `note_entry` meets its contract, by the kind of the entry. Relies on specs/Notes/Steps.
 use Rattle.node.specs.Search.Latest.{message-places}
 use Rattle.live_count.specs.Notes.Steps.{noted-pair, noted-child, noted-message}
 use Rattle.image.specs.Prelude.{needs}

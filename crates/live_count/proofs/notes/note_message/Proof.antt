@@ -1,4 +1,4 @@
--- `note_message` meets its contract: what the message is to the keys, kept. Relies on specs/Steps.
+-- `note_message` meets its contract: what the message is to the keys, kept. Relies on specs/Notes/Steps.
 use Rattle.live_count.specs.Notes.Steps.{kept-used}
 use Rattle.live_count.specs.Notes.Notes.{notCovers}
 use Rattle.node.specs.Places.{messageIn}

@@ -1,4 +1,4 @@
--- `repeats` meets its contract, by the last note. Relies on specs/Steps.
+-- `repeats` meets its contract, by the last note. Relies on specs/Notes/Steps.
 use Rattle.live_count.specs.Notes.Steps.{repeats-none, repeats-last}
 use Rattle.image.specs.Prelude.{needs, arith, _-_}
 use Rattle.live_count.proofs.notes.repeats.Statement.{statement}

@@ -1,5 +1,5 @@
 -- `is_live` meets its contract: a path that is too long, a path with no node above, and a path that the trail decides.
--- Relies on specs/Steps and specs/PathSteps.
+-- Relies on specs/Steps.
 use Rattle.live_count.specs.Steps.{key-length, key-long, key-free, key-passes, trail-wider}
 use Rattle.image.specs.Prelude.{arith, _≡_, refl, length, needs}
 use Rattle.live_count.proofs.visibility.is_live.Statement.{statement}

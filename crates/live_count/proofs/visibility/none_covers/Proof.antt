@@ -1,4 +1,4 @@
--- `none_covers` meets its contract: past the entries one by one, up to the first that covers the rest. Relies on specs/CoverSteps.
+-- `none_covers` meets its contract: past the entries one by one, up to the first that covers the rest. Relies on specs/NotedSteps.
 use Rattle.node.specs.Entries.{listed, listed-end}
 use Rattle.node.specs.Search.Latest.{newestAmong}
 use Rattle.live_count.specs.Notes.Notes.{noneCovers}

@@ -1,5 +1,5 @@
--- `search_node` and `search_children` meet their contracts. The level falls from a node to its children. The loop over the children: the
--- search in the child in hand and in those after it is the search in all. Relies on specs/Steps.
+-- `search_node` and `search_children` meet their contracts. The level falls from a node to its children. The loop over the children: the search in
+-- the child in hand and in those after it is the search in all. Relies on specs/High/Steps.
 use Rattle.push.specs.High.Steps.{seen-missing, high-leaf, node-found, node-bare, branches-ready, node-above, at-last, not-here, is-here}
 use Rattle.push.specs.Laws.High.{highIn}
 use Rattle.node.specs.Search.Child.{pends-child, pends-end, NextChild}

@@ -1,5 +1,5 @@
 -- `find_high` meets its contract: the search from the root, where nothing is lifted.
--- Relies on specs/Steps and on the bytes of node 0 (lookup: Root).
+-- Relies on specs/High/Steps and on the bytes of node 0 (lookup: Root).
 use Rattle.image.specs.Prelude.{refl, arith, needs}
 use Rattle.push.specs.High.Steps.{root-seen}
 use Rattle.lookup.specs.Root.{long-enough, root-usable}

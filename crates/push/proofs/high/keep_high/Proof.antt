@@ -1,5 +1,5 @@
 -- `keep_high` meets its contract: the pivot is copied where it fits.
--- Relies on specs/Steps.
+-- Relies on specs/High/Steps.
 use Rattle.image.specs.Prelude.{arith, needs}
 use Rattle.push.specs.High.Steps.{held-not, held-put}
 use Rattle.push.proofs.high.keep_high.Statement.{statement}

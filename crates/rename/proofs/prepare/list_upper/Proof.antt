@@ -1,4 +1,4 @@
--- `list_upper` meets its contract: the numbers counted into the front of the list. Relies on specs/Steps.
+-- `list_upper` meets its contract: the numbers counted into the front of the list. Relies on specs/Prepare/Steps.
 use Rattle.image.specs.Prelude.{needs, arith, refl}
 use Rattle.rename.specs.Prepare.Steps.{listed-upper}
 use Rattle.rename.proofs.prepare.list_upper.Statement.{statement}

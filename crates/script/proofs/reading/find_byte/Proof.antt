@@ -1,4 +1,4 @@
--- `script::find_byte` meets its contract: the loop has passed i other bytes (specs/Find). Assumes nothing.
+-- `script::reading::find_byte` meets its contract: the loop has passed i other bytes (specs/Find). Assumes nothing.
 use Rattle.image.specs.Prelude.{needs, arith, _+_, _-_, _≤_, _≡_, length, drop}
 use Rattle.script.specs.Find.{upTo, found-here, goes-on, found-none}
 use Rattle.script.proofs.reading.find_byte.Statement.{statement}

@@ -1,4 +1,4 @@
--- `script::read_digit` meets its contract: by the tests on the byte. Assumes nothing.
+-- `script::reading::read_digit` meets its contract: by the tests on the byte. Assumes nothing.
 use Rattle.image.specs.Prelude.{lt-ltb, le-ltb, arith, needs}
 use Rattle.image.specs.Program.{digitOf}
 use Rattle.script.proofs.reading.read_digit.Statement.{statement}

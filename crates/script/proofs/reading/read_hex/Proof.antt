@@ -1,4 +1,5 @@
--- `script::read_hex` meets its contract: the loop has read i digits into n bytes, and the rest is still to be read (specs/Reading). Assumes nothing.
+-- `script::reading::read_hex` meets its contract: the loop has read i digits into n bytes, and the rest is still to be read (specs/Reading). Assumes
+-- nothing.
 use Rattle.image.specs.Prelude.{length-set, length, take, drop, _*_, _-_, _≤_, arith, _≡_, refl, _∙_, needs}
 use Rattle.script.specs.Reading.{behindAll, wrong-value, hex-begins, odd-digit, high-wrong, low-wrong, both-right, hex-read}
 use Rattle.image.specs.Program.{bytesOf}

@@ -1,4 +1,4 @@
--- `script::read_path` meets its contract: one law for each way out (specs/Reading). Assumes nothing.
+-- `script::reading::read_path` meets its contract: one law for each way out (specs/Reading). Assumes nothing.
 use Rattle.image.specs.Prelude.{needs, arith}
 use Rattle.script.specs.Reading.{no-path, path-read, path-end}
 use Rattle.script.proofs.reading.read_path.Statement.{statement}

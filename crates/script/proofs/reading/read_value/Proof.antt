@@ -1,4 +1,4 @@
--- `script::read_value` meets its contract: a hyphen, or hexadecimal (specs/Reading). Assumes nothing.
+-- `script::reading::read_value` meets its contract: a hyphen, or hexadecimal (specs/Reading). Assumes nothing.
 use Rattle.image.specs.Prelude.{needs}
 use Rattle.script.specs.Reading.{hyphen-value, other-value}
 use Rattle.script.proofs.reading.read_value.Statement.{statement}

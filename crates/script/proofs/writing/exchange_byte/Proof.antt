@@ -1,4 +1,4 @@
--- `script::exchange_byte` meets its contract: by the test on the byte. Assumes nothing.
+-- `script::writing::exchange_byte` meets its contract: by the test on the byte. Assumes nothing.
 use Rattle.image.specs.Prelude.{eq-eqb, ne-eqb}
 use Rattle.script.proofs.writing.exchange_byte.Statement.{statement}
 use Rattle.script.proofs.writing.exchange_byte.Tie as tie

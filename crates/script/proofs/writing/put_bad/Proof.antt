@@ -1,4 +1,4 @@
--- `script::put_bad` meets its contract: the text is the definition's. Assumes nothing.
+-- `script::writing::put_bad` meets its contract: the text is the definition's. Assumes nothing.
 use Rattle.image.specs.Prelude.{needs}
 use Rattle.image.specs.Program.{badText}
 use Rattle.script.proofs.writing.put_bad.Statement.{statement}

@@ -1,4 +1,4 @@
--- `script::put_byte` meets its contract: one byte, as a text that was put (specs/Writing). Assumes nothing.
+-- `script::writing::put_byte` meets its contract: one byte, as a text that was put (specs/Writing). Assumes nothing.
 use Rattle.image.specs.Prelude.{needs}
 use Rattle.script.specs.Writing.{wrote-byte}
 use Rattle.script.proofs.writing.put_byte.Statement.{statement}

@@ -1,4 +1,4 @@
--- `script::put_decimal` meets its contract: one digit or two (specs/Steps). Assumes nothing.
+-- `script::writing::put_decimal` meets its contract: one digit or two (specs/Steps). Assumes nothing.
 use Rattle.image.specs.Prelude.{needs, arith}
 use Rattle.script.specs.Steps.{one-digit, two-digits}
 use Rattle.script.proofs.writing.put_decimal.Statement.{statement}

@@ -1,4 +1,4 @@
--- `script::put_end` meets its contract: the text is the definition's. Assumes nothing.
+-- `script::writing::put_end` meets its contract: the text is the definition's. Assumes nothing.
 use Rattle.image.specs.Prelude.{needs}
 use Rattle.image.specs.Program.{endText}
 use Rattle.script.proofs.writing.put_end.Statement.{statement}

@@ -1,4 +1,4 @@
--- `script::put_exchanged` meets its contract: the loop has put the first i bytes (specs/Writing). Assumes nothing.
+-- `script::writing::put_exchanged` meets its contract: the loop has put the first i bytes (specs/Writing). Assumes nothing.
 use Rattle.image.specs.Prelude.{length-set, length, take, arith, _+_, _-_, _≤_, _≡_, refl, _∙_, _++_, needs}
 use Rattle.script.specs.Writing.{exchange-starts, exchange-more, exchange-done}
 use Rattle.image.specs.Program.{exchanged}

@@ -1,4 +1,4 @@
--- `script::put_found` meets its contract: one law for each case of what get found (specs/Steps). Assumes nothing.
+-- `script::writing::put_found` meets its contract: one law for each case of what get found (specs/Steps). Assumes nothing.
 use Rattle.image.specs.Prelude.{needs, arith}
 use Rattle.script.specs.Steps.{found-length, part-short, value-ends, value-wrote, absent-wrote}
 use Rattle.script.proofs.writing.put_found.Statement.{statement}

@@ -1,4 +1,4 @@
--- `script::put_hex` meets its contract: the loop has put two digits for each of the first i bytes (specs/Writing). Assumes nothing.
+-- `script::writing::put_hex` meets its contract: the loop has put two digits for each of the first i bytes (specs/Writing). Assumes nothing.
 use Rattle.image.specs.Prelude.{length-set, length, take, _*_, _+_, _-_, _≤_, arith, _≡_, refl, _∙_, _++_, needs}
 use Rattle.script.specs.Writing.{hex-starts, hex-more, hex-done}
 use Rattle.image.specs.Program.{hexText}

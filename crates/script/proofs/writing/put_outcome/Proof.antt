@@ -1,4 +1,4 @@
--- `script::put_outcome` meets its contract: one law for each case of the outcome (specs/Steps). Assumes nothing.
+-- `script::writing::put_outcome` meets its contract: one law for each case of the outcome (specs/Steps). Assumes nothing.
 use Rattle.image.specs.Prelude.{needs}
 use Rattle.script.specs.Steps.{done-wrote, refusal-wrote}
 use Rattle.script.proofs.writing.put_outcome.Statement.{statement}

@@ -1,4 +1,4 @@
--- `script::put_refused` meets its contract: the word, the number and the line feed, one after another (specs/Steps). Assumes nothing.
+-- `script::writing::put_refused` meets its contract: the word, the number and the line feed, one after another (specs/Steps). Assumes nothing.
 use Rattle.image.specs.Prelude.{needs}
 use Rattle.script.specs.Steps.{refused-wrote}
 use Rattle.script.proofs.writing.put_refused.Statement.{statement}

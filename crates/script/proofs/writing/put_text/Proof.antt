@@ -1,4 +1,4 @@
--- `script::put_text` meets its contract: a copy, as a text that was put (specs/Writing). Assumes nothing.
+-- `script::writing::put_text` meets its contract: a copy, as a text that was put (specs/Writing). Assumes nothing.
 use Rattle.image.specs.Prelude.{needs}
 use Rattle.script.specs.Writing.{wrote-copy}
 use Rattle.script.proofs.writing.put_text.Statement.{statement}

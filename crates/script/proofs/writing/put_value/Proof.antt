@@ -1,4 +1,4 @@
--- `script::put_value` meets its contract: empty or not (specs/Steps). Assumes nothing.
+-- `script::writing::put_value` meets its contract: empty or not (specs/Steps). Assumes nothing.
 use Rattle.image.specs.Prelude.{needs}
 use Rattle.script.specs.Steps.{empty-wrote, hex-wrote}
 use Rattle.script.proofs.writing.put_value.Statement.{statement}

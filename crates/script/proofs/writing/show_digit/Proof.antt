@@ -1,4 +1,4 @@
--- `script::show_digit` meets its contract: by the test on the digit. Assumes nothing.
+-- `script::writing::show_digit` meets its contract: by the test on the digit. Assumes nothing.
 use Rattle.image.specs.Prelude.{lt-ltb, le-ltb, needs}
 use Rattle.image.specs.Program.{digitText}
 use Rattle.script.proofs.writing.show_digit.Statement.{statement}

@@ -1,5 +1,5 @@
 -- `emit_branches` meets its contract: the entries of the children left, written behind what is written, are those of all.
--- Relies on specs/BranchSteps, push's specs/WriteSteps and node's reader of children.
+-- Relies on specs/BranchSteps, push/specs/WriteSteps and node's reader of children.
 use Rattle.slice.specs.BranchSteps.{branch-line, line-none, line-zero}
 use Rattle.slice.specs.Point.{branchLine}
 use Rattle.push.specs.WriteSteps.{line-fits, line-length, line-on, line-end, line-ends, small-first, small-later, as-child}

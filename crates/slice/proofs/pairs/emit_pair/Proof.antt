@@ -1,5 +1,5 @@
 -- `emit_pair` meets its contract: only a pair on the wanted side is written.
--- Relies on specs/PairSteps and on push's specs/WriteSteps.
+-- Relies on specs/PairSteps and on push/specs/WriteSteps.
 use Rattle.slice.specs.PairSteps.{side-child, side-message, side-not, side-yes}
 use Rattle.laws.specs.Encode.{keyed-length}
 use Rattle.push.specs.WriteSteps.{puts-as, ends-as, fits-as, puts-nothing, ends-nowhere}

@@ -1,5 +1,5 @@
 -- `emit_pairs` meets its contract: the pairs left, written behind what is written, are all that are wanted.
--- Relies on specs/PairSteps, push's specs/WriteSteps and the contract of node's cursor.
+-- Relies on specs/PairSteps, push/specs/WriteSteps and the contract of node's cursor.
 use Rattle.push.specs.WriteSteps.{line-fits, line-length, line-on, line-end, line-ends}
 use Rattle.slice.specs.PairSteps.{side-cons, side-none}
 use Rattle.slice.specs.Point.{sideLine}

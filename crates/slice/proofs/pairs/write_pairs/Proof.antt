@@ -1,5 +1,5 @@
 -- `write_pairs` meets its contract: the entries in an empty page, and the page as a node.
--- Relies on specs/PairSteps.
+-- Relies on node/specs/Pages.
 use Rattle.node.specs.Pages.{page-written}
 use Rattle.laws.specs.Page.{zerosOf}
 use Rattle.image.specs.Prelude.{needs}

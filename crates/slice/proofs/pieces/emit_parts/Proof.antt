@@ -1,5 +1,5 @@
 -- `emit_parts` meets its contract, by which pieces there are.
--- Relies on specs/PieceSteps and push's specs/WriteSteps.
+-- Relies on specs/PieceSteps and push/specs/WriteSteps.
 use Rattle.slice.specs.PieceSteps.{pieces-none, pieces-edge, pieces-rest, pieces-both, rest-fits, both-fits, twice-first, twice-second, twice-put, twice-ends}
 use Rattle.push.specs.WriteSteps.{puts-as, ends-as, fits-as, puts-nothing, ends-nowhere}
 use Rattle.laws.specs.Encode.{bytesOf}

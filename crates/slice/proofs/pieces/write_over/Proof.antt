@@ -1,5 +1,5 @@
 -- `write_over` meets its contract: no entries, or a page of them.
--- Relies on specs/PieceSteps and specs/PairSteps.
+-- Relies on specs/PieceSteps and node/specs/Pages.
 use Rattle.slice.specs.PieceSteps.{twice-put, twice-ends, over-none, told-none, over-some, told-some}
 use Rattle.node.specs.Pages.{page-written}
 use Rattle.slice.specs.Right.{allLine, piecesIn}

@@ -1,5 +1,5 @@
 -- `check_leaf` meets its contract: the walk that asks only of the first and the last key whether the leaf owns it, and the count as it goes.
--- Relies on specs/Ends and specs/Counted.
+-- Relies on specs/Node/Ends and specs/Node/Counted.
 use Rattle.image.specs.Prelude.{none, not-true, not-false, arith, _+_, _-_, _≤_, _≡_, refl, _∙_, length, needs}
 use Rattle.path.specs.Fed.{shapeIs}
 use Rattle.node.specs.Entries.{entriesFrom, listed, entries-end, listed-end}

@@ -1,4 +1,4 @@
--- `check_messages` meets its contract: message by message, and the count as it goes. Relies on specs/Messages and specs/Counted.
+-- `check_messages` meets its contract: message by message, and the count as it goes. Relies on specs/Node/Messages and specs/Node/Counted.
 use Rattle.image.specs.Prelude.{not-true, not-false, arith, _+_, _-_, _≤_, _≡_, refl, sym, _∙_, length, needs}
 use Rattle.path.specs.Fed.{shapeIs}
 use Rattle.node.specs.Entries.{entriesFrom, listed, entries-end, listed-end}

@@ -1,4 +1,4 @@
--- `ends_below` meets its contract. Relies on specs/Ends.
+-- `ends_below` meets its contract. Relies on specs/Node/Ends.
 use Rattle.image.specs.Prelude.{length, arith, needs}
 use Rattle.node.specs.Places.{Within}
 use Rattle.tree_check.specs.Node.Leaf.{prev-place}

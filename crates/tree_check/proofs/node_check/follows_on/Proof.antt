@@ -1,4 +1,4 @@
--- `follows_on` meets its contract: by the key before, or by the low pivot. Relies on specs/Ends.
+-- `follows_on` meets its contract: by the key before, or by the low pivot. Relies on specs/Node/Ends.
 use Rattle.image.specs.Prelude.{length, arith, needs}
 use Rattle.node.specs.Places.{Within}
 use Rattle.tree_check.specs.Node.Leaf.{prev-place}

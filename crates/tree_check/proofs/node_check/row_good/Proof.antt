@@ -1,4 +1,4 @@
--- `row_good` meets its contract. Relies on specs/Ends.
+-- `row_good` meets its contract. Relies on specs/Node/Ends.
 use Rattle.image.specs.Prelude.{not-true, not-false, arith, needs}
 use Rattle.tree_check.specs.Node.Ends.{row-long, row-back, row-shape}
 use Rattle.tree_check.proofs.node_check.row_good.Statement.{statement}

@@ -2,79 +2,9 @@
  *
  * Calls the store as firmware does, through include/splicelog.h: `test IMAGE TABLE`. It makes stores, causes each refusal that a caller can
  * cause, writes to a store, moves, heals and reads it back, makes a list of calls as one, and reads IMAGE, whose paths and values TABLE
- * lists (both written by the second program), by get, by next and by the listing. Every call is made on arrays of exactly the lengths that
- * it is told, from malloc, so that valgrind sees a read or a write outside.
+ * lists (both written by the second program), by get, by next and by the listing. Relies on arrays.h.
  */
-#include "check.h"
-#include "splicelog.h"
-
-#include <stdio.h>
-#include <stdlib.h>
-#include <string.h>
-
-enum { NODE = SPLICELOG_NODE_SIZE, NODES = 32, VALUE_MOST = SPLICELOG_VALUE_LIMIT, PATH_MOST = SPLICELOG_PATH_LIMIT, LATER = 0xA5 };
-
-typedef struct {
-    uint8_t *at;
-    size_t len;
-} bytes;
-
-/* An array of its own; malloc gives no null pointer for a length of 0. */
-static bytes filled(size_t len, uint8_t byte) {
-    bytes made = {malloc(len ? len : 1), len};
-    if (!made.at)
-        abort();
-    memset(made.at, byte, len);
-    return made;
-}
-
-static bytes copy(const void *from, size_t len) {
-    bytes made = filled(len, 0);
-    memcpy(made.at, from, len);
-    return made;
-}
-
-/* A path from its components with '/' between them. */
-static bytes path(const char *text) {
-    bytes made = copy(text, strlen(text) + 1);
-    for (size_t i = 0; i < made.len; i++)
-        if (made.at[i] == '/')
-            made.at[i] = 0;
-    return made;
-}
-
-static int equal(bytes a, bytes b) { return a.len == b.len && memcmp(a.at, b.at, a.len) == 0; }
-
-/* Makes one get, or one next where `after` is given, and checks the answer, the front of the buffer and that nothing else changed. The
- * path, `after` and the expected bytes are freed. */
-static void ask(bytes store, bytes of, const bytes *after, size_t room, uint32_t number, bytes found) {
-    bytes before = copy(store.at, store.len), buffer = filled(room, LATER), expected = filled(room, LATER);
-    uint64_t answer = after ? splicelog_next(store.at, store.len, of.at, of.len, after->at, after->len, buffer.at, buffer.len)
-                            : splicelog_get(store.at, store.len, of.at, of.len, buffer.at, buffer.len);
-    CHECK(splicelog_number(answer) == number);
-    CHECK(splicelog_beside(answer) == found.len);
-    memcpy(expected.at, found.at, found.len);
-    CHECK(equal(buffer, expected));
-    CHECK(equal(store, before));
-    free(before.at), free(buffer.at), free(expected.at), free(of.at), free(found.at);
-    if (after)
-        free(after->at);
-}
-
-static void refuse_get(bytes store, bytes of, size_t room, uint32_t number) { ask(store, of, NULL, room, number, filled(0, 0)); }
-
-static void refuse_next(bytes store, bytes of, bytes after, size_t room, uint32_t number) {
-    ask(store, of, &after, room, number, filled(0, 0));
-}
-
-/* Is the image sound, and how many paths does it hold? No byte of it changes. */
-static void judge(bytes store, uint32_t number, size_t live) {
-    bytes before = copy(store.at, store.len);
-    uint64_t answer = splicelog_check(store.at, store.len);
-    CHECK(splicelog_number(answer) == number && splicelog_beside(answer) == live);
-    CHECK(equal(store, before));
-    free(before.at);
-}
+#include "arrays.h"
 
 static void test_make(void) {
     static const size_t wrong[] = {0, 1, NODE, (NODES - 1) * NODE, NODES * NODE - 1, NODES * NODE + 1, 1025 * NODE};
@@ -155,31 +85,6 @@ static bytes first(const char *text) {
     return made;
 }
 
-/* One step of a listing: the place becomes the path found, or a refusal leaves it as it was. The store stays. */
-static void step(bytes store, const char *below, struct splicelog_place *place, uint32_t number, const char *found) {
-    bytes before = copy(store.at, store.len), of = path(below), expected = path(found);
-    struct splicelog_place was = *place;
-    CHECK(splicelog_step(store.at, store.len, of.at, of.len, place) == number);
-    if (number != 0)
-        CHECK(place->length == was.length && memcmp(place->bytes, was.bytes, sizeof was.bytes) == 0);
-    else
-        CHECK(place->length == expected.len && memcmp(place->bytes, expected.at, expected.len) == 0);
-    if (number == 0) /* the bytes behind the path stay */
-        CHECK(memcmp(place->bytes + expected.len, was.bytes + expected.len, sizeof was.bytes - expected.len) == 0);
-    CHECK(equal(store, before));
-    free(before.at), free(of.at), free(expected.at);
-}
-
-/* A place before the first step. From malloc, so that valgrind sees a write outside. */
-static struct splicelog_place *start(void) {
-    struct splicelog_place *place = malloc(sizeof *place);
-    if (!place)
-        abort();
-    memset(place, LATER, sizeof *place);
-    place->length = 0;
-    return place;
-}
-
 /* Gets every path of the table, and lists the paths below each first component by next and by the listing: the table is in the order of
  * next. */
 static void test_image(const char *image, const char *table) {
@@ -216,22 +121,6 @@ static void test_image(const char *image, const char *table) {
     fclose(rows);
     free(place);
     free(store.at);
-}
-
-/* One put of a value of these bytes; the path is freed. */
-static uint32_t put(bytes store, bytes work, bytes at, bytes value) {
-    uint32_t number = splicelog_put(store.at, store.len, work.at, work.len, at.at, at.len, value.at, value.len);
-    free(at.at);
-    free(value.at);
-    return number;
-}
-
-/* The first 128 bytes a node of the work area are zero, and the later ones stay. */
-static int cleared(bytes work) {
-    for (size_t i = 0; i < work.len; i++)
-        if (work.at[i] != (i < NODES * 128 ? 0 : LATER))
-            return 0;
-    return 1;
 }
 
 /* No number of a node that is no interior node is taken, nor one of which only some of the bits are such a node's. */
@@ -287,19 +176,6 @@ static void test_writes(void) {
     free(work.at);
     free(other.at);
     free(of.at);
-}
-
-/* One move; the store and the work area are checked, and the paths are freed. */
-static void move(bytes store, bytes work, bytes from, bytes to, uint32_t number) {
-    bytes before = copy(store.at, store.len), lent = copy(work.at, work.len);
-    CHECK(splicelog_move(store.at, store.len, work.at, work.len, from.at, from.len, to.at, to.len) == number);
-    if (number != 0)
-        CHECK(equal(store, before) && equal(work, lent));
-    else
-        CHECK(cleared(work));
-    if (number == 0 && equal(from, to))
-        CHECK(equal(store, before));
-    free(before.at), free(lent.at), free(from.at), free(to.at);
 }
 
 /* The paper's cases of a move, and each of its refusals. */

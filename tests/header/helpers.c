@@ -1,5 +1,5 @@
 /* SPDX-License-Identifier: MIT
- * Tests what is inline in the header: paths from text and back, the forms that return the number alone, the readers of node 0, and the
+ * Tests what is inline in the headers: paths from text and back, the forms that return the number alone, the readers of node 0, and the
  * helpers of a batch. Relies on store.h. Valid in C99 and in C++98. */
 #include "store.h"
 

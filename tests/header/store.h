@@ -1,5 +1,5 @@
 /* SPDX-License-Identifier: MIT
- * What the tests of the header share: a store with its work area, and changes of it by the text of a path. Relies on splicelog.h and on
+ * What the tests of the headers share: a store with its work area, and changes of it by the text of a path. Relies on splicelog.h and on
  * CHECK. Valid in C99 and in C++98. */
 #ifndef SPLICELOG_TESTS_STORE_H
 #define SPLICELOG_TESTS_STORE_H

@@ -13,9 +13,9 @@ use Rattle.laws.specs.Tables.{find-with, find-without, find-cleared}
 use Rattle.laws.specs.LookupTable.{means-table}
 use Rattle.laws.specs.Next.{Fits, least-yes, least-far, least-early, later-fits, nil-none, first-present}
 use Rattle.laws.specs.Follow.{table-rises}
+use Rattle.laws.specs.Formed.{found-formed}
 use Rattle.demands.specs.Contracts.{number-is, all-yes, was-whole, was-sound, run-sound, Answered, query-answered, get-reads}
 use Rattle.demands.specs.FindMoved.{find-moved-to, find-moved-from}
-use Rattle.demands.specs.Formed.{found-formed}
 use Rattle.demands.specs.Touches.{actTouches, callTouches, touches, call-spares}
 
 -- a call that was done, with its answer
@@ -210,5 +210,5 @@ next-was-brought {s} {s′} {s″} {p = p} {q = q} {buffer = buffer} {cs = cs} {
       reads =
           λ g room.
           get-reads (there .0) g (rw kept (was-whole s′ (asks (next p q) buffer) e)) (rw kept is-sound)
-          (found-formed s′ (f .bytes) (there .0) is-sound (there .1)) room (ap (λ x. find (f .bytes) (tableOf x)) kept ∙ there .1);
+          (found-formed s′ is-sound (f .bytes) (there .0) (there .1)) room (ap (λ x. find (f .bytes) (tableOf x)) kept ∙ there .1);
     }

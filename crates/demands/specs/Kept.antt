@@ -1,5 +1,5 @@
 -- Demand 2, what is put is kept: after an accepted put of p, v, on any bytes whatever, and any calls that do not touch p, a get of p with
--- room for a value gives v; and so with what a first image holds. Relies on the contracts of the calls (image), on Touches and on Formed.
+-- room for a value gives v; and so with what a first image holds. Relies on the contracts of the calls (image), on Touches and on laws/Formed.
 use Rattle.image.specs.Prelude.{ℕ, _≤_, _≡_, refl, sym, ap, _∙_, List, _++_, true, some, length, drop}
 use Rattle.image.specs.Path.{valueLimit}
 use Rattle.image.specs.Table.{find}
@@ -9,8 +9,8 @@ use Rattle.image.specs.Calls.{Call, acts, asks, put, get, Answer, filled, numbe
 use Rattle.image.specs.Contract.{Meets, Run, stop}
 use Rattle.laws.specs.Tables.{find-with}
 use Rattle.laws.specs.LookupTable.{means-table}
+use Rattle.laws.specs.Formed.{found-formed}
 use Rattle.demands.specs.Contracts.{all-yes, was-whole, put-formed, run-size, run-sound, get-reads}
-use Rattle.demands.specs.Formed.{found-formed}
 use Rattle.demands.specs.Touches.{untouched, run-spares}
 
 -- the put's value is in the table that it leaves
@@ -49,4 +49,4 @@ pub held-then-get : {s s₁ s₂ w₂ p v buffer : List ℕ} {b : Answer} {cs : 
     → b ≡ filled 0 (length v) (v ++ drop (length v) buffer)
 held-then-get {s} {p = p} {v = v} whole is-sound h r u g l =
     let there : find p (tableOf s) ≡ some v = sym (means-table s is-sound p) ∙ h in
-    get-reads v g (rw (run-size r) whole) (run-sound r is-sound) (found-formed s p v is-sound there) l (run-spares p r u ∙ there)
+    get-reads v g (rw (run-size r) whole) (run-sound r is-sound) (found-formed s is-sound p v there) l (run-spares p r u ∙ there)

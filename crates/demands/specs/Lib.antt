@@ -1,7 +1,6 @@
 pub mod Contracts
 pub mod FindMoved
 pub mod Touches
-pub mod Formed
 pub mod Demand
 pub mod Kept
 pub mod Brought

@@ -8,7 +8,6 @@ pub mod WriteNode
 pub mod Encode
 pub mod Next
 pub mod Follow
-pub mod Made
 pub mod PushDown
 pub mod Filter
 pub mod Pieces
@@ -18,4 +17,5 @@ pub mod ButLive
 pub mod Page
 pub mod Refusals
 pub mod Reading
+pub mod Formed
 pub mod Upkeep

@@ -1,8 +1,8 @@
 -- A listing that steps until 8 has given every path below, each once, rising: the table's rows below the path, in the table's order.
--- Relies on: the table of a sound image rises; the questions of a step.
+-- Relies on: the table of a sound image rises, its paths are well formed (laws/Formed); the questions of a step.
 use Rattle.image.specs.Prelude.{ℕ, _≡_, refl, sym, ap, ap₂, _∙_, List, [], _∷_, _++_, append-nil, Bool, true, false, false≢true, Option, none, some, arith}
 use Rattle.image.specs.Bytes.{before, begins}
-use Rattle.image.specs.Path.{wellFormed, readsOn, below as isBelow}
+use Rattle.image.specs.Path.{below as isBelow}
 use Rattle.image.specs.Table.{Row, isSome, rowsBelow, rowsAfter, firstKey, leastAfter, leads, rising}
 use Rattle.image.specs.Sound.{sound, tableOf}
 use Rattle.image.specs.Calls.{ask, firstNo}
@@ -12,6 +12,7 @@ use Rattle.image.specs.Listing.{lastPath, stepNo, pathAt, Steps}
 use Rattle.listing.specs.Callers.{step-asks}
 use Rattle.listing.specs.Listed.{Gives, stop, step, pathsOf}
 use Rattle.laws.specs.Follow.{leads-on, table-rises}
+use Rattle.laws.specs.Formed.{rows-follow}
 
 first-is : (k : List ℕ) (r : Row) (t : List Row) → firstKey (r ∷ t) ≡ some k → r .key ≡ k
 unfolding firstKey
@@ -114,30 +115,14 @@ module _ (p : List ℕ) where
       go false a y b ih =
           ap pathsOf (rows-far q r t a) ∙ ih (sym (ap firstKey (rows-far q r t a)) ∙ h) ∙ ap (λ (u : List Row). k ∷ pathsOf u) (sym (rows-far k r t a))
 
--- below a path that is not empty, every row is greater than the empty one
-from-start : (b : ℕ) (l : List ℕ) (t : List Row) → rowsAfter [] (rowsBelow (b ∷ l) t) ≡ rowsBelow (b ∷ l) t
-from-start b l [] = unfold rowsBelow rowsAfter in refl
-from-start b l (r ∷ t) = go (begins (b ∷ l) (r .key)) refl (from-start b l t)
-  where
-    longer : (k : List ℕ) → begins (b ∷ l) k ≡ true → before [] k ≡ true
-    longer [] h = absurd (false≢true (unfold begins in h))
-    longer (x ∷ k) h = unfold before in refl
-
-    go : (x : Bool) → begins (b ∷ l) (r .key) ≡ x → rowsAfter [] (rowsBelow (b ∷ l) t) ≡ rowsBelow (b ∷ l) t
-        → rowsAfter [] (rowsBelow (b ∷ l) (r ∷ t)) ≡ rowsBelow (b ∷ l) (r ∷ t)
-    go true a ih =
-        rows-yes (b ∷ l) [] r t a (longer (r .key) a) ∙ ap (λ (u : List Row). r ∷ u) ih ∙ sym (below-yes (b ∷ l) r t a)
-    go false a ih = rows-far (b ∷ l) [] r t a ∙ ih ∙ sym (below-no (b ∷ l) r t a)
-
--- a step that is refused 8: the questions before it were a yes, and there is no path
+-- a step that is refused 8: the store is sound, and there is no path
 record Ends (s below : List ℕ) (p : Listing) : Type 0 where
   is-sound : sound s ≡ true
-  formed : wellFormed below ≡ true
   nothing : leastAfter below (lastPath p) (tableOf s) ≡ none
 
-eight : (a b c d : Bool) → firstNo (ask 1 a ∷ ask 2 b ∷ ask 3 c ∷ ask 8 d ∷ []) ≡ 8 → (b ≡ true) × ((c ≡ true) × (d ≡ false))
+eight : (a b c d : Bool) → firstNo (ask 1 a ∷ ask 2 b ∷ ask 3 c ∷ ask 8 d ∷ []) ≡ 8 → (b ≡ true) × (d ≡ false)
 unfolding firstNo
-eight true true true false h = (refl, (refl, refl))
+eight true true true false h = (refl, refl)
 eight true true true true h = absurd (omega arith)
 eight true true false d h = absurd (omega arith)
 eight true false c d h = absurd (omega arith)
@@ -151,11 +136,7 @@ is-none (some v) h = absurd (false≢true (sym h))
 ended : (s below : List ℕ) (p : Listing) → stepNo s below p ≡ 8 → Ends s below p
 ended s below p h =
     let w = eight _ _ _ _ (sym (step-asks s below p) ∙ h) in
-    record { is-sound = w .0; formed = and-left (wellFormed below) _ (w .1 .0); nothing = is-none _ (w .1 .1) }
-
-formed-some : {A : Type 0} → wellFormed [] ≡ true → A
-unfolding wellFormed readsOn
-formed-some h = absurd (false≢true h)
+    record { is-sound = w .0; nothing = is-none _ (w .1) }
 
 no-paths : (t : List Row) → firstKey t ≡ none → pathsOf t ≡ []
 unfolding firstKey pathsOf
@@ -188,8 +169,5 @@ module _ (s below : List ℕ) where
   pub all-given : {p p′ : Listing} {ks : List (List ℕ)} → lastPath p ≡ [] → Gives s below p ks p′ → stepNo s below p′ ≡ 8
       → ks ≡ pathsOf (rowsBelow below (tableOf s))
   all-given {p} {p′} begun g h =
-      rest-given g h ∙ ap (λ (q : List ℕ). pathsOf (rowsAfter q (rowsBelow below (tableOf s)))) begun ∙ ap pathsOf (all-rows below (ended s below p′ h .formed))
-    where
-      all-rows : (l : List ℕ) → wellFormed l ≡ true → rowsAfter [] (rowsBelow l (tableOf s)) ≡ rowsBelow l (tableOf s)
-      all-rows [] f = formed-some f
-      all-rows (b ∷ l) f = from-start b l (tableOf s)
+      rest-given g h ∙ ap (λ (q : List ℕ). pathsOf (rowsAfter q (rowsBelow below (tableOf s)))) begun
+      ∙ ap pathsOf (rows-follow s (ended s below p′ h .is-sound) below)

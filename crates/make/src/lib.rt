@@ -1,18 +1,18 @@
-// make: an empty store. The image that it leaves is `made-image` of crate laws: node 0, one empty leaf as the root, and zeros, which is
-// the packed form of the empty map. Relies on node (question 1, the writer) and on octets (zeros).
+// make: an empty store, of node 0, one empty leaf as the root, and zeros, which is the packed form of the empty map; and the first two of these over
+// any store. Relies on node (question 1, the writer) and on octets (zeros).
 use image::Outcome;
 use image::Refusal;
-ghost use Rattle.image.specs.Prelude.{_≡_, _*_, _≤_, length};
+ghost use Rattle.image.specs.Prelude.{_≡_, true, length};
+ghost use Rattle.image.specs.Image.{wholeNodes};
 ghost use Rattle.image.specs.Answers.{outcomeNumber};
 ghost use Rattle.image.specs.Contract.{MakeMeets};
-ghost use Rattle.laws.specs.Made.{made-image};
+ghost use Rattle.make.specs.Emptied.{emptied};
 
-// The empty store's three parts: zeros, node 0, and a leaf with no pairs as the root.
-fn write_empty(store: &mut [u8], n: usize)
-    requires { ⌜ (length (now store) ≡ 1024 * n) × (2 ≤ n) × (n ≤ 1024) ⌝ }
-    ensures { λ _. ⌜ now (store .exit) ≡ made-image n ⌝ }
+// Node 0, and a leaf with no pairs as the root. All other nodes are free, and keep their bytes.
+pub fn write_empty(store: &mut [u8])
+    requires { ⌜ wholeNodes (length (now store)) ≡ true ⌝ }
+    ensures { λ _. ⌜ now (store .exit) ≡ emptied (now (store .entry)) ⌝ }
 {
-    octets::fill_at(store, 0, image::NODE_SIZE * n, 0);
     node::writer::write_header(store, 1, 1, 0);
     node::writer::write_empty_leaf(store, 1);
 }
@@ -24,6 +24,7 @@ pub fn make(store: &mut [u8]) -> Outcome
     if !node::whole_nodes(len) {
         return Outcome::Refused(Refusal::Length);
     }
-    write_empty(store, len / image::NODE_SIZE);
+    octets::fill_at(store, 0, len, 0);
+    write_empty(store);
     Outcome::Done
 }

@@ -1,5 +1,5 @@
 -- The rows below a path, one by one: next gives each path in turn, get its value, and the text of the rows follows.
--- Relies on: Answered (what a query finds), laws/Follow (what follows a path in a rising table).
+-- Relies on: Answered (what a query finds), laws/Follow (what follows a path in a rising table), laws/Formed (what follows the empty one).
 use Rattle.image.specs.Prelude.{ℕ, _+_, _*_, _-_, _<_, _≤_, _≡_, refl, sym, ap, ap₂, subst, _∙_, List, [], _∷_, _++_, append-assoc, Bool, true, false, cond, false≢true, none, some, arith, length, take, drop, length-append, length-take-le}
 use Rattle.image.specs.Bytes.{same, before, begins}
 use Rattle.image.specs.Path.{wellFormed, pathOrEmpty, readsOn, valueLimit}
@@ -17,6 +17,7 @@ use Rattle.laws.specs.Tables.{find-yes, find-no}
 use Rattle.laws.specs.ValuesFit.{table-fits, found-fits}
 use Rattle.laws.specs.Rising.{find-leads}
 use Rattle.laws.specs.Follow.{after-step, table-rises}
+use Rattle.laws.specs.Formed.{rows-follow}
 use Rattle.laws.specs.Filter.{keep, keep-below, below-rises}
 use Rattle.successor.specs.Present.{Next, next-found}
 use Rattle.query.specs.Asked.{pathsFit}
@@ -65,24 +66,6 @@ row-found p q t r u e f =
     = ap (find (r .key)) (sym (after-keep q (rowsBelow p t)) ∙ f) ∙ find-yes (r .key) r u (same-refl (r .key)) in
     let b : find (r .key) (rowsBelow p t) ≡ some (r .value) = find-keep (before q) (r .key) (r .value) (rowsBelow p t) (below-rises p t e) a in
     find-keep (begins p) (r .key) (r .value) t e (ap (find (r .key)) (sym (keep-below p t)) ∙ b)
-
--- below a path every row is greater than the empty one
-formed-begins : (p k : List ℕ) → wellFormed p ≡ true → begins p k ≡ true → before [] k ≡ true
-formed-begins [] k f h = absurd (false≢true (unfold wellFormed readsOn in f))
-formed-begins (b ∷ p) [] f h = absurd (false≢true (unfold begins in h))
-formed-begins (b ∷ p) (c ∷ k) f h = unfold before in refl
-
-all-ahead : (p : List ℕ) (t : List Row) → wellFormed p ≡ true → ahead p [] t ≡ rowsBelow p t
-all-ahead p t f = after-keep [] (rowsBelow p t) ∙ ap (keep (before [])) (keep-below p t) ∙ go t ∙ sym (keep-below p t)
-  where
-    go : (t : List Row) → keep (before []) (keep (begins p) t) ≡ keep (begins p) t
-    go [] = unfold keep in refl
-    go (r ∷ t) = by-test (begins p (r .key)) refl (go t)
-      where
-        by-test : (x : Bool) → begins p (r .key) ≡ x → keep (before []) (keep (begins p) t) ≡ keep (begins p) t
-            → keep (before []) (keep (begins p) (r ∷ t)) ≡ keep (begins p) (r ∷ t)
-        by-test true e ih = unfold keep in rw (e, formed-begins p (r .key) f e) (ap (λ u. r ∷ u) ih)
-        by-test false e ih = unfold keep in rw e ih
 
 -- a table of a sound store of 64 nodes has at most 64 rows, and so do those below a path
 keep-fewer : (test : List ℕ → Bool) (t : List Row) → length (keep test t) ≤ length t
@@ -156,10 +139,10 @@ pub record Walk (s p q : List ℕ) (at : ℕ) (out : List ℕ) : Type 0 where
   pub room : at + rowLimit * length (ahead p q (tableOf s)) ≤ listLimit
   pub place : pathOrEmpty q ≡ true
 
-pub walk-starts : (s p out last : List ℕ) → Held s out → wellFormed p ≡ true → Walk s p (take 0 last) 0 out
+pub walk-starts : (s p out last : List ℕ) → Held s out → Walk s p (take 0 last) 0 out
 unfolding same
-walk-starts s p out last h f =
-    let a : ahead p [] (tableOf s) ≡ rowsBelow p (tableOf s) = all-ahead p (tableOf s) f in
+walk-starts s p out last h =
+    let a : ahead p [] (tableOf s) ≡ rowsBelow p (tableOf s) = rows-follow s (h .is-sound) p in
     let b = below-few s p (h .nodes) (h .is-sound) in
     let c = ap length a in
     record { text = ap rowsText a; room = omega arith; place = refl }

@@ -13,7 +13,8 @@ use Rattle.laws.specs.LookupTable.{means-table}
 use Rattle.laws.specs.Next.{Fits, least-yes, least-far, least-early, later-fits, nil-none, first-present}
 use Rattle.laws.specs.Filter.{keep}
 use Rattle.path.specs.Shape.{Shape, dead, goesOn, feed-dead}
-use Rattle.laws.specs.Reading.Seek.{holds, present, keys, keys-hold, stands, walk, walk-same, key-passes}
+use Rattle.laws.specs.Formed.{row-formed}
+use Rattle.laws.specs.Reading.Seek.{holds, present, walk, walk-same}
 use Rattle.laws.specs.Reading.SeekHere.{under, keysHere, next-here}
 use Rattle.lookup.specs.Root.{starts, root-is, root-usable}
 use Rattle.successor.specs.Walk.{isPresent, walkIn, NodeReady, unfit, isSought}
@@ -28,12 +29,8 @@ pub formed-of : (lo hi k : List ℕ) → holds lo hi k ≡ true → wellFormed k
 unfolding holds
 formed-of lo hi k h = and-left (wellFormed k) (owns lo hi k) h
 
-pub present-formed : (s k : List ℕ) → sound s ≡ true → isPresent s k ≡ true → wellFormed k ≡ true
-unfolding tableOf
-present-formed s k e h =
-    let t : soundTree (treeOf s) lowest highest ≡ true = starts s e .tree in
-    formed-of lowest highest k
-    (key-passes (holds lowest highest) k (keys (treeOf s) lowest highest) (stands (treeOf s) lowest highest k (sym (present-is s e k) ∙ h)) (keys-hold (treeOf s) lowest highest t))
+present-formed : (s k : List ℕ) → sound s ≡ true → isPresent s k ≡ true → wellFormed k ≡ true
+present-formed s k e h = row-formed s e k (sym (present-is s e k) ∙ h)
 
 pub present-short : (s k : List ℕ) → sound s ≡ true → isPresent s k ≡ true → length k ≤ 64
 present-short s k e h = formed-length k (present-formed s k e h)

@@ -13,7 +13,7 @@ use Rattle.path.specs.Fed.{shapeIs}
 use Rattle.path.specs.declared.Shape.{Shape}
 use Rattle.node.specs.declared.PathBuffer.{PathBuffer}
 use Rattle.successor.specs.Buffer.{bufferIs}
-use Rattle.rebuild.specs.StoreTable.{table-formed}
+use Rattle.laws.specs.Formed.{table-formed}
 use Rattle.rename.specs.Asks.Judge.{restFits, restsFit, nine-is}
 use Rattle.rename.specs.Asks.Shorter.{noWider, quick-yes}
 use Rattle.successor.specs.BufferSteps.{held, empty-handed}

@@ -15,7 +15,7 @@ abbrev μ-loop : tie.MeasureT-loop
 μ-loop store path out₀ last₀ size₀ at₀ out last size at = length (ahead path (take (size - 0) (drop 0 last)) (tableOf store))
 
 loop-holds : tie.Need-loop-holds Inv-loop μ-loop
-loop-holds c = (omega arith, refl, refl, walk-starts (c .before .before .before .args .store .now) (c .before .before .before .args .path .now) (c .before .before .before .args .out .now) [] (c .before .before .before .pre .0) (c .before .before .before .pre .1))
+loop-holds c = (omega arith, refl, refl, walk-starts (c .before .before .before .args .store .now) (c .before .before .before .args .path .now) (c .before .before .before .args .out .now) [] (c .before .before .before .pre .0))
 
 sub-next : tie.Need-sub-next Inv-loop μ-loop
 sub-next c = search needs

@@ -8,6 +8,9 @@
  * value is 0 to 32 bytes. Every function of the library takes any bytes, decides for itself whether
  * they are fit, and refuses by a number: then it has changed no byte.
  *
+ * The empty path has length 0, and every path is below it. It stands for the whole store, in clear
+ * and as the first path of next alone: put, drop, get and move refuse it by 3.
+ *
  * An array goes as a pointer and a length. The pointer may be NULL only where the length is 0. An
  * array that is written (`store` and `work` of the calls that change a store, `buffer` of get and
  * next, `answers` of a batch) must not overlap any other argument; arrays that are only read may
@@ -20,9 +23,9 @@
 #include <stddef.h>
 #include <stdint.h>
 
-#define SPLICELOG_VERSION "1.1"
+#define SPLICELOG_VERSION "1.2"
 #define SPLICELOG_VERSION_MAJOR 1
-#define SPLICELOG_VERSION_MINOR 1
+#define SPLICELOG_VERSION_MINOR 2
 
 /* The limits. Sizes are in bytes; a path's bytes 00 count. The last number is the last refusal's. */
 #define SPLICELOG_VALUE_LIMIT 32
@@ -74,7 +77,7 @@ enum splicelog_refusal {
     SPLICELOG_OK = 0,
     SPLICELOG_WRONG_LENGTH = 1,     /* no store of 32 to 1,024 nodes, or too short a work area */
     SPLICELOG_NOT_SOUND = 2,        /* the image is not sound */
-    SPLICELOG_MALFORMED_PATH = 3,   /* a path is not well formed */
+    SPLICELOG_MALFORMED_PATH = 3,   /* a path is not well formed, or empty where it may not be */
     SPLICELOG_VALUE_TOO_LONG = 4,   /* the value has more than 32 bytes */
     SPLICELOG_BUFFER_TOO_SHORT = 5, /* get needs 32 bytes, next 64 */
     SPLICELOG_NO_INTERIOR_NODE = 6, /* the number is not that of a reachable interior node */
@@ -120,9 +123,9 @@ SPLICELOG_RESULT SPLICELOG_READS(1, 2) SPLICELOG_READS(3, 4) SPLICELOG_WRITES(5,
 uint64_t splicelog_get(const uint8_t *store, splicelog_size store_len, const uint8_t *path,
                        splicelog_size path_len, uint8_t *buffer, splicelog_size buffer_len);
 
-/* The least path below `path` and greater than `after` (which may be empty), at the front of a buffer
- * of at least 64 bytes; later bytes of the buffer stay. Beside the number: its length. Refuses by 1,
- * 2, 3, 5, 8. */
+/* The least path below `path` and greater than `after` (each may be empty: every path is below the
+ * empty one and greater than it), at the front of a buffer of at least 64 bytes; later bytes of the
+ * buffer stay. Beside the number: its length. Refuses by 1, 2, 3, 5, 8. */
 SPLICELOG_RESULT SPLICELOG_READS(1, 2) SPLICELOG_READS(3, 4) SPLICELOG_READS(5, 6) SPLICELOG_WRITES(7, 8)
 uint64_t splicelog_next(const uint8_t *store, splicelog_size store_len, const uint8_t *path,
                         splicelog_size path_len, const uint8_t *after, splicelog_size after_len,
@@ -148,7 +151,10 @@ SPLICELOG_RESULT SPLICELOG_CHANGES(1, 2) SPLICELOG_WRITES(3, 4) SPLICELOG_READS(
 uint32_t splicelog_drop(uint8_t *store, splicelog_size store_len, uint8_t *work, splicelog_size work_len,
                         const uint8_t *path, splicelog_size path_len);
 
-/* Every path below the given one, itself included, is absent. Refuses by 1, 2, 3. */
+/* Every path below the given one, itself included, is absent. The empty path, length 0, is above
+ * every path: splicelog_clear(store, store_len, work, work_len, NULL, 0) wipes the store. Beware: so
+ * does a length that is 0 by mistake. What was wiped is not found any more, but its bytes can stay in
+ * the array; splicelog_make writes every byte of it. Refuses by 1, 2, 3. */
 SPLICELOG_RESULT SPLICELOG_CHANGES(1, 2) SPLICELOG_WRITES(3, 4) SPLICELOG_READS(5, 6)
 uint32_t splicelog_clear(uint8_t *store, splicelog_size store_len, uint8_t *work, splicelog_size work_len,
                          const uint8_t *path, splicelog_size path_len);
@@ -220,7 +226,8 @@ SPLICELOG_INLINE uint32_t splicelog_is_same(const uint8_t *store, size_t store_l
     return splicelog_number(answer);
 }
 
-/* Whether these bytes are a well-formed path: 1 or 0. */
+/* Whether these bytes are a well-formed path, one that can have a value: 1 or 0. The empty path is
+ * none: 0. */
 SPLICELOG_INLINE int splicelog_is_path(const uint8_t *path, size_t path_len) {
     size_t components = 0, begin = 0;
     if (path_len == 0 || path_len > SPLICELOG_PATH_LIMIT)
@@ -238,10 +245,16 @@ SPLICELOG_INLINE int splicelog_is_path(const uint8_t *path, size_t path_len) {
     return begin == path_len && components <= SPLICELOG_COMPONENTS_LIMIT;
 }
 
-/* The path of a text: "r1/c7" becomes the bytes 72 31 00 63 37 00 (hexadecimal). Gives 0, or 3 where
- * the text is no path's: the path is then one byte 00, which no call accepts. */
+/* The path of a text: "r1/c7" becomes the bytes 72 31 00 63 37 00 (hexadecimal), and a lone "/" the
+ * empty path, of length 0. Gives 0, or 3 where the text is no path's, as "" is not: the path is then
+ * one byte 00, which no call accepts. */
 SPLICELOG_INLINE uint32_t splicelog_path(const char *text, uint8_t path[SPLICELOG_PATH_LIMIT], size_t *path_len) {
     size_t end = 0;
+    if (text[0] == '/' && text[1] == 0) {
+        path[0] = 0; /* never read, but compilers warn where no byte is set */
+        *path_len = 0;
+        return SPLICELOG_OK;
+    }
     for (; end < SPLICELOG_PATH_LIMIT - 1 && text[end] != 0; end++)
         path[end] = SPLICELOG_CAST(uint8_t, text[end] == '/' ? 0 : text[end]);
     path[end] = 0;
@@ -253,12 +266,14 @@ SPLICELOG_INLINE uint32_t splicelog_path(const char *text, uint8_t path[SPLICELO
     return SPLICELOG_MALFORMED_PATH;
 }
 
-/* The text of a path, with a byte 00 behind it as strings have. Gives 0, or 3 and the empty text
- * where the bytes are no path. */
+/* The text of a path, with a byte 00 behind it as strings have; that of the empty path is "/". Gives
+ * 0, or 3 and the empty text where the bytes are no path. */
 SPLICELOG_INLINE uint32_t splicelog_path_text(const uint8_t *path, size_t path_len, char text[SPLICELOG_PATH_LIMIT]) {
-    const size_t length = splicelog_is_path(path, path_len) ? path_len - 1 : 0;
+    size_t length = splicelog_is_path(path, path_len) ? path_len - 1 : 0;
     for (size_t i = 0; i < length; i++)
         text[i] = SPLICELOG_CAST(char, path[i] == 0 ? '/' : path[i]);
+    if (path_len == 0)
+        text[length++] = '/';
     text[length] = 0;
     return length == 0 ? SPLICELOG_MALFORMED_PATH : SPLICELOG_OK;
 }
@@ -271,8 +286,9 @@ struct splicelog_place {
 };
 
 /* One step of a listing: the place becomes the least path below `path` that is greater than the
- * place's. Gives 0, or the number of a refusal, which leaves the place unchanged: 8 after the last
- * path, else 1, 2 or 3. A place of more than 64 bytes is no path: 3.
+ * place's. To list the whole store: path NULL, path_len 0. Gives 0, or the number of a refusal, which
+ * leaves the place unchanged: 8 after the last path, else 1, 2 or 3. A place of more than 64 bytes is
+ * no path: 3.
  *
  *   struct splicelog_place place = {{0}, 0};
  *   uint32_t number;

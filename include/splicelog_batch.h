@@ -84,9 +84,10 @@ static inline void splicelog_internal_append(struct splicelog_calls *calls, cons
 }
 
 /* A call behind those that are there already. Put takes a path and its value; move both paths; next
- * the path and the one after which to look, which may be empty; drop, clear and get a path; settle
- * and tidy nothing: what a call does not take has length 0. Gives 1; or 0 where there is no room for
- * it or the kind does not take this, and then nothing is added. */
+ * the path and the one after which to look; drop, clear and get a path; settle and tidy nothing: what
+ * a call does not take has length 0. Whether a path may be empty the call answers: a clear without a
+ * path wipes the store. Gives 1; or 0 where there is no room for it or the kind does not take this,
+ * and then nothing is added. */
 SPLICELOG_INLINE int splicelog_add(struct splicelog_calls *calls, enum splicelog_kind kind,
                                    const uint8_t *first, size_t first_len, const uint8_t *second,
                                    size_t second_len) {

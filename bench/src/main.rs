@@ -45,6 +45,7 @@ fn main() {
     for n in [64, 256, 1024] {
         writes::print(n, &images::settled(n));
     }
+    writes::print_clears();
     moves::print();
     batches::print(&images::settled(1024));
 }

@@ -1,8 +1,8 @@
 /* SPDX-License-Identifier: MIT
  *
  * A splicer's unit on a Cortex-M4: its store of 64 nodes is in RAM, and what changed is written back to flash. It writes the records of a
- * closure, renumbers the closure, is switched off and on, and lists what it finds. The stack of each call is painted and measured; these
- * figures go to standard error, since they change with the compiler. It relies on flash.h for the flash and on newlib for printf.
+ * closure, renumbers the closure, is switched off and on, lists what it finds, and is wiped. The stack of each call is painted and measured;
+ * these figures go to standard error, since they change with the compiler. It relies on flash.h for the flash and on newlib for printf.
  *
  * What to set aside for 64 nodes (at most 64 records): 65,536 bytes of flash, 65,536 of RAM for the image, 8,192 of RAM for the work area,
  * 32 KiB of stack. What a power cut between two writes of `keep` can leave: examples/firmware/unit.c says it.
@@ -15,8 +15,8 @@
 #include <string.h>
 
 enum { NODES = FLASH_BYTES / SPLICELOG_NODE_SIZE };
-enum call { CHECK, MAKE, GET, NEXT, PUT, DROP, MOVE, TIDY, CALLS };
-static const char *const call_names[CALLS] = {"check", "make", "get", "next", "put", "drop", "move", "tidy"};
+enum call { CHECK, MAKE, GET, NEXT, PUT, DROP, CLEAR, MOVE, TIDY, CALLS };
+static const char *const call_names[CALLS] = {"check", "make", "get", "next", "put", "drop", "clear", "move", "tidy"};
 
 static uint8_t store[NODES * SPLICELOG_NODE_SIZE], work[NODES * SPLICELOG_WORK_PER_NODE];
 static size_t deepest[CALLS];
@@ -115,6 +115,14 @@ static int drop(const char *at) {
     return accepted("drop", number);
 }
 
+/* The empty path is above every path, and needs no array. */
+static int wipe(void) {
+    stack_paint();
+    const uint32_t number = splicelog_clear(store, sizeof store, work, sizeof work, NULL, 0);
+    measured(CLEAR);
+    return accepted("wipe", number) && keep();
+}
+
 static int tidy(void) {
     stack_paint();
     const uint32_t number = splicelog_tidy(store, sizeof store, work, sizeof work);
@@ -154,7 +162,7 @@ static int life(void) {
     if (!power_on() || !write_records() || !renumber("r1/c7/k2", "r1/c7/k5"))
         return 0;
     memset(store, 0xAA, sizeof store); /* power off */
-    return power_on() && list("r1/c7") && drop("r1/c7/k3/t1/f1") && tidy() && list("r1/c7/k3");
+    return power_on() && list("/") && drop("r1/c7/k3/t1/f1") && tidy() && list("r1/c7/k3") && wipe() && power_on();
 }
 
 int main(void) {

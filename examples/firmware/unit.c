@@ -1,6 +1,7 @@
 /* A unit that keeps splice records in flash: `unit FLASH [new]`. The file FLASH stands for 64 KiB of flash. At start the unit judges the
  * image that it finds there; where that is not sound it says so and stops, and with the word `new` it makes an empty one instead. Then it
- * reads lines: put PATH TEXT, get PATH, list PATH, move PATH PATH. The end of the input is the end of the power.
+ * reads lines: put PATH TEXT, get PATH, list PATH, clear PATH, move PATH PATH; list / and clear / are for the depot, which looks through a
+ * unit that came back and wipes it (what can stay of its bytes: splicelog(3), Erasure). The end of the input is the end of the power.
  *
  * What to set aside, for 64 nodes (at most 64 records):
  *   flash  65,536 bytes  the image                  1,024 x nodes
@@ -59,14 +60,15 @@ static int keep(void) {
     return 1;
 }
 
-/* A path as the library takes it, made of its text in place: r1/c7 becomes r1 00 c7 00. The 00 that ends the text is the last one. */
+/* A path as the library takes it, made of its text in place: r1/c7 becomes r1 00 c7 00. The 00 that ends the text is the last one. A lone /
+ * is the empty path, which every path is below. No other text gives length 0: that would wipe the unit. */
 struct path {
     const uint8_t *bytes;
     size_t length;
 };
 
 static struct path path(char *text) {
-    const struct path made = {(const uint8_t *)text, strlen(text) + 1};
+    const struct path made = {(const uint8_t *)text, strcmp(text, "/") == 0 ? 0 : strlen(text) + 1};
     for (; *text; text++)
         if (*text == '/')
             *text = 0;
@@ -148,6 +150,10 @@ static int obey(char *line) {
     if (word && first && second && strcmp(word, "move") == 0) {
         const struct path from = path(first), to = path(second);
         return changed(splicelog_move(store, sizeof store, work, sizeof work, from.bytes, from.length, to.bytes, to.length));
+    }
+    if (word && first && !second && strcmp(word, "clear") == 0) {
+        const struct path top = path(first);
+        return changed(splicelog_clear(store, sizeof store, work, sizeof work, top.bytes, top.length));
     }
     if (word && first && !second && strcmp(word, "get") == 0)
         get(path(first));

@@ -77,7 +77,7 @@ static int renumber(const char *old, const char *new) {
     return refused(old, splicelog_move(store, size, work, sizeof work, from.bytes, from.length, to.bytes, to.length));
 }
 
-/* Prints the records below a path. After the last one the library answers 8: that is told only where none came. */
+/* Prints the records below a path, all for /. After the last one the library answers 8: told only where none came. */
 static int list(const char *top) {
     struct splicelog_place path, at = {{0}, 0};
     char name[SPLICELOG_PATH_LIMIT];

@@ -40,6 +40,26 @@ static inline bytes path(const char *text) {
     return made;
 }
 
+/* No bytes, at no address: the empty path, an empty value. */
+static inline bytes nothing(void) {
+    const bytes none = {NULL, 0};
+    return none;
+}
+
+static inline bytes file(const char *name) {
+    bytes read = {NULL, 0};
+    FILE *from = fopen(name, "rb");
+    if (!from || fseek(from, 0, SEEK_END) || ftell(from) < 0) {
+        perror(name);
+        exit(1);
+    }
+    read = filled((size_t)ftell(from), 0);
+    rewind(from);
+    CHECK(fread(read.at, 1, read.len, from) == read.len);
+    fclose(from);
+    return read;
+}
+
 static inline int equal(bytes a, bytes b) { return a.len == b.len && memcmp(a.at, b.at, a.len) == 0; }
 
 /* Makes one get, or one next where `after` is given, and checks the answer, the front of the buffer and that nothing else changed. The
@@ -73,9 +93,10 @@ static inline void judge(bytes store, uint32_t number, size_t live) {
     free(before.at);
 }
 
-/* One step of a listing: the place becomes the path found, or a refusal leaves it as it was. The store stays. */
+/* One step of a listing, of the whole store where `below` is NULL: the place becomes the path found, or a refusal leaves it as it was. The
+ * store stays. */
 static inline void step(bytes store, const char *below, struct splicelog_place *place, uint32_t number, const char *found) {
-    bytes before = copy(store.at, store.len), of = path(below), expected = path(found);
+    bytes before = copy(store.at, store.len), of = below ? path(below) : nothing(), expected = path(found);
     struct splicelog_place was = *place;
     CHECK(splicelog_step(store.at, store.len, of.at, of.len, place) == number);
     if (number != 0)
@@ -107,12 +128,14 @@ static inline uint32_t put(bytes store, bytes work, bytes at, bytes value) {
 }
 
 /* The first 128 bytes a node of the work area are zero, and the later ones stay. */
-static inline int cleared(bytes work) {
+static inline int cleared_for(bytes work, size_t nodes) {
     for (size_t i = 0; i < work.len; i++)
-        if (work.at[i] != (i < NODES * 128 ? 0 : LATER))
+        if (work.at[i] != (i < nodes * 128 ? 0 : LATER))
             return 0;
     return 1;
 }
+
+static inline int cleared(bytes work) { return cleared_for(work, NODES); }
 
 /* One move; the store and the work area are checked, and the paths are freed. */
 static inline void move(bytes store, bytes work, bytes from, bytes to, uint32_t number) {

@@ -53,20 +53,6 @@ static void test_refusals(void) {
     free(store.at);
 }
 
-static bytes file(const char *name) {
-    bytes read = {NULL, 0};
-    FILE *from = fopen(name, "rb");
-    if (!from || fseek(from, 0, SEEK_END) || ftell(from) < 0) {
-        perror(name);
-        exit(1);
-    }
-    read = filled((size_t)ftell(from), 0);
-    rewind(from);
-    CHECK(fread(read.at, 1, read.len, from) == read.len);
-    fclose(from);
-    return read;
-}
-
 /* A value of the table: two digits for each byte, or "-" for none. */
 static bytes value(const char *digits) {
     bytes made = filled(*digits == '-' ? 0 : strlen(digits) / 2, 0);
@@ -85,12 +71,12 @@ static bytes first(const char *text) {
     return made;
 }
 
-/* Gets every path of the table, and lists the paths below each first component by next and by the listing: the table is in the order of
- * next. */
+/* Gets every path of the table, and lists the paths below each first component and those of the whole store by next and by the listing: the
+ * table is in the order of next. */
 static void test_image(const char *image, const char *table) {
     bytes store = file(image);
     char text[PATH_MOST + 1], digits[2 * VALUE_MOST + 1], last[PATH_MOST + 1] = "", top[PATH_MOST + 1] = "";
-    struct splicelog_place *place = start();
+    struct splicelog_place *place = start(), *whole = start();
     size_t live = 0;
     FILE *rows = fopen(table, "r");
     CHECK(rows != NULL);
@@ -106,8 +92,10 @@ static void test_image(const char *image, const char *table) {
             place->length = 0;
         }
         step(store, top, place, 0, text);
-        bytes after = goes_on ? path(last) : filled(0, 0);
+        step(store, NULL, whole, 0, text);
+        bytes after = goes_on ? path(last) : filled(0, 0), after_any = *last ? path(last) : nothing();
         ask(store, of, &after, PATH_MOST, 0, path(text));
+        ask(store, nothing(), &after_any, PATH_MOST, 0, path(text));
         ask(store, path(text), NULL, VALUE_MOST, 0, value(digits));
         free(of_last.at);
         strcpy(last, text);
@@ -118,9 +106,9 @@ static void test_image(const char *image, const char *table) {
         refuse_next(store, first(last), path(last), PATH_MOST, 8);
         step(store, top, place, 8, "");
     }
+    step(store, NULL, whole, 8, "");
     fclose(rows);
-    free(place);
-    free(store.at);
+    free(place), free(whole), free(store.at);
 }
 
 /* No number of a node that is no interior node is taken, nor one of which only some of the bits are such a node's. */
@@ -266,7 +254,7 @@ static void test_listing(void) {
     free(place), free(of.at), free(store.at), free(work.at);
 }
 
-/* A pointer may be NULL where its length is 0: an empty value, nothing before the first path, and every length that is too short. */
+/* A pointer may be NULL where its length is 0: an empty value, the empty path, and every length that is too short. */
 static void test_null(void) {
     bytes store = filled(NODES * NODE, 1), work = filled(NODES * 128, LATER), of = path("r1"), buffer = filled(PATH_MOST, LATER);
     CHECK(splicelog_make(NULL, 0) == 1 && splicelog_check(NULL, 0) == 1 && splicelog_make(store.at, store.len) == 0);
@@ -282,7 +270,8 @@ static void test_null(void) {
     CHECK(splicelog_put(store.at, store.len, NULL, 0, of.at, of.len, NULL, 0) == 1);
     CHECK(splicelog_put(store.at, store.len, work.at, work.len, NULL, 0, NULL, 0) == 3);
     CHECK(splicelog_drop(store.at, store.len, work.at, work.len, NULL, 0) == 3);
-    CHECK(splicelog_clear(store.at, store.len, work.at, work.len, NULL, 0) == 3);
+    CHECK(splicelog_clear(store.at, store.len, work.at, work.len, NULL, 0) == 0);
+    CHECK(splicelog_next(store.at, store.len, NULL, 0, NULL, 0, buffer.at, buffer.len) == 8);
     CHECK(splicelog_move(store.at, store.len, work.at, work.len, NULL, 0, NULL, 0) == 3);
     CHECK(splicelog_settle(NULL, 0, NULL, 0) == 1 && splicelog_tidy(store.at, store.len, NULL, 0) == 1);
     CHECK(splicelog_flush(NULL, 0, NULL, 0, 1) == 1 && splicelog_heal(store.at, store.len, NULL, 0, 1) == 1);

@@ -28,6 +28,7 @@ splicelog=$room/bin/splicelog
 cp "$console" "$room/libexec/splicelog/console"
 cp crates/console/stdin "$room/paper"
 cp crates/console/stdout "$room/paper.printed"
+cp tests/console/empty_path.txt "$room/empty_path"
 : > "$room/out"
 : > "$room/err"
 cd "$room/folder" || exit 1

@@ -53,12 +53,14 @@ static uint8_t take(struct input *input) {
     return *input->bytes++;
 }
 
-/* A path of 1 to 4 components out of a few, so that calls meet; now and then a malformed one. */
+/* A path of 1 to 4 components out of a few, so that calls meet; now and then the empty one, or a malformed one. */
 static size_t take_path(struct input *input, uint8_t *path) {
     static const char *const components[] = {"a", "b", "r1", "r10", "c", "t7", "aaaaaaaaaaaaaaaa", "~"};
     const uint8_t shape = take(input);
     char text[SPLICELOG_PATH_LIMIT + 16] = "";
     size_t length;
+    if (shape >= 0xF0 && shape < 0xF8)
+        return 0;
     for (int i = 0; i <= shape % 4; i++) {
         strcat(text, i ? "/" : "");
         strcat(text, components[take(input) % 8]);
@@ -151,34 +153,46 @@ static uint32_t make_call(const uint8_t *piece, size_t *found) {
     }
 }
 
+/* The empty path as the first one of a call that has one: a clear leaves no path, a next may find any, and the others refuse it. */
+static void check_empty_path(uint8_t kind, uint32_t number) {
+    size_t live;
+    if (kind == SPLICELOG_CLEAR)
+        CHECK(number == SPLICELOG_OK && splicelog_check_store(other, STORE, &live) == SPLICELOG_OK && live == 0);
+    else
+        CHECK(kind == SPLICELOG_NEXT || number == SPLICELOG_MALFORMED_PATH);
+}
+
 /* Flush and heal look at nodes, and a batch may lay them out otherwise: there only the map is compared. */
 static void compare_answer(const uint8_t *piece, const struct splicelog_answer *answer) {
     size_t found = 0;
     const uint32_t number = make_call(piece, &found);
     if (piece[2] == SPLICELOG_FLUSH || piece[2] == SPLICELOG_HEAL)
         return;
+    if (piece[2] < SPLICELOG_SETTLE && read_call(piece).first_len == 0)
+        check_empty_path(piece[2], number);
     CHECK(answer->number == number && answer->length == found);
     CHECK(memcmp(answer->bytes, buffer_end - SPLICELOG_PATH_LIMIT, found) == 0);
 }
 
-/* The two stores are sound and have the same paths; where the calls name a path, the same value too. */
-static void compare_stores(const uint8_t *calls, size_t length) {
-    uint8_t value[2][SPLICELOG_VALUE_LIMIT] = {{0}};
-    size_t live, other_live, found, other_found;
+/* The two stores are sound and have the same paths with the same values. */
+static void compare_stores(void) {
+    uint8_t value[2][SPLICELOG_VALUE_LIMIT];
+    struct splicelog_place place = {{0}, 0};
+    size_t live, other_live, found, other_found, listed = 0;
     int same;
     CHECK(splicelog_check_store(store, STORE, &live) == SPLICELOG_OK && splicelog_check_store(other, STORE, &other_live) == SPLICELOG_OK);
     CHECK(live == other_live && live <= NODES);
     CHECK(splicelog_is_same(store, STORE, other, STORE, &same) == SPLICELOG_OK && same);
-    for (size_t at = 0; at < length; at += splicelog_skip(calls + at, length - at, 1)) {
-        const struct call call = read_call(calls + at);
-        const uint32_t number = splicelog_get_value(store, STORE, call.first, call.first_len, value[0], sizeof value[0], &found);
-        CHECK(splicelog_get_value(other, STORE, call.first, call.first_len, value[1], sizeof value[1], &other_found) == number);
-        CHECK(found == other_found && memcmp(value[0], value[1], found) == 0);
+    for (; splicelog_step(store, STORE, NULL, 0, &place) == SPLICELOG_OK; listed++) {
+        CHECK(splicelog_get_value(store, STORE, place.bytes, place.length, value[0], sizeof value[0], &found) == SPLICELOG_OK);
+        CHECK(splicelog_get_value(other, STORE, place.bytes, place.length, value[1], sizeof value[1], &other_found) == SPLICELOG_OK);
+        CHECK(listed < live && found == other_found && memcmp(value[0], value[1], found) == 0);
     }
+    CHECK(listed == live);
 }
 
-/* The calls as batches with this much room for answers, and each call again by itself. Gives how many bytes of them were made. */
-static size_t run_calls(const uint8_t *calls, size_t length, size_t room) {
+/* The calls as batches with this much room for answers, and each call again by itself. */
+static void run_calls(const uint8_t *calls, size_t length, size_t room) {
     uint8_t *const answers = answers_end - room;
     size_t at = 0;
     enum splicelog_stop stop = SPLICELOG_STOP_NO_ROOM;
@@ -199,7 +213,6 @@ static size_t run_calls(const uint8_t *calls, size_t length, size_t room) {
         CHECK(place == written);
     }
     CHECK((stop == SPLICELOG_STOP_END) == (at == length));
-    return at;
 }
 
 /* Calls, of which the first bytes are then changed here and there: some do not read. */
@@ -217,7 +230,8 @@ static void try_calls(struct input input) {
     uint8_t *const lent = calls_end - calls.length;
     memcpy(lent, bytes, calls.length);
     CHECK(splicelog_make(store, STORE) == SPLICELOG_OK && splicelog_make(other, STORE) == SPLICELOG_OK);
-    compare_stores(lent, run_calls(lent, calls.length, room));
+    run_calls(lent, calls.length, room);
+    compare_stores();
 }
 
 /* A store with some records, in which bytes are then changed: every call judges it as the check does, and a refusal changes nothing. */
@@ -239,11 +253,15 @@ static void try_damage(struct input input) {
         splicelog_get_value(store, STORE, path, sizeof path, buffer_end - SPLICELOG_VALUE_LIMIT, SPLICELOG_VALUE_LIMIT, &found);
     CHECK(number == SPLICELOG_OK || (number == SPLICELOG_NOT_SOUND && live == 0 && got == number && found == 0));
     CHECK(number != SPLICELOG_OK || got == SPLICELOG_OK || got == SPLICELOG_NOT_FOUND);
+    const uint32_t least = splicelog_next_path(store, STORE, NULL, 0, NULL, 0, buffer_end - SPLICELOG_PATH_LIMIT, SPLICELOG_PATH_LIMIT, &found);
+    CHECK(least == (number != SPLICELOG_OK || live > 0 ? number : SPLICELOG_NOT_FOUND));
     CHECK(memcmp(store, other, STORE) == 0);
     const uint32_t put = splicelog_put(store, STORE, work, WORK, path, sizeof path, value, sizeof value);
     CHECK(number == SPLICELOG_OK || (put == number && memcmp(store, other, STORE) == 0));
     CHECK(splicelog_tidy(store, STORE, work, WORK) == number);
     CHECK(number != SPLICELOG_OK || (splicelog_check_store(store, STORE, &found) == SPLICELOG_OK && found - live <= 1));
+    CHECK(splicelog_clear(store, STORE, work, WORK, NULL, 0) == number);
+    CHECK(number != SPLICELOG_OK || (splicelog_check_store(store, STORE, &found) == SPLICELOG_OK && found == 0));
 }
 
 int LLVMFuzzerTestOneInput(const uint8_t *data, size_t size);

@@ -21,22 +21,23 @@ static void take_text(const char *text) {
     CHECK(splicelog_path_text(made.bytes, made.length - 1, again) == SPLICELOG_MALFORMED_PATH && again[0] == 0);
 }
 
-/* A text that is no path's: told, and what is left is refused by every call, as next's second path too. */
+/* A text that is no path's: told, and what is left is one byte, which every call refuses, as next's second path too. So it wipes nothing. */
 static void refuse_text(const char *text) {
     uint8_t path[SPLICELOG_PATH_LIMIT], found[SPLICELOG_PATH_LIMIT];
     const struct path top = path_of("r1");
     size_t length;
     CHECK(splicelog_path(text, path, &length) == SPLICELOG_MALFORMED_PATH);
-    CHECK(length > 0 && !splicelog_is_path(path, length));
+    CHECK(length == 1 && path[0] == 0 && !splicelog_is_path(path, length));
     CHECK(splicelog_drop(store, STORE, work, WORK, path, length) == SPLICELOG_MALFORMED_PATH);
     CHECK(splicelog_clear(store, STORE, work, WORK, path, length) == SPLICELOG_MALFORMED_PATH);
-    CHECK(splicelog_next_path(store, STORE, top.bytes, top.length, path, length, found, sizeof found, &length) == SPLICELOG_MALFORMED_PATH);
+    CHECK(splicelog_next_path(store, STORE, path, 1, NULL, 0, found, sizeof found, &length) == SPLICELOG_MALFORMED_PATH);
+    CHECK(splicelog_next_path(store, STORE, top.bytes, top.length, path, 1, found, sizeof found, &length) == SPLICELOG_MALFORMED_PATH);
 }
 
 static void test_texts(void) {
     static const char *const good[] = {"a", "~", "!", "r1/c7", "1/2/3/4/5/6/7/8", "aaaaaaaaaaaaaaaa",
                                        "aaaaaaaaaaaaaaaa/aaaaaaaaaaaaaaaa/aaaaaaaaaaaaaaaa/aaaaaaaaaaaa"};
-    static const char *const bad[] = {"", "/", "a/", "/a", "a//b", "a b", "a\x7F", "a\x80", "\xFF", "a\n", "aaaaaaaaaaaaaaaaa",
+    static const char *const bad[] = {"", "//", "///", "/ ", "a/", "/a", "a//b", "a b", "a\x7F", "a\x80", "\xFF", "a\n", "aaaaaaaaaaaaaaaaa",
                                       "1/2/3/4/5/6/7/8/9",
                                       "aaaaaaaaaaaaaaaa/aaaaaaaaaaaaaaaa/aaaaaaaaaaaaaaaa/aaaaaaaaaaaaa",
                                       "aaaaaaaaaaaaaaaa/aaaaaaaaaaaaaaaa/aaaaaaaaaaaaaaaa/aaaaaaaaaaaa/",
@@ -45,6 +46,25 @@ static void test_texts(void) {
         take_text(good[i]);
     for (size_t i = 0; i < sizeof bad / sizeof *bad; i++)
         refuse_text(bad[i]);
+}
+
+/* A lone slash is the text of the empty path, and only its. It has no value, and every path is below it. */
+static void test_empty_path(void) {
+    const struct path empty = path_of("/"), top = path_of("r1");
+    struct splicelog_place place = {{0}, 0};
+    char text[SPLICELOG_PATH_LIMIT];
+    size_t live;
+    CHECK(empty.length == 0 && !splicelog_is_path(empty.bytes, empty.length) && !splicelog_is_path(NULL, 0));
+    CHECK(splicelog_path_text(empty.bytes, empty.length, text) == SPLICELOG_OK && strcmp(text, "/") == 0);
+    CHECK(splicelog_path_text(NULL, 0, text) == SPLICELOG_OK && strcmp(text, "/") == 0);
+    CHECK(put("r1", top.bytes, 1) == SPLICELOG_OK);
+    CHECK(put("/", top.bytes, 1) == SPLICELOG_MALFORMED_PATH);
+    CHECK(move("/", "r2") == SPLICELOG_MALFORMED_PATH && move("r1", "/") == SPLICELOG_MALFORMED_PATH);
+    CHECK(splicelog_step(store, STORE, empty.bytes, empty.length, &place) == SPLICELOG_OK);
+    CHECK(place.length == top.length && memcmp(place.bytes, top.bytes, top.length) == 0);
+    CHECK(splicelog_step(store, STORE, NULL, 0, &place) == SPLICELOG_NOT_FOUND && place.length == top.length);
+    CHECK(splicelog_clear(store, STORE, work, WORK, empty.bytes, empty.length) == SPLICELOG_OK);
+    CHECK(splicelog_check_store(store, STORE, &live) == SPLICELOG_OK && live == 0);
 }
 
 /* The header judges a path as the library does: random bytes, most of them letters and 00. */
@@ -62,7 +82,7 @@ static void test_paths(void) {
             path[length - 1] = next_random() % 16 == 0 ? 'a' : 0;
         const uint32_t number = splicelog_get_value(store, STORE, path, length, value, sizeof value, &found);
         CHECK(splicelog_is_path(path, length) == (number != SPLICELOG_MALFORMED_PATH));
-        CHECK((splicelog_path_text(path, length, text) == SPLICELOG_OK) == (number != SPLICELOG_MALFORMED_PATH));
+        CHECK((splicelog_path_text(path, length, text) == SPLICELOG_OK) == (number != SPLICELOG_MALFORMED_PATH || length == 0));
         formed += number != SPLICELOG_MALFORMED_PATH;
     }
     CHECK(formed > 100 && formed < 2900);
@@ -119,6 +139,7 @@ enum { CALLS = 10 };
 
 /* An array is never written outside its room, whatever the length says, and what a kind does not take is not added. */
 static void test_add(void) {
+    static const uint8_t whole_store[] = {0, 0, 0x22, 0, 2, 0, 0x31, 0, 0, 0};
     uint8_t bytes[300];
     const uint8_t some[2] = {'a', 0};
     struct splicelog_calls calls = splicelog_begin_calls(bytes, sizeof bytes);
@@ -144,6 +165,9 @@ static void test_add(void) {
     CHECK(!splicelog_add(&calls, SPLICELOG_FLUSH, some, 1, some, 0) && !splicelog_add_node(&calls, SPLICELOG_DROP, 1));
     CHECK(!splicelog_add_node(&calls, SPLICELOG_HEAL, 0x10000) && !splicelog_add(&calls, SPLICELOG_PUT, some, SIZE_MAX, some, 2));
     CHECK(!splicelog_add(&calls, SPLICELOG_PUT, some, 0x7001, some, 0) && calls.length == 0 && calls.count == 0);
+    /* The empty path is a path of length 0: the pieces are laid out as ever. */
+    CHECK(splicelog_add(&calls, SPLICELOG_CLEAR, NULL, 0, NULL, 0) && splicelog_add(&calls, SPLICELOG_NEXT, NULL, 0, NULL, 0));
+    CHECK(calls.count == 2 && calls.length == sizeof whole_store && memcmp(bytes, whole_store, sizeof whole_store) == 0);
 }
 
 /* Makes the calls from one place on with so much room for answers, and goes on where the batch stopped; gives how many calls were made in
@@ -248,6 +272,7 @@ static void test_any_bytes(void) {
 int main(void) {
     CHECK(splicelog_make(store, STORE) == SPLICELOG_OK);
     test_texts();
+    test_empty_path();
     test_paths();
     test_forms();
     test_add();

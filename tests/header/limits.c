@@ -34,6 +34,7 @@ static void test_paths(void) {
     CHECK(put_built(1, 0, most, most + 1) == SPLICELOG_OK);
     CHECK(put_built(1, 0, most + 1, most + 2) == SPLICELOG_MALFORMED_PATH);
     CHECK(put_built(1, 0, 0, 1) == SPLICELOG_MALFORMED_PATH);
+    CHECK(put_built(0, 0, 0, 0) == SPLICELOG_MALFORMED_PATH);
     CHECK(put_built(count, 1, 1, 2 * count) == SPLICELOG_OK);
     CHECK(put_built(count + 1, 1, 1, 2 * count + 2) == SPLICELOG_MALFORMED_PATH);
     /* 4 components: 3 of the longest, and what is left of the whole length. */

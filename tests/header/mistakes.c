@@ -1,5 +1,5 @@
 /* SPDX-License-Identifier: MIT
- * Mistakes that the header is to catch: with MISTAKE 1 to 4 this file must not compile with warnings as errors, with 0 it must. Relies on
+ * Mistakes that the header is to catch: with MISTAKE 1 to 5 this file must not compile with warnings as errors, with 0 it must. Relies on
  * splicelog.h alone; tests/header/run compiles it. */
 #include "splicelog.h"
 
@@ -35,4 +35,14 @@ uint32_t make_and_drop(const char *text) {
     if (splicelog_path(text, path, &length) != SPLICELOG_OK)
         return SPLICELOG_MALFORMED_PATH;
     return splicelog_drop(store, sizeof store, work, sizeof work, path, length);
+}
+
+/* The empty path needs no array. */
+uint32_t wipe(uint8_t *store, size_t store_len, uint8_t *work, size_t work_len);
+uint32_t wipe(uint8_t *store, size_t store_len, uint8_t *work, size_t work_len) {
+#if MISTAKE == 5 /* a path that has a length and no array: gcc 11 sees it */
+    return splicelog_clear(store, store_len, work, work_len, NULL, 1);
+#else
+    return splicelog_clear(store, store_len, work, work_len, NULL, 0);
+#endif
 }

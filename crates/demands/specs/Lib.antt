@@ -4,5 +4,6 @@ pub mod Touches
 pub mod Demand
 pub mod Kept
 pub mod Brought
+pub mod Wiped
 pub mod Batches
 pub mod BatchOutcome

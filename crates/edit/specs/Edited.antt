@@ -1,5 +1,6 @@
 -- A change carried out: what each step leaves, and the contract of put, drop and clear from it.
-use Rattle.image.specs.Prelude.{ℕ, _+_, _*_, _/_, _<_, _≤_, _≡_, refl, sym, ap, subst, _∙_, List, [], _++_, Bool, true, false, _||_, false≢true, _⊎_, arith, length, drop, leb, ltb, le-leb, lt-leb}
+use Rattle.image.specs.Prelude.{ℕ, _+_, _*_, _/_, _<_, _≤_, _≡_, refl, sym, ap, subst, _∙_, List, [], _∷_, _++_, Bool, true, false, _||_, false≢true, _⊎_, inl, arith, length, drop, leb, ltb, le-leb, lt-leb}
+use Rattle.image.specs.Bytes.{same}
 use Rattle.image.specs.Path.{wellFormed, valueLimit, valueFits}
 use Rattle.image.specs.Entry.{Message, puts, drops, clears}
 use Rattle.image.specs.Table.{find, isSome}
@@ -8,7 +9,7 @@ use Rattle.image.specs.Meaning.{apply}
 use Rattle.image.specs.Sound.{sound, tableOf}
 use Rattle.image.specs.Calls as calls
 use Rattle.image.specs.Calls.{acts, Act, firstNo, workPerNode, questions, actQuestions, tableAfter, actTable}
-use Rattle.image.specs.Contract.{nodeQuestions, firstNoOn, Besides}
+use Rattle.image.specs.Contract.{nodeQuestions, firstNoOn, Besides, Made}
 use Rattle.image.specs.Answers.{refusalNumber}
 use Rattle.image.specs.declared.Refusal.{Refusal}
 use Rattle.image.specs.declared.Outcome.{Outcome}
@@ -16,6 +17,9 @@ use Rattle.laws.specs.ButLive.{soundButLive, sound-but-live}
 use Rattle.append.specs.Laws.Append.{roomAtRoot, appended, Appended}
 use Rattle.append.specs.Laws.Raise.{rootRaised}
 use Rattle.append.specs.Callers as code
+use Rattle.path.specs.Fed.{some-fed}
+use Rattle.make.specs.Emptied.{emptied, emptied-length, emptied-made}
+use Rattle.laws.specs.Tables.{clear-empty}
 use Rattle.laws.specs.Follow.{table-rises}
 use Rattle.dump.specs.RootSteps.{table-few}
 use Rattle.rebuild.specs.Rebuild.{cleared}
@@ -170,6 +174,14 @@ module _ (s w : List ℕ) (whole : wholeNodes (length s) ≡ true) (ok : sound s
   unfolding laterNo nodeQuestions questions
   number-by a = later-number s to-act whole long ok
 
+  -- a clear of the empty path leaves a store as one just made
+  pub clear-all : (p : List ℕ) → length p ≡ 0 → (s′ : List ℕ) → s′ ≡ emptied s → Acted s (acts (calls.clear p) w) Outcome.Done s′ w w
+  unfolding actQuestions firstNo tableAfter actTable Besides same
+  clear-all [] h s′ e =
+      let made : Made s′ = subst Made (sym e) (emptied-made s whole) in
+      acted-done s s′ w to-act (number-by (calls.clear [])) (made .is-sound) (made .empty ∙ sym (clear-empty (tableOf s))) (ap length e ∙ emptied-length s whole) (inl refl) tt
+  clear-all (b ∷ p) h s′ e = absurd (omega arith)
+
   module _ (p : List ℕ) (x : Bool) (x-is : x ≡ wellFormed p) where
     pub put-malformed : (v : List ℕ) → x ≡ false → Acted s (acts (calls.put p v) w) (Outcome.Refused Refusal.Malformed) s w w
     unfolding actQuestions firstNo refusalNumber
@@ -179,9 +191,9 @@ module _ (s w : List ℕ) (whole : wholeNodes (length s) ≡ true) (ok : sound s
     unfolding actQuestions firstNo refusalNumber
     drop-malformed f = acted-refused s Refusal.Malformed to-act (number-by (calls.drops p) ∙ rw (sym x-is ∙ f) refl)
 
-    pub clear-malformed : x ≡ false → Acted s (acts (calls.clear p) w) (Outcome.Refused Refusal.Malformed) s w w
+    pub clear-malformed : (length p ≡ 0 → ⊥) → x ≡ false → Acted s (acts (calls.clear p) w) (Outcome.Refused Refusal.Malformed) s w w
     unfolding actQuestions firstNo refusalNumber
-    clear-malformed f = acted-refused s Refusal.Malformed to-act (number-by (calls.clear p) ∙ rw (sym x-is ∙ f) refl)
+    clear-malformed some f = acted-refused s Refusal.Malformed to-act (number-by (calls.clear p) ∙ rw (sym (some-fed x p some x-is) ∙ f) refl)
 
     module _ (x-yes : x ≡ true) where
       pub drop-done : (v s′ w′ : List ℕ) → Edited s s′ w w′ (messageOf Change.Drop p v) → Acted s (acts (calls.drops p) w) Outcome.Done s′ w w′
@@ -189,10 +201,10 @@ module _ (s w : List ℕ) (whole : wholeNodes (length s) ≡ true) (ok : sound s
       drop-done v s′ w′ e =
           acted-done s s′ w′ to-act (number-by (calls.drops p) ∙ rw (sym x-is ∙ x-yes) refl) (e .is-sound) (e .table) (e .size) (e .area) tt
 
-      pub clear-done : (v s′ w′ : List ℕ) → Edited s s′ w w′ (messageOf Change.Clear p v) → Acted s (acts (calls.clear p) w) Outcome.Done s′ w w′
+      pub clear-done : (length p ≡ 0 → ⊥) → (v s′ w′ : List ℕ) → Edited s s′ w w′ (messageOf Change.Clear p v) → Acted s (acts (calls.clear p) w) Outcome.Done s′ w w′
       unfolding actQuestions firstNo messageOf apply tableAfter actTable Besides
-      clear-done v s′ w′ e =
-          acted-done s s′ w′ to-act (number-by (calls.clear p) ∙ rw (sym x-is ∙ x-yes) refl) (e .is-sound) (e .table) (e .size) (e .area) tt
+      clear-done some v s′ w′ e =
+          acted-done s s′ w′ to-act (number-by (calls.clear p) ∙ rw (sym (some-fed x p some x-is) ∙ x-yes) refl) (e .is-sound) (e .table) (e .size) (e .area) tt
 
       pub put-long : (v : List ℕ) → valueLimit < length v → Acted s (acts (calls.put p v) w) (Outcome.Refused Refusal.LongValue) s w w
       unfolding actQuestions firstNo refusalNumber valueFits

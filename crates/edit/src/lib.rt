@@ -1,6 +1,6 @@
-// put, drop and clear: each is one message at the root, appended, held by a new root above, or added after a rebuild, which leaves room. A call is
-// questions 1 and 2, its part on a store that is fit (put_fit, drop_fit, clear_fit), and the work area zeroed. Relies on: questions, path (3), lookup
-// (the count after it), live_count (after a clear), tree_check (marks, where none are lent), append (the message), rebuild, node (node 0).
+// put, drop and clear: each is one message at the root, appended, held by a new root above, or added after a rebuild, which leaves room; a clear of
+// all makes the store anew. A call is questions 1 and 2, its part on a store that is fit (put_fit, drop_fit, clear_fit), and the work area zeroed. Relies
+// on: questions, path (3), lookup, live_count (counts), tree_check (marks, where none are lent), append (the message), rebuild, make, node (node 0).
 use image::Outcome;
 use image::Refusal;
 use node::search::Found;
@@ -345,7 +345,8 @@ pub fn drop(store: &mut [u8], work: &mut [u8], path: &[u8]) -> Outcome
     }
 }
 
-// clear, likewise. How many paths there are below the given one is not known.
+// clear, likewise. Every path is below the empty one: then the store is as one just made. Else it is not known how many paths there are below the
+// given one.
 pub fn clear_fit(
     store: &mut [u8],
     work: &mut [u8],
@@ -356,6 +357,10 @@ pub fn clear_fit(
     requires { ⌜ Passed (now store) (now work) × MarkedWhere (terms .marked) (now store) (now seen) ⌝ }
     ensures { λ r. ⌜ Acted (now (store .entry)) (acts (clear (now (path .entry))) (now (work .entry))) r (now (store .exit)) (now (work .entry)) (now (work .exit)) ⌝ }
 {
+    if path.len() == 0 {
+        make::write_empty(store);
+        return Outcome::Done;
+    }
     if !path::is_path(path) {
         return Outcome::Refused(Refusal::Malformed);
     }
@@ -368,7 +373,7 @@ pub fn clear_fit(
     Outcome::Done
 }
 
-// Every path below the given one is absent.
+// Every path below the given one, which may be empty, is absent.
 pub fn clear(store: &mut [u8], work: &mut [u8], path: &[u8]) -> Outcome
     ensures { λ r. ⌜ Meets (now (store .entry)) (acts (clear (now (path .entry))) (now (work .entry))) (outcomeAnswer r) (now (store .exit)) (now (work .exit)) ⌝ }
 {

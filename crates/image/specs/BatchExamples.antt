@@ -25,7 +25,9 @@ pub record BatchExamples : Type 0 where
   an-empty-value : read (piece 0x20 (2 ∷ 0 ∷ a)) (acting (put a []) ∷ [])
   three : read (piece 0x21 a ++ piece 0x30 b ++ piece 0x40 []) (acting (drops a) ∷ asking (get b) ∷ acting settle ∷ [])
   clear-move : read (piece 0x22 a ++ piece 0x24 (2 ∷ 0 ∷ a ++ b)) (acting (clear a) ∷ acting (move a b) ∷ [])
+  clear-all : read (piece 0x22 []) (acting (clear []) ∷ [])
   list-step : read (piece 0x31 (2 ∷ 0 ∷ a)) (asking (next a []) ∷ [])
+  list-all : read (piece 0x31 (0 ∷ 0 ∷ b)) (asking (next [] b) ∷ [])
   upkeep : read (piece 0x41 [] ++ piece 0x42 (3 ∷ 1 ∷ []) ++ piece 0x43 (0 ∷ 0 ∷ [])) (acting tidy ∷ keeping flush 259 ∷ keeping heal 0 ∷ [])
   -- what does not read: an unknown kind, a length past the bytes or past the rest, a settle with a byte, a flush with one
   unknown : read (piece 0x21 a ++ piece 0x23 (2 ∷ 0 ∷ a ++ b) ++ piece 0x21 b) (acting (drops a) ∷ [])
@@ -50,7 +52,9 @@ batch-examples =
       an-empty-value = refl;
       three = refl;
       clear-move = refl;
+      clear-all = refl;
       list-step = refl;
+      list-all = refl;
       upkeep = refl;
       unknown = refl;
       cut-short = refl;

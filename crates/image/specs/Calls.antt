@@ -60,12 +60,13 @@ unfoldable pub isEmpty : List Row → Bool
 isEmpty [] = true
 isEmpty (r ∷ t) = false
 
--- The questions from 3 on that apply, in order, asked of a table t in a store of n nodes. (6 looks at nodes, and is asked elsewhere.)
+-- The questions from 3 on that apply, in order, asked of a table t in a store of n nodes. (6 looks at nodes, and is asked elsewhere.) Request
+-- S-1: clear's path and next's first one may be empty, as next's second may.
 unfoldable pub actQuestions : ℕ → Act → List Row → List Question
 actQuestions n (put p v) t =
     ask 3 (wellFormed p) ∷ ask 4 (valueFits v) ∷ ask 10 (isSome (find p t) || ltb (length t) n) ∷ []
 actQuestions n (drops p) t = ask 3 (wellFormed p) ∷ []
-actQuestions n (clear p) t = ask 3 (wellFormed p) ∷ []
+actQuestions n (clear p) t = ask 3 (pathOrEmpty p) ∷ []
 actQuestions n (move from to) t =
     ask 3 (wellFormed from && wellFormed to)
     ∷ ask 7 (mayMove from to)
@@ -78,7 +79,7 @@ unfoldable pub queryQuestions : Query → List ℕ → List Row → List Questio
 queryQuestions (get p) buffer t =
     ask 3 (wellFormed p) ∷ ask 5 (leb valueLimit (length buffer)) ∷ ask 8 (isSome (find p t)) ∷ []
 queryQuestions (next p q) buffer t =
-    ask 3 (wellFormed p && pathOrEmpty q) ∷ ask 5 (leb pathLimit (length buffer)) ∷ ask 8 (isSome (leastAfter p q t)) ∷ []
+    ask 3 (pathOrEmpty p && pathOrEmpty q) ∷ ask 5 (leb pathLimit (length buffer)) ∷ ask 8 (isSome (leastAfter p q t)) ∷ []
 
 unfoldable pub questions : ℕ → Call → List Row → List Question
 questions n (acts a work) t = actQuestions n a t

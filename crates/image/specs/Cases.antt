@@ -1,4 +1,5 @@
--- Document 01, "Proved on the definitions, as one table".
+-- Document 01, "Proved on the definitions, as one table", of which case 2 is that of put, drop, get and move since request S-1; and that request's
+-- own cases. They hold by computation.
 use Rattle.image.specs.Prelude.{ℕ, zero, suc, _*_, _≡_, refl, List, [], _∷_, _++_, true, false, none, some, length, replicate}
 use Rattle.image.specs.Bytes.{same, before, begins, shared}
 use Rattle.image.specs.Path.{letter, readsOn, wellFormed, below, properBeginning, mayMove, owns, valueFits}
@@ -7,7 +8,7 @@ use Rattle.image.specs.Table.{Row, find, isSome, withRow, without, rowsB
 use Rattle.image.specs.Image.{Tree, leaf, interior, end, tree, nodesOf, wholeNodes}
 use Rattle.image.specs.Meaning.{saysOf, newer, newest, decide, highOf, lookup, apply, applyAll, rows}
 use Rattle.image.specs.Sound.{lowest, highest}
-use Rattle.image.specs.Calls.{acts, asks, Act, put, drops as drop-act, clear, move, get, next, firstNo, workLong, isEmpty, actQuestions, queryQuestions, questions, actTable, tableAfter, tableAt}
+use Rattle.image.specs.Calls.{acts, asks, Act, put, drops as drop-act, clear, move, Query, get, next, Answer, filled, firstNo, workLong, isEmpty, actQuestions, queryQuestions, questions, actTable, tableAfter, tableAt, foundBy, fill, accepted, refused, answerAt}
 use Rattle.image.specs.PlainMap.{plainFirstNo}
 use Rattle.image.specs.Contract.{makeNo}
 
@@ -66,11 +67,9 @@ pub record Cases (v w : List ℕ) : Type 0 where
   c1-32 : makeNo (32 * 1024) ≡ 0
   c2-put : no (put [] []) [] ≡ 3
   c2-drop : no (drop-act []) [] ≡ 3
-  c2-clear : no (clear []) [] ≡ 3
   c2-move : no (move [] r1) [] ≡ 3
   c2-move-to : no (move r1 []) [] ≡ 3
   c2-get : plainFirstNo 32 (asks (get []) (replicate 32 0)) [] ≡ 3
-  c2-next : plainFirstNo 32 (asks (next [] []) (replicate 64 0)) [] ≡ 3
   c3-16 : wellFormed (part 16) ≡ true
   c3-17 : wellFormed (part 17) ≡ false
   c4-64 : wellFormed (part 16 ++ part 16 ++ part 16 ++ part 12) ≡ true
@@ -100,11 +99,9 @@ cases v w =
       c1-32 = refl;
       c2-put = refl;
       c2-drop = refl;
-      c2-clear = refl;
       c2-move = refl;
       c2-move-to = refl;
       c2-get = refl;
-      c2-next = refl;
       c3-16 = refl;
       c3-17 = refl;
       c4-64 = refl;
@@ -125,6 +122,40 @@ cases v w =
       c13 = refl;
       c13-over = refl;
       c13-value = refl;
+    }
+
+-- Request S-1: "the empty path is accepted by clear, and as next's first path, and every path is below it".
+abbrev room : List ℕ
+room = replicate 64 0
+
+-- what the plain map of 32 nodes with the table t answers to a query
+abbrev told : Query → List Row → Answer
+told q t = answerAt (plainFirstNo 32 (asks q room) t) (asks q room) t
+
+pub record WholeUnit (p v w : List ℕ) : Type 0 where
+  every-path : below p [] ≡ true
+  clear-taken : no (clear []) (row r1 v ∷ row r10 w ∷ []) ≡ 0
+  clear-all : then (clear []) (row r1 v ∷ row r10 w ∷ []) ≡ []
+  clear-zero : no (clear (0 ∷ [])) [] ≡ 3
+  next-first : told (next [] []) (row r1 v ∷ row r10 w ∷ []) ≡ filled 0 3 (r1 ++ replicate 61 0)
+  next-later : told (next [] r1) (row r1 v ∷ row r10 w ∷ []) ≡ filled 0 4 (r10 ++ replicate 60 0)
+  next-last : told (next [] r10) (row r1 v ∷ row r10 w ∷ []) ≡ filled 8 0 room
+  next-none : told (next [] []) [] ≡ filled 8 0 room
+  next-zero : told (next (0 ∷ []) []) [] ≡ filled 3 0 room
+
+pub whole-unit : (p v w : List ℕ) → WholeUnit p v w
+unfolding same before begins letter readsOn wellFormed below without rowsBelow withoutBelow rowsAfter firstKey leastAfter isSome firstNo workLong actQuestions queryQuestions questions actTable tableAfter tableAt foundBy fill accepted refused answerAt plainFirstNo
+whole-unit p v w =
+    record {
+      every-path = refl;
+      clear-taken = refl;
+      clear-all = refl;
+      clear-zero = refl;
+      next-first = refl;
+      next-later = refl;
+      next-last = refl;
+      next-none = refl;
+      next-zero = refl;
     }
 
 -- a clear, and a move, on a table of 64 rows compute quickly too

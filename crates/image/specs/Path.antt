@@ -34,7 +34,7 @@ readsOn done here (b ∷ p) =
 unfoldable pub wellFormed : Pathname → Bool
 wellFormed p = leb (length p) pathLimit && readsOn 0 0 p
 
--- the empty path, which stands before all others, or a well-formed one
+-- The empty path, or a well-formed one. The empty path is no path of the map: it stands before all others, and every path is below it.
 abbrev pub pathOrEmpty : Pathname → Bool
 pathOrEmpty p = same p [] || wellFormed p
 

@@ -2,7 +2,7 @@
 -- Relies on: the plain map's questions, answers and tables. Text is a list of ASCII codes.
 use Rattle.image.specs.Prelude.{ℕ, zero, suc, _+_, _*_, _-_, _/_, _%_, List, [], _∷_, _++_, Bool, false, _||_, cond, Option, none, some, length, take, replicate, ltb, eqb}
 use Rattle.image.specs.Bytes.{same}
-use Rattle.image.specs.Path.{wellFormed, valueLimit}
+use Rattle.image.specs.Path.{pathOrEmpty, valueLimit}
 use Rattle.image.specs.Table.{Row, rowsBelow}
 use Rattle.image.specs.Sound.{isIn}
 use Rattle.image.specs.Calls.{Act, put, drops, clear, move, settle, tidy, get, Call, acts, asks, Answer, number, filled, workPerNode, answerAt, tableAt}
@@ -80,10 +80,10 @@ unfoldable pub exchanged : ℕ → ℕ → List ℕ → List ℕ
 exchanged a b [] = []
 exchanged a b (c ∷ l) = cond (eqb c a) b c ∷ exchanged a b l
 
--- "Paths use / between components": each / is the 00 of a component, and a last 00 follows. A byte 00 in the text is no separator: such a
--- text is that of no path. It stands for the single byte 00, which is malformed and, unlike the empty path, will never be taken by any call.
+-- "Paths use / between components": each / is the 00 of a component, and a last 00 follows. Request S-1: the empty path "as a lone /". A byte
+-- 00 in the text is no separator: such a text is that of no path. It stands for the single byte 00, which, unlike the empty path, no call takes.
 unfoldable pub pathOf : List ℕ → List ℕ
-pathOf text = cond (isIn 0 text) (0 ∷ []) (exchanged slash 0 text ++ (0 ∷ []))
+pathOf text = cond (same text (slash ∷ [])) [] (cond (isIn 0 text) (0 ∷ []) (exchanged slash 0 text ++ (0 ∷ [])))
 
 -- a path as the program prints it: without its last 00, and / for each other
 unfoldable pub pathText : List ℕ → List ℕ
@@ -200,7 +200,7 @@ rowsText (r ∷ t) = rowText r ++ rowsText t
 
 -- "with a malformed path only the refusal"
 unfoldable pub listText : List ℕ → List Row → List ℕ
-listText p t = cond (wellFormed p) (rowsText (rowsBelow p t)) (refusedText 3)
+listText p t = cond (pathOrEmpty p) (rowsText (rowsBelow p t)) (refusedText 3)
 
 -- the work area that the program lends, of the least length, and the buffer that it lends to get
 unfoldable pub area : ℕ → List ℕ

@@ -1,8 +1,8 @@
 -- Laws of a table: what is found after each change of it.
-use Rattle.image.specs.Prelude.{length, ℕ, suc, _+_, _≤_, _≡_, refl, sym, _∙_, List, [], _∷_, _++_, Bool, true, false, cond, none, some, Option·none-ne-some, arith, cases}
+use Rattle.image.specs.Prelude.{length, ℕ, suc, _+_, _≤_, _≡_, refl, sym, ap, _∙_, List, [], _∷_, _++_, Bool, true, false, cond, none, some, Option·none-ne-some, arith, cases}
 use Rattle.image.specs.Bytes.{same, before, begins}
 use Rattle.image.specs.Path.{below}
-use Rattle.image.specs.Table.{Row, find, withRow, without, withoutBelow, putAll, underPrefix, everyKey}
+use Rattle.image.specs.Table.{Row, find, withRow, without, rowsBelow, withoutBelow, putAll, underPrefix, everyKey}
 use Rattle.octets.specs.Order.{same-refl, same-eq, before-not-same, same-append, not-so, same-false, and-left, and-right}
 
 pub find-nil : (q : List ℕ) → find q [] ≡ none
@@ -126,3 +126,14 @@ find-put-other p (r ∷ u) t h = by-key (same p (r .key)) refl (find-put-other p
         → find p (withRow (r .key) (r .value) (putAll u t)) ≡ find p t
     by-key true e ih = absurd (Option·none-ne-some (r .value) (sym h ∙ find-yes p r u e))
     by-key false e ih = find-with-other p (r .key) (r .value) (putAll u t) e ∙ ih (sym (find-no p r u e) ∙ h)
+
+-- "every path is below" the empty one (request S-1): all rows are below it, and a clear of it leaves none
+pub below-empty : (t : List Row) → rowsBelow [] t ≡ t
+unfolding rowsBelow below begins
+below-empty [] = refl
+below-empty (r ∷ t) = ap (λ u. r ∷ u) (below-empty t)
+
+pub clear-empty : (t : List Row) → withoutBelow [] t ≡ []
+unfolding withoutBelow below begins
+clear-empty [] = refl
+clear-empty (r ∷ t) = clear-empty t

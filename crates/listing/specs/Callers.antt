@@ -21,14 +21,14 @@ leave-out true true false qs = refl
 leave-out true false c qs = refl
 leave-out false b c qs = refl
 
--- A step asks 1, 2, 3 and 8, in this order. It is lent no buffer, so 5 is not among them.
+-- A step asks 1, 2, 3 and 8, in this order; the path that it lists may be empty, as next's first. It is lent no buffer, so 5 is not among them.
 pub step-asks : (s below : List ℕ) (p : Listing) → stepNo s below p
-    ≡ firstNo (ask 1 (wholeNodes (length s)) ∷ ask 2 (sound s) ∷ ask 3 (wellFormed below && pathOrEmpty (lastPath p))
+    ≡ firstNo (ask 1 (wholeNodes (length s)) ∷ ask 2 (sound s) ∷ ask 3 (pathOrEmpty below && pathOrEmpty (lastPath p))
     ∷ ask 8 (isSome (leastAfter below (lastPath p) (tableOf s))) ∷ [])
 unfolding stepNo pathsFit bufferLimit foundBy blank
 step-asks s below p =
     number-is s (next below (lastPath p)) blank
-    ∙ leave-out (wholeNodes (length s)) (sound s) (wellFormed below && pathOrEmpty (lastPath p)) _
+    ∙ leave-out (wholeNodes (length s)) (sound s) (pathOrEmpty below && pathOrEmpty (lastPath p)) _
 
 zero-malformed : wellFormed (0 ∷ []) ≡ false
 unfolding wellFormed readsOn letter
@@ -42,7 +42,7 @@ over-refused s below p h w e =
     ∙ third rest
   where
     fits : List ℕ → Bool
-    fits q = wellFormed below && pathOrEmpty q
+    fits q = pathOrEmpty below && pathOrEmpty q
 
     rest : List Question
     rest = ask 8 (isSome (leastAfter below (lastPath p) (tableOf s))) ∷ []
@@ -51,8 +51,8 @@ over-refused s below p h w e =
     and-no true y f = f
     and-no false y f = refl
 
-    no-path : wellFormed below && pathOrEmpty (0 ∷ []) ≡ false
-    no-path = and-no (wellFormed below) _ (unfold same in zero-malformed)
+    no-path : pathOrEmpty below && pathOrEmpty (0 ∷ []) ≡ false
+    no-path = and-no (pathOrEmpty below) _ (unfold same in zero-malformed)
 
     third : (qs : List Question) → firstNo (ask 1 true ∷ ask 2 true ∷ ask 3 false ∷ qs) ≡ 3
     third qs = unfold firstNo in refl

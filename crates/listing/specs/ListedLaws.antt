@@ -1,5 +1,5 @@
--- A listing that steps until 8 has given every path below, each once, rising: the table's rows below the path, in the table's order.
--- Relies on: the table of a sound image rises, its paths are well formed (laws/Formed); the questions of a step.
+-- A listing that steps until 8 has given every path below, each once, rising: the table's rows below the path, in the table's order; and below the
+-- empty path all of them. Relies on: the table of a sound image rises, its paths are well formed (laws/Formed); the questions of a step.
 use Rattle.image.specs.Prelude.{ℕ, _≡_, refl, sym, ap, ap₂, _∙_, List, [], _∷_, _++_, append-nil, Bool, true, false, false≢true, Option, none, some, arith}
 use Rattle.image.specs.Bytes.{before, begins}
 use Rattle.image.specs.Path.{below as isBelow}
@@ -11,6 +11,7 @@ use Rattle.image.specs.declared.Listing.{Listing}
 use Rattle.image.specs.Listing.{lastPath, stepNo, pathAt, Steps}
 use Rattle.listing.specs.Callers.{step-asks}
 use Rattle.listing.specs.Listed.{Gives, stop, step, pathsOf}
+use Rattle.laws.specs.Tables.{below-empty}
 use Rattle.laws.specs.Follow.{leads-on, table-rises}
 use Rattle.laws.specs.Formed.{rows-follow}
 
@@ -171,3 +172,7 @@ module _ (s below : List ℕ) where
   all-given {p} {p′} begun g h =
       rest-given g h ∙ ap (λ (q : List ℕ). pathsOf (rowsAfter q (rowsBelow below (tableOf s)))) begun
       ∙ ap pathsOf (rows-follow s (ended s below p′ h .is-sound) below)
+
+-- below the empty path that is the whole table
+pub whole-given : (s : List ℕ) {p p′ : Listing} {ks : List (List ℕ)} → lastPath p ≡ [] → Gives s [] p ks p′ → stepNo s [] p′ ≡ 8 → ks ≡ pathsOf (tableOf s)
+whole-given s begun g h = all-given s [] begun g h ∙ ap pathsOf (below-empty (tableOf s))

@@ -1,5 +1,5 @@
 // make: an empty store, of node 0, one empty leaf as the root, and zeros, which is the packed form of the empty map; and the first two of these over
-// any store. Relies on node (question 1, the writer) and on octets (zeros).
+// any store, which is how clear makes a store empty. Relies on node (question 1, the writer) and on octets (zeros).
 use image::Outcome;
 use image::Refusal;
 ghost use Rattle.image.specs.Prelude.{_≡_, true, length};

@@ -1,6 +1,7 @@
 -- The code's shape as the definition's, and each case of a byte more.
-use Rattle.image.specs.Prelude.{ℕ, suc, _+_, _<_, _≤_, _≡_, _∙_, List, [], Bool, arith, length, drop, getD, drop-of-length-le, drop-cons, lt-ltb, le-ltb, le-leb, lt-leb, eq-eqb, ne-eqb, add-one}
-use Rattle.image.specs.Path.{letter, wellFormed}
+use Rattle.image.specs.Prelude.{ℕ, suc, _+_, _<_, _≤_, _≡_, refl, _∙_, List, [], _∷_, Bool, true, arith, length, drop, getD, drop-of-length-le, drop-cons, lt-ltb, le-ltb, le-leb, lt-leb, eq-eqb, ne-eqb, add-one}
+use Rattle.image.specs.Bytes.{same}
+use Rattle.image.specs.Path.{letter, wellFormed, pathOrEmpty}
 use Rattle.path.specs.Shape as defined
 use Rattle.path.specs.declared.Shape.{Shape}
 
@@ -70,3 +71,14 @@ feed-end sh s i answer h inv = rw (drop-of-length-le s h) at inv
 pub path-is : (r : Bool) (p : List ℕ) → r ≡ defined.goesOn (shapeIs (Shape.Partway 0 0 0)) p → r ≡ wellFormed p
 unfolding shapeIs defined.feed
 path-is r p e = e ∙ defined.shape-is [] p
+
+-- the empty path is one of no bytes, and no other has none
+pub none-fed : (p : List ℕ) → length p ≡ 0 → true ≡ pathOrEmpty p
+unfolding same
+none-fed [] h = refl
+none-fed (b ∷ p) h = absurd (omega arith)
+
+pub some-fed : (r : Bool) (p : List ℕ) → (length p ≡ 0 → ⊥) → r ≡ wellFormed p → r ≡ pathOrEmpty p
+unfolding same
+some-fed r [] h e = absurd (h refl)
+some-fed r (b ∷ p) h e = e

@@ -4,7 +4,7 @@ ghost use Rattle.image.specs.Prelude.{_≡_, _<_, _≤_, length};
 ghost use Rattle.path.specs.Shape as defined;
 ghost use Rattle.path.specs.Fed.{shapeIs};
 ghost use Rattle.path.specs.Reads.{Reads};
-ghost use Rattle.image.specs.Path.{readsOn, wellFormed};
+ghost use Rattle.image.specs.Path.{readsOn, wellFormed, pathOrEmpty};
 
 // After some bytes: no path begins so; or whole components, bytes of the next one, and bytes in all.
 pub enum Shape {
@@ -157,4 +157,14 @@ pub fn is_path(s: &[u8]) -> bool
     ensures { λ r. ⌜ r ≡ wellFormed (now (s .entry)) ⌝ }
 {
     goes_on(Shape::Partway(0, 0, 0), s)
+}
+
+// Whether s is the empty path or a well-formed one.
+pub fn is_path_or_empty(s: &[u8]) -> bool
+    ensures { λ r. ⌜ r ≡ pathOrEmpty (now (s .entry)) ⌝ }
+{
+    if s.len() == 0 {
+        return true;
+    }
+    is_path(s)
 }

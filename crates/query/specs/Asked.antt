@@ -11,10 +11,10 @@ use Rattle.image.specs.declared.Refusal.{Refusal}
 use Rattle.image.specs.declared.Found.{Found}
 use Rattle.octets.specs.Put.{put}
 
--- question 3 of a query: its paths are well formed
+-- question 3 of a query: its paths are well formed; next's may be empty
 unfoldable pub pathsFit : Query → Bool
 pathsFit (get p) = wellFormed p
-pathsFit (next p q) = wellFormed p && pathOrEmpty q
+pathsFit (next p q) = pathOrEmpty p && pathOrEmpty q
 
 -- question 5: how long its buffer must be
 unfoldable pub bufferLimit : Query → ℕ

@@ -1,7 +1,6 @@
 -- What the readers hand to get and next, in the words of the questions.
-use Rattle.image.specs.Prelude.{ℕ, _-_, _<_, _≤_, _≡_, refl, sym, ap, subst, _∙_, List, [], _∷_, Bool, true, false, none, some, arith, length, take, drop, length-drop, length-take-le}
-use Rattle.image.specs.Bytes.{same}
-use Rattle.image.specs.Path.{wellFormed, valueLimit}
+use Rattle.image.specs.Prelude.{ℕ, _-_, _<_, _≤_, _≡_, refl, sym, ap, subst, _∙_, List, Bool, true, false, none, some, arith, length, take, drop, length-drop, length-take-le}
+use Rattle.image.specs.Path.{wellFormed, pathOrEmpty, valueLimit}
 use Rattle.image.specs.Table.{find, leastAfter}
 use Rattle.image.specs.Sound.{sound, valueIn, tableOf}
 use Rattle.image.specs.Calls.{get, next, foundBy}
@@ -56,19 +55,13 @@ unfolding foundBy foundIn
 value-absent s p r ok f e = sym (means-table s ok p) ∙ sym (f .meant) ∙ ap (foundIn s) e
 
 -- questions 3 and 5 of a next
-pub next-bad : (p q : List ℕ) (x : Bool) → x ≡ wellFormed p → x ≡ false → false ≡ pathsFit (next p q)
+pub next-bad : (p q : List ℕ) (x : Bool) → x ≡ pathOrEmpty p → x ≡ false → false ≡ pathsFit (next p q)
 unfolding pathsFit
 next-bad p q x e f = rw (sym e ∙ f)
 
-pub next-first : (p q : List ℕ) (x : Bool) → x ≡ wellFormed p → x ≡ true → length q ≡ 0 → true ≡ pathsFit (next p q)
-unfolding pathsFit same
-next-first p [] x e f h = rw (sym e ∙ f)
-next-first p (b ∷ q) x e f h = absurd (omega arith)
-
-pub next-second : (p q : List ℕ) (x y : Bool) → x ≡ wellFormed p → x ≡ true → (length q ≡ 0 → ⊥) → y ≡ wellFormed q → y ≡ pathsFit (next p q)
-unfolding pathsFit same
-next-second p [] x y e f h g = absurd (h refl)
-next-second p (b ∷ q) x y e f h g = rw (sym e ∙ f) g
+pub next-second : (p q : List ℕ) (x y : Bool) → x ≡ pathOrEmpty p → x ≡ true → y ≡ pathOrEmpty q → y ≡ pathsFit (next p q)
+unfolding pathsFit
+next-second p q x y e f g = rw (sym e ∙ f) g
 
 pub next-short : (p q buffer : List ℕ) → length buffer < 64 → length buffer < bufferLimit (next p q)
 unfolding bufferLimit

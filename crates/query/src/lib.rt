@@ -50,17 +50,14 @@ pub fn get(store: &[u8], path: &[u8], buffer: &mut [u8]) -> Found
     get_fit(store, path, buffer)
 }
 
-// Whether next's paths are well formed; the second may be empty.
+// Whether next's paths are well formed; each may be empty.
 fn paths_fit(path: &[u8], after: &[u8]) -> bool
     ensures { λ r. ⌜ r ≡ pathsFit (next (now (path .entry)) (now (after .entry))) ⌝ }
 {
-    if !path::is_path(path) {
+    if !path::is_path_or_empty(path) {
         return false;
     }
-    if after.len() == 0 {
-        return true;
-    }
-    path::is_path(after)
+    path::is_path_or_empty(after)
 }
 
 // next, on a store that is fit.

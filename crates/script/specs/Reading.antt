@@ -14,20 +14,26 @@ pub record Front (bytes : List ℕ) (r : ℕ) (buffer : List ℕ) : Type 0 where
   pub within : r ≤ length buffer
 
 -- A PATH
-pub no-path : (text : List ℕ) (k : ℕ) (buffer : List ℕ) → k ≡ upTo 0 text → k < length text → length text < length buffer → Front (pathOf text) 1 (set buffer 0 0)
-unfolding pathOf
-no-path text k buffer e h l =
-    let z : isIn 0 text ≡ true = in-found 0 text (omega arith) in
-    let n = length-set buffer 0 0 in
-    record { is = set-next buffer 0 0 (omega arith) ∙ rw z refl; within = omega arith }
+module _ (text : List ℕ) (x : Bool) (x-is : x ≡ same text (slash ∷ [])) where
+  pub empty-path : (buffer : List ℕ) → x ≡ true → Front (pathOf text) 0 buffer
+  unfolding pathOf
+  empty-path buffer f = record { is = rw (sym x-is ∙ f) refl; within = omega arith }
 
-pub path-read : (text : List ℕ) (k : ℕ) (buffer : List ℕ) (end : ℕ) (buffer₁ : List ℕ) → k ≡ upTo 0 text → length text ≤ k
-    → Wrote buffer 0 (exchanged slash 0 text) end buffer₁ → end < length buffer₁ → Front (pathOf text) (end + 1) (set buffer₁ end 0)
-unfolding pathOf
-path-read text k buffer end buffer₁ e h w l =
-    let z : isIn 0 text ≡ false = in-none 0 text (omega arith) in
-    let n = length-set buffer₁ end 0 in
-    record { is = set-next buffer₁ end 0 l ∙ ap (λ b. b ++ (0 ∷ [])) (w .bytes) ∙ rw z refl; within = omega arith }
+  module _ (x-no : x ≡ false) (k : ℕ) (buffer : List ℕ) (k-is : k ≡ upTo 0 text) where
+    pub no-path : k < length text → length text < length buffer → Front (pathOf text) 1 (set buffer 0 0)
+    unfolding pathOf
+    no-path h l =
+        let z : isIn 0 text ≡ true = in-found 0 text (omega arith) in
+        let n = length-set buffer 0 0 in
+        record { is = set-next buffer 0 0 (omega arith) ∙ rw (sym x-is ∙ x-no, z) refl; within = omega arith }
+
+    pub path-read : (end : ℕ) (buffer₁ : List ℕ) → length text ≤ k → Wrote buffer 0 (exchanged slash 0 text) end buffer₁ → end < length buffer₁
+        → Front (pathOf text) (end + 1) (set buffer₁ end 0)
+    unfolding pathOf
+    path-read end buffer₁ h w l =
+        let z : isIn 0 text ≡ false = in-none 0 text (omega arith) in
+        let n = length-set buffer₁ end 0 in
+        record { is = set-next buffer₁ end 0 l ∙ ap (λ b. b ++ (0 ∷ [])) (w .bytes) ∙ rw (sym x-is ∙ x-no, z) refl; within = omega arith }
 
 pub path-end : (text buffer : List ℕ) (end : ℕ) (buffer₁ : List ℕ) → Wrote buffer 0 (exchanged slash 0 text) end buffer₁ → end ≡ length text
 path-end text buffer end buffer₁ w = let n = exchanged-length slash 0 text in omega (arith, w .ends)

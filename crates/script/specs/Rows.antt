@@ -148,7 +148,7 @@ walk-starts s p out last h =
     record { text = ap rowsText a; room = omega arith; place = refl }
 
 -- next's questions 3 and 5
-next-asked : (p q : List ℕ) → wellFormed p ≡ true → pathOrEmpty q ≡ true → pathsFit (next p q) ≡ true
+next-asked : (p q : List ℕ) → pathOrEmpty p ≡ true → pathOrEmpty q ≡ true → pathsFit (next p q) ≡ true
 unfolding pathsFit
 next-asked p q f e = rw (f, e) refl
 
@@ -169,7 +169,7 @@ unfolding firstKey
 none-ahead [] e = refl
 none-ahead (r ∷ rs) e = let o : _≡_ {A = ℕ} 0 1 = cc in absurd (omega arith)
 
-module _ (s p q : List ℕ) (at : ℕ) (out buffer : List ℕ) (h : Held s out) (formed : wellFormed p ≡ true) (w : Walk s p q at out) (long : 64 ≤ length buffer)
+module _ (s p q : List ℕ) (at : ℕ) (out buffer : List ℕ) (h : Held s out) (formed : pathOrEmpty p ≡ true) (w : Walk s p q at out) (long : 64 ≤ length buffer)
     (f : Found) (buffer′ : List ℕ) (m : Meets s (asks (next p q) buffer) (foundAnswer f buffer′) s []) where
   -- next refused: no row is left
   pub walk-ends : (r : Refusal) → f ≡ Found.Refused r → (end : ℕ) (out′ : List ℕ) → Wrote out at endText end out′ → Wrote out 0 (rowsText (rowsBelow p (tableOf s))) end out′
@@ -266,12 +266,12 @@ row-refused s path out buffer f buffer′ r h x l m e =
     false≢true (ap isSome (sym z) ∙ x .there)
 
 -- LIST
-pub list-answered : (s p out₁ : List ℕ) (r : ℕ) (out′ out : List ℕ) → Held s out → wellFormed p ≡ true → Wrote out₁ 0 (rowsText (rowsBelow p (tableOf s))) r out′ → Answered s (listing p) r out′ s
+pub list-answered : (s p out₁ : List ℕ) (r : ℕ) (out′ out : List ℕ) → Held s out → pathOrEmpty p ≡ true → Wrote out₁ 0 (rowsText (rowsBelow p (tableOf s))) r out′ → Answered s (listing p) r out′ s
 unfolding commandText commandTable listText
 list-answered s p out₁ r out′ out h f w =
     record { text = w .bytes ∙ rw f refl; fits = wrote-within out₁ (rowsText (rowsBelow p (tableOf s))) r out′ w; table = refl; still-sound = h .is-sound; size = refl }
 
-pub list-refused : (s p out₁ : List ℕ) (r : ℕ) (out′ out : List ℕ) → Held s out → wellFormed p ≡ false → Wrote out₁ 0 (refusedText 3) r out′ → Answered s (listing p) r out′ s
+pub list-refused : (s p out₁ : List ℕ) (r : ℕ) (out′ out : List ℕ) → Held s out → pathOrEmpty p ≡ false → Wrote out₁ 0 (refusedText 3) r out′ → Answered s (listing p) r out′ s
 unfolding commandText commandTable listText
 list-refused s p out₁ r out′ out h f w =
     record { text = w .bytes ∙ rw f refl; fits = wrote-within out₁ (refusedText 3) r out′ w; table = refl; still-sound = h .is-sound; size = refl }

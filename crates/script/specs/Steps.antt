@@ -1,7 +1,7 @@
 -- The steps of the writers and of the answers: one law for each way out of the code.
 use Rattle.image.specs.Prelude.{ℕ, _+_, _*_, _-_, _/_, _%_, _<_, _≤_, _≡_, sym, ap, ap₂, _∙_, List, [], _∷_, _++_, Bool, true, false, not, Option, none, some, arith, length, take, drop, length-take, lt-ltb, le-ltb, eq-eqb, ne-eqb, not-true, not-false}
 use Rattle.image.specs.Bytes.{same}
-use Rattle.image.specs.Path.{wellFormed, valueLimit}
+use Rattle.image.specs.Path.{pathOrEmpty, valueLimit}
 use Rattle.image.specs.Table.{rowsBelow}
 use Rattle.image.specs.Sound.{tableOf}
 use Rattle.image.specs.Calls.{put, drops, clear, move, settle, tidy, acts, asks, get}
@@ -213,20 +213,20 @@ module _ (s out : List ℕ) (h : Held s out) (text : List ℕ) (n : ℕ) (buffer
   get-found g value m out₁ r out′ w =
       answered-as s _ _ r out′ s (ap getting (front-part (pathOf text) n buffer f)) (get-answered s out h _ g value out₁ r out′ m w)
 
-  -- list, by whether its path is well formed
-  pub list-bad-path : (x : Bool) → x ≡ wellFormed (take (n - 0) (drop 0 buffer)) → not x ≡ true → (out₁ : List ℕ) (r : ℕ) (out′ : List ℕ) → Wrote out₁ 0 (refusedText 3) r out′
+  -- list, by whether its path is well formed or empty
+  pub list-bad-path : (x : Bool) → x ≡ pathOrEmpty (take (n - 0) (drop 0 buffer)) → not x ≡ true → (out₁ : List ℕ) (r : ℕ) (out′ : List ℕ) → Wrote out₁ 0 (refusedText 3) r out′
       → Answered s (listing (pathOf text)) r out′ s
   list-bad-path x e g out₁ r out′ w =
-      list-refused s (pathOf text) out₁ r out′ out h (ap wellFormed (sym (front-part (pathOf text) n buffer f)) ∙ sym e ∙ not-true x g) w
+      list-refused s (pathOf text) out₁ r out′ out h (ap pathOrEmpty (sym (front-part (pathOf text) n buffer f)) ∙ sym e ∙ not-true x g) w
 
-  pub list-rows : (x : Bool) → x ≡ wellFormed (take (n - 0) (drop 0 buffer)) → not x ≡ false → (out₁ : List ℕ) (r : ℕ) (out′ : List ℕ)
+  pub list-rows : (x : Bool) → x ≡ pathOrEmpty (take (n - 0) (drop 0 buffer)) → not x ≡ false → (out₁ : List ℕ) (r : ℕ) (out′ : List ℕ)
       → Wrote out₁ 0 (rowsText (rowsBelow (take (n - 0) (drop 0 buffer)) (tableOf s))) r out′ → Answered s (listing (pathOf text)) r out′ s
   list-rows x e g out₁ r out′ w =
       let z : take (n - 0) (drop 0 buffer) ≡ pathOf text = front-part (pathOf text) n buffer f in
-      list-answered s (pathOf text) out₁ r out′ out h (ap wellFormed (sym z) ∙ sym e ∙ not-false x g)
+      list-answered s (pathOf text) out₁ r out′ out h (ap pathOrEmpty (sym z) ∙ sym e ∙ not-false x g)
       (wrote-as out₁ 0 _ _ r out′ (ap (λ p. rowsText (rowsBelow p (tableOf s))) z) w)
 
-pub list-formed : (x : Bool) (p : List ℕ) → x ≡ wellFormed p → not x ≡ false → wellFormed p ≡ true
+pub list-formed : (x : Bool) (p : List ℕ) → x ≡ pathOrEmpty p → not x ≡ false → pathOrEmpty p ≡ true
 list-formed x p e g = sym e ∙ not-false x g
 
 -- a value that does not read

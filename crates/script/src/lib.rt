@@ -7,7 +7,7 @@ pub mod writing;
 use image::Found;
 use reading::Value;
 ghost use Rattle.image.specs.Prelude.{_+_, _<_, _≤_, _≡_, true, length};
-ghost use Rattle.image.specs.Path.{wellFormed};
+ghost use Rattle.image.specs.Path.{pathOrEmpty};
 ghost use Rattle.image.specs.Table.{rowsBelow};
 ghost use Rattle.image.specs.Sound.{tableOf};
 ghost use Rattle.image.specs.Calls.{drops, clear, move};
@@ -37,7 +37,7 @@ fn put_row(store: &[u8], path: &[u8], out: &mut [u8], at: usize) -> usize
 
 // The line of each path below the given one, and the end.
 fn put_rows(store: &[u8], path: &[u8], out: &mut [u8]) -> usize
-    requires { ⌜ Held (now store) (now out) × (wellFormed (now path) ≡ true) ⌝ }
+    requires { ⌜ Held (now store) (now out) × (pathOrEmpty (now path) ≡ true) ⌝ }
     ensures { λ r. ⌜ Wrote (now (out .entry)) 0 (rowsText (rowsBelow (now (path .entry)) (tableOf (now (store .entry))))) r (now (out .exit)) ⌝ }
 {
     let mut last = [0u8; 64];
@@ -112,7 +112,7 @@ fn answer_list(store: &[u8], text: &[u8], out: &mut [u8]) -> usize
 {
     let mut path = [0u8; 256];
     let n = reading::read_path(text, &mut path);
-    if !path::is_path(&path[0..n]) {
+    if !path::is_path_or_empty(&path[0..n]) {
         return writing::put_refused(3, out);
     }
     put_rows(store, &path[0..n], out)

@@ -19,11 +19,14 @@ pub fn find_byte(s: &[u8], b: u8) -> usize
     i
 }
 
-// The path that a text stands for, at the front of the buffer: its length.
+// The path that a text stands for, at the front of the buffer: its length, which is 0 for a lone `/`.
 pub fn read_path(text: &[u8], path: &mut [u8]) -> usize
     requires { ⌜ length (now text) < length (now path) ⌝ }
     ensures { λ r. ⌜ Front (pathOf (now (text .entry))) r (now (path .exit)) ⌝ }
 {
+    if octets::equal(text, b"/") {
+        return 0;
+    }
     if find_byte(text, 0) < text.len() {
         path[0] = 0; // a byte 00 in the text: the path of that byte alone, which no call takes
         return 1;

@@ -1,6 +1,7 @@
 // Every byte of small images, changed in several ways: check must find unsound what the second program finds unsound, and count what it
-// counts where the image is sound all the same.
+// counts where the image is sound all the same. Such an image is read whole too, and some of the unsound ones.
 
+use crate::reading;
 use second::contract::{check_answer, image_judged};
 use second::examples;
 use second::limits::NODE;
@@ -12,7 +13,11 @@ use second::subject::Subject;
 pub struct Stats {
     pub sound: usize,
     pub unsound: usize,
+    pub read: reading::Stats,
 }
+
+/// How many changed images that are unsound there are for each one that is read.
+const UNSOUND_A_READING: usize = 64;
 
 /// Changes every byte of node 0 and of the reachable nodes of each example. An error names the byte.
 pub fn run(subject: &mut dyn Subject) -> Result<Stats, String> {
@@ -55,6 +60,10 @@ fn changed(
         match expected.accepted() {
             true => stats.sound += 1,
             false => stats.unsound += 1,
+        }
+        if expected.accepted() || stats.unsound.is_multiple_of(UNSOUND_A_READING) {
+            let read = reading::read(subject, image, &mut stats.read);
+            read.map_err(|what| format!("byte {at} made {value}: {what}"))?;
         }
     }
     image[at] = byte;

@@ -1,4 +1,5 @@
-// Calls of every kind on the deepest, widest and fullest images, each judged by the contract: generated images are seldom so large.
+// Calls of every kind on the deepest, widest and fullest images, clears of everything among them, each judged by the contract: generated
+// images are seldom so large.
 
 use crate::stack::deep_images;
 use second::calls::{self, Known};
@@ -6,9 +7,10 @@ use second::contract::check_same;
 use second::moves::Kind;
 use second::plain::{Answer, Call};
 use second::rng::Rng;
-use second::script::witnessed;
+use second::script::tried;
 use second::stats::Stats;
 use second::subject::Subject;
+use second::whole::Unit;
 use second::{pack, sound};
 
 /// The most calls on what a call has left.
@@ -20,6 +22,7 @@ pub fn run(subject: &mut dyn Subject, seed: u64, lists: usize) -> Result<Stats, 
     for (name, image) in deep_images() {
         let mut rng = Rng::new(seed);
         let mut listed = (0..lists).try_for_each(|_| list(subject, &mut rng, &image, &mut stats));
+        listed = listed.and_then(|()| wipe(subject, &mut rng, &image, &mut stats));
         listed = listed.and_then(|()| same(subject, image));
         listed.map_err(|what| format!("{name}, seed {seed}: {what}"))?;
     }
@@ -36,11 +39,23 @@ fn list(
     let mut store = image.to_vec();
     for _ in 0..rng.between(1, 1 + LATER) {
         let call = next_call(rng, &Known::of(&store));
-        let work = rng.bytes(call.work().unwrap_or(0));
-        let made = witnessed(subject, &mut store, &call, &work)?;
-        stats.count_made(&call, &made);
+        tried(subject, rng, &mut store, &call, stats)?;
     }
     Ok(())
+}
+
+fn wipe(
+    subject: &mut dyn Subject,
+    rng: &mut Rng,
+    image: &[u8],
+    stats: &mut Stats,
+) -> Result<(), String> {
+    let mut unit = Unit {
+        subject,
+        rng,
+        stats,
+    };
+    unit.try_on(image)
 }
 
 /// A move half the time: it changes the most.

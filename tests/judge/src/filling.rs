@@ -1,4 +1,5 @@
-// Fills stores to n paths, overwrites, clears and refills them: no call refuses but by its rule, and the map is right at each milestone.
+// Fills stores to n paths, overwrites, clears and refills them, after a clear of everything too: no call refuses but by its rule, and the map
+// is right at each milestone.
 
 use crate::Library;
 use second::sound::judge;
@@ -20,7 +21,7 @@ pub fn run(n: usize) -> Result<usize, String> {
         filling.clear(&closure(0), 0)?;
         filling.holds(n - n.div_ceil(CLOSURES), round + 10)?;
         filling.fill(n, round + 20)?;
-        (0..CLOSURES).try_for_each(|c| filling.clear(&closure(c), 0))?;
+        filling.empty(round)?;
         filling.holds(0, 0)?;
     }
     Ok(filling.calls)
@@ -62,6 +63,14 @@ impl Filling {
         self.calls += 1;
         let answer = Library.clear(&mut self.store, path, &mut self.work).0;
         expect(answer, number, "clear")
+    }
+
+    /// Clears everything at once, and in the next round one closure after the other.
+    fn empty(&mut self, round: u8) -> Result<(), String> {
+        match round {
+            0 => self.clear(&[], 0),
+            _ => (0..CLOSURES).try_for_each(|c| self.clear(&closure(c), 0)),
+        }
     }
 
     /// Puts the first n paths with this byte.

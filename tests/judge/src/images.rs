@@ -1,5 +1,5 @@
-// The images that are measured, all sound: full stores, settled and with messages waiting in the root, and trees of seven and eight
-// levels.
+// The images that are measured, all sound: full stores, settled and with messages waiting in the root, one under a clear of everything,
+// and trees of seven and eight levels.
 
 use second::limits::*;
 use second::path::well_formed;
@@ -22,6 +22,17 @@ pub fn settled(n: usize) -> Vec<u8> {
 pub fn buffered(n: usize) -> Vec<u8> {
     full_root(&settled(n), |i, path| match i % 2 {
         0 => Message::Drop { path },
+        _ => Message::Put {
+            path,
+            value: Vec::new(),
+        },
+    })
+}
+
+/// The same tree below a root in which a clear of everything waits, and then as many puts as fit.
+pub fn cleared(n: usize) -> Vec<u8> {
+    full_root(&settled(n), |i, path| match i {
+        0 => Message::Clear { path: Vec::new() },
         _ => Message::Put {
             path,
             value: Vec::new(),

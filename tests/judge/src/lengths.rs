@@ -1,6 +1,7 @@
 // Every call on stores of lengths near the least and the most, with work areas of just the length that is asked for, one byte less and
 // one byte more, and buffers so too: each is judged by the contract.
 
+use second::calls::clear_all;
 use second::contract::check_make;
 use second::limits::*;
 use second::plain::{Answer, Call};
@@ -43,8 +44,9 @@ fn on_length(subject: &mut dyn Subject, length: usize, stats: &mut Stats) -> Res
     check_make(&before, answer, &store)?;
     stats.count("make", answer);
     let changes = near(WORK_PER_NODE * (length / NODE)).flat_map(changes);
-    let reads = near(GET_BUFFER).map(get).chain(near(NEXT_BUFFER).map(next));
-    let mut calls = changes.chain(reads);
+    let gets = near(GET_BUFFER).flat_map(gets);
+    let nexts = near(NEXT_BUFFER).flat_map(nexts);
+    let mut calls = changes.chain(gets).chain(nexts);
     calls.try_for_each(|call| one(subject, &mut store, &call, stats))
 }
 
@@ -60,19 +62,20 @@ fn one(
     Ok(())
 }
 
-fn get(length: usize) -> Call {
-    Call::Get {
-        path: b"r1\0a\0".to_vec(),
+/// Of a path that is there, and of the empty one.
+fn gets(length: usize) -> [Call; 2] {
+    [&b"r1\0a\0"[..], b""].map(|path| Call::Get {
+        path: path.to_vec(),
         buffer: vec![0xA5; length],
-    }
+    })
 }
 
-fn next(length: usize) -> Call {
-    Call::Next {
-        path: b"r1\0".to_vec(),
+fn nexts(length: usize) -> [Call; 2] {
+    [&b"r1\0"[..], b""].map(|path| Call::Next {
+        path: path.to_vec(),
         after: Vec::new(),
         buffer: vec![0xA5; length],
-    }
+    })
 }
 
 /// Every call that is lent a work area; the path a is there at the end.
@@ -101,6 +104,8 @@ fn changes(work: usize) -> Vec<Call> {
         Call::Heal { node: 1, work },
         Call::Settle { work },
         Call::Tidy { work },
+        put(b"r3\0c\0"),
+        clear_all(work),
         put(b"r1\0a\0"),
     ]
 }

@@ -1,28 +1,31 @@
 // Judges the static library: `judge [long] [SEED [CASES]]`, or `judge stack` for the stack alone. By the paper's cases, every combination
-// of arguments, lists of calls, every corner of the grid, full stores, the deepest images and the lengths that are just allowed; by reading
-// whole images and changing every byte of small ones; by batches beside the same calls one by one; by arrays that overlap and arrays
-// between guard pages; by filling stores to the last path; then the stack. It prints what was tried, and fails where anything was not. A
-// failure names the seed and the case.
+// of arguments, lists of calls, every corner of the grid, clears of everything, full stores, the deepest images and the lengths that are just
+// allowed; by reading whole images and changing every byte of small ones; by batches beside the same calls one by one; by paths that are
+// NULL, arrays that overlap and arrays between guard pages; by filling stores to the last path; then the stack. It prints what was tried, and
+// fails where anything was not. A failure names the seed and the case.
 #![deny(warnings)]
 
 use judge::guarded::Guarded;
+use judge::nulls::Nulls;
 use judge::{damage, deep, filling, lengths, moving, overlaps, reading, stack, Library};
 use second::stats::Stats;
 use second::subject::Subject;
-use second::{batches, grid, paper, questions};
+use second::{batches, grid, paper, questions, whole};
 use std::process::ExitCode;
 
 const SEED: u64 = 20261115;
-/// How many lists of calls are made; a round of the grid for each so many lists, and one of reading.
+/// How many lists of calls are made; a round of the grid for each so many lists, one of reading, and one of clears of everything.
 const CASES: usize = 2400;
 const CASES_A_GRID: usize = 400;
 const CASES_A_READING: usize = 800;
+const CASES_A_WIPE: usize = 800;
 /// How many lists of calls for each batch store, for each list on a deep image, and for each image with arrays that overlap.
 const CASES_A_BATCH: usize = 4;
 const CASES_A_DEEP_LIST: usize = 200;
 const CASES_AN_OVERLAP: usize = 40;
-/// How many lists of calls for each one that is made again between guard pages.
+/// How many lists of calls for each one that is made again between guard pages, and for each one with NULL for an empty path.
 const CASES_A_GUARDED: usize = 8;
+const CASES_A_NULL: usize = 40;
 /// How many times as much a long run does.
 const LONG: usize = 10;
 
@@ -75,6 +78,7 @@ fn judged(extent: &Extent) -> Result<(), String> {
     for n in [32, 64, 1024] {
         println!("{n} nodes filled twice: {} calls", filling::run(n)?);
     }
+    nulls_judged(seed, cases.div_ceil(CASES_A_NULL))?;
     guarded_judged(seed, cases.div_ceil(CASES_A_GUARDED))?;
     stack_judged()?;
     match &stats.missing(Library.capabilities())[..] {
@@ -94,6 +98,7 @@ fn calls_judged(extent: &Extent) -> Result<Stats, String> {
     let mut stats = questions::run(&mut Library)?;
     stats += &second::judge::run(&mut Library, seed, cases)?;
     stats += &grid::run(&mut Library, seed, cases.div_ceil(CASES_A_GRID))?;
+    stats += &whole::run(&mut Library, seed, cases.div_ceil(CASES_A_WIPE))?;
     for n in [32, 64, 300, 1024] {
         stats += &moving::run(&mut Library, seed, n)?;
     }
@@ -102,12 +107,23 @@ fn calls_judged(extent: &Extent) -> Result<Stats, String> {
     Ok(stats)
 }
 
+/// Every combination of arguments and some lists of calls, with NULL for each path without a byte.
+fn nulls_judged(seed: u64, cases: usize) -> Result<(), String> {
+    let told = |what| format!("with NULL for an empty path: {what}");
+    let mut stats = questions::run(&mut Nulls).map_err(told)?;
+    stats += &second::judge::run(&mut Nulls, !seed, cases).map_err(told)?;
+    let empty: usize = stats.empty.values().sum();
+    println!("calls with NULL for an empty path: {empty}");
+    Ok(())
+}
+
 /// Calls and batches between guard pages. A byte touched outside ends the run here by a signal.
 fn guarded_judged(seed: u64, cases: usize) -> Result<(), String> {
     println!("between guard pages, seed {seed}, {cases} lists:");
     let mut guarded = Guarded::default();
     let mut stats = second::judge::run(&mut guarded, !seed, cases)?;
     stats += &lengths::run(&mut guarded)?;
+    stats += &whole::run(&mut guarded, !seed, cases.div_ceil(CASES_A_WIPE))?;
     let read = reading::run(&mut guarded, !seed, cases.div_ceil(CASES_A_READING))?;
     let batches = batches::run(&mut guarded, !seed, cases / CASES_A_BATCH)?;
     let calls = stats.calls + read.calls;

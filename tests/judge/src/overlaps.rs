@@ -1,7 +1,8 @@
 // Arrays that are only read may overlap each other, as include/splicelog.h says: one store as both of same's, a path that lies within the
 // store, and two strings in one array. Each such call must do what it does with copies, which is judged elsewhere.
 
-use crate::{apart, splicelog_get, splicelog_next, splicelog_same, Library};
+use crate::raw::{self, apart, Text};
+use crate::{splicelog_same, Library};
 use second::calls::Known;
 use second::contract::same_answer;
 use second::limits::*;
@@ -45,13 +46,14 @@ fn same(image: &[u8]) -> Result<(), &'static str> {
     Ok(())
 }
 
-/// Strings within the store: present paths where one stands whole there, and any bytes.
+/// Strings within the store: present paths where one stands whole there, any bytes, and none.
 fn strings_within<'a>(rng: &mut Rng, image: &'a [u8]) -> Vec<&'a [u8]> {
     let known = Known::of(image);
     let found = |path: &Vec<u8>| image.windows(path.len()).find(|bytes| bytes == path);
     let mut within: Vec<&[u8]> = known.paths.iter().take(4).filter_map(found).collect();
     let at = rng.below(image.len() - PATH_LIMIT);
     within.push(&image[at..at + rng.below(PATH_LIMIT)]);
+    within.push(&image[at..at]);
     within
 }
 
@@ -60,46 +62,17 @@ fn reads(image: &[u8], path: &[u8]) -> Result<(), &'static str> {
     let (mut store, own) = (image.to_vec(), path.to_vec());
     let (mut expected, mut buffer) = ([3; NEXT_BUFFER], [3; NEXT_BUFFER]);
     let told = Library.get(&mut store, &own, &mut expected);
-    if (get_within(image, path, &mut buffer), buffer) != (told, expected) {
+    if (raw::get(image, Text::of(path), &mut buffer), buffer) != (told, expected) {
         return Err("get");
     }
     for after in [&path[..0], path] {
         let told = Library.next(&mut store, &own, &own[..after.len()], &mut expected);
-        if (next_within(image, path, after, &mut buffer), buffer) != (told, expected) {
+        let answer = raw::next(image, Text::of(path), Text::of(after), &mut buffer);
+        if (answer, buffer) != (told, expected) {
             return Err("next");
         }
     }
     Ok(())
-}
-
-fn get_within(image: &[u8], path: &[u8], buffer: &mut [u8]) -> Numbers {
-    // SAFETY: store and path are only read; the buffer is an array of its own.
-    apart(unsafe {
-        splicelog_get(
-            image.as_ptr(),
-            image.len(),
-            path.as_ptr(),
-            path.len(),
-            buffer.as_mut_ptr(),
-            buffer.len(),
-        )
-    })
-}
-
-fn next_within(image: &[u8], path: &[u8], after: &[u8], buffer: &mut [u8]) -> Numbers {
-    // SAFETY: as above.
-    apart(unsafe {
-        splicelog_next(
-            image.as_ptr(),
-            image.len(),
-            path.as_ptr(),
-            path.len(),
-            after.as_ptr(),
-            after.len(),
-            buffer.as_mut_ptr(),
-            buffer.len(),
-        )
-    })
 }
 
 /// How many ways for two strings to overlap are tried.

@@ -42,7 +42,8 @@ pub fn run(subject: &mut dyn Subject, seed: u64, rounds: usize) -> Result<Stats,
     Ok(stats)
 }
 
-fn read(subject: &mut dyn Subject, image: &[u8], stats: &mut Stats) -> Result<(), String> {
+/// Reads one image by every call that only reads.
+pub fn read(subject: &mut dyn Subject, image: &[u8], stats: &mut Stats) -> Result<(), String> {
     let mut reader = Reader {
         subject,
         store: image.to_vec(),
@@ -85,7 +86,8 @@ impl Reader<'_> {
         };
         self.check((number, 0))?;
         self.get(b"a\0", (number, 0), None)?;
-        self.next(b"a\0", &[], (number, 0), None)
+        self.next(b"a\0", &[], (number, 0), None)?;
+        self.next(&[], &[], (number, 0), None)
     }
 
     fn check(&mut self, expected: Numbers) -> Judged {
@@ -96,8 +98,9 @@ impl Reader<'_> {
         }
     }
 
-    /// Every path of the table by get, all below its first component by next, and the first below each of its beginnings.
+    /// Every path of the table by get, all by next from the empty path, all below each first component, and the first below each beginning.
     fn all(&mut self, table: &Table) -> Judged {
+        self.list(table, &[])?;
         let mut top: &[u8] = &[];
         for (path, value) in table {
             self.get(path, (0, value.len() as u32), Some(value))?;

@@ -75,6 +75,10 @@ pub fn deep_images() -> Vec<(&'static str, Vec<u8>)> {
             "a full store with a full root",
             images::buffered(NODES_MOST),
         ),
+        (
+            "a full store under a clear of everything",
+            images::cleared(NODES_MOST),
+        ),
     ]
 }
 
@@ -89,6 +93,9 @@ const CALLS: &[(&str, Make)] = &[
     ("next", |c| {
         Library.next(c.store, c.top, &[], &mut [0; NEXT_BUFFER]).0
     }),
+    ("next of everything", |c| {
+        Library.next(c.store, &[], &[], &mut [0; NEXT_BUFFER]).0
+    }),
     ("same", |c| Library.same(c.store, c.other).0),
     ("check", |c| Library.check(c.store).0),
     ("put", |c| {
@@ -96,6 +103,9 @@ const CALLS: &[(&str, Make)] = &[
     }),
     ("drop", |c| Library.drop(c.store, c.path, c.work).0),
     ("clear", |c| Library.clear(c.store, c.top, c.work).0),
+    ("clear of everything", |c| {
+        Library.clear(c.store, &[], c.work).0
+    }),
     ("move", |c| {
         Library.move_(c.store, c.path, b"~~~\0", c.work).0
     }),

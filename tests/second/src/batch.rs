@@ -98,6 +98,8 @@ pub struct Judged {
     /// Did it stop for room, or in front of bytes that do not read?
     pub for_room: bool,
     pub at_no_piece: bool,
+    /// Was a clear of everything among its calls?
+    pub wiped: bool,
 }
 
 /// A batch, judged. Questions 1 and 2 are asked first, of the store as it is handed over.
@@ -141,6 +143,7 @@ fn refused(
         bounded: false,
         for_room: false,
         at_no_piece: false,
+        wiped: false,
     })
 }
 
@@ -297,6 +300,7 @@ impl Trace {
             bounded: self.is_bounded(calls),
             for_room: calls < self.calls.len(),
             at_no_piece: calls == self.calls.len() && self.unread,
+            wiped: self.calls[..calls].iter().any(Call::clears_all),
         };
         Ok((judged, store))
     }

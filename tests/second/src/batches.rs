@@ -16,6 +16,8 @@ const CALLS: usize = 60;
 const CALLS_EVERY_ROOM: usize = 8;
 /// Every room up to here is tried: a get and a next need less.
 const ROOMS: usize = 80;
+/// How many calls of a list there are for each of everything.
+const CALLS_A_WHOLE: usize = 60;
 /// So many that two bytes count neither the bytes of the calls nor those of the answers.
 const LONG_CALLS: usize = 1000;
 
@@ -30,6 +32,8 @@ pub struct Tried {
     pub at_no_piece: usize,
     /// Held to the bound on the messages in the root.
     pub bounded: usize,
+    /// With a clear of everything among its calls.
+    pub wiped: usize,
     /// Lists that were tried with every room.
     pub every_room: usize,
 }
@@ -58,10 +62,11 @@ impl Tried {
         self.for_room += usize::from(judged.for_room);
         self.at_no_piece += usize::from(judged.at_no_piece);
         self.bounded += usize::from(judged.bounded);
+        self.wiped += usize::from(judged.wiped);
     }
 
     fn whole(&self) -> bool {
-        let seldom = [self.refused, self.for_room, self.at_no_piece];
+        let seldom = [self.refused, self.for_room, self.at_no_piece, self.wiped];
         seldom.iter().all(|count| *count > 0) && self.bounded > 0 && self.every_room > 0
     }
 }
@@ -183,7 +188,10 @@ fn list(subject: &mut dyn Batching, rng: &mut Rng, store: &[u8], most_calls: usi
     let mut calls = Vec::new();
     for _ in 0..rng.between(0, most_calls) {
         let known = Known::of(&after);
-        let call = calls::random(rng, &known);
+        let call = match rng.chance(1, CALLS_A_WHOLE) {
+            true => calls::whole(rng, &known),
+            false => calls::random(rng, &known),
+        };
         if piece(&call).is_none() {
             continue;
         }

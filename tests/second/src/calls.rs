@@ -33,7 +33,7 @@ impl Known {
         }
     }
 
-    fn of_sound(sound: &Sound) -> Known {
+    pub fn of_sound(sound: &Sound) -> Known {
         let walk = sound.tree.walk();
         let interior = walk.iter().filter(|v| v.node.is_interior());
         let waiting = walk.iter().filter(|v| !v.node.messages().is_empty());
@@ -82,6 +82,20 @@ pub fn random(rng: &mut Rng, known: &Known) -> Call {
     }
 }
 
+/// A call of everything: a clear of the empty path, or a next with an empty first one.
+pub fn whole(rng: &mut Rng, known: &Known) -> Call {
+    match rng.chance(1, 2) {
+        true => clear_all(work(rng, known.n)),
+        false => next(rng, known, Vec::new()),
+    }
+}
+
+/// A clear of the empty path.
+pub fn clear_all(work: usize) -> Call {
+    let path = Vec::new();
+    Call::Clear { path, work }
+}
+
 /// A call that moves messages or nodes about: a flush where messages wait, a heal, a settle.
 pub fn upkeep(rng: &mut Rng, known: &Known) -> Call {
     let work = work(rng, known.n);
@@ -115,25 +129,34 @@ fn random_move(rng: &mut Rng, known: &Known, work: usize) -> Call {
     Call::Move { from, to, work }
 }
 
-fn random_next(rng: &mut Rng, known: &Known) -> Call {
-    let top = path(rng, known);
+pub fn random_next(rng: &mut Rng, known: &Known) -> Call {
+    let top = match rng.chance(1, 4) {
+        true => Vec::new(),
+        false => path(rng, known),
+    };
+    next(rng, known, top)
+}
+
+fn next(rng: &mut Rng, known: &Known, path: Vec<u8>) -> Call {
     let after = match rng.below(3) {
         0 => Vec::new(),
         1 => rng.pick(&known.paths).cloned().unwrap_or_default(),
-        _ => path(rng, known),
+        _ => self::path(rng, known),
     };
     Call::Next {
-        path: top,
+        path,
         after,
         buffer: buffer(rng, NEXT_BUFFER),
     }
 }
 
+/// The empty path is seldom: a clear of it leaves nothing for later calls to meet.
 pub fn path(rng: &mut Rng, known: &Known) -> Vec<u8> {
-    match rng.below(16) {
-        0 if rng.chance(1, 8) => words::overlong(rng),
-        0 => words::malformed(rng),
-        1..=8 => words::near(rng, &known.paths),
+    match rng.below(32) {
+        0 | 1 if rng.chance(1, 8) => words::overlong(rng),
+        0 | 1 => words::malformed(rng),
+        2 => Vec::new(),
+        3..=17 => words::near(rng, &known.paths),
         _ => words::path(rng),
     }
 }
@@ -202,4 +225,40 @@ pub fn large(rng: &mut Rng, known: &Known) -> u64 {
         _ => (rng.word() | 1) << 32,
     };
     above + interior(rng, known)
+}
+
+#[cfg(test)]
+mod tests {
+    use super::*;
+    use crate::generate;
+    use std::collections::BTreeMap;
+
+    /// Every call that takes a path names the empty one, clear seldom and next often.
+    #[test]
+    fn the_empty_path_has_its_share() {
+        let known = Known::of(&generate::random(3));
+        let mut rng = Rng::new(8);
+        let (mut made, mut empty) = (BTreeMap::new(), BTreeMap::new());
+        for _ in 0..60_000 {
+            let call = random(&mut rng, &known);
+            *made.entry(call.name()).or_insert(0) += 1;
+            *empty.entry(call.name()).or_insert(0) += usize::from(call.names_empty_path());
+        }
+        let percent = |name: &str| 100 * empty[name] / made[name];
+        for name in ["put", "drop", "clear", "get"] {
+            assert!((2..=5).contains(&percent(name)), "{name}: {empty:?}");
+        }
+        assert!((3..=12).contains(&percent("move")), "{empty:?}");
+        assert!((20..=35).contains(&percent("next")), "{empty:?}");
+    }
+
+    #[test]
+    fn calls_of_everything_are_clears_and_nexts() {
+        let known = Known::of(&generate::random(3));
+        let mut rng = Rng::new(9);
+        let calls: Vec<Call> = (0..100).map(|_| whole(&mut rng, &known)).collect();
+        assert!(calls.iter().all(Call::names_empty_path));
+        let clears = calls.iter().filter(|call| call.clears_all()).count();
+        assert!((30..=70).contains(&clears), "{clears}");
+    }
 }

@@ -1,5 +1,6 @@
 // Drives a subject through the grid: in every corner an image, on it a move of every kind, flushes
-// and heals, and a few calls on what each move has left. Every call is judged by the contract.
+// and heals, a clear of everything, and a few calls on what each move has left. Every call is judged
+// by the contract.
 
 use crate::calls::{self, Known};
 use crate::corner::{mergeable, Corner};
@@ -9,10 +10,11 @@ use crate::moves::Kind;
 use crate::mutate;
 use crate::plain::{Answer, Call};
 use crate::rng::Rng;
-use crate::script::witnessed;
+use crate::script::{tried, witnessed};
 use crate::sound::{judge, Rule};
 use crate::stats::Stats;
 use crate::subject::Subject;
+use crate::whole::Unit;
 
 /// How often a kind of move may fail to find a place in an image.
 const ATTEMPTS: usize = 12;
@@ -89,6 +91,7 @@ impl Visit<'_> {
         for index in 0..UPKEEP {
             self.upkeep(index, &known, &mergeable)?;
         }
+        self.wiped()?;
         self.damaged(&known)
     }
 
@@ -144,7 +147,16 @@ impl Visit<'_> {
         self.call(&mut store, &call).map(|_| ())
     }
 
-    /// A move and a heal of an image with one rule broken.
+    fn wiped(&mut self) -> Judged {
+        let mut unit = Unit {
+            subject: self.subject,
+            stats: self.stats,
+            rng: self.rng,
+        };
+        unit.try_on(&self.image)
+    }
+
+    /// A move, a heal and a clear of everything, of an image with one rule broken.
     fn damaged(&mut self, known: &Known) -> Judged {
         let rule = Rule::ALL[self.rng.below(Rule::ALL.len())];
         let damaged = mutate::damage(rule, &self.image, self.rng.word());
@@ -154,18 +166,13 @@ impl Visit<'_> {
         }
         let work = WORK_PER_NODE * known.n;
         let node = calls::interior(self.rng, known);
-        self.call(&mut store, &Call::Heal { node, work })
-            .map(|_| ())
+        self.call(&mut store, &Call::Heal { node, work })?;
+        self.call(&mut store, &calls::clear_all(work)).map(|_| ())
     }
 
     /// Makes one call and judges it; a call that the subject lacks is left out.
     fn call(&mut self, store: &mut [u8], call: &Call) -> Result<Option<Answer>, String> {
-        if !self.subject.capabilities().has(call) {
-            return Ok(None);
-        }
-        let work = self.rng.bytes(call.work().unwrap_or(0));
-        let made = witnessed(self.subject, store, call, &work)?;
-        self.stats.count_made(call, &made);
-        Ok(Some(made.answer))
+        let made = tried(self.subject, self.rng, store, call, self.stats)?;
+        Ok(made.map(|made| made.answer))
     }
 }

@@ -10,7 +10,7 @@ use crate::mutate;
 use crate::pack;
 use crate::plain::{Answer, Call, Plain};
 use crate::rng::Rng;
-use crate::script::witnessed;
+use crate::script::tried;
 use crate::sound::{judge, Rule};
 use crate::stats::Stats;
 use crate::subject::Subject;
@@ -162,7 +162,7 @@ impl Session<'_> {
         contract::check_make(&before, answer, store)
     }
 
-    /// One call of any kind; on an odd image upkeep more often.
+    /// One call of any kind; on an odd image, which comes back, upkeep and calls of everything more often.
     fn one(&mut self, store: &mut [u8], odd: bool) -> Judged {
         match self.rng.below(40) {
             0 => {
@@ -172,23 +172,31 @@ impl Session<'_> {
             1 | 2 => self.same(store),
             _ => {
                 let known = Known::of(store);
-                let call = match odd && self.rng.chance(1, 3) {
-                    true => calls::upkeep(self.rng, &known),
-                    false => calls::random(self.rng, &known),
+                let call = match self.rng.below(12) {
+                    0..=3 if odd => calls::upkeep(self.rng, &known),
+                    4 if odd => calls::whole(self.rng, &known),
+                    _ => calls::random(self.rng, &known),
                 };
-                self.call(store, &call)
+                self.call(store, &call)?;
+                self.after_wipe(store, &call, &known)
             }
         }
     }
 
-    /// Makes one call and judges it; a call that the subject lacks is left out.
-    fn call(&mut self, store: &mut [u8], call: &Call) -> Judged {
-        if !self.subject.capabilities().has(call) {
+    /// Straight after a clear of everything, a next near what there was before it.
+    fn after_wipe(&mut self, store: &mut [u8], call: &Call, before: &Known) -> Judged {
+        if !call.clears_all() {
             return Ok(());
         }
-        let work = self.rng.bytes(call.work().unwrap_or(0));
-        let made = witnessed(self.subject, store, call, &work)?;
-        self.stats.count_made(call, &made);
+        let next = calls::random_next(self.rng, before);
+        self.call(store, &next)
+    }
+
+    /// Makes one call and judges it; a call that the subject lacks is left out.
+    fn call(&mut self, store: &mut [u8], call: &Call) -> Judged {
+        let Some(made) = tried(self.subject, self.rng, store, call, self.stats)? else {
+            return Ok(());
+        };
         self.as_plain(call, made.answer, &made.buffer)
             .map_err(|what| format!("{}: {what}", call.told()))
     }

@@ -28,16 +28,19 @@ pub enum Slip {
     MergesBuffers,
     /// A move swings while messages wait in the root.
     SwingsUnderMessages,
+    /// A clear of everything leaves the root's messages over a tree that holds nothing.
+    ClearsAllUnderMessages,
 }
 
 impl Slip {
-    pub const ALL: [Slip; 6] = [
+    pub const ALL: [Slip; 7] = [
         Slip::ForgetsShortClears,
         Slip::ClearsOneChild,
         Slip::HandsDownAsOldest,
         Slip::HandsDownReversed,
         Slip::MergesBuffers,
         Slip::SwingsUnderMessages,
+        Slip::ClearsAllUnderMessages,
     ];
 }
 
@@ -77,6 +80,9 @@ impl Lazy {
                 merged(&sound.tree, *node).and_then(written)
             }
             Call::Move { from, to, .. } if from != to => self.moved(&sound, from, to, written),
+            call if call.clears_all() && self.slips(Slip::ClearsAllUnderMessages) => {
+                written(emptied_below(&sound))
+            }
             _ => {
                 let message = message_of(call)?;
                 let grown = with_root_buffer(&sound)?;
@@ -211,6 +217,19 @@ fn holding(mut tree: Tree, message: &Message) -> Tree {
     if let Body::Interior { messages, .. } = &mut tree.root.body {
         messages.push(message.clone());
     }
+    tree
+}
+
+/// The root with its messages, and no pair anywhere below.
+fn emptied_below(sound: &Sound) -> Tree {
+    let mut tree = sound.tree.clone();
+    tree.root.for_each_mut(&mut |node| match &mut node.body {
+        Body::Leaf(pairs) => pairs.clear(),
+        Body::Interior { messages, .. } if node.number != sound.tree.root.number => {
+            messages.clear()
+        }
+        Body::Interior { .. } => {}
+    });
     tree
 }
 

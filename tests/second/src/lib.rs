@@ -9,6 +9,7 @@
 //   pieces, batch                 a list of calls as bytes, and whether it went as the calls one by one
 //   subject, script, calls, moves a store under test, and calls for it
 //   judge, grid, questions        lists of calls, corners with aimed calls, every combination of arguments
+//   whole                         clears and listings of everything
 //   batches, stats                batches, and what was tried
 //   paper                         the paper's thirteen cases
 //   rng, words, feature, corner   what images and calls are made of, and what they are to show
@@ -16,7 +17,7 @@
 //   lines                         scripts for the program from a seed
 //   mutate                        damaged images, one for each rule
 //   pack, reference, lazy, swing  simple stores to test the judge with, right or wrong
-//   wrong, listed                 upkeep that only seems to be done; batches, right or wrong
+//   wrong, listed                 upkeep that only seems to be done, the empty path misunderstood; batches, right or wrong
 //   examples, upkept, antt        small images and changes, printed for the proof checker
 #![forbid(unsafe_code)]
 #![deny(warnings)]
@@ -61,5 +62,6 @@ pub mod swing;
 pub mod tree;
 pub mod upkeep;
 pub mod upkept;
+pub mod whole;
 pub mod words;
 pub mod wrong;

@@ -1,5 +1,5 @@
-// Random scripts for the program: good lines near what the map holds, near misses of every rule of the line language, long lines, bytes 00,
-// stores filled to their last path, and a last line with or without its line feed. All follows from a seed.
+// Random scripts for the program: good lines near what the map holds, clears and lists of everything, near misses of every rule of the line
+// language, long lines, bytes 00, stores filled to their last path, and a last line with or without its line feed. All follows from a seed.
 
 use crate::path::to_text;
 use crate::rng::Rng;
@@ -55,18 +55,30 @@ fn good(rng: &mut Rng, present: &mut Vec<Vec<u8>>) -> Vec<u8> {
     match rng.below(20) {
         0..=6 => [b"put ", &path[..], b" ", hex(rng).as_bytes()].concat(),
         7 => [b"drop ", &path[..]].concat(),
-        8 => [b"clear ", &path[..]].concat(),
+        8 => [b"clear ", &or_all(rng, CLEARS_A_WHOLE, path)[..]].concat(),
         9..=11 => [b"move ", &path[..], b" ", &text(rng, present)].concat(),
         12 => b"settle".to_vec(),
         13 => b"tidy".to_vec(),
-        14..=16 => [b"list ", &path[..]].concat(),
+        14..=16 => [b"list ", &or_all(rng, LISTS_A_WHOLE, path)[..]].concat(),
         _ => [b"get ", &path[..]].concat(),
     }
 }
 
-/// Texts that are no path: a separator too many, a byte 00, a byte that no component may hold.
-const ODD: [&[u8]; 9] = [
-    b"/", b"a//b", b"/a", b"a/", b"a\0b", b"\0", b"a\0", b"\0a", b"a\x7F",
+/// How many clears there are for each of everything, and how many lists. So few clears that a store fills up between two of them.
+const CLEARS_A_WHOLE: usize = 24;
+const LISTS_A_WHOLE: usize = 8;
+
+/// The text, or once in so many times that of the empty path.
+fn or_all(rng: &mut Rng, whole: usize, text: Vec<u8>) -> Vec<u8> {
+    match rng.chance(1, whole) {
+        true => to_text(b""),
+        false => text,
+    }
+}
+
+/// The empty path, and texts that are no path: a separator too many, a byte 00, a byte that no component may hold.
+const ODD: [&[u8]; 12] = [
+    b"/", b"//", b"a//b", b"/a", b"a/", b"a\0b", b"\0", b"a\0", b"\0a", b"/\0", b"\0/", b"a\x7F",
 ];
 
 /// A path as text: most often a present one or near one, sometimes malformed.
@@ -79,7 +91,8 @@ fn text(rng: &mut Rng, present: &mut Vec<Vec<u8>>) -> Vec<u8> {
     } else {
         words::near(rng, present)
     };
-    if present.len() < 200 {
+    // The empty path would be near itself: a script that met it early would name little else.
+    if present.len() < 200 && !path.is_empty() {
         present.push(path.clone());
     }
     to_text(&path)

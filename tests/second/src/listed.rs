@@ -5,7 +5,7 @@ use crate::batch::{answer_bytes, lent, Batching, Done};
 use crate::contract::image_judged;
 use crate::limits::*;
 use crate::pieces::{laid, most, read};
-use crate::plain::{Call, NO_LENGTHS};
+use crate::plain::{Call, NO_LENGTHS, NO_PATH};
 use crate::reference::Reference;
 use crate::subject::perform;
 
@@ -32,6 +32,10 @@ pub enum BatchFault {
     WorkLeftDirty,
     /// It counts the calls that were accepted.
     CountsAcceptedAlone,
+    /// It ends in front of a clear of the empty path, a piece without a rest.
+    EndsAtEmptyClear,
+    /// It refuses the empty path whatever the call.
+    RefusesEmptyPath,
 }
 
 impl BatchFault {
@@ -40,7 +44,7 @@ impl BatchFault {
         BatchFault::StopsByOwnLength, BatchFault::RoomFallsByMost, BatchFault::NeedsMostForAll,
         BatchFault::LeavesOneByte, BatchFault::StopsAtRefusal, BatchFault::ReadsPatchAsMove,
         BatchFault::PassesOverNoPiece, BatchFault::WritesBehindAnswers, BatchFault::WorkLeftDirty,
-        BatchFault::CountsAcceptedAlone,
+        BatchFault::CountsAcceptedAlone, BatchFault::EndsAtEmptyClear, BatchFault::RefusesEmptyPath,
     ];
 }
 
@@ -56,6 +60,9 @@ impl Reference {
     /// The calls that it reads.
     fn list(&self, bytes: &[u8]) -> Vec<Call> {
         let (mut calls, left) = read(bytes);
+        if self.errs(BatchFault::EndsAtEmptyClear) {
+            return calls.into_iter().take_while(|c| !c.clears_all()).collect();
+        }
         let Some((head, later)) = left.split_at_checked(4) else {
             return calls;
         };
@@ -110,6 +117,9 @@ impl Reference {
 
     /// The answer of a call by itself.
     fn answer(&mut self, store: &mut [u8], call: &Call) -> Vec<u8> {
+        if self.errs(BatchFault::RefusesEmptyPath) && call.names_empty_path() {
+            return answer_bytes(NO_PATH, &[]);
+        }
         let n = store.len() / NODE;
         let (mut work, mut buffer) = (vec![0; WORK_PER_NODE * n], [0; NEXT_BUFFER]);
         let answer = perform(self, &lent(call, n), store, &mut work, &mut buffer);

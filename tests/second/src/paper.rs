@@ -45,14 +45,21 @@ fn nodes(subject: &mut dyn Subject) -> Result<(), String> {
     Ok(())
 }
 
+/// Put, drop, get and move refuse it; clear takes it, and next as its first one.
 fn empty_path(subject: &mut dyn Subject) -> Result<(), String> {
     let mut script = Script::made(subject, 32)?;
-    let put = Call::Put {
-        path: Vec::new(),
-        value: Vec::new(),
-        work: WORK_PER_NODE * 32,
-    };
-    expect("put of the empty path", script.call(&put)?.0.number, 3)
+    expect("put of r1/a", script.put("r1/a", &[1])?, 0)?;
+    let (path, buffer) = (Vec::new(), vec![0; GET_BUFFER]);
+    let get = Call::Get { path, buffer };
+    expect("put", script.put("/", &[1])?, 3)?;
+    expect("drop", script.drop("/")?, 3)?;
+    expect("get", script.call(&get)?.0.number, 3)?;
+    for (from, to) in [("/", "r2"), ("r1", "/"), ("/", "/")] {
+        expect(&format!("move {from} {to}"), script.move_(from, to)?, 3)?;
+    }
+    expect("next", script.next("/")?, Some(b"r1\0a\0".to_vec()))?;
+    expect("clear", script.clear("/")?, 0)?;
+    expect("next after it", script.next("/")?, None)
 }
 
 /// Puts a path and expects it taken or refused with 3.
@@ -171,20 +178,10 @@ pub fn reads_all(subject: &mut dyn Subject, seed: u64) -> Result<(), String> {
     let plan = Plan::random(&mut rng);
     let image = generate::by_plan(&plan, &mut rng);
     let mut script = Script::on(subject, image);
-    let mut after = Vec::new();
-    for top in [b"a\0".to_vec(), b"r1\0".to_vec(), b"b\0".to_vec()] {
-        after.clear();
-        loop {
-            let next = Call::Next {
-                path: top.clone(),
-                after: after.clone(),
-                buffer: vec![0; NEXT_BUFFER],
-            };
-            let (answer, buffer) = script.call(&next)?;
-            if !answer.accepted() {
-                break;
-            }
-            after = buffer[..answer.beside as usize].to_vec();
+    for top in ["a", "r1", "b", "/"] {
+        let mut after = Vec::new();
+        while let Some(found) = script.next_after(top, &after)? {
+            after = found;
         }
     }
     Ok(())

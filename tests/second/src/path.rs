@@ -13,6 +13,11 @@ pub fn well_formed(path: &[u8]) -> bool {
         && text.split(|b| *b == 0).all(component_well_formed)
 }
 
+/// Is this a path that clear and next take? The empty one is: every path is below it.
+pub fn empty_or_well_formed(path: &[u8]) -> bool {
+    path.is_empty() || well_formed(path)
+}
+
 fn component_well_formed(component: &[u8]) -> bool {
     (1..=COMPONENT_LIMIT).contains(&component.len())
         && component
@@ -50,10 +55,13 @@ pub fn lifted<'a>(low: &'a [u8], high: &[u8]) -> &'a [u8] {
     &low[..common_beginning(low, high)]
 }
 
-/// The bytes of a path written with `/` between its components.
+/// The bytes of a path written with `/` between its components; a lone `/` is the empty path.
 /// A byte 00 in the text would read as a separator that nobody wrote. It becomes a `/`, which no
 /// component may hold: such a text is a malformed path, and never the empty one.
 pub fn from_text(text: &[u8]) -> Vec<u8> {
+    if text == EMPTY_TEXT {
+        return Vec::new();
+    }
     let byte = |b: &u8| match *b {
         b'/' => 0,
         0 => b'/',
@@ -64,15 +72,21 @@ pub fn from_text(text: &[u8]) -> Vec<u8> {
     path
 }
 
-/// A path written with `/` between its components.
+/// A path written with `/` between its components, the empty one as a lone `/`.
 pub fn to_text(path: &[u8]) -> Vec<u8> {
+    if path.is_empty() {
+        return EMPTY_TEXT.to_vec();
+    }
     let text = path.strip_suffix(&[0]).unwrap_or(path);
     text.iter()
         .map(|b| if *b == 0 { b'/' } else { *b })
         .collect()
 }
 
-/// The beginnings of a well-formed path that are paths themselves, shortest first.
+/// How the empty path is written.
+const EMPTY_TEXT: &[u8] = b"/";
+
+/// The beginnings of a well-formed path that are well formed themselves, shortest first.
 pub fn beginnings(path: &[u8]) -> impl Iterator<Item = &[u8]> {
     (0..path.len())
         .filter(|i| path[*i] == 0)
@@ -96,16 +110,32 @@ mod tests {
             b"\x7F\0",
         ] {
             assert!(!well_formed(bad), "{bad:?}");
+            assert_eq!(empty_or_well_formed(bad), bad.is_empty(), "{bad:?}");
         }
-        assert!(well_formed(b"!\0~\0"));
+        assert!(well_formed(b"!\0~\0") && empty_or_well_formed(b"!\0~\0"));
+    }
+
+    #[test]
+    fn every_path_is_below_the_empty_one() {
+        for path in [&b"a\0"[..], b"!\0~\0", b""] {
+            assert!(below(path, b""), "{path:?}");
+        }
+        assert!(!below(b"", b"a\0"));
     }
 
     #[test]
     fn text_and_bytes_agree() {
         assert_eq!(from_text(b"r1/c7"), b"r1\0c7\0");
         assert_eq!(to_text(b"r1\0c7\0"), b"r1/c7");
-        assert!(!well_formed(&from_text(b"/a")));
-        assert!(!well_formed(&from_text(b"a/")));
+    }
+
+    #[test]
+    fn a_lone_slash_alone_is_the_empty_path() {
+        assert_eq!(from_text(b"/"), b"");
+        assert_eq!(to_text(b""), b"/");
+        for text in [&b""[..], b"//", b"///", b"/a", b"a/", b"//a", b"a//"] {
+            assert!(!empty_or_well_formed(&from_text(text)), "{text:?}");
+        }
     }
 
     #[test]
@@ -121,7 +151,7 @@ mod tests {
             b"\0/",
         ] {
             let path = from_text(text);
-            assert!(!path.is_empty() && !well_formed(&path), "{text:?}");
+            assert!(!empty_or_well_formed(&path), "{text:?}");
         }
     }
 

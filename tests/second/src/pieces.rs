@@ -5,7 +5,7 @@ use crate::limits::*;
 use crate::plain::Call;
 use crate::rng::Rng;
 
-/// The kinds of the pieces that no message has. 0023 is none: it is kept for a message to come.
+/// The kinds of the pieces that no message has.
 const KIND_MOVE: u16 = 0x0024;
 const KIND_GET: u16 = 0x0030;
 const KIND_NEXT: u16 = 0x0031;
@@ -13,6 +13,9 @@ const KIND_SETTLE: u16 = 0x0040;
 const KIND_TIDY: u16 = 0x0041;
 const KIND_FLUSH: u16 = 0x0042;
 const KIND_HEAL: u16 = 0x0043;
+
+/// No piece has it: it is kept for a message to come.
+const KIND_TO_COME: u16 = 0x0023;
 
 /// All kinds that read.
 pub const KINDS: [u16; 10] = [
@@ -156,14 +159,19 @@ pub fn no_piece(rng: &mut Rng) -> Vec<u8> {
 
 /// A whole piece but for its kind, which no call has: most often one beside those that read, a message's or an entry's.
 fn no_kind(rng: &mut Rng) -> Vec<u8> {
-    const NEAR: [u16; 10] = [
-        0x0023, 0x0001, 0x0010, 0x001F, 0x0025, 0x0032, 0x003F, 0x0044, 0x2000, 0x2400,
+    const NEAR: [u16; 9] = [
+        0x0001, 0x0010, 0x001F, 0x0025, 0x0032, 0x003F, 0x0044, 0x2000, 0x2400,
     ];
-    let kind = match rng.chance(3, 4) {
-        true => *rng.pick(&NEAR).unwrap_or(&0),
-        false => rng.word() as u16,
+    let kind = match rng.below(4) {
+        0 => KIND_TO_COME,
+        1 | 2 => *rng.pick(&NEAR).unwrap_or(&KIND_TO_COME),
+        _ => rng.word() as u16,
     };
-    let kind = if KINDS.contains(&kind) { 0x0023 } else { kind };
+    let kind = if KINDS.contains(&kind) {
+        KIND_TO_COME
+    } else {
+        kind
+    };
     let rest = match rng.below(4) {
         0 => Vec::new(),
         1 => vec![1, 0],
@@ -238,6 +246,6 @@ mod tests {
                 .iter()
                 .all(|rest| read(&laid(kind, rest)).0.is_empty()));
         }
-        assert!(!KINDS.contains(&0x0023) && KIND_MOVE == 0x0024);
+        assert!(!KINDS.contains(&KIND_TO_COME) && KIND_MOVE == 0x0024);
     }
 }

@@ -4,7 +4,7 @@
 use crate::image;
 use crate::limits::*;
 use crate::meaning::take_below;
-use crate::path::{apart_or_equal, below, to_text, well_formed};
+use crate::path::{apart_or_equal, below, empty_or_well_formed, to_text, well_formed};
 use crate::tree::Table;
 
 /// The numbers of the questions.
@@ -96,6 +96,24 @@ impl Call {
         self.work().is_none()
     }
 
+    /// Is a path of it the empty one? Of a next the first is asked: the second is empty often.
+    pub fn names_empty_path(&self) -> bool {
+        match self {
+            Call::Put { path, .. }
+            | Call::Drop { path, .. }
+            | Call::Clear { path, .. }
+            | Call::Get { path, .. }
+            | Call::Next { path, .. } => path.is_empty(),
+            Call::Move { from, to, .. } => from.is_empty() || to.is_empty(),
+            _ => false,
+        }
+    }
+
+    /// Is it a clear of every path?
+    pub fn clears_all(&self) -> bool {
+        matches!(self, Call::Clear { path, .. } if path.is_empty())
+    }
+
     /// Is it a put, a drop or a clear?
     pub fn adds_message(&self) -> bool {
         matches!(
@@ -170,12 +188,10 @@ impl Plain {
             Call::Put { path, value, .. } => {
                 question(NO_PATH, well_formed(path))?;
                 question(NO_VALUE, value.len() <= VALUE_LIMIT)?;
-                let room = self.table.contains_key(path) || self.table.len() < self.n;
-                question(NO_ROOM, room)
+                question(NO_ROOM, self.has_room(path))
             }
-            Call::Drop { path, .. } | Call::Clear { path, .. } => {
-                question(NO_PATH, well_formed(path))
-            }
+            Call::Drop { path, .. } => question(NO_PATH, well_formed(path)),
+            Call::Clear { path, .. } => question(NO_PATH, empty_or_well_formed(path)),
             Call::Move { from, to, .. } => {
                 question(NO_PATH, well_formed(from) && well_formed(to))?;
                 question(NO_APART, apart_or_equal(from, to))?;
@@ -193,8 +209,8 @@ impl Plain {
                 after,
                 buffer,
             } => {
-                let second = after.is_empty() || well_formed(after);
-                question(NO_PATH, well_formed(path) && second)?;
+                let both = [path, after].iter().all(|p| empty_or_well_formed(p));
+                question(NO_PATH, both)?;
                 question(NO_BUFFER, buffer.len() >= NEXT_BUFFER)?;
                 question(NO_PRESENT, next(&self.table, path, after).is_some())
             }
@@ -202,6 +218,10 @@ impl Plain {
                 Ok(())
             }
         }
+    }
+
+    fn has_room(&self, path: &[u8]) -> bool {
+        self.table.contains_key(path) || self.table.len() < self.n
     }
 
     fn act(&mut self, call: &Call, mut buffer: Vec<u8>) -> Outcome {

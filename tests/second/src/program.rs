@@ -4,7 +4,7 @@
 use crate::contract::image_judged;
 use crate::limits::{GET_BUFFER, NODE, WORK_PER_NODE};
 use crate::pack;
-use crate::path::{below, from_text, to_text, well_formed};
+use crate::path::{below, empty_or_well_formed, from_text, to_text};
 use crate::plain::{Call, Plain, NO_LENGTHS, NO_PATH};
 
 /// The nodes of the program's store.
@@ -19,9 +19,17 @@ pub fn run(input: &[u8]) -> Vec<u8> {
 
 /// The same on a store with this map, which is left as the lines leave it.
 pub fn run_on(map: &mut Plain, input: &[u8]) -> Vec<u8> {
+    run_reading(map, input, from_text)
+}
+
+/// How a path's text is read.
+pub type Reading = fn(&[u8]) -> Vec<u8>;
+
+/// The same with this reading of paths: with a wrong one it shows what lines find.
+pub fn run_reading(map: &mut Plain, input: &[u8], path: Reading) -> Vec<u8> {
     let mut printed = Vec::new();
     for line in lines(input) {
-        printed.extend(answer(map, line));
+        printed.extend(answer(map, line, path));
     }
     printed
 }
@@ -59,8 +67,8 @@ enum Line {
     List(Vec<u8>),
 }
 
-fn answer(map: &mut Plain, line: &[u8]) -> Vec<u8> {
-    match read(line) {
+fn answer(map: &mut Plain, line: &[u8], path: Reading) -> Vec<u8> {
+    match read(line, path) {
         None => b"bad\n".to_vec(),
         Some(Line::Acts(call)) => act(map, &call),
         Some(Line::Get(path)) => get(map, path),
@@ -68,7 +76,7 @@ fn answer(map: &mut Plain, line: &[u8]) -> Vec<u8> {
     }
 }
 
-fn read(line: &[u8]) -> Option<Line> {
+fn read(line: &[u8], path: Reading) -> Option<Line> {
     if line.len() > LINE_LIMIT {
         return None;
     }
@@ -76,7 +84,6 @@ fn read(line: &[u8]) -> Option<Line> {
     if fields.iter().any(|field| field.is_empty()) {
         return None;
     }
-    let path = from_text;
     let work = WORK;
     Some(match fields[..] {
         [b"put", p, hex] => Line::Acts(Call::Put {
@@ -159,7 +166,7 @@ fn get(map: &mut Plain, path: Vec<u8>) -> Vec<u8> {
 }
 
 fn list(map: &Plain, path: &[u8]) -> Vec<u8> {
-    if !well_formed(path) {
+    if !empty_or_well_formed(path) {
         return refused(NO_PATH);
     }
     let mut printed = Vec::new();

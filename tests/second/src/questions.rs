@@ -15,10 +15,10 @@ use crate::tree::Table;
 const LONG: &str = "r1/aaaaaaaaaaaaaaaa/aaaaaaaaaaaaaaaa/aaaaaaaaaaaaaaaa/aaaaaaaaa";
 const DEEP: &str = "d/2/3/4/5/6/7/8";
 
-/// Present, absent, and malformed in several ways.
-const PATHS: [&str; 6] = ["r1/a", "x", "r1", "/a", "a//b", "a/"];
-const FROMS: [&str; 6] = ["r1", "r1/a", "d/2", "d", "x", "r1/"];
-const TOS: [&str; 8] = ["r1", "r1/a", "r1/a/b", "r2", "rr1", "x", "d/2/3", "/"];
+/// Present, absent, the empty one, and malformed in several ways.
+const PATHS: [&str; 8] = ["r1/a", "x", "r1", "/", "//", "/a", "a//b", "a/"];
+const FROMS: [&str; 7] = ["r1", "r1/a", "d/2", "d", "x", "/", "r1/"];
+const TOS: [&str; 9] = ["r1", "r1/a", "r1/a/b", "r2", "rr1", "x", "d/2/3", "/", "//"];
 
 /// Makes them all.
 pub fn run(subject: &mut dyn Subject) -> Result<Stats, String> {
@@ -33,7 +33,8 @@ pub fn run(subject: &mut dyn Subject) -> Result<Stats, String> {
     Ok(stats)
 }
 
-/// A store with room, a full one, an unsound one, one with a byte too many and one with a node too few. The root is interior.
+/// A store with room, a full one, an unsound one, one with a byte too many and one with a node too few, each with an interior root; and
+/// one that holds nothing.
 fn stores() -> Vec<Vec<u8>> {
     let named = ["r1/a", LONG, DEEP].map(String::from);
     let filled = (named.len()..NODES_LEAST).map(|i| format!("p{i}"));
@@ -46,7 +47,8 @@ fn stores() -> Vec<Vec<u8>> {
     unsound[HEADER_BYTES - 2] -= 1;
     let odd = [&full[..], &[0]].concat();
     let short = full[NODE..].to_vec();
-    vec![room, full, unsound, odd, short]
+    let empty = pack::image(&Table::new(), NODES_LEAST).unwrap_or_default();
+    vec![room, full, unsound, odd, short, empty]
 }
 
 fn on_each(
@@ -86,19 +88,15 @@ fn calls() -> Vec<Call> {
     changes.chain(gets()).chain(nexts()).collect()
 }
 
-fn path(text: &str) -> Vec<u8> {
-    from_text(text.as_bytes())
-}
-
-/// The paths as bytes, the empty one too.
-fn paths() -> Vec<Vec<u8>> {
-    let empty = std::iter::once(Vec::new());
-    PATHS.iter().map(|text| path(text)).chain(empty).collect()
+/// The paths as bytes.
+fn paths(texts: &[&str]) -> Vec<Vec<u8>> {
+    let path = |text: &&str| from_text(text.as_bytes());
+    texts.iter().map(path).collect()
 }
 
 fn changes(work: usize) -> Vec<Call> {
     let mut calls = vec![Call::Settle { work }, Call::Tidy { work }];
-    for path in paths() {
+    for path in paths(&PATHS) {
         calls.extend([0, VALUE_LIMIT, VALUE_LIMIT + 1].map(|length| Call::Put {
             path: path.clone(),
             value: vec![1; length],
@@ -115,18 +113,9 @@ fn changes(work: usize) -> Vec<Call> {
     calls
 }
 
-/// Each from with each to, one of them empty or not.
+/// Each from with each to.
 fn moves(work: usize) -> Vec<Call> {
-    let froms: Vec<Vec<u8>> = FROMS
-        .iter()
-        .map(|text| path(text))
-        .chain([Vec::new()])
-        .collect();
-    let tos: Vec<Vec<u8>> = TOS
-        .iter()
-        .map(|text| path(text))
-        .chain([Vec::new()])
-        .collect();
+    let (froms, tos) = (paths(&FROMS), paths(&TOS));
     let pairs = froms
         .iter()
         .flat_map(|from| tos.iter().map(move |to| (from, to)));
@@ -153,12 +142,12 @@ fn gets() -> Vec<Call> {
             buffer: vec![0xA5; length],
         })
     };
-    paths().into_iter().flat_map(each).collect()
+    paths(&PATHS).into_iter().flat_map(each).collect()
 }
 
 fn nexts() -> Vec<Call> {
-    let afters = paths();
-    let pairs = paths()
+    let afters = paths(&PATHS);
+    let pairs = paths(&PATHS)
         .into_iter()
         .flat_map(|path| afters.iter().map(move |a| (path.clone(), a.clone())));
     let each = |(path, after): (Vec<u8>, Vec<u8>)| {

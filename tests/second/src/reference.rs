@@ -47,6 +47,16 @@ pub enum Fault {
     RefusalTouchesStore,
     ReadTouchesStore,
     PutRefusesWhenFull,
+    PutTakesEmptyPath,
+    DropTakesEmptyPath,
+    MoveTakesEmptyPath,
+    GetTakesEmptyPath,
+    ClearRefusesEmptyPath,
+    ClearOfAllDropsOne,
+    ClearOfAllDropsNone,
+    NextRefusesEmptyPath,
+    NextOfAllFindsNone,
+    NextOfAllFindsFirstAlone,
     RefusesAll,
 }
 
@@ -63,7 +73,11 @@ impl Fault {
         Fault::MoveKeepsDestination, Fault::MoveKeepsSource, Fault::MoveOntoItselfPacks,
         Fault::MoveForgetsComponents, Fault::WorkLeftDirty,
         Fault::WorkWipedWhole, Fault::RefusalWipesWork, Fault::RefusalTouchesStore,
-        Fault::ReadTouchesStore, Fault::PutRefusesWhenFull, Fault::RefusesAll,
+        Fault::ReadTouchesStore, Fault::PutRefusesWhenFull, Fault::PutTakesEmptyPath,
+        Fault::DropTakesEmptyPath, Fault::MoveTakesEmptyPath, Fault::GetTakesEmptyPath,
+        Fault::ClearRefusesEmptyPath, Fault::ClearOfAllDropsOne, Fault::ClearOfAllDropsNone,
+        Fault::NextRefusesEmptyPath, Fault::NextOfAllFindsNone, Fault::NextOfAllFindsFirstAlone,
+        Fault::RefusesAll,
     ];
 }
 
@@ -135,6 +149,10 @@ impl Reference {
             let interior = found.is_some_and(|v| v.node.is_interior());
             return interior.then_some(plain.table).ok_or(plain::NO_NODE);
         }
+        let mistaken = |fault| wrong::with_empty_path(fault, call, &plain.table);
+        if let Some(mistaken) = self.fault.and_then(mistaken) {
+            return mistaken;
+        }
         if self.is(Fault::PutRefusesWhenFull)
             && matches!(call, Call::Put { .. })
             && plain.table.len() == plain.n
@@ -150,7 +168,7 @@ impl Reference {
         }
         match call {
             Call::Clear { path, .. } if self.is(Fault::ClearTakesNamesakes) => {
-                let name = &path[..path.len() - 1];
+                let name = path.strip_suffix(&[0]).unwrap_or(path);
                 plain.table.retain(|p, _| !p.starts_with(name));
             }
             Call::Move { to, .. } if self.is(Fault::MoveKeepsDestination) => {
@@ -249,6 +267,9 @@ impl Reference {
     fn try_read(&self, store: &[u8], buffer: &mut [u8], call: &Call) -> Result<Answer, u32> {
         image::nodes_of(store.len()).ok_or(plain::NO_LENGTHS)?;
         let mut before = judge(store).map_err(|_| plain::NO_SOUND)?;
+        if let Some(number) = self.fault.and_then(|fault| wrong::no_read(fault, call)) {
+            return Err(number);
+        }
         if self.is(Fault::GetIgnoresClears) {
             before.table = meaning::table(&without_clears(&before.tree.root));
         }

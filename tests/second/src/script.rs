@@ -5,6 +5,8 @@ use crate::contract::{self, Facts, Held, Seen};
 use crate::limits::*;
 use crate::path::from_text;
 use crate::plain::{Answer, Call};
+use crate::rng::Rng;
+use crate::stats::Stats;
 use crate::subject::{perform, Subject};
 
 /// One call as it went: its answer, the buffer after it, and what it did to the nodes; and what check answered before it.
@@ -47,6 +49,23 @@ pub fn witnessed(
         facts: facts.map_err(|what| format!("{}: {what}", call.told()))?,
         buffer,
     })
+}
+
+/// The same with a work area of random bytes, counted; a call that the subject lacks is left out.
+pub fn tried(
+    subject: &mut dyn Subject,
+    rng: &mut Rng,
+    store: &mut [u8],
+    call: &Call,
+    stats: &mut Stats,
+) -> Result<Option<Made>, String> {
+    if !subject.capabilities().has(call) {
+        return Ok(None);
+    }
+    let work = rng.bytes(call.work().unwrap_or(0));
+    let made = witnessed(subject, store, call, &work)?;
+    stats.count_made(call, &made);
+    Ok(Some(made))
 }
 
 /// What check answers of a store. It writes nothing.
@@ -99,6 +118,11 @@ impl<'a> Script<'a> {
         self.number(&Call::Put { path, value, work })
     }
 
+    pub fn drop(&mut self, text: &str) -> Result<u32, String> {
+        let (path, work) = (from_text(text.as_bytes()), self.work());
+        self.number(&Call::Drop { path, work })
+    }
+
     pub fn clear(&mut self, text: &str) -> Result<u32, String> {
         let (path, work) = (from_text(text.as_bytes()), self.work());
         self.number(&Call::Clear { path, work })
@@ -110,11 +134,30 @@ impl<'a> Script<'a> {
         self.number(&Call::Move { from, to, work })
     }
 
+    /// The first path below this one, or none.
+    pub fn next(&mut self, text: &str) -> Result<Option<Vec<u8>>, String> {
+        self.next_after(text, &[])
+    }
+
+    /// The first that is greater than the second path.
+    pub fn next_after(&mut self, text: &str, after: &[u8]) -> Result<Option<Vec<u8>>, String> {
+        self.found(&Call::Next {
+            path: from_text(text.as_bytes()),
+            after: after.to_vec(),
+            buffer: vec![0xEE; NEXT_BUFFER],
+        })
+    }
+
     /// The value, or none where the path is absent.
     pub fn get(&mut self, text: &str) -> Result<Option<Vec<u8>>, String> {
         let path = from_text(text.as_bytes());
         let buffer = vec![0xEE; GET_BUFFER];
-        let (answer, buffer) = self.call(&Call::Get { path, buffer })?;
+        self.found(&Call::Get { path, buffer })
+    }
+
+    /// What a get or a next finds.
+    fn found(&mut self, call: &Call) -> Result<Option<Vec<u8>>, String> {
+        let (answer, buffer) = self.call(call)?;
         let length = answer.beside as usize;
         Ok(answer.accepted().then(|| buffer[..length].to_vec()))
     }

@@ -99,12 +99,16 @@ impl AddAssign for Flushes {
 #[derive(Clone, Debug, Default)]
 pub struct Stats {
     pub calls: usize,
-    pub answers: BTreeMap<(&'static str, u32), usize>,
+    pub answers: Counts,
+    /// Those of them that name the empty path.
+    pub empty: Counts,
     /// The aimed moves of each kind.
     pub kinds: BTreeMap<(Kind, u32), usize>,
     pub moves: BTreeMap<Corner, Moves>,
     pub heals: BTreeMap<Corner, Heals>,
     pub flushes: BTreeMap<Corner, Flushes>,
+    /// Accepted clears of the empty path.
+    pub wipes: BTreeMap<Corner, usize>,
     /// Flushes and heals of a number of more than 32 bits.
     pub large: usize,
 }
@@ -119,6 +123,10 @@ impl Stats {
     pub fn count_made(&mut self, call: &Call, made: &Made) {
         self.count("check", made.checked);
         self.count(call.name(), made.answer);
+        if call.names_empty_path() {
+            let counted = (call.name(), made.answer.number);
+            *self.empty.entry(counted).or_default() += 1;
+        }
         if let Call::Flush { node, .. } | Call::Heal { node, .. } = call {
             self.large += usize::from(*node > u64::from(u32::MAX));
         }
@@ -131,6 +139,9 @@ impl Stats {
             }
             (Call::Flush { .. }, Some(facts)) => {
                 *self.flushes.entry(facts.corner).or_default() += Flushes::one(facts);
+            }
+            (call, Some(facts)) if call.clears_all() => {
+                *self.wipes.entry(facts.corner).or_default() += 1;
             }
             _ => {}
         }
@@ -151,11 +162,16 @@ impl Stats {
 
     /// All that a whole run of a subject with these calls has to try and did not, in words.
     pub fn missing(&self, capabilities: Capabilities) -> Vec<String> {
-        let mut missing = Vec::new();
-        for (name, numbers) in ANSWERS.iter().filter(|(name, _)| capabilities.named(name)) {
-            let unmet = |number: &&u32| !self.answers.contains_key(&(*name, **number));
-            let unmet = numbers.iter().filter(unmet);
-            missing.extend(unmet.map(|number| format!("{name} never answered {number}")));
+        let mut missing = unmet(ANSWERS, &self.answers, capabilities, "");
+        let of_empty = unmet(
+            EMPTY_ANSWERS,
+            &self.empty,
+            capabilities,
+            " of the empty path",
+        );
+        missing.extend(of_empty);
+        if capabilities.clear {
+            missing.extend(self.missing_wipes());
         }
         if capabilities.move_ {
             missing.extend(self.missing_moves());
@@ -200,15 +216,20 @@ impl Stats {
             .collect()
     }
 
+    fn missing_wipes(&self) -> Vec<String> {
+        let corners = Corner::all().into_iter();
+        let corners = corners.filter(|corner| !self.wipes.contains_key(corner));
+        corners
+            .map(|corner| format!("no clear of everything was accepted in {corner:?}"))
+            .collect()
+    }
+
     /// The counts by answer, and those of moves, heals and flushes by levels.
     pub fn table(&self) -> String {
         let mut lines = vec![format!("{} calls, by answer:", self.calls)];
-        for (name, numbers) in ANSWERS {
-            let count = |number| self.answers.get(&(*name, number)).unwrap_or(&0);
-            let counts = numbers.iter().map(|n| format!("{n}: {}", count(*n)));
-            let counts: Vec<String> = counts.collect();
-            lines.push(format!("  {name:<7}{}", counts.join("  ")));
-        }
+        lines.extend(counted(ANSWERS, &self.answers));
+        lines.push("calls with an empty path, by answer:".into());
+        lines.extend(counted(EMPTY_ANSWERS, &self.empty));
         lines.push("moves, by what they aimed at, by answer:".into());
         for ((kind, number), count) in &self.kinds {
             lines.push(format!("  {:<22}{number}: {count}", kind.name()));
@@ -251,6 +272,9 @@ impl Stats {
             heals("  that merged", |heals| heals.merged),
             flushes("flushes accepted", |flushes| flushes.accepted),
             flushes("  of messages", |flushes| flushes.waited),
+            row("clears of everything", |levels| {
+                gathered(&self.wipes, levels, |_| true)
+            }),
         ]
     }
 }
@@ -260,10 +284,12 @@ impl AddAssign<&Stats> for Stats {
         self.calls += more.calls;
         self.large += more.large;
         add_all(&mut self.answers, &more.answers);
+        add_all(&mut self.empty, &more.empty);
         add_all(&mut self.kinds, &more.kinds);
         add_all(&mut self.moves, &more.moves);
         add_all(&mut self.heals, &more.heals);
         add_all(&mut self.flushes, &more.flushes);
+        add_all(&mut self.wipes, &more.wipes);
     }
 }
 
@@ -295,8 +321,35 @@ fn row(name: &str, count: impl Fn(u16) -> usize) -> String {
     format!("{name:<24}{}", counts.collect::<String>())
 }
 
+/// How many calls of a name got each answer.
+pub type Counts = BTreeMap<(&'static str, u32), usize>;
+/// Names of calls, each with answers that it can give.
+pub type Answers = &'static [(&'static str, &'static [u32])];
+
+/// The answers that no such call gave, of the calls that a subject has.
+fn unmet(answers: Answers, counts: &Counts, has: Capabilities, of: &str) -> Vec<String> {
+    let mut unmet = Vec::new();
+    for (name, numbers) in answers.iter().filter(|(name, _)| has.named(name)) {
+        let never = numbers
+            .iter()
+            .filter(|number| !counts.contains_key(&(*name, **number)));
+        unmet.extend(never.map(|number| format!("{name}{of} never answered {number}")));
+    }
+    unmet
+}
+
+/// The counts in words, a line for each call.
+fn counted(answers: Answers, counts: &Counts) -> Vec<String> {
+    let line = |(name, numbers): &(&'static str, &[u32])| {
+        let count = |number: u32| counts.get(&(*name, number)).unwrap_or(&0);
+        let counts = numbers.iter().map(|n| format!("{n}: {}", count(*n)));
+        format!("  {name:<7}{}", counts.collect::<Vec<_>>().join("  "))
+    };
+    answers.iter().map(line).collect()
+}
+
 /// The answers that each call can give.
-pub const ANSWERS: &[(&str, &[u32])] = &[
+pub const ANSWERS: Answers = &[
     ("make", &[0, 1]),
     ("get", &[0, 1, 2, 3, 5, 8]),
     ("next", &[0, 1, 2, 3, 5, 8]),
@@ -310,4 +363,15 @@ pub const ANSWERS: &[(&str, &[u32])] = &[
     ("tidy", &[0, 1, 2]),
     ("flush", &[0, 1, 2, 6]),
     ("heal", &[0, 1, 2, 6]),
+];
+
+/// The same of those with an empty path: clear and next take it, the others refuse it by 3. A next with an empty first path is refused so
+/// for its second one.
+pub const EMPTY_ANSWERS: Answers = &[
+    ("get", &[1, 2, 3]),
+    ("next", &[0, 1, 2, 3, 5, 8]),
+    ("put", &[1, 2, 3]),
+    ("drop", &[1, 2, 3]),
+    ("clear", &[0, 1, 2]),
+    ("move", &[1, 2, 3]),
 ];

@@ -5,7 +5,7 @@ use second::batches::{run, run_case, Tried};
 use second::contract::image_judged;
 use second::limits::*;
 use second::listed::BatchFault;
-use second::pieces::{laid, piece, two};
+use second::pieces::{laid, piece, two, ANSWER_HEAD};
 use second::plain::Call;
 use second::reference::Reference;
 use second::rng::Rng;
@@ -29,7 +29,7 @@ fn every_wrong_batch_is_found() {
     for fault in BatchFault::ALL {
         let mut rng = Rng::new(11);
         let mut tried = Tried::default();
-        let found = (0..300)
+        let found = (0..600)
             .find_map(|_| run_case(&mut wrong(*fault), &mut rng, &mut tried).err())
             .unwrap_or_else(|| panic!("{fault:?} was not found"));
         println!("{fault:?} after {} batches: {found}", tried.batches);
@@ -99,6 +99,55 @@ fn the_room_falls_by_what_is_written() {
     assert_eq!(calls_done(12 + 35), 3);
     assert_eq!(calls_done(12 + 36), 4);
     assert_eq!(judged(&calls, 48).written, 4 + 4 + 4 + 5);
+}
+
+fn next(path: &[u8], after: &[u8]) -> Call {
+    Call::Next {
+        path: path.to_vec(),
+        after: after.to_vec(),
+        buffer: Vec::new(),
+    }
+}
+
+fn clear_all() -> Call {
+    second::calls::clear_all(0)
+}
+
+/// A clear and a next of the empty path are calls like any other; a get of it is answered by 3, and so is a move.
+#[test]
+fn the_empty_path_in_a_batch() {
+    let rename = Call::Move {
+        from: Vec::new(),
+        to: b"s\0".to_vec(),
+        work: 0,
+    };
+    let list = [
+        put(b"q\0"),
+        put(b"r\0"),
+        next(b"", b""),
+        next(b"", b"q\0"),
+        next(b"", b"r\0"),
+        get(b""),
+        put(b""),
+        rename,
+        clear_all(),
+        next(b"", b""),
+        put(b"s\0"),
+        next(b"", b""),
+    ];
+    let done = judged(&pieces(&list), 1000);
+    let found = 3 * b"q\0".len();
+    assert_eq!((done.calls, done.written), (12, 12 * ANSWER_HEAD + found));
+}
+
+/// It needs the room of its call, and what it leaves is empty.
+#[test]
+fn a_clear_of_everything_needs_the_room_of_a_clear() {
+    let calls = pieces(&[put(b"q\0"), clear_all(), next(b"", b"")]);
+    let calls_done = |room: usize| judged(&calls, room).calls;
+    assert_eq!((calls_done(7), calls_done(8), calls_done(75)), (1, 2, 2));
+    assert_eq!((calls_done(76), judged(&calls, 76).written), (3, 12));
+    assert_eq!(laid(KIND_CLEAR, &[]), pieces(&[clear_all()]));
 }
 
 #[test]

@@ -6,7 +6,7 @@ use second::judge::{run, run_case};
 use second::lazy::{Lazy, Slip};
 use second::limits::LEVELS_MOST;
 use second::reference::{Fault, Reference};
-use second::stats::{Stats, ANSWERS};
+use second::stats::{Stats, ANSWERS, EMPTY_ANSWERS};
 use second::subject::Capabilities;
 use second::{grid, questions};
 
@@ -33,7 +33,7 @@ fn every_fault_is_found() {
             batch_fault: None,
         };
         let mut stats = Stats::default();
-        let found = (0..400)
+        let found = (0..600)
             .find_map(|case| run_case(&mut subject, SEED, case, &mut stats).err())
             .unwrap_or_else(|| panic!("{fault:?} was not found"));
         println!("{fault:?}: {found}");
@@ -47,12 +47,13 @@ fn a_store_that_lets_messages_wait_meets_the_contract() {
     assert!(stats.answers[&("flush", 0)] > 20);
 }
 
-/// The whole grid, four times over, with a store that mostly keeps the bound.
+/// The whole grid, four times over, with a store that mostly keeps the bound. The questions meet what is seldom.
 #[test]
 fn every_corner_is_tried() {
     let mut stats = run(&mut Lazy::default(), SEED, 250).unwrap_or_else(|what| panic!("{what}"));
     let corners = grid::run(&mut Lazy::default(), SEED, 4);
     stats += &corners.unwrap_or_else(|what| panic!("{what}"));
+    stats += &questions::run(&mut Lazy::default()).unwrap_or_else(|what| panic!("{what}"));
     println!("{}", stats.table());
     assert_eq!(stats.missing(Capabilities::ALL), Vec::<String>::new());
     for levels in 1..LEVELS_MOST {
@@ -72,6 +73,12 @@ fn every_question_is_asked_in_its_turn() {
             assert!(met, "{name} never answered {number}");
         }
     }
+    for (name, numbers) in EMPTY_ANSWERS {
+        for number in *numbers {
+            let met = stats.empty.contains_key(&(*name, *number));
+            assert!(met, "{name} of the empty path never answered {number}");
+        }
+    }
 }
 
 /// A run that tries nothing misses everything.
@@ -79,7 +86,7 @@ fn every_question_is_asked_in_its_turn() {
 fn what_is_not_tried_is_missed() {
     let all = Stats::default().missing(Capabilities::ALL);
     let reads = Stats::default().missing(Capabilities::READS);
-    assert!(all.len() > 2 * Corner::all().len() && reads.len() == 20);
+    assert!(all.len() > 3 * Corner::all().len() && reads.len() == 29);
 }
 
 #[test]

@@ -63,8 +63,16 @@ fn bad_lines() {
 
 #[test]
 fn refused_lines() {
-    let refused: [(&[u8], u32); 9] = [
+    let refused: [(&[u8], u32); 17] = [
         (b"get /\n", 3),
+        (b"put / 0a\n", 3),
+        (b"drop /\n", 3),
+        (b"move / a\n", 3),
+        (b"move a /\n", 3),
+        (b"move / /\n", 3),
+        (b"clear //\n", 3),
+        (b"clear /a\n", 3),
+        (b"list a//b\n", 3),
         (b"get a//b\n", 3),
         (b"get a\0b\n", 3),
         (b"get a\r\n", 3),
@@ -81,10 +89,34 @@ fn refused_lines() {
     assert_eq!(printed(long.as_bytes()), "refused 4\n");
 }
 
+/// A lone / is the empty path: clear and list mean every path by it.
+#[test]
+fn a_lone_slash_means_everything() {
+    assert_eq!(printed(b"clear /\nlist /\n"), "ok\nend\n");
+    let filled = "put b/x -\nput a 00\nput a/b 01\n";
+    let all = "a 00\na/b 01\nb/x -\nend\n";
+    let input = format!("{filled}list /\nclear /\nlist /\nget a\nput a 02\nlist /\n");
+    let expected = format!("ok\nok\nok\n{all}ok\nend\nrefused 8\nok\na 02\nend\n");
+    assert_eq!(printed(input.as_bytes()), expected);
+    let waiting = "settle\nput c 03\nmove a d\nclear /\nlist /\nmove d a\ntidy\nlist /\n";
+    let printed_last = printed(format!("{filled}{waiting}").as_bytes());
+    assert!(printed_last.ends_with("ok\nend\nrefused 8\nok\nend\n"));
+}
+
+/// Other texts of slashes alone, or with one too many, mean no path: the map stays.
+#[test]
+fn other_slashes_are_refused() {
+    for text in ["//", "///", "/a", "a/", "//a", "a//"] {
+        let input = format!("put a 00\nclear {text}\nlist {text}\nlist /\n");
+        let expected = "ok\nrefused 3\nrefused 3\na 00\nend\n";
+        assert_eq!(printed(input.as_bytes()), expected, "{text:?}");
+    }
+}
+
 /// Every call refuses a path with a byte 00 in its text, and the map stays: it is not the empty path, nor the path up to the byte.
 #[test]
 fn a_byte_00_in_a_path_is_refused() {
-    for text in ["\0", "a\0b", "a\0", "\0a", "a/b\0/c", "/\0"] {
+    for text in ["\0", "a\0b", "a\0", "\0a", "a/b\0/c", "/\0", "\0/", "\0\0"] {
         let lines = [
             format!("put {text} 01"),
             format!("drop {text}"),
@@ -94,7 +126,7 @@ fn a_byte_00_in_a_path_is_refused() {
             format!("move {text} c"),
             format!("move a {text}"),
         ];
-        let input = format!("put a 00\nput a/b 01\n{}\nlist a\n", lines.join("\n"));
+        let input = format!("put a 00\nput a/b 01\n{}\nlist /\n", lines.join("\n"));
         let expected = format!("ok\nok\n{}a 00\na/b 01\nend\n", "refused 3\n".repeat(7));
         assert_eq!(printed(input.as_bytes()), expected, "{text:?}");
     }

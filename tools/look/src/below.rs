@@ -64,8 +64,11 @@ pub struct Share {
     pub records: usize,
 }
 
-/// The most lifted first.
+/// The most lifted first; none of the empty path, which has no bytes.
 pub fn shares(survey: &Survey<'_>, path: &[u8], records: &[Record]) -> Vec<Share> {
+    if path.is_empty() {
+        return Vec::new();
+    }
     let mut shares: BTreeMap<usize, Share> = BTreeMap::new();
     for record in records {
         let node = survey.node(record.node);

@@ -97,11 +97,17 @@ fn path_and_value(lifted: &[u8], suffix: &[u8], bytes: &[u8]) -> String {
     format!("{} {}", entry_path(lifted, suffix), value(bytes))
 }
 
-/// A message's kind, and its markup.
-fn message_words(message: &RawMessage<'_>, lifted: &[u8]) -> (&'static str, String) {
+/// A message's kind, and its markup. A clear of all that a node owns is, in a node that owns every
+/// path, a clear of the empty one.
+fn message_words(node: &SeenNode<'_>, message: &RawMessage<'_>) -> (&'static str, String) {
+    let lifted = node.lifted();
     match *message {
         RawMessage::Put { suffix, value } => ("put", path_and_value(lifted, suffix, value)),
         RawMessage::Drop { suffix } => ("drop", entry_path(lifted, suffix)),
+        RawMessage::Clear { suffix: [] } if whole(node) == Some(&[]) => {
+            let path = format!("<span class=path>{}</span>", spell::EMPTY_PATH);
+            ("clear", format!("{path} <span class=all>everything</span>"))
+        }
         RawMessage::Clear { suffix: [] } => {
             let all = "<span class=all>all that this node owns</span>";
             ("clear", all.into())
@@ -239,7 +245,7 @@ impl Drawing<'_, '_> {
                 let pivot = pivot(node, suffix, child);
                 ("child", format!("{pivot} <a class=to {to}{note}"))
             }
-            Entry::Message(message) => message_words(&message, lifted),
+            Entry::Message(message) => message_words(node, &message),
         };
         let word = match entry {
             Entry::Message(_) => format!("<span class=kind>{kind}</span> "),

@@ -9,9 +9,11 @@ use second::path::overlap;
 /// The strings from the first up to, and not including, the second.
 type Range<'r> = (&'r [u8], &'r [u8]);
 
-/// Why the lookup decided nothing, where it did not.
+/// Why the lookup decided nothing, where it did not. The empty path is not looked up: it needs a
+/// root alone.
 pub fn on_way(survey: &Survey<'_>, trace: &Trace) -> Option<String> {
-    if trace.decided.is_some() {
+    let is_whole = trace.path.is_empty() && !survey.nodes.is_empty();
+    if trace.decided.is_some() || is_whole {
         return None;
     }
     let told = trace.steps.last().and_then(|last| {

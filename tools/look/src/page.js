@@ -12,9 +12,11 @@
 
   // ---- paths
 
-  const hexOf = (text) => [...text].map((c) => (c === '/' ? '00' : c.charCodeAt(0).toString(16).padStart(2, '0'))).join('') + '00';
+  // The empty path is a lone slash: every path is below it.
+  const hexOf = (text) => text === '/' ? '' : [...text].map((c) => (c === '/' ? '00' : c.charCodeAt(0).toString(16).padStart(2, '0'))).join('') + '00';
 
   function fault(text) {
+    if (text === '/') return '';
     const parts = text.split('/');
     if (parts.some((p) => p === '')) return 'a component is empty';
     if (!/^[\x21-\x7e]*$/.test(text)) return 'a component may hold the bytes 21 to 7E only';
@@ -59,10 +61,11 @@
   // The entry from which on a node was not read, where what decides may stand there: in a leaf the pair, in an interior node a newer message.
   const unreadAt = (step, newest) => (step.leaf && (newest || step.pair) ? undefined : step.node.dataset.unread);
 
+  // The empty path, which nothing can give a value, has no way.
   function lookup(side, hex) {
-    const steps = [];
+    const steps = [], isWhole = hex === '';
     let decided = null;
-    for (let node = side.root; node;) {
+    for (let node = isWhole ? null : side.root; node;) {
       const step = stepAt(node, hex);
       const newest = step.spoken[step.spoken.length - 1];
       step.past = decided !== null;
@@ -72,7 +75,7 @@
       steps.push(step);
       node = step.unread ? null : childOf(step.owner);
     }
-    return { steps, decided };
+    return { steps, decided, isWhole };
   }
 
   const valueOf = (entry) => (entry && entry.matches('.pair, .put') ? entry.querySelector('.v').textContent : null);
@@ -100,9 +103,9 @@
   const unreadWords = (node) => nodeName(node) + ' was not read from entry ' + node.dataset.unread + ' on';
   const nowhereWords = (entry) => nameOf(entry) + ' of ' + nodeName(entry.closest('.node')) + ' leads to no node that can be read there';
 
-  // Why the lookup decided nothing, where it did not.
-  function gapOnWay(found) {
-    if (found.decided) return '';
+  // Why the lookup decided nothing, where it did not. The empty path is not looked up: it needs a root alone.
+  function gapOnWay(side, found) {
+    if (found.decided || (found.isWhole && side.root)) return '';
     const last = found.steps[found.steps.length - 1];
     if (!last) return 'node 0 leads to no root that can be read';
     if (last.unread) return unreadWords(last.node);
@@ -146,7 +149,8 @@
     const { step, entry } = found.decided;
     if (!entry) return 'Decided by ' + nodeName(step.node) + ', the leaf that owns it: no pair there has this path.';
     if (step.leaf) return 'Decided by ' + nameOf(entry) + ' of the leaf ' + nodeName(step.node) + '.';
-    const what = { put: 'a put', drop: 'a drop', clear: entry.dataset.s ? 'a clear of a beginning of it' : 'a clear of all that the node owns' };
+    const { low, high } = step.node.dataset, all = low === '' && high === 'ff' ? 'everything' : 'all that the node owns';
+    const what = { put: 'a put', drop: 'a drop', clear: 'a clear of ' + (entry.dataset.s ? 'a beginning of it' : all) };
     return 'Decided by ' + nameOf(entry) + ' of ' + nodeName(step.node) + ', ' + what[kindOf(entry)] + ' that waits there.';
   }
 
@@ -236,9 +240,10 @@
     const own = found.decided ? ' has no value of its own, and at least ' : ' has at least ';
     if (value !== null) verdict.append(' has the value ', make('code', 'has', value), '.');
     else if (records.length && gap) verdict.append(own, told, ' below it; ' + gap + ', so whether there is more cannot be told.');
-    else if (records.length) verdict.append(' has ', told, ' below it, and no value of its own.');
+    else if (records.length) verdict.append(' has ', told, found.isWhole ? ' below it: the whole store.' : ' below it, and no value of its own.');
     else if (gap && found.decided) verdict.append(' has no value of its own; ' + gap + ', so what is below it cannot be told.');
     else if (gap) verdict.append(': ' + gap + ', so this cannot be told.');
+    else if (found.isWhole) verdict.append(' has no record below it: the store is empty.');
     else verdict.append(' is absent.');
     return value;
   }
@@ -247,12 +252,12 @@
     const { word } = side.answer.dataset, { refusal } = side.image.dataset;
     if (refusal) side.answer.append(make('p', 'reason', refusal + '. What its bytes would say:'));
     const verdict = make('p', 'verdict', make('span', 'side', word ? word + ': ' : ''), make('code', '', text));
-    const gap = gapOnWay(found) || gapBelow(side, hexOf(text));
+    const gap = gapOnWay(side, found) || gapBelow(side, hexOf(text));
     const value = sayAnswer(verdict, found, records, gap);
-    if (value !== null || !gap) verdict.append(make('span', 'reason', ' ' + reason(found)));
+    if (found.decided && (value !== null || !gap)) verdict.append(make('span', 'reason', ' ' + reason(found)));
     if (records.length) verdict.append(make('span', 'reason', ' What is below it is marked in the tree.'));
     side.answer.append(verdict);
-    if (value === null && records.length) side.answer.append(sharesBelow(text, records));
+    if (value === null && records.length && !found.isWhole) side.answer.append(sharesBelow(text, records));
     else if (found.decided && found.decided.entry) side.answer.append(pieces(found));
   }
 

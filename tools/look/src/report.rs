@@ -4,7 +4,7 @@
 
 use crate::rules;
 use crate::spell::{self, count};
-use crate::survey::{range_words, Finding, SeenNode, Survey};
+use crate::survey::{range_words, whole, Finding, SeenNode, Survey};
 use second::image::{Entry, RawMessage};
 use second::limits::{NODE, NODES_MOST};
 use std::fmt::Write;
@@ -180,6 +180,9 @@ pub fn entry_words(node: &SeenNode<'_>, at: usize) -> (String, String) {
         ),
         Entry::Message(RawMessage::Drop { suffix }) => {
             (format!("drop  {}", split(suffix)), String::new())
+        }
+        Entry::Message(RawMessage::Clear { suffix: [] }) if whole(node) == Some(&[]) => {
+            (format!("clear {}", spell::EMPTY_PATH), "everything".into())
         }
         Entry::Message(RawMessage::Clear { suffix: [] }) => {
             ("clear all that this node owns".into(), String::new())

@@ -66,7 +66,7 @@ fn lookup(image: &Path, text: &str) -> Result<Done, String> {
         true => format!(" ({text} is a file too: to compare two images add --html FILE)"),
         false => String::new(),
     };
-    let path = spell::parse(text).map_err(|why| why + &hint)?;
+    let path = spell::parse_asked(text).map_err(|why| why + &hint)?;
     let bytes = read(image)?;
     let survey = Survey::take(&bytes);
     let asked = Asked::of(&survey, &path);
@@ -83,10 +83,11 @@ fn one_page(image: &Path, path: Option<&str>, file: &Path) -> Result<Done, Strin
     let mut text = report::summary(&name(image), &survey) + &report::findings(&survey);
     let mut fine = survey.sound();
     if let Some(path) = path {
-        let bytes = spell::parse(path).map_err(|why| format!("{why} (nor is it a file)"))?;
+        let parsed = spell::parse_asked(path);
+        let bytes = parsed.map_err(|why| format!("{why} (nor is it a file)"))?;
         let asked = Asked::of(&survey, &bytes);
         text += &format!("{}\n", way::answer(&survey, &asked));
-        if !asked.found() {
+        if !asked.found() && !bytes.is_empty() {
             text += &format!("({path} is no file, so it was taken for a path)\n");
         }
         fine = fine && asked.found();
@@ -166,7 +167,7 @@ fn answers(sides: &[Side<'_, '_>; 2], opening: &Opening<'_>) -> Result<(String, 
         (&sides[0], "before", path),
         (&sides[1], "after", &followed[..]),
     ] {
-        let asked = Asked::of(side.survey, &spell::parse(path)?);
+        let asked = Asked::of(side.survey, &spell::parse_asked(path)?);
         text += &format!("{word}: {}\n", way::answer(side.survey, &asked));
         found = found || asked.found();
     }

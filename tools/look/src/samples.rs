@@ -1,6 +1,6 @@
-// Small images to look at: a tree with messages waiting, the same log before and after a move of
-// a closure, one whose ends lie inside leaves, a large one before and after, unsound ones and a
-// generated one. Built with tests/second's tree.
+// Small images to look at: a tree with messages waiting, one that was wiped, the same log before
+// and after a move of a closure, one whose ends lie inside leaves, a large one before and after,
+// unsound ones and a generated one. Built with tests/second's tree.
 
 use second::feature::Feature;
 use second::generate;
@@ -26,6 +26,8 @@ pub fn all() -> Vec<(&'static str, Vec<u8>)> {
     let unsound = mutate::damage(Rule::PutOwned, &waiting(), 3).unwrap_or_default();
     vec![
         ("waiting.img", waiting()),
+        ("wiped.img", wiped()),
+        ("refilled.img", refilled()),
         ("before.img", before),
         ("after.img", after),
         ("large.img", large),
@@ -111,6 +113,34 @@ fn first_closures() -> Node {
 
 /// Three levels; newer messages wait above older records.
 pub fn waiting() -> Vec<u8> {
+    let drop = Message::Drop {
+        path: path("r1/c7/t4/f1"),
+    };
+    let clear = Message::Clear {
+        path: path("r2/c2"),
+    };
+    waiting_below(vec![
+        put("r2/c5/t1/f1", &[0xa1]),
+        drop,
+        clear,
+        put("r1/c4/t1/f1", &[0x42]),
+    ])
+}
+
+/// The same log after a clear of the empty path, which waits in the root behind a put.
+pub fn wiped() -> Vec<u8> {
+    let everything = Message::Clear { path: Vec::new() };
+    waiting_below(vec![put("r2/c5/t1/f1", &[0xa1]), everything])
+}
+
+/// The same with a record that was put after the clear.
+pub fn refilled() -> Vec<u8> {
+    let everything = Message::Clear { path: Vec::new() };
+    waiting_below(vec![everything, put("r1/c4/t1/f1", &[0x42])])
+}
+
+/// Three levels, with these messages in the root.
+fn waiting_below(messages: Vec<Message>) -> Vec<u8> {
     let in_closure = vec![
         put("r1/c7/t1/f2", &[0x77]),
         Message::Clear {
@@ -129,16 +159,6 @@ pub fn waiting() -> Vec<u8> {
             path: path("r1/c8/t1/f2"),
         }],
     );
-    let messages = vec![
-        put("r2/c5/t1/f1", &[0xa1]),
-        Message::Drop {
-            path: path("r1/c7/t4/f1"),
-        },
-        Message::Clear {
-            path: path("r2/c2"),
-        },
-        put("r1/c4/t1/f1", &[0x42]),
-    ];
     let root = Node::interior(
         b"",
         vec![first_closures(), closure("r1/c7", in_closure), last],

@@ -112,7 +112,26 @@ pub fn count(number: usize, one: &str, more: &str) -> String {
     }
 }
 
-/// The bytes of a path in text form, or why it is none.
+/// The empty path in text form: every path is below it.
+pub const EMPTY_PATH: &str = "/";
+
+/// A path that is asked for, the empty one too, in text form.
+pub fn asked(bytes: &[u8]) -> String {
+    match bytes {
+        [] => EMPTY_PATH.into(),
+        _ => path(bytes),
+    }
+}
+
+/// The bytes of a path that is asked for, or why it is none.
+pub fn parse_asked(text: &str) -> Result<Vec<u8>, String> {
+    match text {
+        EMPTY_PATH => Ok(Vec::new()),
+        _ => parse(text),
+    }
+}
+
+/// The bytes of a path that can have a value, or why it is none.
 pub fn parse(text: &str) -> Result<Vec<u8>, String> {
     let bytes = from_text(text.as_bytes());
     match well_formed(&bytes) {
@@ -159,6 +178,13 @@ mod tests {
     #[test]
     fn a_malformed_path_is_told_why() {
         assert_eq!(parse("r1/c7").unwrap(), b"r1\0c7\0");
+        assert_eq!(parse_asked("r1/c7").unwrap(), b"r1\0c7\0");
+        assert_eq!(parse_asked("/").unwrap(), b"");
+        assert_eq!((asked(b"r1\0"), asked(b"")), ("r1".into(), "/".into()));
+        assert!(parse("/").is_err());
+        assert!(["", "//", "/r1", "r1/"]
+            .iter()
+            .all(|text| parse_asked(text).is_err()));
         for (text, why) in [
             ("r1//t1", "empty"),
             ("r1/", "empty"),

@@ -59,8 +59,12 @@ pub struct Trace {
 }
 
 impl Trace {
+    /// The empty path, which nothing can give a value, has no way.
     pub fn take(survey: &Survey<'_>, path: &[u8]) -> Trace {
-        let steps = steps(survey, path);
+        let steps = match path {
+            [] => Vec::new(),
+            _ => steps(survey, path),
+        };
         let decides = |step: &Step| {
             matches!(
                 step.ending,

@@ -73,11 +73,16 @@ pub fn answer(survey: &Survey<'_>, asked: &Asked) -> String {
 
 /// The value, the number of records below, its absence, or why none can be told; and what decides.
 fn verdict(survey: &Survey<'_>, asked: &Asked) -> String {
-    let path = spell::path(&asked.trace.path);
+    let path = spell::asked(&asked.trace.path);
+    let is_whole = asked.trace.path.is_empty();
     let records = count(asked.below.len(), "record", "records");
     let is_decided = asked.trace.decided.is_some();
     let told = match (&asked.trace.value, asked.below.len(), &asked.gap) {
         (Some(value), _, _) => format!("{path} has the value {}.", spell::value(value)),
+        (None, 0, None) if is_whole => {
+            format!("{path} has no record below it: the store is empty.")
+        }
+        (None, _, None) if is_whole => format!("{path} has {records} below it: the whole store."),
         (None, 0, None) => format!("{path} is absent."),
         (None, _, None) => format!("{path} has {records} below it, and no value of its own."),
         (None, 0, Some(gap)) if is_decided => {
@@ -94,7 +99,7 @@ fn verdict(survey: &Survey<'_>, asked: &Asked) -> String {
             format!("{path} has{own} at least {records} below it; {gap}, {more}")
         }
     };
-    match asked.trace.value.is_some() || asked.gap.is_none() {
+    match is_decided && (asked.trace.value.is_some() || asked.gap.is_none()) {
         true => format!("{told} {}", decision(survey, &asked.trace)),
         false => told,
     }
@@ -129,9 +134,10 @@ fn tidy(text: &str) -> String {
 /// is true of those, since their nodes need not lift the same.
 fn pieces(survey: &Survey<'_>, asked: &Asked, out: &mut String) {
     let trace = &asked.trace;
-    if trace.value.is_none() && !asked.below.is_empty() {
+    let shares = below::shares(survey, &trace.path, &asked.below);
+    if trace.value.is_none() && !shares.is_empty() {
         out.push_str("\nwhere its bytes stand (lifted ones in the pivots above the node):\n");
-        for share in below::shares(survey, &trace.path, &asked.below) {
+        for share in shares {
             let _ = writeln!(out, "  {}", share.words(&trace.path));
         }
     } else if trace.decider(survey).is_some() {

@@ -72,6 +72,26 @@ fn lifted_bytes_and_odd_bytes_are_set_apart() {
 }
 
 #[test]
+fn a_clear_of_the_empty_path_is_told_as_one() {
+    for (image, live, line) in [
+        (
+            samples::wiped(),
+            0,
+            "  message 2  clear /            everything  (newest)\n",
+        ),
+        (
+            samples::refilled(),
+            1,
+            "  message 1  clear /            everything  (oldest)\n",
+        ),
+    ] {
+        let written = report("wiped", &Survey::take(&image));
+        assert!(written.contains(line), "{written}");
+        assert_eq!(judge(&image).unwrap().table.len(), live);
+    }
+}
+
+#[test]
 fn samples_are_what_they_say() {
     for (name, image) in samples::all() {
         let is_sound = !["unsound.img", "miscounted.img", "unreadable.img"].contains(&name);
@@ -95,7 +115,8 @@ fn the_records_below_a_path_are_the_tables() {
     for image in images() {
         let survey = Survey::take(&image);
         let table = judge(&image).unwrap().table;
-        let tops: BTreeSet<&[u8]> = table.keys().flat_map(|path| beginnings(path)).collect();
+        let mut tops: BTreeSet<&[u8]> = table.keys().flat_map(|path| beginnings(path)).collect();
+        tops.insert(&[]);
         for top in tops {
             let records = below::records(&survey, top);
             let paths: Vec<&Vec<u8>> = records.iter().map(|record| &record.path).collect();
@@ -109,9 +130,14 @@ fn the_records_below_a_path_are_the_tables() {
     }
 }
 
-/// Each record's node lifts as much of the path above it as its share says.
+/// Each record's node lifts as much of the path above it as its share says. The empty path has
+/// nothing to lift.
 fn shares_are_true(survey: &Survey<'_>, top: &[u8], records: &[Record]) {
     let shares = below::shares(survey, top, records);
+    if top.is_empty() {
+        assert!(shares.is_empty());
+        return;
+    }
     let told: usize = shares.iter().map(|share| share.records).sum();
     assert_eq!(told, records.len());
     for record in records {

@@ -182,6 +182,39 @@ fn a_closure_is_told_by_its_records() {
 }
 
 #[test]
+fn the_empty_path_is_told_by_all_records() {
+    let file = files("empty");
+    let (good, page) = (file("waiting.img"), file("page.html"));
+    let (wiped, refilled) = (file("wiped.img"), file("refilled.img"));
+    let ten = "/ has 10 records below it: the whole store.\n";
+    expect(
+        &[&good, "/"],
+        0,
+        &format!("{ten}\nbelow it: 10 records\n  r1/c1"),
+    );
+    expect(&[&good, "/", "--html", &page], 0, ten);
+    let written = std::fs::read_to_string(&page).expect("a page");
+    assert!(written.contains("value=\"/\""));
+    let none = "/ has no record below it: the store is empty.\n";
+    expect(&[&wiped, "/"], 1, none);
+    expect(&[&wiped, "/", "--html", &page], 1, none);
+    expect(
+        &[&refilled, "/"],
+        0,
+        "/ has 1 record below it: the whole store.\n",
+    );
+    let decided = "absent. It is decided by message 2 of node 1: clear / everything";
+    expect(&[&wiped, "r1/c1/t1/f1"], 1, decided);
+    let both = [&good[..], &wiped, "/", "--html", &page];
+    expect(&both, 0, &format!("before: {ten}after: {none}"));
+    expect_error(
+        &[&good, &good, "--moved", "/", "r2", "--html", &page],
+        "a component is empty",
+    );
+    expect_error(&[&good, "//"], "a component is empty");
+}
+
+#[test]
 fn a_page_is_made_at_a_path() {
     let file = files("path");
     let (good, page) = (file("waiting.img"), file("page.html"));

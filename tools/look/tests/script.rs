@@ -80,13 +80,14 @@ fn told<'s>(shown: &'s Shown, file: &str, path: &str, kind: &str) -> &'s [String
     shown.get(&place).map_or(&[], |texts| texts)
 }
 
-/// Every path that is there, every beginning of one, and one that is not there.
+/// The empty path, every path that is there, every beginning of one, and one that is not there.
 fn paths_of(image: &[u8]) -> Vec<String> {
     let table = judge(image).expect("a sound image").table;
     let known = table.keys().flat_map(|path| beginnings(path));
     let mut paths: BTreeSet<String> = known.map(spell::path).collect();
     paths.insert("no/such/path".into());
-    paths.into_iter().collect()
+    let first = spell::EMPTY_PATH.to_string();
+    [first].into_iter().chain(paths).collect()
 }
 
 /// The answer without what each of the two adds to the entry that decides.
@@ -172,6 +173,13 @@ fn cases() -> Vec<Case> {
         paths.clone(),
     ));
     cases.push(("text.html".into(), b"no store".to_vec(), paths));
+    for (name, image) in [
+        ("wiped.html", samples::wiped()),
+        ("refilled.html", samples::refilled()),
+    ] {
+        let paths = paths_of(&samples::waiting());
+        cases.push((name.into(), image, paths));
+    }
     cases
 }
 
@@ -187,7 +195,7 @@ fn each_answer_is_the_programs() {
     for (file, image, paths) in &images {
         let survey = Survey::take(image);
         for path in paths {
-            let bytes = spell::parse(path).expect("a path");
+            let bytes = spell::parse_asked(path).expect("a path");
             let asked = Asked::of(&survey, &bytes);
             let answer = way::answer(&survey, &asked);
             let page = told(&shown, file, path, "answer-a").concat();
@@ -208,10 +216,12 @@ fn each_answer_is_the_programs() {
     );
 }
 
-const WORDS: [&str; 11] = [
+const WORDS: [&str; 13] = [
     "has the value",
     "is absent",
     "below it, and no value of its own",
+    "below it: the whole store",
+    "no record below it: the store is empty",
     "so this cannot be told",
     "so whether there is more cannot be told",
     "so what is below it cannot be told",

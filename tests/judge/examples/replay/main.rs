@@ -10,6 +10,7 @@ use judge::{lengths, moving};
 use recorder::Recorder;
 use second::batch::{self, Batching};
 use second::batches::{self, Tried};
+use second::calls::clear_all;
 use second::limits::*;
 use second::path::beginnings;
 use second::plain::Call;
@@ -95,6 +96,15 @@ fn deep<W: Write>(recorder: &mut Recorder<W>, image: &[u8]) -> Result<(), String
     accepted(recorder.make(&mut image.to_vec()).0, "make")
 }
 
+/// The first step of a listing below this path.
+fn next(path: Vec<u8>) -> Call {
+    Call::Next {
+        path,
+        after: Vec::new(),
+        buffer: vec![0; NEXT_BUFFER],
+    }
+}
+
 /// A refusal may end early, so every call must be accepted.
 fn accepted(number: u32, call: &str) -> Result<(), String> {
     match number {
@@ -103,22 +113,24 @@ fn accepted(number: u32, call: &str) -> Result<(), String> {
     }
 }
 
-/// The calls that take a path with each of some paths, and those that take a node with each of the widest nodes.
+/// The calls that take a path with each of some paths, clear and next with the empty one too, and those that take a node with each of the
+/// widest nodes.
 fn deep_calls(sound: &Sound) -> Vec<Call> {
     let work = WORK_PER_NODE * sound.n;
-    let mut calls = vec![Call::Settle { work }, Call::Tidy { work }];
+    let mut calls = vec![
+        Call::Settle { work },
+        Call::Tidy { work },
+        clear_all(work),
+        next(Vec::new()),
+    ];
     for path in some_paths(sound).into_iter().take(PATHS) {
         let top = beginnings(&path).next().unwrap_or(&path).to_vec();
-        let (value, to, after) = (vec![1; VALUE_LIMIT], b"~~~\0".to_vec(), Vec::new());
+        let (value, to) = (vec![1; VALUE_LIMIT], b"~~~\0".to_vec());
         calls.push(Call::Get {
             path: path.clone(),
             buffer: vec![0; GET_BUFFER],
         });
-        calls.push(Call::Next {
-            path: top.clone(),
-            after,
-            buffer: vec![0; NEXT_BUFFER],
-        });
+        calls.push(next(top.clone()));
         calls.push(Call::Put {
             path: path.clone(),
             value,

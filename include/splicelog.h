@@ -5,7 +5,7 @@
  *
  * A store is n nodes of 1,024 bytes, n from 32 to 1,024. A path is 1 to 8 components of 1 to 16
  * bytes (hexadecimal 21 to 7E without 2F), each followed by a byte 00, at most 64 bytes in all. A
- * value is 0 to 32 bytes. Every function of the library takes any bytes, decides for itself whether
+ * value is 0 to 48 bytes. Every function of the library takes any bytes, decides for itself whether
  * they are fit, and refuses by a number: then it has changed no byte.
  *
  * The empty path has length 0, and every path is below it. It stands for the whole store, in clear
@@ -23,12 +23,12 @@
 #include <stddef.h>
 #include <stdint.h>
 
-#define SPLICELOG_VERSION "1.2"
-#define SPLICELOG_VERSION_MAJOR 1
-#define SPLICELOG_VERSION_MINOR 2
+#define SPLICELOG_VERSION "2.0"
+#define SPLICELOG_VERSION_MAJOR 2
+#define SPLICELOG_VERSION_MINOR 0
 
 /* The limits. Sizes are in bytes; a path's bytes 00 count. The last number is the last refusal's. */
-#define SPLICELOG_VALUE_LIMIT 32
+#define SPLICELOG_VALUE_LIMIT 48
 #define SPLICELOG_PATH_LIMIT 64
 #define SPLICELOG_COMPONENT_LIMIT 16
 #define SPLICELOG_COMPONENTS_LIMIT 8
@@ -78,8 +78,8 @@ enum splicelog_refusal {
     SPLICELOG_WRONG_LENGTH = 1,     /* no store of 32 to 1,024 nodes, or too short a work area */
     SPLICELOG_NOT_SOUND = 2,        /* the image is not sound */
     SPLICELOG_MALFORMED_PATH = 3,   /* a path is not well formed, or empty where it may not be */
-    SPLICELOG_VALUE_TOO_LONG = 4,   /* the value has more than 32 bytes */
-    SPLICELOG_BUFFER_TOO_SHORT = 5, /* get needs 32 bytes, next 64 */
+    SPLICELOG_VALUE_TOO_LONG = 4,   /* the value has more than 48 bytes */
+    SPLICELOG_BUFFER_TOO_SHORT = 5, /* get needs 48 bytes, next 64 */
     SPLICELOG_NO_INTERIOR_NODE = 6, /* the number is not that of a reachable interior node */
     SPLICELOG_NESTED_PATHS = 7,     /* one path of a move is a proper beginning of the other */
     SPLICELOG_NOT_FOUND = 8,        /* no such path */
@@ -94,7 +94,7 @@ SPLICELOG_INLINE const char *splicelog_text(uint32_t number) {
         "a store is not a whole number of nodes from 32 to 1024, or the work area is too short",
         "the image is not sound",
         "a path is not well formed",
-        "the value is longer than 32 bytes",
+        "the value is longer than 48 bytes",
         "the buffer is too short",
         "the number is not that of a reachable interior node",
         "one path is a proper beginning of the other",
@@ -117,7 +117,7 @@ uint32_t splicelog_make(uint8_t *store, splicelog_size store_len);
 SPLICELOG_RESULT SPLICELOG_READS(1, 2)
 uint64_t splicelog_check(const uint8_t *store, splicelog_size store_len);
 
-/* The value of a path, at the front of a buffer of at least 32 bytes; later bytes of the buffer
+/* The value of a path, at the front of a buffer of at least 48 bytes; later bytes of the buffer
  * stay. Beside the number: its length. Refuses by 1, 2, 3, 5, 8. */
 SPLICELOG_RESULT SPLICELOG_READS(1, 2) SPLICELOG_READS(3, 4) SPLICELOG_WRITES(5, 6)
 uint64_t splicelog_get(const uint8_t *store, splicelog_size store_len, const uint8_t *path,

@@ -18,7 +18,7 @@ extern "C" {
  * layout of FORMAT.md: the helpers below write the one and read the other. A call that is refused is
  * answered, and the batch goes on. It stops when the calls end, in front of bytes that do not read as
  * a call, or in front of a call whose answer might not fit in what is left of `answers` (4 bytes a
- * call, 36 a get, 68 a next; at most 2^28 - 1 bytes of it are used): splicelog_batch_stop tells
+ * call, 52 a get, 68 a next; at most 2^28 - 1 bytes of it are used): splicelog_batch_stop tells
  * which, splicelog_skip where to go on. `work` is as for the calls that change a store. Refuses by 1,
  * 2, before any call is made. */
 SPLICELOG_RESULT SPLICELOG_CHANGES(1, 2) SPLICELOG_WRITES(3, 4) SPLICELOG_READS(5, 6) SPLICELOG_WRITES(7, 8)

@@ -1,5 +1,5 @@
 /* The records and the arguments, the same for every peer and in every run: fibres by route/cable/closure/tray/fibre, each with the loss and
- * the day of its splice. Relies on nothing but the C library.
+ * the day of its splice and, where asked, further losses up to the longest value. Relies on nothing but the C library.
  */
 #include "peers.h"
 
@@ -64,19 +64,21 @@ static struct bytes path_of(size_t index) {
     return path;
 }
 
-static struct bytes value_of(size_t index) {
-    char text[VALUE_MOST];
-    const int len = snprintf(text, sizeof text, "0.%02zudB,2026-%02zu-%02zu", index * 7 % 40, index % 12 + 1, index % 28 + 1);
+static struct bytes value_of(const struct content *content, size_t index) {
+    char text[VALUE_MOST + 1];
+    const int len = snprintf(text, sizeof text, "0.%02zudB,2026-%02zu-%02zu%s", index * 7 % 40, index % 12 + 1, index % 28 + 1,
+                             content->notes == LONGEST ? ",0.04,0.07,0.05,0.06,0.03,0.08," : "");
     struct bytes value;
     bytes_set(&value, text, (size_t)len);
     return value;
 }
 
-void content_make(struct content *content, size_t nodes) {
+void content_make(struct content *content, size_t nodes, enum notes notes) {
     memset(content, 0, sizeof *content);
     content->nodes = nodes;
+    content->notes = notes;
     for (size_t i = 0; i < nodes; i++)
-        content->rows[i] = (struct record){path_of(i), value_of(i)};
+        content->rows[i] = (struct record){path_of(i), value_of(content, i)};
 }
 
 /* The first `count` components of a path. */
@@ -105,7 +107,8 @@ struct change content_later(const struct content *content, size_t index, enum mi
         row = i * 37 % content->nodes;
         left -= row % SINGLE != OWN;
     }
-    struct change made = {mix == IN_TURN ? in_turn[index % 3] : in_turn[mix], {.path = content->rows[row].path, .value = value_of(index + 5)}};
+    struct change made = {mix == IN_TURN ? in_turn[index % 3] : in_turn[mix],
+                          {.path = content->rows[row].path, .value = value_of(content, index + 5)}};
     made.arguments.path_end = end_of(&made.arguments.path);
     return made;
 }
@@ -120,7 +123,7 @@ static struct bytes renumbered(const struct bytes *closure) {
 /* Spread over the store; never the last path of a route, so that next has an answer. */
 static struct arguments arguments_of(const struct content *content, enum call call, size_t index) {
     const size_t row = index * content->nodes / SINGLE + OWN;
-    struct arguments made = {.path = content->rows[row].path, .value = value_of(row + 11)};
+    struct arguments made = {.path = content->rows[row].path, .value = value_of(content, row + 11)};
     if (call == NEXT) {
         made.other = made.path;
         made.path = beginning(&made.path, ROUTE);

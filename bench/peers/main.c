@@ -95,8 +95,8 @@ static double print_columns(const char *first) {
     return us[JUDGED] / us[OURS];
 }
 
-static void load(size_t many, size_t nodes, struct state state) {
-    content_make(&content, nodes);
+static void load(size_t many, size_t nodes, enum notes notes, struct state state) {
+    content_make(&content, nodes, notes);
     ours_build(&content, state);
     for (size_t c = 0; c < many; c++)
         if (columns[c])
@@ -119,11 +119,17 @@ static struct worst print_calls(void) {
 }
 
 static void print_peers(size_t size) {
-    load(COLUMNS, sizes[size], (struct state){0});
+    load(COLUMNS, sizes[size], USUAL, (struct state){0});
     title("%zu nodes, %zu records, settled, in µs", content.nodes, content.nodes);
     worst_settled[size] = print_calls();
-    load(COLUMNS, sizes[size], (struct state){WAITING_MOST, BY_CALLS, PUTS});
+    load(COLUMNS, sizes[size], USUAL, (struct state){WAITING_MOST, BY_CALLS, PUTS});
     title("%zu nodes, %zu records, %zu puts waiting, the most that calls leave, in µs", content.nodes, content.nodes, content.waiting);
+    print_calls();
+}
+
+static void print_longest(void) {
+    load(COLUMNS, NODES_MOST, LONGEST, (struct state){0});
+    title("%zu nodes, %zu records with values of %d bytes, settled, in µs", content.nodes, content.nodes, VALUE_MOST);
     print_calls();
 }
 
@@ -133,7 +139,7 @@ static void print_in_a_row(void) {
     for (size_t size = 0; size < SIZES; size++) {
         char nodes[16];
         snprintf(nodes, sizeof nodes, "%zu", sizes[size]);
-        load(COLUMNS, sizes[size], (struct state){0});
+        load(COLUMNS, sizes[size], USUAL, (struct state){0});
         series_puts_in_a_row(&series, &content);
         ratio_in_a_row[size] = print_columns(nodes);
     }
@@ -156,7 +162,7 @@ static void print_worst(void) {
 /* The least ratio to a judging SQLite of all calls in a state. */
 static struct worst measure_state(size_t nodes, struct state state) {
     struct worst least = {0};
-    load(JUDGED + 1, nodes, state);
+    load(JUDGED + 1, nodes, USUAL, state);
     for (enum call call = 0; call < CALLS; call++) {
         double us[COLUMNS];
         series_single(&series, &content, call);
@@ -204,7 +210,7 @@ static void print_growth(void) {
     for (size_t nodes = 32; nodes <= NODES_MOST; nodes *= 2) {
         uint16_t reachable[NODES_MOST];
         char first[16], second[16];
-        content_make(&content, nodes);
+        content_make(&content, nodes, USUAL);
         ours_build(&content, (struct state){0});
         const double pass = pass_us(ours_pristine()), get = measure_ours(GET), put = measure_ours(PUT);
         snprintf(first, sizeof first, "%zu", nodes);
@@ -221,7 +227,7 @@ static void print_waiting(void) {
     table_head(head, 4);
     for (size_t i = 0; i < sizeof wanted / sizeof *wanted; i++) {
         char count[32];
-        content_make(&content, NODES_MOST);
+        content_make(&content, NODES_MOST, USUAL);
         ours_build(&content, (struct state){wanted[i], BY_HAND, PUTS});
         const double pass = pass_us(ours_pristine()), get = measure_ours(GET);
         snprintf(count, sizeof count, wanted[i] == WAITING_MOST ? "%zu (as many as fit)" : "%zu", content.waiting);
@@ -246,6 +252,7 @@ int main(int count, char **words) {
     print_machine();
     for (size_t size = 0; size < SIZES; size++)
         print_peers(size);
+    print_longest();
     print_in_a_row();
     if (columns[JUDGED]) {
         print_worst();

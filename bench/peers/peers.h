@@ -8,7 +8,7 @@
 #include <stddef.h>
 #include <stdint.h>
 
-enum { NODE = 1024, NODES_MOST = 1024, PATH_MOST = 64, VALUE_MOST = 32, WAITING_MOST = 128 };
+enum { NODE = 1024, NODES_MOST = 1024, PATH_MOST = 64, VALUE_MOST = 48, WAITING_MOST = 128 };
 
 /* How many calls a figure is the mean of: single calls on the pristine bytes, and calls in a row. */
 enum { SINGLE = 8, IN_A_ROW = 128 };
@@ -40,9 +40,13 @@ struct change {
     struct arguments arguments;
 };
 
+/* What the values are: of 17 bytes, or filled up by further losses to as many as a value may have. */
+enum notes { USUAL, LONGEST };
+
 /* A full store: as many records as nodes, rising, and the later changes, which wait in our root and which every peer has made too. */
 struct content {
     size_t nodes;
+    enum notes notes;
     struct record rows[NODES_MOST];
     size_t waiting;
     struct change later[WAITING_MOST];
@@ -82,7 +86,7 @@ extern const struct peer ours, sqlite_judged, sqlite_trusting, lmdb_trusting;
 
 /* data.c */
 extern const char *const call_names[CALLS], *const mix_names[MIXES];
-void content_make(struct content *content, size_t nodes);
+void content_make(struct content *content, size_t nodes, enum notes notes);
 struct change content_later(const struct content *content, size_t index, enum mix mix);
 void series_single(struct series *series, const struct content *content, enum call call);
 void series_puts_in_a_row(struct series *series, const struct content *content);

@@ -75,7 +75,7 @@ fn shuffled(paths: &[Vec<u8>]) -> Vec<Vec<u8>> {
 fn put(path: &[u8], byte: u8) -> Call {
     Call::Put {
         path: path.to_vec(),
-        value: vec![byte; VALUE_LIMIT],
+        value: vec![byte; OLD_VALUE_LIMIT],
         work: 0,
     }
 }

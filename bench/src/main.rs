@@ -1,6 +1,6 @@
 // Prints how long get, next, a whole listing and same take on full stores, beside the second program on the same images, how deep a stack the
 // calls use, and what writing, moving and lists of calls cost. Times are in passes: one pass is a 64-bit FNV-1a, byte by byte, over the reachable nodes of
-// the same image.
+// the same image. Values have at most 32 bytes, as before request S-2, so that figures can be set beside older ones, but where it says `longest`.
 #![deny(warnings)]
 
 mod batches;
@@ -22,6 +22,7 @@ fn main() {
         cases.push(Case::of(format!("settled, n = {n}"), images::settled(n)));
         cases.push(Case::of(format!("full root, n = {n}"), images::buffered(n)));
     }
+    cases.push(Case::of("longest, n = 1024".into(), images::longest(1024)));
     cases.push(Case::of("waiting, 8 levels".into(), images::waiting()));
     cases.push(Case::of("deepest, 8 levels".into(), images::deepest()));
     println!(
@@ -43,8 +44,9 @@ fn main() {
     }
     println!("\nwriting, in passes     pass us     put    drop   clear   settle    tidy | nodes a put changes");
     for n in [64, 256, 1024] {
-        writes::print(n, &images::settled(n));
+        writes::print(&format!("n = {n}"), &images::settled(n), OLD_VALUE_LIMIT);
     }
+    writes::print("longest, n = 1024", &images::longest(1024), VALUE_LIMIT);
     writes::print_clears();
     moves::print();
     batches::print(&images::settled(1024));

@@ -12,6 +12,8 @@ use second::{pack, sound};
 use std::time::{Duration, Instant};
 
 const PATHS: usize = 1000;
+/// The length of a value, but where the longest are moved.
+const VALUE: usize = 12;
 /// The most ranges that are moved, each to every place.
 const RANGES: usize = 10;
 /// How often each move is made; the least time counts.
@@ -20,13 +22,14 @@ const RUNS: usize = 5;
 pub fn print() {
     println!("\nmoves, in passes         paths  levels  pass us    mean   worst | nodes changed: mean   worst  10 L + 2");
     for carried in [10, 100, 500] {
-        let settled = pack::image(&table(carried), NODES_MOST).expect("it fits");
+        let settled = packed(carried, VALUE);
         let waiting = images::full_root(&settled, |_, path| Message::Put {
             path,
             value: Vec::new(),
         });
         Moves::of(carried, &settled).print("settled");
         Moves::of(carried, &waiting).print("full root");
+        Moves::of(carried, &packed(carried, VALUE_LIMIT)).print("settled, longest values");
     }
 }
 
@@ -35,10 +38,11 @@ fn range(index: usize) -> String {
     format!("g{index:03}\0")
 }
 
-/// A thousand paths, so many to a range.
-fn table(carried: usize) -> Table {
+/// A settled store of a thousand paths, so many to a range, each with a value of so many bytes.
+fn packed(carried: usize, value: usize) -> Vec<u8> {
     let path = |i: usize| format!("{}c{}\0f{i}\0", range(i / carried), i % 7).into_bytes();
-    (0..PATHS).map(|i| (path(i), vec![7; 12])).collect()
+    let table: Table = (0..PATHS).map(|i| (path(i), vec![7; value])).collect();
+    pack::image(&table, NODES_MOST).expect("it fits")
 }
 
 /// Moves from one image, each made on it anew.
@@ -66,7 +70,7 @@ impl Moves<'_> {
         let times = || made.iter().map(|(time, _)| *time);
         let nodes = || made.iter().map(|(_, nodes)| *nodes);
         println!(
-            "{name:<22}{:8}{:8}{:9.1}{:8.2}{:8.2} |{:20.1}{:8}{:10}",
+            "{name:<24}{:6}{:8}{:9.1}{:8.2}{:8.2} |{:20.1}{:8}{:10}",
             self.carried,
             self.levels,
             self.pass.as_secs_f64() * 1e6,

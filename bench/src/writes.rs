@@ -15,8 +15,8 @@ const CALLS: usize = 1000;
 const CLOSURES: usize = 64;
 const FIBRES: usize = NODES_MOST / CLOSURES;
 
-/// Prints the line of a store of n nodes that is full and settled.
-pub fn print(n: usize, image: &[u8]) {
+/// Prints the line of a store that is full and settled, with puts of values of so many bytes.
+pub fn print(name: &str, image: &[u8], value: usize) {
     let judged = sound::judge(image).expect("the image is sound");
     let used: Vec<u16> = judged.used.iter().copied().collect();
     let pass = timed(|| fnv(image, &used)).as_secs_f64();
@@ -28,7 +28,7 @@ pub fn print(n: usize, image: &[u8]) {
     let puts = store.calls(|store, index| {
         let before = store.image.clone();
         let begun = Instant::now();
-        store.put(&paths[index * 7 % paths.len()], &[index as u8; 32]);
+        store.put(&paths[index * 7 % paths.len()], &vec![index as u8; value]);
         let time = begun.elapsed();
         let pairs = before.chunks(NODE).zip(store.image.chunks(NODE));
         changed += pairs.filter(|(old, new)| old != new).count();
@@ -49,7 +49,7 @@ pub fn print(n: usize, image: &[u8]) {
         begun.elapsed()
     });
     let mut store = Writes::of(image);
-    (0..20).for_each(|index| store.put(&paths[index], &[1; 32]));
+    (0..20).for_each(|index| store.put(&paths[index], &vec![1; value]));
     let waiting = store.image.clone();
     let settle = store.least(&waiting, |store| {
         Library.settle(&mut store.image, &mut store.work);
@@ -58,7 +58,7 @@ pub fn print(n: usize, image: &[u8]) {
         Library.tidy(&mut store.image, &mut store.work);
     });
     println!(
-        "n = {n:<17} {:>7.1} {:>7.2} {:>7.2} {:>7.2} {:>8.2} {:>7.2} | {:>6.2}",
+        "{name:<21} {:>7.1} {:>7.2} {:>7.2} {:>7.2} {:>8.2} {:>7.2} | {:>6.2}",
         pass * 1e6,
         in_passes(puts),
         in_passes(drops),
@@ -85,7 +85,7 @@ pub fn print_clears() {
     let settled = pack::image(&table, NODES_MOST).expect("it fits");
     print_clear("settled, n = 1024", &settled);
     let mut store = Writes::of(&settled);
-    (0..8).for_each(|index| store.put(&fibre(index * 99), &[1; 32]));
+    (0..8).for_each(|index| store.put(&fibre(index * 99), &[1; OLD_VALUE_LIMIT]));
     print_clear("8 puts wait, n = 1024", &store.image);
 }
 
@@ -111,7 +111,7 @@ fn print_clear(name: &str, image: &[u8]) {
         let (number, _) = Library.next(&mut store.image, &[], &[], &mut [0; NEXT_BUFFER]);
         assert_eq!(number, 8, "no path is left");
     });
-    let put = store.least(&empty, |store| store.put(&path, &[1; 32]));
+    let put = store.least(&empty, |store| store.put(&path, &[1; OLD_VALUE_LIMIT]));
     let [get, next, put] = [get, next, put].map(in_passes);
     let (pass, ratio) = (pass * 1e6, whole / one);
     println!("{name:<21}{pass:>9.1}{one:>11.2}{whole:>12.2}{ratio:>8.2} |{get:>19.2}{next:>8.2}{put:>8.2}");

@@ -20,7 +20,7 @@
 #include <stdio.h>
 #include <string.h>
 
-enum { NODE = 1024, NODES = 64, WORK = 128 * NODES, VALUE_MOST = 32, LINE_MOST = 255 };
+enum { NODE = SPLICELOG_NODE_SIZE, NODES = 64, WORK = SPLICELOG_WORK_PER_NODE * NODES, LINE_MOST = 255 };
 enum { OK = 0, NO_FLASH = 1, USAGE = 2, NOT_SOUND = 3 };
 
 static uint8_t store[NODES * NODE], work[WORK];
@@ -115,7 +115,7 @@ static int changed(uint32_t number) {
 }
 
 static void get(struct path of) {
-    uint8_t value[VALUE_MOST];
+    uint8_t value[SPLICELOG_VALUE_LIMIT];
     size_t length;
     const uint32_t number = splicelog_get_value(store, sizeof store, of.bytes, of.length, value, sizeof value, &length);
     if (number != SPLICELOG_OK)

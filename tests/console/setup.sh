@@ -9,6 +9,7 @@
 cd "$(dirname "$0")/../.." || exit 1
 console=$PWD/target/bin/console
 second=$PWD/tests/second/target/release/second
+version=$(sed -n 's/^#define SPLICELOG_VERSION "\(.*\)"$/\1/p' include/splicelog.h)
 # shellcheck disable=SC2206
 under=(${UNDER-}) flags=(${CFLAGS--O2})
 tests/program

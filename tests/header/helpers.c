@@ -206,7 +206,7 @@ static void test_parts(void) {
     for (size_t room = 0; room < 200; room++) {
         CHECK(splicelog_make(store, STORE) == SPLICELOG_OK);
         const size_t made = run_in_parts(&calls, room, numbers);
-        CHECK(made == (room < 4 ? 0 : room < 36 ? 2 : room < 68 ? 3 : CALLS));
+        CHECK(made == (room < 4 ? 0 : room < 4 + SPLICELOG_VALUE_LIMIT ? 2 : room < 4 + SPLICELOG_PATH_LIMIT ? 3 : CALLS));
         CHECK(memcmp(numbers, expected, made * sizeof *numbers) == 0);
     }
 }

@@ -1,7 +1,7 @@
 /* SPDX-License-Identifier: MIT
  *
- * Makes one call many times, for count.c to count its instructions: `cost CALL COUNT [NODES]`. The store is full and tidy, with as many
- * records as nodes (64, unless said), and is put back before each call. The word `nothing` does all but the call, so the difference is the
+ * Makes one call many times, for count.c to count its instructions: `cost CALL COUNT [NODES [VALUE]]`. The store is full and tidy, with as
+ * many records as nodes (64, unless said), and is put back before each call. Values have VALUE bytes (unless said 20, and 32 that is put). The word `nothing` does all but the call, so the difference is the
  * call's own. A move renumbers an eighth of the records; a batch is such a move. It relies on stdio and on the library.
  */
 #include "splicelog.h"
@@ -13,7 +13,7 @@
 enum { CLOSURES = 8, STORE_MOST = SPLICELOG_MOST_NODES * SPLICELOG_NODE_SIZE };
 static uint8_t kept[STORE_MOST], store[STORE_MOST], work[SPLICELOG_MOST_NODES * SPLICELOG_WORK_PER_NODE], buffer[256];
 static uint8_t value[SPLICELOG_VALUE_LIMIT];
-static size_t nodes = 64, length, room;
+static size_t nodes = 64, value_length = 20, put_length = 32, length, room;
 
 /* Bytes with the 00 behind the text, as the library takes a path. */
 static const uint8_t closure[] = "r1\0k3", elsewhere[] = "r1\0k9", record[] = "r1\0k3\0f11";
@@ -24,7 +24,7 @@ static uint32_t put_all(void) {
         const int end = snprintf(text, sizeof text, "r1/k%u/f%u", i % CLOSURES, i);
         for (int j = 0; j < end; j++)
             text[j] = (char)(text[j] == '/' ? 0 : text[j]);
-        const uint32_t number = splicelog_put(store, length, work, room, (const uint8_t *)text, (size_t)end + 1, value, 20);
+        const uint32_t number = splicelog_put(store, length, work, room, (const uint8_t *)text, (size_t)end + 1, value, value_length);
         if (number != 0)
             return number;
     }
@@ -54,7 +54,7 @@ static uint32_t made(const char *call) {
     if (strcmp(call, "same") == 0)
         return splicelog_number(splicelog_same(store, length, kept, length));
     if (strcmp(call, "put") == 0)
-        return splicelog_put(store, length, work, room, record, sizeof record, value, sizeof value);
+        return splicelog_put(store, length, work, room, record, sizeof record, value, put_length);
     if (strcmp(call, "drop") == 0)
         return splicelog_drop(store, length, work, room, record, sizeof record);
     if (strcmp(call, "clear") == 0)
@@ -75,15 +75,17 @@ static uint32_t made(const char *call) {
 }
 
 int main(int argc, char **argv) {
-    if (argc < 3 || argc > 4) {
-        fputs("usage: cost CALL COUNT [NODES]\n", stderr);
+    if (argc < 3 || argc > 5) {
+        fputs("usage: cost CALL COUNT [NODES [VALUE]]\n", stderr);
         return 2;
     }
-    if (argc == 4)
+    if (argc >= 4)
         nodes = (size_t)atoi(argv[3]);
+    if (argc == 5)
+        value_length = put_length = (size_t)atoi(argv[4]);
     length = nodes * SPLICELOG_NODE_SIZE;
     room = nodes * SPLICELOG_WORK_PER_NODE;
-    if (nodes > SPLICELOG_MOST_NODES || splicelog_make(store, length) != 0 || put_all() != 0) {
+    if (nodes > SPLICELOG_MOST_NODES || value_length > sizeof value || splicelog_make(store, length) != 0 || put_all() != 0) {
         fputs("cost: the store is not filled\n", stderr);
         return 1;
     }

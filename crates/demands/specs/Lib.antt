@@ -7,3 +7,4 @@ pub mod Brought
 pub mod Wiped
 pub mod Batches
 pub mod BatchOutcome
+pub mod Older

@@ -1,13 +1,13 @@
--- Document 01, "Proved on the definitions, as one table", of which case 2 is that of put, drop, get and move since request S-1; and that request's
--- own cases. They hold by computation.
+-- Document 01, "Proved on the definitions, as one table", of which case 2 is that of put, drop, get and move since request S-1; and the cases of
+-- requests S-1 and S-2. They hold by computation.
 use Rattle.image.specs.Prelude.{ℕ, zero, suc, _*_, _≡_, refl, List, [], _∷_, _++_, true, false, none, some, length, replicate}
 use Rattle.image.specs.Bytes.{same, before, begins, shared}
 use Rattle.image.specs.Path.{letter, readsOn, wellFormed, below, properBeginning, mayMove, owns, valueFits}
 use Rattle.image.specs.Entry.{puts, clears}
-use Rattle.image.specs.Table.{Row, find, isSome, withRow, without, rowsBelow, withoutBelow, renamed, putAll, moved, rowsAfter, firstKey, leastAfter, everyKey, underPrefix}
+use Rattle.image.specs.Table.{Row, find, isSome, withRow, without, rowsBelow, withoutBelow, renamed, putAll, moved, rowsAfter, firstKey, leastAfter, everyKey, leads, rising, underPrefix}
 use Rattle.image.specs.Image.{Tree, leaf, interior, end, tree, nodesOf, wholeNodes}
 use Rattle.image.specs.Meaning.{saysOf, newer, newest, decide, highOf, lookup, apply, applyAll, rows}
-use Rattle.image.specs.Sound.{lowest, highest}
+use Rattle.image.specs.Sound.{lowest, highest, valuesFit, soundMessage, soundMessages, firstPivot, soundTree}
 use Rattle.image.specs.Calls.{acts, asks, Act, put, drops as drop-act, clear, move, Query, get, next, Answer, filled, firstNo, workLong, isEmpty, actQuestions, queryQuestions, questions, actTable, tableAfter, tableAt, foundBy, fill, accepted, refused, answerAt}
 use Rattle.image.specs.PlainMap.{plainFirstNo}
 use Rattle.image.specs.Contract.{makeNo}
@@ -69,7 +69,7 @@ pub record Cases (v w : List ℕ) : Type 0 where
   c2-drop : no (drop-act []) [] ≡ 3
   c2-move : no (move [] r1) [] ≡ 3
   c2-move-to : no (move r1 []) [] ≡ 3
-  c2-get : plainFirstNo 32 (asks (get []) (replicate 32 0)) [] ≡ 3
+  c2-get : plainFirstNo 32 (asks (get []) (replicate 48 0)) [] ≡ 3
   c3-16 : wellFormed (part 16) ≡ true
   c3-17 : wellFormed (part 17) ≡ false
   c4-64 : wellFormed (part 16 ++ part 16 ++ part 16 ++ part 12) ≡ true
@@ -156,6 +156,55 @@ whole-unit p v w =
       next-last = refl;
       next-none = refl;
       next-zero = refl;
+    }
+
+-- Request S-2: "The value limit becomes 48 bytes, and get's buffer must hold 48." Question 4, "get's part of 5 and a sound image's values".
+abbrev note : ℕ → List ℕ
+note k = replicate k 0x6e
+
+-- the number that a get of r1 with a buffer of k bytes gives, where r1's value is v
+abbrev getNo : ℕ → List ℕ → ℕ
+getNo k v = plainFirstNo 32 (asks (get r1) (replicate k 0)) (row r1 v ∷ [])
+
+-- trees with one value, in a pair and in a waiting put
+abbrev pairOf : List ℕ → Tree
+pairOf v = leaf 1 (row r1 v ∷ [])
+
+abbrev putOf : List ℕ → Tree
+putOf v = interior 2 (tree [] (leaf 1 []) end) (puts r1 v ∷ [])
+
+pub record LongerNotes (v : List ℕ) : Type 0 where
+  put-48 : no (put r1 (note 48)) [] ≡ 0
+  put-49 : no (put r1 (note 49)) [] ≡ 4
+  put-path-first : no (put [] (note 49)) [] ≡ 3
+  put-long-and-full : no (put r1 (note 49)) (many 32 0x30) ≡ 4
+  put-there : then (put r1 (note 48)) (row r1 v ∷ []) ≡ row r1 (note 48) ∷ []
+  get-48 : getNo 48 v ≡ 0
+  get-47 : getNo 47 v ≡ 5
+  get-32 : getNo 32 [] ≡ 5
+  get-all : fill (replicate 48 0) (foundBy (get r1) (row r1 (note 48) ∷ [])) ≡ filled 0 48 (note 48)
+  pair-48 : soundTree (pairOf (note 48)) lowest highest ≡ true
+  pair-49 : soundTree (pairOf (note 49)) lowest highest ≡ false
+  waiting-48 : soundTree (putOf (note 48)) lowest highest ≡ true
+  waiting-49 : soundTree (putOf (note 49)) lowest highest ≡ false
+
+pub longer-notes : (v : List ℕ) → LongerNotes v
+unfolding same before begins shared letter readsOn wellFormed owns valueFits find isSome withRow everyKey leads rising underPrefix highOf valuesFit soundMessage soundMessages firstPivot soundTree firstNo workLong actQuestions queryQuestions questions actTable tableAfter tableAt foundBy fill plainFirstNo
+longer-notes v =
+    record {
+      put-48 = refl;
+      put-49 = refl;
+      put-path-first = refl;
+      put-long-and-full = refl;
+      put-there = refl;
+      get-48 = refl;
+      get-47 = refl;
+      get-32 = refl;
+      get-all = refl;
+      pair-48 = refl;
+      pair-49 = refl;
+      waiting-48 = refl;
+      waiting-49 = refl;
     }
 
 -- a clear, and a move, on a table of 64 rows compute quickly too

@@ -54,9 +54,9 @@ mayMove from to = not (properBeginning from to) && not (properBeginning to from)
 unfoldable pub owns : Pathname → Pathname → Pathname → Bool
 owns lo hi p = not (before p lo) && before p hi
 
--- "A value is 0 to 32 bytes; an empty value is still a value."
+-- "A value is 0 to 32 bytes; an empty value is still a value." Request S-2: "The value limit becomes 48 bytes".
 abbrev pub valueLimit : ℕ
-valueLimit = 32
+valueLimit = 48
 
 unfoldable pub valueFits : Value → Bool
 valueFits v = leb (length v) valueLimit

@@ -8,7 +8,7 @@ use Rattle.image.specs.Table.{Row, everyKey, rising, underPrefix}
 use Rattle.image.specs.Image.{Tree, unread, leaf, interior, Forest, end, tree, Header, headerOf, headerLaidOut, nodeBytes, nodesOf, treeOf}
 use Rattle.image.specs.Meaning.{highOf, rows, lookup}
 
--- "every value at most 32 bytes" (a waiting put's too)
+-- "every value at most 32 bytes", since request S-2 at most 48 (a waiting put's too)
 unfoldable pub valuesFit : List Row → Bool
 valuesFit [] = true
 valuesFit (r ∷ t) = valueFits (r .value) && valuesFit t

@@ -3,7 +3,7 @@
 
 // The numbers of the image, as document 01 gives them, and the kinds of a batch, which are ours. Code cites them by name; the definitions of
 // specs/ have their own, and a proof that meets them holds only while the two agree.
-pub const VALUE_LIMIT: usize = 32;
+pub const VALUE_LIMIT: usize = 48;
 
 pub const PATH_LIMIT: usize = 64;
 
@@ -71,7 +71,7 @@ pub enum Refusal {
     Unsound,
     // Is each path well formed?
     Malformed,
-    // Is the value at most 32 bytes?
+    // Is the value at most 48 bytes?
     LongValue,
     // Is the buffer long enough?
     ShortBuffer,

@@ -18,6 +18,7 @@ pub record Judged : Type 0 where
   three-levels : verdictOf outside.three-levels ≡ outside.three-levels-says
   long-pivot : verdictOf outside.long-pivot ≡ outside.long-pivot-says
   four-levels : verdictOf outside.four-levels ≡ outside.four-levels-says
+  long-values : verdictOf outside.long-values ≡ outside.long-values-says
   two-levels-flushed : verdictOf outside.two-levels-flushed ≡ outside.two-levels-flushed-says
   three-levels-flushed : verdictOf outside.three-levels-flushed ≡ outside.three-levels-flushed-says
   four-levels-flushed : verdictOf outside.four-levels-flushed ≡ outside.four-levels-flushed-says
@@ -31,6 +32,8 @@ pub record Judged : Type 0 where
   bad-put-owned : verdictOf outside.bad-put-owned ≡ outside.bad-put-owned-says
   bad-clear-shape : verdictOf outside.bad-clear-shape ≡ outside.bad-clear-shape-says
   bad-node-zeros : verdictOf outside.bad-node-zeros ≡ outside.bad-node-zeros-says
+  bad-pair-value : verdictOf outside.bad-pair-value ≡ outside.bad-pair-value-says
+  bad-put-value : verdictOf outside.bad-put-value ≡ outside.bad-put-value-says
 
 pub judged : Judged
 unfolding same before begins shared zeros u16 letter readsOn wellFormed below owns valueFits keyed pointer entryOf entryThen readAll entriesOf withRow without withoutBelow everyKey leads rising underPrefix nodesOf nodeBytes header headerOf headerLaidOut laidOut entryBytes nodeEntries pairThen pairsOf messageThen messagesOf noBranches branchThen insideOf forestOf leafOf interiorOf orNone treeAt treeOf highOf apply applyAll rows valuesFit soundMessage soundMessages firstPivot soundTree numbers isIn once inRange soundHeader soundRoot sound tableOf reachable reachableNodes holdsNoMessage every settled used freeNodes verdictOf
@@ -42,6 +45,7 @@ judged =
       three-levels = refl;
       long-pivot = refl;
       four-levels = refl;
+      long-values = refl;
       two-levels-flushed = refl;
       three-levels-flushed = refl;
       four-levels-flushed = refl;
@@ -55,4 +59,6 @@ judged =
       bad-put-owned = refl;
       bad-clear-shape = refl;
       bad-node-zeros = refl;
+      bad-pair-value = refl;
+      bad-put-value = refl;
     }

@@ -1,7 +1,8 @@
-// Fills stores to n paths, overwrites, clears and refills them, after a clear of everything too: no call refuses but by its rule, and the map
-// is right at each milestone.
+// Fills stores to n paths, overwrites them by longer values, clears and refills them, after a clear of everything too: no call refuses but
+// by its rule, and the map is right at each milestone.
 
 use crate::Library;
+use second::limits::{OLD_VALUE_LIMIT, VALUE_LIMIT};
 use second::sound::judge;
 use second::subject::Subject;
 
@@ -16,6 +17,7 @@ pub fn run(n: usize) -> Result<usize, String> {
     for round in 0..2u8 {
         filling.fill(n, round)?;
         filling.put(&path(n), &[round], 10)?;
+        filling.holds(n, round)?;
         filling.fill(n, round + 10)?;
         filling.holds(n, round + 10)?;
         filling.clear(&closure(0), 0)?;
@@ -37,6 +39,16 @@ fn closure(index: usize) -> Vec<u8> {
 fn path(index: usize) -> Vec<u8> {
     let tail = format!("t{}\0f{index}\0", index / 64);
     [closure(index % CLOSURES), tail.into_bytes()].concat()
+}
+
+/// The value of this byte: of the first fill of each round as long as it could be before values became longer, then as it may be now.
+fn value(byte: u8) -> Vec<u8> {
+    let length = if byte < 10 {
+        OLD_VALUE_LIMIT
+    } else {
+        VALUE_LIMIT
+    };
+    vec![byte; length]
 }
 
 fn expect(answer: u32, number: u32, call: &str) -> Result<(), String> {
@@ -75,7 +87,7 @@ impl Filling {
 
     /// Puts the first n paths with this byte.
     fn fill(&mut self, n: usize, byte: u8) -> Result<(), String> {
-        (0..n).try_for_each(|index| self.put(&path(index), &[byte; 32], 0))
+        (0..n).try_for_each(|index| self.put(&path(index), &value(byte), 0))
     }
 
     /// The library counts and the second program finds so many paths, all with this byte.
@@ -85,7 +97,7 @@ impl Filling {
             return Err(format!("check answers {counted:?}, {count} paths expected"));
         }
         let sound = judge(&self.store).map_err(|rule| format!("unsound: {}", rule.name()))?;
-        let right = sound.table.values().all(|value| value == &[byte; 32]);
+        let right = sound.table.values().all(|held| *held == value(byte));
         match sound.table.len() == count && right {
             true => Ok(()),
             false => Err(format!("{} paths, {count} expected", sound.table.len())),

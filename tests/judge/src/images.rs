@@ -1,8 +1,9 @@
-// The images that are measured, all sound: full stores, settled and with messages waiting in the root, one under a clear of everything,
-// and trees of seven and eight levels.
+// The images that are measured, all sound: full stores, settled and with messages waiting in the root, one under a clear of everything, one of
+// the longest records, and trees of seven and eight levels.
 
 use second::limits::*;
 use second::path::well_formed;
+use second::quarter::Parting;
 use second::rng::Rng;
 use second::sound;
 use second::tree::{Body, Message, Node, Pair, Table, Tree, Visit};
@@ -13,9 +14,27 @@ pub fn settled(n: usize) -> Vec<u8> {
     let mut rng = Rng::new(n as u64);
     let mut table = Table::new();
     while table.len() < n {
-        table.insert(words::path(&mut rng), words::value(&mut rng));
+        table.insert(words::path(&mut rng), short_value(&mut rng));
     }
     pack::image(&table, n).expect("n paths fit n nodes")
+}
+
+/// The same with the longest paths and values.
+pub fn longest(n: usize) -> Vec<u8> {
+    let row = |index| (Parting::Second.path(index), vec![7; VALUE_LIMIT]);
+    let table: Table = (0..n).map(row).collect();
+    pack::image(&table, n).expect("n paths fit n nodes")
+}
+
+/// A value as it could be before values became longer, so that what is measured can be set beside older figures.
+fn short_value(rng: &mut Rng) -> Vec<u8> {
+    let length = match rng.below(6) {
+        0 => 0,
+        1 => OLD_VALUE_LIMIT,
+        2 => rng.below(OLD_VALUE_LIMIT + 1),
+        _ => rng.between(1, 3),
+    };
+    rng.bytes(length)
 }
 
 /// The same tree below a root that is full of puts and drops.

@@ -1,5 +1,5 @@
 // Every call on stores of lengths near the least and the most, with work areas of just the length that is asked for, one byte less and
-// one byte more, and buffers so too: each is judged by the contract.
+// one byte more, and buffers and values so too, and about what was asked for before values became longer: each is judged by the contract.
 
 use second::calls::clear_all;
 use second::contract::check_make;
@@ -43,10 +43,12 @@ fn on_length(subject: &mut dyn Subject, length: usize, stats: &mut Stats) -> Res
     let answer = Answer { number, beside };
     check_make(&before, answer, &store)?;
     stats.count("make", answer);
-    let changes = near(WORK_PER_NODE * (length / NODE)).flat_map(changes);
-    let gets = near(GET_BUFFER).flat_map(gets);
+    let work = WORK_PER_NODE * (length / NODE);
+    let changes = near(work).flat_map(changes);
+    let puts = TELLING_LENGTHS.map(|length| put(b"r1\0a\0", length, work));
+    let gets = TELLING_LENGTHS.into_iter().flat_map(gets);
     let nexts = near(NEXT_BUFFER).flat_map(nexts);
-    let mut calls = changes.chain(gets).chain(nexts);
+    let mut calls = changes.chain(puts).chain(gets).chain(nexts);
     calls.try_for_each(|call| one(subject, &mut store, &call, stats))
 }
 
@@ -78,13 +80,18 @@ fn nexts(length: usize) -> [Call; 2] {
     })
 }
 
+/// A put of a value of this length.
+fn put(path: &[u8], length: usize, work: usize) -> Call {
+    Call::Put {
+        path: path.to_vec(),
+        value: vec![7; length],
+        work,
+    }
+}
+
 /// Every call that is lent a work area; the path a is there at the end.
 fn changes(work: usize) -> Vec<Call> {
-    let put = |path: &[u8]| Call::Put {
-        path: path.to_vec(),
-        value: vec![7; VALUE_LIMIT],
-        work,
-    };
+    let put = |path: &[u8]| put(path, VALUE_LIMIT, work);
     vec![
         put(b"r1\0b\0"),
         Call::Move {

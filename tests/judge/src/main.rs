@@ -1,16 +1,19 @@
-// Judges the static library: `judge [long] [SEED [CASES]]`, or `judge stack` for the stack alone. By the paper's cases, every combination
-// of arguments, lists of calls, every corner of the grid, clears of everything, full stores, the deepest images and the lengths that are just
-// allowed; by reading whole images and changing every byte of small ones; by batches beside the same calls one by one; by paths that are
-// NULL, arrays that overlap and arrays between guard pages; by filling stores to the last path; then the stack. It prints what was tried, and
-// fails where anything was not. A failure names the seed and the case.
+// Judges the static library: `judge [long] [SEED [CASES]]`, or `judge stack` for the stack alone. By the paper's cases and those of longer
+// values, every combination of arguments, lists of calls, every corner of the grid, clears of everything, full stores, some of them with the
+// longest paths and values, the deepest images and the lengths that are just allowed; by reading whole images and changing every byte of
+// small ones; by batches beside the same calls one by one; by paths that are NULL, arrays that overlap and arrays between guard pages; by
+// filling stores to the last path; then the stack. It prints what was tried, and fails where anything was not. A failure names the seed and
+// the case.
 #![deny(warnings)]
 
 use judge::guarded::Guarded;
 use judge::nulls::Nulls;
 use judge::{damage, deep, filling, lengths, moving, overlaps, reading, stack, Library};
-use second::stats::Stats;
+use second::limits::{OLD_VALUE_LIMIT, VALUE_LIMIT};
+use second::quarter::{self, Full, Parting};
+use second::stats::{Moves, Stats};
 use second::subject::Subject;
-use second::{batches, grid, paper, questions, whole};
+use second::{batches, grid, longer, paper, questions, whole};
 use std::process::ExitCode;
 
 const SEED: u64 = 20261115;
@@ -95,6 +98,7 @@ fn calls_judged(extent: &Extent) -> Result<Stats, String> {
     for (number, case) in paper::CASES {
         case(&mut Library).map_err(|what| format!("the paper's case {number}: {what}"))?;
     }
+    longer::run(&mut Library)?;
     let mut stats = questions::run(&mut Library)?;
     stats += &second::judge::run(&mut Library, seed, cases)?;
     stats += &grid::run(&mut Library, seed, cases.div_ceil(CASES_A_GRID))?;
@@ -102,9 +106,37 @@ fn calls_judged(extent: &Extent) -> Result<Stats, String> {
     for n in [32, 64, 300, 1024] {
         stats += &moving::run(&mut Library, seed, n)?;
     }
+    stats += &quarters_judged(seed)?;
     stats += &deep::run(&mut Library, seed, cases.div_ceil(CASES_A_DEEP_LIST))?;
     stats += &lengths::run(&mut Library)?;
     Ok(stats)
+}
+
+/// Stores full of paths of 64 bytes, with values of the greatest length and of what it was before. The least store has too few free nodes
+/// to hold a move to the bound; in the others some must be held to it.
+fn quarters_judged(seed: u64) -> Result<Stats, String> {
+    let mut stats = Stats::default();
+    for n in [32, 64, 1024] {
+        for value in [VALUE_LIMIT, OLD_VALUE_LIMIT] {
+            for parting in Parting::ALL {
+                let full = Full { n, value, parting };
+                stats += &quarter_judged(seed, full)?;
+            }
+        }
+    }
+    Ok(stats)
+}
+
+fn quarter_judged(seed: u64, full: Full) -> Result<Stats, String> {
+    let quarter::Tried { stats, used } = quarter::run(&mut Library, seed, full)?;
+    let mut moves = Moves::default();
+    stats.moves.values().for_each(|more| moves += *more);
+    let Moves { bounded, worst, .. } = moves;
+    println!("{full:?}: {used} nodes after a tidy, {bounded} moves changed at most {worst}");
+    match full.n > 32 && bounded == 0 {
+        true => Err(format!("{full:?}: no move was held to the bound")),
+        false => Ok(stats),
+    }
 }
 
 /// Every combination of arguments and some lists of calls, with NULL for each path without a byte.
@@ -123,6 +155,13 @@ fn guarded_judged(seed: u64, cases: usize) -> Result<(), String> {
     let mut guarded = Guarded::default();
     let mut stats = second::judge::run(&mut guarded, !seed, cases)?;
     stats += &lengths::run(&mut guarded)?;
+    longer::run(&mut guarded)?;
+    let full = Full {
+        n: 32,
+        value: VALUE_LIMIT,
+        parting: Parting::First,
+    };
+    stats += &quarter::run(&mut guarded, !seed, full)?.stats;
     stats += &whole::run(&mut guarded, !seed, cases.div_ceil(CASES_A_WIPE))?;
     let read = reading::run(&mut guarded, !seed, cases.div_ceil(CASES_A_READING))?;
     let batches = batches::run(&mut guarded, !seed, cases / CASES_A_BATCH)?;

@@ -12,8 +12,8 @@ use second::stats::Stats;
 use second::subject::Subject;
 use second::words;
 
-/// How often a store is filled, and how many calls are made on it then.
-const ROUNDS: usize = 2;
+/// The length of the values with which a store is filled, each time, and how many calls are made on it then.
+const VALUES: [usize; 2] = [VALUE_LIMIT, 20];
 const CALLS: usize = 80;
 
 /// Fills a store of n nodes with n paths and moves them about, until everything is cleared.
@@ -21,8 +21,8 @@ pub fn run(subject: &mut dyn Subject, seed: u64, n: usize) -> Result<Stats, Stri
     let mut rng = Rng::new(seed ^ n as u64);
     let mut stats = Stats::default();
     let mut store = Script::made(subject, n)?.store;
-    for round in 0..ROUNDS {
-        fill(subject, &mut store, n)?;
+    for (round, value) in VALUES.into_iter().enumerate() {
+        fill(subject, &mut store, n, value)?;
         for index in 0..=CALLS {
             let call = match index < CALLS {
                 true => next_call(&mut rng, &Known::of(&store)),
@@ -36,12 +36,12 @@ pub fn run(subject: &mut dyn Subject, seed: u64, n: usize) -> Result<Stats, Stri
     Ok(stats)
 }
 
-/// Puts as many paths as the store has nodes, a few dozen below each of some closures.
-fn fill(subject: &mut dyn Subject, store: &mut [u8], n: usize) -> Result<(), String> {
+/// Puts as many paths as the store has nodes, a few dozen below each of some closures, with values of this length.
+fn fill(subject: &mut dyn Subject, store: &mut [u8], n: usize, value: usize) -> Result<(), String> {
     let mut work = vec![0; WORK_PER_NODE * n];
     for index in 0..n {
         let path = format!("r{}\0c{}\0f{index}\0", index % 3, index % 7);
-        let (number, _) = subject.put(store, path.as_bytes(), &[7; 20], &mut work);
+        let (number, _) = subject.put(store, path.as_bytes(), &vec![7; value], &mut work);
         if number != 0 {
             return Err(format!("put of path {index} of {n} answers {number}"));
         }

@@ -76,7 +76,7 @@ pub fn random(rng: &mut Rng, known: &Known) -> Call {
         },
         19..=21 => Call::Get {
             path: path(rng, known),
-            buffer: buffer(rng, GET_BUFFER),
+            buffer: get_buffer(rng),
         },
         _ => random_next(rng, known),
     }
@@ -166,12 +166,22 @@ fn value(rng: &mut Rng) -> Vec<u8> {
         0 => {
             let length = match rng.chance(1, 4) {
                 true => words::TWO_BYTES + rng.below(VALUE_LIMIT + 1),
-                false => VALUE_LIMIT + rng.between(1, 300),
+                false => words::too_long(rng),
             };
             rng.bytes(length)
         }
         _ => words::value(rng),
     }
+}
+
+/// A get's buffer: sometimes one that was long enough while values were shorter.
+fn get_buffer(rng: &mut Rng) -> Vec<u8> {
+    let length = match rng.below(16) {
+        0 => rng.between(OLD_VALUE_LIMIT, GET_BUFFER - 1),
+        1 | 2 => words::telling_length(rng),
+        _ => return buffer(rng, GET_BUFFER),
+    };
+    rng.bytes(length)
 }
 
 /// A buffer that is long enough, mostly.

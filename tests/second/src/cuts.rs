@@ -109,7 +109,7 @@ impl Cuts {
         Node::interior(low, children.collect(), Vec::new())
     }
 
-    /// Each range has its own path, and there are some beside them.
+    /// Each range has its own path, and there are some beside them. The values are as long as they may be.
     fn leaf(&self, low: &[u8], high: &[u8]) -> Node {
         let [first, second] = &self.ranges;
         let mut paths = [b"a\0", &first[..], b"n\0", second, b"z\0"];
@@ -117,7 +117,7 @@ impl Cuts {
         let owned = paths.iter().filter(|path| owns(low, high, path));
         let pair = |path: &&[u8]| Pair {
             path: path.to_vec(),
-            value: vec![7],
+            value: vec![7; VALUE_LIMIT],
         };
         Node::leaf(low, owned.map(pair).collect())
     }

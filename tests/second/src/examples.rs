@@ -56,6 +56,11 @@ fn sound_examples() -> Vec<Example> {
              garbage in free nodes",
             four_levels(),
         ),
+        example(
+            "long-values",
+            "values as long as they may be and as they could be before, in a leaf and waiting",
+            long_values(),
+        ),
     ]
 }
 
@@ -70,13 +75,15 @@ const fn damage(name: &'static str, rule: Rule, from: &'static str) -> Damage {
     Damage { name, rule, from }
 }
 
-const DAMAGES: [Damage; 6] = [
+const DAMAGES: [Damage; 8] = [
     damage("bad-live-count", Rule::LiveCount, "two-levels"),
     damage("bad-reached-once", Rule::ReachedOnce, "two-levels"),
     damage("bad-pair-order", Rule::PairOrder, "one-leaf"),
     damage("bad-put-owned", Rule::PutOwned, "three-levels"),
     damage("bad-clear-shape", Rule::ClearShape, "two-levels"),
     damage("bad-node-zeros", Rule::NodeZeros, "long-pivot"),
+    damage("bad-pair-value", Rule::PairValue, "long-values"),
+    damage("bad-put-value", Rule::PutValue, "long-values"),
 ];
 
 /// Of the damages that these seeds give, the one with the shortest print is taken.
@@ -320,4 +327,20 @@ fn four_levels() -> Vec<u8> {
     );
     let numbers = [31, 7, 30, 8, 29, 9, 28, 10, 27, 11, 26, 13, 25];
     written(4, root, &numbers, &[1, 12])
+}
+
+/// A put of the greatest length waits for a path with a shorter value.
+fn long_values() -> Vec<u8> {
+    let value = |length: usize| -> Vec<u8> { (1..=length as u8).collect() };
+    let pairs = vec![
+        pair("a", &value(OLD_VALUE_LIMIT)),
+        pair("b", &value(OLD_VALUE_LIMIT + 1)),
+        pair("c", &value(VALUE_LIMIT)),
+    ];
+    let messages = vec![
+        put("a", &value(VALUE_LIMIT)),
+        put("d", &value(OLD_VALUE_LIMIT)),
+    ];
+    let root = Node::interior(b"", vec![Node::leaf(b"", pairs)], messages);
+    written(2, root, &[1, 2], &[])
 }

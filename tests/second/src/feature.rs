@@ -47,6 +47,8 @@ features! {
     GarbageInFree "garbage-in-free",
     EmptyValue "empty-value",
     LongValue "long-value",
+    LongPut "long-put",
+    OldLimit "old-limit",
     LongPath "long-path",
     WideComponent "wide-component",
     DeepPath "deep-path",
@@ -93,6 +95,8 @@ impl Feature {
             Feature::GarbageInFree => free_nodes(sound).any(|i| dirty(image, i)),
             Feature::EmptyValue => sound.table.values().any(|v| v.is_empty()),
             Feature::LongValue => sound.table.values().any(|v| v.len() == VALUE_LIMIT),
+            Feature::LongPut => node(puts_longest),
+            Feature::OldLimit => longest_value(sound) == OLD_VALUE_LIMIT,
             Feature::LongPath => sound.table.keys().any(|p| p.len() == PATH_LIMIT),
             Feature::WideComponent => sound.table.keys().any(|p| has_wide(p)),
             Feature::DeepPath => sound.table.keys().any(|p| depth(p) == COMPONENTS),
@@ -150,6 +154,26 @@ fn puts_at_prefix(visit: &Visit<'_>) -> bool {
     let lifted = visit.lifted();
     let put = |m: &Message| matches!(m, Message::Put { path, .. } if path == lifted);
     visit.node.messages().iter().any(put)
+}
+
+/// A put of a value of the greatest length, which still waits.
+fn puts_longest(visit: &Visit<'_>) -> bool {
+    let longest =
+        |m: &Message| matches!(m, Message::Put { value, .. } if value.len() == VALUE_LIMIT);
+    visit.node.messages().iter().any(longest)
+}
+
+/// The length of the longest value, of those too that nobody reads any more.
+fn longest_value(sound: &Sound) -> usize {
+    let walk = sound.tree.walk();
+    let pairs = walk.iter().flat_map(|v| v.node.pairs());
+    let puts = walk.iter().flat_map(|v| v.node.messages());
+    let of_put = |m: &Message| match m {
+        Message::Put { value, .. } => value.len(),
+        _ => 0,
+    };
+    let lengths = pairs.map(|pair| pair.value.len()).chain(puts.map(of_put));
+    lengths.max().unwrap_or(0)
 }
 
 /// The end of a moved range: a path of 64 bytes followed by FF.

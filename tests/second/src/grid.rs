@@ -11,7 +11,7 @@ use crate::mutate;
 use crate::plain::{Answer, Call};
 use crate::rng::Rng;
 use crate::script::{tried, witnessed};
-use crate::sound::{judge, Rule};
+use crate::sound::judge;
 use crate::stats::Stats;
 use crate::subject::Subject;
 use crate::whole::Unit;
@@ -158,7 +158,7 @@ impl Visit<'_> {
 
     /// A move, a heal and a clear of everything, of an image with one rule broken.
     fn damaged(&mut self, known: &Known) -> Judged {
-        let rule = Rule::ALL[self.rng.below(Rule::ALL.len())];
+        let rule = mutate::any_rule(self.rng);
         let damaged = mutate::damage(rule, &self.image, self.rng.word());
         let mut store = damaged.unwrap_or_else(|| mutate::flip(&self.image, self.rng.word()));
         if let Some(call) = Kind::Away.aim(self.rng, known) {

@@ -11,7 +11,7 @@ use crate::pack;
 use crate::plain::{Answer, Call, Plain};
 use crate::rng::Rng;
 use crate::script::tried;
-use crate::sound::{judge, Rule};
+use crate::sound::judge;
 use crate::stats::Stats;
 use crate::subject::Subject;
 use crate::words;
@@ -137,7 +137,7 @@ impl Session<'_> {
     }
 
     fn damaged(&mut self, image: &[u8]) -> Vec<u8> {
-        let rule = Rule::ALL[self.rng.below(Rule::ALL.len())];
+        let rule = mutate::any_rule(self.rng);
         let damaged = mutate::damage(rule, image, self.rng.word());
         damaged.unwrap_or_else(|| mutate::flip(image, self.rng.word()))
     }

@@ -9,15 +9,17 @@
 //   pieces, batch                 a list of calls as bytes, and whether it went as the calls one by one
 //   subject, script, calls, moves a store under test, and calls for it
 //   judge, grid, questions        lists of calls, corners with aimed calls, every combination of arguments
-//   whole                         clears and listings of everything
+//   whole, quarter                clears and listings of everything; stores as full as they may be
 //   batches, stats                batches, and what was tried
-//   paper                         the paper's thirteen cases
+//   paper, longer                 the paper's thirteen cases, and those of longer values
 //   rng, words, feature, corner   what images and calls are made of, and what they are to show
 //   plan, generate, cuts          sound images from a seed, and some that are hard to cut
 //   lines                         scripts for the program from a seed
 //   mutate                        damaged images, one for each rule
 //   pack, reference, lazy, swing  simple stores to test the judge with, right or wrong
-//   wrong, listed                 upkeep that only seems to be done, the empty path misunderstood; batches, right or wrong
+//   fault, wrong, wrong_limit     how the reference store may be wrong: upkeep that only seems to be done, the empty path
+//                                 misunderstood, and the limit of a value
+//   listed                        batches, right or wrong
 //   examples, upkept, antt        small images and changes, printed for the proof checker
 #![forbid(unsafe_code)]
 #![deny(warnings)]
@@ -30,6 +32,7 @@ pub mod contract;
 pub mod corner;
 pub mod cuts;
 pub mod examples;
+pub mod fault;
 pub mod feature;
 pub mod generate;
 pub mod grid;
@@ -39,6 +42,7 @@ pub mod lazy;
 pub mod limits;
 pub mod lines;
 pub mod listed;
+pub mod longer;
 pub mod meaning;
 pub mod moves;
 pub mod mutate;
@@ -51,6 +55,7 @@ pub mod pieces;
 pub mod plain;
 pub mod plan;
 pub mod program;
+pub mod quarter;
 pub mod questions;
 pub mod reference;
 pub mod rng;
@@ -65,3 +70,4 @@ pub mod upkept;
 pub mod whole;
 pub mod words;
 pub mod wrong;
+pub mod wrong_limit;

@@ -1,4 +1,4 @@
-// Every number that the paper fixes, named once.
+// Every number that the paper and the requests after it fix, named once.
 // The other modules use these names only, so that a wrong limit is wrong in one place.
 
 /// The whole length of a path, its 00 bytes counted.
@@ -8,7 +8,19 @@ pub const COMPONENT_LIMIT: usize = 16;
 /// How many components a path may have.
 pub const COMPONENTS: usize = 8;
 /// The length of a value.
-pub const VALUE_LIMIT: usize = 32;
+pub const VALUE_LIMIT: usize = 48;
+/// What it was before values became longer. No rule has it any more: images of that time are still
+/// met, and a store that has it left somewhere is wrong there.
+pub const OLD_VALUE_LIMIT: usize = 32;
+/// The lengths that tell which limit a store has: for values, and for the buffers that they go to.
+pub const TELLING_LENGTHS: [usize; 6] = [
+    OLD_VALUE_LIMIT - 1,
+    OLD_VALUE_LIMIT,
+    OLD_VALUE_LIMIT + 1,
+    VALUE_LIMIT - 1,
+    VALUE_LIMIT,
+    VALUE_LIMIT + 1,
+];
 /// The length of a pivot suffix in a child entry.
 pub const PIVOT_LIMIT: usize = 65;
 

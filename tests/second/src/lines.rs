@@ -1,6 +1,8 @@
-// Random scripts for the program: good lines near what the map holds, clears and lists of everything, near misses of every rule of the line
-// language, long lines, bytes 00, stores filled to their last path, and a last line with or without its line feed. All follows from a seed.
+// Random scripts for the program: good lines near what the map holds, values about their limit, clears and lists of everything, near misses
+// of every rule of the line language, long lines, bytes 00, stores filled to their last path, and a last line with or without its line
+// feed. All follows from a seed.
 
+use crate::limits::VALUE_LIMIT;
 use crate::path::to_text;
 use crate::rng::Rng;
 use crate::words;
@@ -98,12 +100,15 @@ fn text(rng: &mut Rng, present: &mut Vec<Vec<u8>>) -> Vec<u8> {
     to_text(&path)
 }
 
-/// Hexadecimal of either case, of any length up to one byte too many, or a hyphen.
+/// Hexadecimal of either case, of few bytes, of about as many as a value may have or could have before, or of far too many that a line
+/// has still room for; or a hyphen.
 fn hex(rng: &mut Rng) -> String {
-    let bytes = match rng.below(8) {
+    let bytes = match rng.below(10) {
         0 => return "-".into(),
-        1 => 32,
-        2 => 33,
+        1 => VALUE_LIMIT,
+        2 => VALUE_LIMIT + 1,
+        3 => words::telling_length(rng),
+        4 if rng.chance(1, 3) => VALUE_LIMIT + rng.between(1, 40),
         _ => rng.between(1, 4),
     };
     let digits: String = rng
@@ -132,7 +137,8 @@ fn miss(rng: &mut Rng, line: &mut Vec<u8>) {
     }
 }
 
-/// A line of nearly or more than 255 bytes, sometimes of very many.
+/// A line of nearly or more than 255 bytes, sometimes of very many: a path or a value that is far too long. With one of the two paths the
+/// value's digits are even in number.
 fn long(rng: &mut Rng) -> Vec<u8> {
     let length = match rng.below(4) {
         0 => 255,
@@ -140,7 +146,8 @@ fn long(rng: &mut Rng) -> Vec<u8> {
         2 => rng.between(250, 520),
         _ => rng.between(4000, 70000),
     };
-    let mut line = b"get ".to_vec();
+    let starts: [&[u8]; 3] = [b"get ", b"put p ", b"put pp "];
+    let mut line = starts[rng.below(starts.len())].to_vec();
     line.resize(length, b'a');
     line
 }

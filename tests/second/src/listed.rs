@@ -4,7 +4,7 @@
 use crate::batch::{answer_bytes, lent, Batching, Done};
 use crate::contract::image_judged;
 use crate::limits::*;
-use crate::pieces::{laid, most, read};
+use crate::pieces::{laid, most, read, ANSWER_HEAD};
 use crate::plain::{Call, NO_LENGTHS, NO_PATH};
 use crate::reference::Reference;
 use crate::subject::perform;
@@ -18,6 +18,8 @@ pub enum BatchFault {
     RoomFallsByMost,
     /// It needs the room of a next for every call.
     NeedsMostForAll,
+    /// It makes a get where there is room for the longest value of the time before values became longer.
+    NeedsOldMostForGet,
     /// It makes one call the less where the answers just fit.
     LeavesOneByte,
     /// It stops at the first refusal.
@@ -42,9 +44,10 @@ impl BatchFault {
     #[rustfmt::skip]
     pub const ALL: &'static [BatchFault] = &[
         BatchFault::StopsByOwnLength, BatchFault::RoomFallsByMost, BatchFault::NeedsMostForAll,
-        BatchFault::LeavesOneByte, BatchFault::StopsAtRefusal, BatchFault::ReadsPatchAsMove,
-        BatchFault::PassesOverNoPiece, BatchFault::WritesBehindAnswers, BatchFault::WorkLeftDirty,
-        BatchFault::CountsAcceptedAlone, BatchFault::EndsAtEmptyClear, BatchFault::RefusesEmptyPath,
+        BatchFault::NeedsOldMostForGet, BatchFault::LeavesOneByte, BatchFault::StopsAtRefusal,
+        BatchFault::ReadsPatchAsMove, BatchFault::PassesOverNoPiece,
+        BatchFault::WritesBehindAnswers, BatchFault::WorkLeftDirty, BatchFault::CountsAcceptedAlone,
+        BatchFault::EndsAtEmptyClear, BatchFault::RefusesEmptyPath,
     ];
 }
 
@@ -84,6 +87,8 @@ impl Reference {
         match self.batch_fault {
             Some(BatchFault::StopsByOwnLength) => answer.len() <= room,
             Some(BatchFault::NeedsMostForAll) => ANSWER_MOST <= room,
+            // An answer that does not fit even so is not written.
+            Some(BatchFault::NeedsOldMostForGet) => old_most(call).max(answer.len()) <= room,
             Some(BatchFault::LeavesOneByte) => most(call) < room,
             _ => most(call) <= room,
         }
@@ -128,7 +133,15 @@ impl Reference {
 }
 
 /// The most that any answer takes.
-const ANSWER_MOST: usize = 4 + PATH_LIMIT;
+const ANSWER_MOST: usize = ANSWER_HEAD + PATH_LIMIT;
+
+/// The most that an answer took before values became longer.
+fn old_most(call: &Call) -> usize {
+    match call {
+        Call::Get { .. } => ANSWER_HEAD + OLD_VALUE_LIMIT,
+        _ => most(call),
+    }
+}
 
 impl Batching for Reference {
     fn batch(

@@ -24,6 +24,15 @@ pub fn damage(rule: Rule, image: &[u8], seed: u64) -> Option<Vec<u8>> {
         .find(|damaged| breaks_alone(rule, damaged))
 }
 
+/// A rule to break: any one, and more often one on the length of a value, for which the damage has to be by a byte to tell the limit.
+pub fn any_rule(rng: &mut Rng) -> Rule {
+    match rng.below(8) {
+        0 => Rule::PairValue,
+        1 => Rule::PutValue,
+        _ => Rule::ALL[rng.below(Rule::ALL.len())],
+    }
+}
+
 /// Is this rule the one reported, and with it waived none?
 pub fn breaks_alone(rule: Rule, damaged: &[u8]) -> bool {
     let first = judge(damaged).err() == Some(rule);

@@ -156,7 +156,8 @@ fn with_pair(site: &Site<'_>, visit: &Visit<'_>, path: &[u8]) -> Damaged {
 pub fn pair_value(site: &mut Site<'_>) -> Damaged {
     let visit = site.any_visit(|v| !v.node.pairs().is_empty())?;
     let at = site.rng.below(visit.node.pairs().len());
-    let value = site.rng.bytes(VALUE_LIMIT + 1);
+    let length = words::too_long(site.rng);
+    let value = site.rng.bytes(length);
     changed(site, visit.node.number, |node| {
         if let Body::Leaf(pairs) = &mut node.body {
             if let Some(pair) = pairs.get_mut(at) {
@@ -171,7 +172,10 @@ pub fn message(rule: Rule, site: &mut Site<'_>) -> Damaged {
     let visit = site.any_visit(|v| v.node.is_interior())?;
     let path = string_in(site, &visit);
     let value = match rule {
-        Rule::PutValue => site.rng.bytes(VALUE_LIMIT + 1),
+        Rule::PutValue => {
+            let length = words::too_long(site.rng);
+            site.rng.bytes(length)
+        }
         _ => words::value(site.rng),
     };
     let message = match rule {

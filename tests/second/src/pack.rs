@@ -1,4 +1,4 @@
-// The packed form of a map: a settled tree with full leaves, nodes numbered from 1 up.
+// The packed form of a map: a settled tree with leaves that are full, or filled so far, nodes numbered from 1 up.
 // It is what the reference store rebuilds after every call, and what tests build by hand.
 
 use crate::limits::*;
@@ -6,7 +6,12 @@ use crate::tree::{Node, Pair, Table, Tree};
 
 /// A store of `n` nodes that holds this map and no message; none if it does not fit.
 pub fn image(table: &Table, n: usize) -> Option<Vec<u8>> {
-    let mut tree = tree(table);
+    image_filled(table, n, ENTRY_BYTES_LIMIT)
+}
+
+/// The same with leaves that hold at most so many bytes, counted with full paths.
+pub fn image_filled(table: &Table, n: usize, most: usize) -> Option<Vec<u8>> {
+    let mut tree = tree(table, most);
     let used = tree.walk().len();
     let numbers: Vec<u16> = (1..=used as u16).collect();
     tree.number(&numbers);
@@ -15,8 +20,8 @@ pub fn image(table: &Table, n: usize) -> Option<Vec<u8>> {
     Some(store)
 }
 
-fn tree(table: &Table) -> Tree {
-    let mut nodes = leaves(table);
+fn tree(table: &Table, most: usize) -> Tree {
+    let mut nodes = leaves(table, most);
     let mut levels = 1;
     while nodes.len() > 1 {
         nodes = parents(nodes);
@@ -28,16 +33,16 @@ fn tree(table: &Table) -> Tree {
 
 /// Leaves filled one after the other, reckoned as if nothing were lifted; each begins at its
 /// first path, the first leaf at the root's low pivot.
-fn leaves(table: &Table) -> Vec<Node> {
+fn leaves(table: &Table, most: usize) -> Vec<Node> {
     let mut leaves = Vec::new();
     let mut low = ROOT_LOW.to_vec();
-    let (mut pairs, mut room) = (Vec::new(), ENTRY_BYTES_LIMIT);
+    let (mut pairs, mut room) = (Vec::new(), most);
     for (path, value) in table {
         let taken = ENTRY_HEAD + 2 + path.len() + value.len();
         if taken > room {
             leaves.push(Node::leaf(&low, std::mem::take(&mut pairs)));
             low.clone_from(path);
-            room = ENTRY_BYTES_LIMIT;
+            room = most;
         }
         room -= taken;
         pairs.push(Pair {

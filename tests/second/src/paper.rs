@@ -10,8 +10,10 @@ use crate::rng::Rng;
 use crate::script::Script;
 use crate::subject::Subject;
 use crate::tree::{Message, Node, Tree};
+use std::fmt::Debug;
 
-type Case = fn(&mut dyn Subject) -> Result<(), String>;
+/// A case: tries a subject; the error says in words what went wrong.
+pub type Case = fn(&mut dyn Subject) -> Result<(), String>;
 
 /// The cases with the paper's numbers.
 pub const CASES: [(u32, Case); 13] = [
@@ -30,7 +32,7 @@ pub const CASES: [(u32, Case); 13] = [
     (13, full_table),
 ];
 
-fn expect<T: PartialEq + std::fmt::Debug>(what: &str, found: T, expected: T) -> Result<(), String> {
+pub fn expect<T: PartialEq + Debug>(what: &str, found: T, expected: T) -> Result<(), String> {
     if found == expected {
         return Ok(());
     }

@@ -128,6 +128,7 @@ impl Plan {
             }
             Feature::EmptyValue => plan.value = Some(0),
             Feature::LongValue => plan.value = Some(VALUE_LIMIT),
+            Feature::OldLimit => plan.value = Some(OLD_VALUE_LIMIT),
             Feature::FullTable => {
                 plan.n = NODES_LEAST;
                 plan.paths = NODES_LEAST;

@@ -27,9 +27,24 @@ pub type Reading = fn(&[u8]) -> Vec<u8>;
 
 /// The same with this reading of paths: with a wrong one it shows what lines find.
 pub fn run_reading(map: &mut Plain, input: &[u8], path: Reading) -> Vec<u8> {
+    run_readings(map, input, Readings { path, value })
+}
+
+/// How a value's hexadecimal is read; none where the line is bad.
+pub type ValueReading = fn(&[u8]) -> Option<Vec<u8>>;
+
+/// How the fields of a line are read.
+#[derive(Clone, Copy)]
+pub struct Readings {
+    pub path: Reading,
+    pub value: ValueReading,
+}
+
+/// The same with these readings of paths and of values.
+pub fn run_readings(map: &mut Plain, input: &[u8], readings: Readings) -> Vec<u8> {
     let mut printed = Vec::new();
     for line in lines(input) {
-        printed.extend(answer(map, line, path));
+        printed.extend(answer(map, line, readings));
     }
     printed
 }
@@ -67,8 +82,8 @@ enum Line {
     List(Vec<u8>),
 }
 
-fn answer(map: &mut Plain, line: &[u8], path: Reading) -> Vec<u8> {
-    match read(line, path) {
+fn answer(map: &mut Plain, line: &[u8], readings: Readings) -> Vec<u8> {
+    match read(line, readings) {
         None => b"bad\n".to_vec(),
         Some(Line::Acts(call)) => act(map, &call),
         Some(Line::Get(path)) => get(map, path),
@@ -76,7 +91,7 @@ fn answer(map: &mut Plain, line: &[u8], path: Reading) -> Vec<u8> {
     }
 }
 
-fn read(line: &[u8], path: Reading) -> Option<Line> {
+fn read(line: &[u8], Readings { path, value }: Readings) -> Option<Line> {
     if line.len() > LINE_LIMIT {
         return None;
     }
@@ -112,7 +127,8 @@ fn read(line: &[u8], path: Reading) -> Option<Line> {
     })
 }
 
-fn value(hex: &[u8]) -> Option<Vec<u8>> {
+/// The right reading of a value's hexadecimal.
+pub fn value(hex: &[u8]) -> Option<Vec<u8>> {
     if hex == b"-" {
         return Some(Vec::new());
     }

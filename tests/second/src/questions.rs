@@ -20,6 +20,10 @@ const PATHS: [&str; 8] = ["r1/a", "x", "r1", "/", "//", "/a", "a//b", "a/"];
 const FROMS: [&str; 7] = ["r1", "r1/a", "d/2", "d", "x", "/", "r1/"];
 const TOS: [&str; 9] = ["r1", "r1/a", "r1/a/b", "r2", "rr1", "x", "d/2/3", "/", "//"];
 
+/// The lengths of values, and of a get's buffers: about the limit, and what tells it from the one before values became longer.
+const VALUES: [usize; 4] = [0, OLD_VALUE_LIMIT + 1, VALUE_LIMIT, VALUE_LIMIT + 1];
+const BUFFERS: [usize; 3] = [OLD_VALUE_LIMIT, GET_BUFFER - 1, GET_BUFFER];
+
 /// Makes them all.
 pub fn run(subject: &mut dyn Subject) -> Result<Stats, String> {
     let mut stats = Stats::default();
@@ -97,7 +101,7 @@ fn paths(texts: &[&str]) -> Vec<Vec<u8>> {
 fn changes(work: usize) -> Vec<Call> {
     let mut calls = vec![Call::Settle { work }, Call::Tidy { work }];
     for path in paths(&PATHS) {
-        calls.extend([0, VALUE_LIMIT, VALUE_LIMIT + 1].map(|length| Call::Put {
+        calls.extend(VALUES.map(|length| Call::Put {
             path: path.clone(),
             value: vec![1; length],
             work,
@@ -137,7 +141,7 @@ fn nodes() -> impl Iterator<Item = u64> {
 
 fn gets() -> Vec<Call> {
     let each = |path: Vec<u8>| {
-        [GET_BUFFER - 1, GET_BUFFER].map(|length| Call::Get {
+        BUFFERS.map(|length| Call::Get {
             path: path.clone(),
             buffer: vec![0xA5; length],
         })

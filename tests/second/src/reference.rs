@@ -7,79 +7,14 @@ use crate::limits::*;
 use crate::listed::BatchFault;
 use crate::meaning;
 use crate::pack;
-use crate::plain::{self, Answer, Call, Plain};
-use crate::sound::{judge, Sound};
+use crate::plain::{self, Answer, Call, Outcome, Plain};
+use crate::sound::{Rule, Sound};
 use crate::subject::{Capabilities, Numbers, Subject};
 use crate::tree::{Body, Message, Node, Pair, Table, Tree, Visit};
 use crate::upkeep;
-use crate::wrong;
+use crate::{wrong, wrong_limit};
 
-/// A way to be wrong.
-#[derive(Clone, Copy, Debug, PartialEq, Eq)]
-pub enum Fault {
-    FlushLeavesMessages,
-    FlushRaisesNode,
-    FlushLiftsMessages,
-    SettleLeavesMessages,
-    TidyDoesNothing,
-    TidySpreads,
-    HealDoesNothing,
-    HealAddsMessage,
-    HealPacks,
-    HealPutsLevelBetween,
-    NarrowsNumbers,
-    LiveOffByOne,
-    GetIgnoresClears,
-    GetWipesBuffer,
-    NextMayRepeat,
-    SameComparesValues,
-    CheckBelievesNodeZero,
-    CheckCountsPairs,
-    CheckTellsWhenRefused,
-    ClearTakesNamesakes,
-    MoveKeepsDestination,
-    MoveKeepsSource,
-    MoveOntoItselfPacks,
-    MoveForgetsComponents,
-    WorkLeftDirty,
-    WorkWipedWhole,
-    RefusalWipesWork,
-    RefusalTouchesStore,
-    ReadTouchesStore,
-    PutRefusesWhenFull,
-    PutTakesEmptyPath,
-    DropTakesEmptyPath,
-    MoveTakesEmptyPath,
-    GetTakesEmptyPath,
-    ClearRefusesEmptyPath,
-    ClearOfAllDropsOne,
-    ClearOfAllDropsNone,
-    NextRefusesEmptyPath,
-    NextOfAllFindsNone,
-    NextOfAllFindsFirstAlone,
-    RefusesAll,
-}
-
-impl Fault {
-    #[rustfmt::skip]
-    pub const ALL: &'static [Fault] = &[
-        Fault::FlushLeavesMessages, Fault::FlushRaisesNode, Fault::FlushLiftsMessages,
-        Fault::SettleLeavesMessages, Fault::TidyDoesNothing, Fault::TidySpreads,
-        Fault::HealDoesNothing, Fault::HealAddsMessage, Fault::HealPacks,
-        Fault::HealPutsLevelBetween, Fault::NarrowsNumbers,
-        Fault::LiveOffByOne, Fault::GetIgnoresClears, Fault::GetWipesBuffer,
-        Fault::NextMayRepeat, Fault::SameComparesValues, Fault::CheckBelievesNodeZero,
-        Fault::CheckCountsPairs, Fault::CheckTellsWhenRefused, Fault::ClearTakesNamesakes,
-        Fault::MoveKeepsDestination, Fault::MoveKeepsSource, Fault::MoveOntoItselfPacks,
-        Fault::MoveForgetsComponents, Fault::WorkLeftDirty,
-        Fault::WorkWipedWhole, Fault::RefusalWipesWork, Fault::RefusalTouchesStore,
-        Fault::ReadTouchesStore, Fault::PutRefusesWhenFull, Fault::PutTakesEmptyPath,
-        Fault::DropTakesEmptyPath, Fault::MoveTakesEmptyPath, Fault::GetTakesEmptyPath,
-        Fault::ClearRefusesEmptyPath, Fault::ClearOfAllDropsOne, Fault::ClearOfAllDropsNone,
-        Fault::NextRefusesEmptyPath, Fault::NextOfAllFindsNone, Fault::NextOfAllFindsFirstAlone,
-        Fault::RefusesAll,
-    ];
-}
+pub use crate::fault::Fault;
 
 #[derive(Clone, Copy, Debug, Default)]
 pub struct Reference {
@@ -91,6 +26,17 @@ pub struct Reference {
 impl Reference {
     fn is(&self, fault: Fault) -> bool {
         self.fault == Some(fault)
+    }
+
+    /// Is the image sound to it?
+    fn judge(&self, image: &[u8]) -> Result<Sound, Rule> {
+        wrong_limit::judged(self.fault, image)
+    }
+
+    /// Does it keep only the front of the values that such a call carries?
+    fn cuts(&self, call: &Call) -> bool {
+        self.fault
+            .is_some_and(|fault| wrong_limit::cuts(fault, call))
     }
 
     /// A call that is lent a work area.
@@ -125,8 +71,11 @@ impl Reference {
         if work.len() < WORK_PER_NODE * n || self.is(Fault::RefusesAll) {
             return Err(plain::NO_LENGTHS);
         }
-        let before = judge(store).map_err(|_| plain::NO_SOUND)?;
-        let table = self.table_after(&before, call)?;
+        let before = self.judge(store).map_err(|_| plain::NO_SOUND)?;
+        let mut table = self.table_after(&before, call)?;
+        if self.cuts(call) {
+            wrong_limit::cut_table(&mut table);
+        }
         let after = self.store_after(store, &before, &table, call);
         if let Some(after) = after {
             store.copy_from_slice(&after);
@@ -159,7 +108,7 @@ impl Reference {
         {
             return Err(plain::NO_ROOM);
         }
-        let number = plain.step(call).map_or(0, |outcome| outcome.answer.number);
+        let number = self.step(&mut plain, call);
         if number == plain::NO_ROOM_IN_PATH && self.is(Fault::MoveForgetsComponents) {
             return deepened(before, call).ok_or(number);
         }
@@ -180,6 +129,15 @@ impl Reference {
             _ => {}
         }
         Ok(plain.table)
+    }
+
+    /// The step of the plain map, or a wrong one, and its number.
+    fn step(&self, plain: &mut Plain, call: &Call) -> u32 {
+        let mistaken = |fault| wrong_limit::put(fault, call, plain);
+        match self.fault.and_then(mistaken) {
+            Some(number) => number,
+            None => plain.step(call).map_or(0, |outcome| outcome.answer.number),
+        }
     }
 
     fn number(&self, node: u64) -> u64 {
@@ -211,7 +169,10 @@ impl Reference {
             Call::Heal { .. } if self.is(Fault::HealDoesNothing) => None,
             Call::Heal { node, .. } if !self.is(Fault::HealPacks) => {
                 let node = self.number(*node);
-                let tree = healed(&before.tree, node, self.is(Fault::HealAddsMessage));
+                let mut tree = healed(&before.tree, node, self.is(Fault::HealAddsMessage));
+                if self.cuts(call) {
+                    wrong_limit::cut_pairs(&mut tree.root);
+                }
                 let mut after = store.to_vec();
                 tree.write(table.len() as u16, &mut after)?;
                 Some(after)
@@ -255,7 +216,7 @@ impl Reference {
             return (plain::NO_LENGTHS, 0);
         }
         let told = u32::from(Header::read(store).live);
-        match judge(store) {
+        match self.judge(store) {
             _ if self.is(Fault::CheckBelievesNodeZero) => (0, told),
             Ok(sound) if self.is(Fault::CheckCountsPairs) => (0, pairs(&sound)),
             Ok(sound) => (0, sound.table.len() as u32),
@@ -266,7 +227,7 @@ impl Reference {
 
     fn try_read(&self, store: &[u8], buffer: &mut [u8], call: &Call) -> Result<Answer, u32> {
         image::nodes_of(store.len()).ok_or(plain::NO_LENGTHS)?;
-        let mut before = judge(store).map_err(|_| plain::NO_SOUND)?;
+        let mut before = self.judge(store).map_err(|_| plain::NO_SOUND)?;
         if let Some(number) = self.fault.and_then(|fault| wrong::no_read(fault, call)) {
             return Err(number);
         }
@@ -279,14 +240,29 @@ impl Reference {
             let earlier = plain.table.range(..after.clone()).next_back();
             *after = earlier.map_or(Vec::new(), |(path, _)| path.clone());
         }
+        if let Call::Get { buffer, .. } = &mut call {
+            // The plain map asks for the right length: what this store takes is made that long.
+            let least = wrong_limit::least_buffer(self.fault);
+            buffer.resize((buffer.len() + GET_BUFFER).saturating_sub(least), 0);
+        }
         let outcome = plain.step(&call).ok_or(0u32)?;
         if outcome.answer.accepted() {
-            buffer.copy_from_slice(&outcome.buffer);
-            if self.is(Fault::GetWipesBuffer) {
-                buffer[outcome.answer.beside as usize..].fill(0);
-            }
+            self.hand_over(&call, &outcome, buffer);
         }
         Ok(outcome.answer)
+    }
+
+    /// What an accepted call leaves in the buffer.
+    fn hand_over(&self, call: &Call, outcome: &Outcome, buffer: &mut [u8]) {
+        let most = match call {
+            Call::Get { .. } if self.is(Fault::GetCutsValue) => OLD_VALUE_LIMIT,
+            _ => outcome.buffer.len(),
+        };
+        let length = most.min(buffer.len());
+        buffer[..length].copy_from_slice(&outcome.buffer[..length]);
+        if self.is(Fault::GetWipesBuffer) {
+            buffer[outcome.answer.beside as usize..].fill(0);
+        }
     }
 }
 
@@ -419,7 +395,7 @@ impl Subject for Reference {
         if image::nodes_of(a.len()).is_none() || image::nodes_of(b.len()).is_none() {
             return (plain::NO_LENGTHS, 0);
         }
-        match (judge(a), judge(b)) {
+        match (self.judge(a), self.judge(b)) {
             (Ok(a), Ok(b)) if self.is(Fault::SameComparesValues) => (0, (a.table == b.table).into()),
             (Ok(a), Ok(b)) => (0, plain::same(&a.table, &b.table).into()),
             _ => (plain::NO_SOUND, 0),

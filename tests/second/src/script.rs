@@ -134,6 +134,26 @@ impl<'a> Script<'a> {
         self.number(&Call::Move { from, to, work })
     }
 
+    pub fn settle(&mut self) -> Result<u32, String> {
+        let work = self.work();
+        self.number(&Call::Settle { work })
+    }
+
+    pub fn tidy(&mut self) -> Result<u32, String> {
+        let work = self.work();
+        self.number(&Call::Tidy { work })
+    }
+
+    pub fn flush(&mut self, node: u64) -> Result<u32, String> {
+        let work = self.work();
+        self.number(&Call::Flush { node, work })
+    }
+
+    pub fn heal(&mut self, node: u64) -> Result<u32, String> {
+        let work = self.work();
+        self.number(&Call::Heal { node, work })
+    }
+
     /// The first path below this one, or none.
     pub fn next(&mut self, text: &str) -> Result<Option<Vec<u8>>, String> {
         self.next_after(text, &[])

@@ -1,11 +1,12 @@
-// What a run has tried: how many calls got each answer, and in which corners moves and heals were
-// accepted and what they did there. A run that leaves something untried can tell what.
+// What a run has tried: how many calls got each answer, with values and buffers of which lengths,
+// and in which corners moves and heals were accepted and what they did there. A run that leaves
+// something untried can tell what.
 
 use crate::contract::{bound_changed, Facts};
 use crate::corner::{Corner, Room};
-use crate::limits::{LEAF_LEVEL, LEVELS_MOST};
+use crate::limits::*;
 use crate::moves::Kind;
-use crate::plain::{Answer, Call};
+use crate::plain::{Answer, Call, NO_BUFFER, NO_VALUE};
 use crate::script::Made;
 use crate::subject::Capabilities;
 use std::collections::BTreeMap;
@@ -102,6 +103,8 @@ pub struct Stats {
     pub answers: Counts,
     /// Those of them that name the empty path.
     pub empty: Counts,
+    /// Puts of a value, and gets into a buffer, of a length that tells which limit the subject has.
+    pub lengths: BTreeMap<(&'static str, usize, u32), usize>,
     /// The aimed moves of each kind.
     pub kinds: BTreeMap<(Kind, u32), usize>,
     pub moves: BTreeMap<Corner, Moves>,
@@ -126,6 +129,10 @@ impl Stats {
         if call.names_empty_path() {
             let counted = (call.name(), made.answer.number);
             *self.empty.entry(counted).or_default() += 1;
+        }
+        if let Some(length) = telling_length(call) {
+            let counted = (call.name(), length, made.answer.number);
+            *self.lengths.entry(counted).or_default() += 1;
         }
         if let Call::Flush { node, .. } | Call::Heal { node, .. } = call {
             self.large += usize::from(*node > u64::from(u32::MAX));
@@ -170,6 +177,7 @@ impl Stats {
             " of the empty path",
         );
         missing.extend(of_empty);
+        missing.extend(self.missing_lengths(capabilities));
         if capabilities.clear {
             missing.extend(self.missing_wipes());
         }
@@ -183,6 +191,17 @@ impl Stats {
             missing.extend(self.missing_flushes());
         }
         missing
+    }
+
+    fn missing_lengths(&self, capabilities: Capabilities) -> Vec<String> {
+        let unmet = length_answers().filter(|(name, length, number)| {
+            capabilities.named(name) && !self.lengths.contains_key(&(*name, *length, *number))
+        });
+        unmet
+            .map(|(name, length, number)| {
+                format!("{name} with {length} bytes never answered {number}")
+            })
+            .collect()
     }
 
     fn missing_moves(&self) -> Vec<String> {
@@ -230,6 +249,8 @@ impl Stats {
         lines.extend(counted(ANSWERS, &self.answers));
         lines.push("calls with an empty path, by answer:".into());
         lines.extend(counted(EMPTY_ANSWERS, &self.empty));
+        lines.push("puts by the value's length and gets by the buffer's, by answer:".into());
+        lines.extend(["put", "get"].map(|name| self.length_line(name)));
         lines.push("moves, by what they aimed at, by answer:".into());
         for ((kind, number), count) in &self.kinds {
             lines.push(format!("  {:<22}{number}: {count}", kind.name()));
@@ -238,6 +259,16 @@ impl Stats {
         lines.push(format!("flushes and heals of over 32 bits: {large}"));
         lines.extend(self.rows());
         lines.join("\n")
+    }
+
+    /// How many calls of this name were made with each telling length and answered as they should.
+    fn length_line(&self, name: &str) -> String {
+        let of_name = length_answers().filter(|(other, ..)| *other == name);
+        let counts = of_name.map(|counted| {
+            let count = self.lengths.get(&counted).unwrap_or(&0);
+            format!("{} bytes {}: {count}", counted.1, counted.2)
+        });
+        format!("  {name:<7}{}", counts.collect::<Vec<_>>().join("  "))
     }
 
     fn rows(&self) -> Vec<String> {
@@ -285,6 +316,7 @@ impl AddAssign<&Stats> for Stats {
         self.large += more.large;
         add_all(&mut self.answers, &more.answers);
         add_all(&mut self.empty, &more.empty);
+        add_all(&mut self.lengths, &more.lengths);
         add_all(&mut self.kinds, &more.kinds);
         add_all(&mut self.moves, &more.moves);
         add_all(&mut self.heals, &more.heals);
@@ -319,6 +351,25 @@ fn gathered<V: AddAssign + Default + Copy>(
 fn row(name: &str, count: impl Fn(u16) -> usize) -> String {
     let counts = (1..=LEVELS_MOST).map(|levels| format!("{:>7}", count(levels)));
     format!("{name:<24}{}", counts.collect::<String>())
+}
+
+/// The length of a put's value or of a get's buffer, where it tells which limit the subject has.
+fn telling_length(call: &Call) -> Option<usize> {
+    let length = match call {
+        Call::Put { value, .. } => value.len(),
+        Call::Get { buffer, .. } => buffer.len(),
+        _ => return None,
+    };
+    TELLING_LENGTHS.contains(&length).then_some(length)
+}
+
+/// What a put and a get of each such length answer where nothing else is wrong.
+fn length_answers() -> impl Iterator<Item = (&'static str, usize, u32)> {
+    let put = |length: usize| if length <= VALUE_LIMIT { 0 } else { NO_VALUE };
+    let get = |length: usize| if length < GET_BUFFER { NO_BUFFER } else { 0 };
+    let puts = TELLING_LENGTHS.map(|length| ("put", length, put(length)));
+    let gets = TELLING_LENGTHS.map(|length| ("get", length, get(length)));
+    puts.into_iter().chain(gets)
 }
 
 /// How many calls of a name got each answer.

@@ -12,7 +12,8 @@ const WIDE: [&[u8; COMPONENT_LIMIT]; 3] = [
     b"r1r1r1r1r1r1r1r1",
 ];
 
-/// One more than two bytes count.
+/// One more than a byte counts, and one more than two bytes do.
+pub const ONE_BYTE: usize = 1 << 8;
 pub const TWO_BYTES: usize = 1 << 16;
 
 fn joined(components: &[&[u8]]) -> Vec<u8> {
@@ -126,13 +127,29 @@ pub fn overlong(rng: &mut Rng) -> Vec<u8> {
 
 /// A value that a store may hold.
 pub fn value(rng: &mut Rng) -> Vec<u8> {
-    let length = match rng.below(6) {
+    let length = match rng.below(7) {
         0 => 0,
         1 => VALUE_LIMIT,
         2 => rng.below(VALUE_LIMIT + 1),
+        3 => telling_length(rng).min(VALUE_LIMIT),
         _ => rng.between(1, 3),
     };
     rng.bytes(length)
+}
+
+/// A length about the limit of a value, or about what it was before.
+pub fn telling_length(rng: &mut Rng) -> usize {
+    TELLING_LENGTHS[rng.below(TELLING_LENGTHS.len())]
+}
+
+/// A length that no value may have and a node has room for: mostly a byte too many, sometimes one that a subject which cuts it to a byte
+/// takes for a right one.
+pub fn too_long(rng: &mut Rng) -> usize {
+    match rng.below(4) {
+        0 => ONE_BYTE + rng.below(VALUE_LIMIT + 1),
+        1 => VALUE_LIMIT + rng.between(1, 300),
+        _ => VALUE_LIMIT + 1,
+    }
 }
 
 #[cfg(test)]
@@ -148,6 +165,7 @@ mod tests {
             assert!(!well_formed(&malformed(&mut rng)));
             assert!(!well_formed(&overlong(&mut rng)));
             assert!(value(&mut rng).len() <= VALUE_LIMIT);
+            assert!(too_long(&mut rng) > VALUE_LIMIT);
             let longest = longest(&mut rng);
             assert!(well_formed(&longest) && longest.len() == PATH_LIMIT);
             assert_eq!(beginnings(&deepest(&mut rng)).count(), COMPONENTS);

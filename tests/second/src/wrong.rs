@@ -2,9 +2,9 @@
 // letter of a rule that looks at one level or at one node alone. And the wrong ways with the empty
 // path: a call that takes it and must not, refuses it and must not, or does not mean every path.
 
+use crate::fault::Fault;
 use crate::limits::{LEVELS_MOST, ROOT_LOW};
 use crate::plain::{Call, NO_APART, NO_PATH, NO_PRESENT};
-use crate::reference::Fault;
 use crate::sound::Sound;
 use crate::tree::{Body, Node, Table, Tree};
 

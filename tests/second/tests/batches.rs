@@ -5,7 +5,7 @@ use second::batches::{run, run_case, Tried};
 use second::contract::image_judged;
 use second::limits::*;
 use second::listed::BatchFault;
-use second::pieces::{laid, piece, two, ANSWER_HEAD};
+use second::pieces::{laid, most, piece, two, ANSWER_HEAD};
 use second::plain::Call;
 use second::reference::Reference;
 use second::rng::Rng;
@@ -77,13 +77,21 @@ fn judged(calls: &[u8], room: usize) -> Done {
     checked.expect("the reference store is right").0.done
 }
 
-/// A get of an absent path writes 4 bytes and needs 36; with 10 bytes for answers it stops the batch, and the put is not made.
+/// The most that the answer of a get takes.
+const GET_MOST: usize = ANSWER_HEAD + VALUE_LIMIT;
+/// What it took before values became longer.
+const OLD_GET_MOST: usize = ANSWER_HEAD + OLD_VALUE_LIMIT;
+
+/// A get of an absent path writes 4 bytes and needs 52; with 10 bytes for answers it stops the batch, and the put is not made.
 #[test]
 fn a_call_that_might_not_fit_is_not_made() {
     let calls = pieces(&[get(b"p\0"), put(b"q\0")]);
     let ends = |room: usize| (judged(&calls, room).calls, judged(&calls, room).written);
-    assert_eq!((ends(10), ends(35)), ((0, 0), (0, 0)));
-    assert_eq!((ends(36), ends(80)), ((2, 8), (2, 8)));
+    assert_eq!((most(&get(b"p\0")), GET_MOST), (52, 52));
+    for room in [10, OLD_GET_MOST - 1, OLD_GET_MOST, GET_MOST - 1] {
+        assert_eq!(ends(room), (0, 0), "{room}");
+    }
+    assert_eq!((ends(GET_MOST), ends(80)), ((2, 8), (2, 8)));
     let mut store = made();
     let mut work = vec![9; WORK_PER_NODE * NODES_LEAST];
     let mut late = wrong(BatchFault::StopsByOwnLength);
@@ -91,14 +99,40 @@ fn a_call_that_might_not_fit_is_not_made() {
     assert_eq!((done.calls, done.written), (2, 8), "the other outcome");
 }
 
-/// After the refused get there are 4 bytes less, and not 36: room for three answers of 4 more.
+/// With the room that a get needed before, one that needs the old room makes it, and the right one does not.
+#[test]
+fn a_get_needs_more_room_than_before() {
+    let calls = pieces(&[get(b"p\0")]);
+    let mut old = wrong(BatchFault::NeedsOldMostForGet);
+    for room in OLD_GET_MOST..GET_MOST {
+        let (mut store, mut work) = (made(), vec![9; WORK_PER_NODE * NODES_LEAST]);
+        let done = old.batch(&mut store, &mut work, &calls, &mut vec![0; room]);
+        assert_eq!((done.calls, judged(&calls, room).calls), (1, 0), "{room}");
+    }
+}
+
+/// After the refused get there are 4 bytes less, and not 52: room for three answers of 4 more.
 #[test]
 fn the_room_falls_by_what_is_written() {
     let calls = pieces(&[get(b"p\0"), put(b"q\0"), put(b"r\0"), get(b"q\0")]);
     let calls_done = |room: usize| judged(&calls, room).calls;
-    assert_eq!(calls_done(12 + 35), 3);
-    assert_eq!(calls_done(12 + 36), 4);
-    assert_eq!(judged(&calls, 48).written, 4 + 4 + 4 + 5);
+    assert_eq!(calls_done(12 + GET_MOST - 1), 3);
+    assert_eq!(calls_done(12 + GET_MOST), 4);
+    assert_eq!(judged(&calls, 12 + GET_MOST).written, 4 + 4 + 4 + 5);
+}
+
+/// A value of the greatest length fills its room to the last byte.
+#[test]
+fn the_longest_value_fills_its_room() {
+    let longest = Call::Put {
+        path: b"q\0".to_vec(),
+        value: vec![5; VALUE_LIMIT],
+        work: 0,
+    };
+    let calls = pieces(&[longest, get(b"q\0")]);
+    let done = judged(&calls, ANSWER_HEAD + GET_MOST);
+    assert_eq!((done.calls, done.written), (2, ANSWER_HEAD + GET_MOST));
+    assert_eq!(judged(&calls, ANSWER_HEAD + GET_MOST - 1).calls, 1);
 }
 
 fn next(path: &[u8], after: &[u8]) -> Call {

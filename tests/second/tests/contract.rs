@@ -9,6 +9,7 @@ use second::feature::Feature;
 use second::generate;
 use second::judge::{run, run_case};
 use second::lazy::Lazy;
+use second::limits::VALUE_LIMIT;
 use second::pack;
 use second::plain::{Answer, Call};
 use second::reference::Reference;
@@ -18,9 +19,13 @@ use second::stats::Stats;
 use second::subject::{Capabilities, Numbers, Subject};
 use second::tree::Table;
 
+/// Where the rows below r1 are moved: so much longer a name that fewer of the longest rows fit a leaf, and packing shifts all later ones.
+const TO: &[u8] = b"r1xx\0";
+
 /// A store of many rows, settled, in which a move has enough free nodes.
 fn large() -> Vec<u8> {
-    let row = |i: usize| (format!("r{}\0p{i}\0", i % 7).into_bytes(), vec![1; 32]);
+    let value = vec![1; VALUE_LIMIT];
+    let row = |i: usize| (format!("r{}\0p{i}\0", i % 7).into_bytes(), value.clone());
     let table: Table = (0..1000).map(row).collect();
     pack::image(&table, 1024).expect("it fits")
 }
@@ -29,7 +34,7 @@ fn seen_move(before: &[u8], after: &[u8], held: bool) -> Result<(), String> {
     let n = before.len() / 1024;
     let call = Call::Move {
         from: b"r1\0".to_vec(),
-        to: b"r1x\0".to_vec(),
+        to: TO.to_vec(),
         work: 128 * n,
     };
     let seen = Seen {
@@ -55,7 +60,7 @@ fn a_move_that_rebuilds_breaks_the_bound() {
     let before = large();
     let mut after = before.clone();
     let mut work = vec![3; 128 * 1024];
-    Reference::default().move_(&mut after, b"r1\0", b"r1x\0", &mut work);
+    Reference::default().move_(&mut after, b"r1\0", TO, &mut work);
     assert!(changed_nodes(&before, &after) > 40);
     assert!(seen_move(&before, &after, false).is_ok());
     let wrong = seen_move(&before, &after, true).expect_err("over the bound");
@@ -67,7 +72,7 @@ fn the_bound_counts_wiped_free_nodes() {
     let row = (b"r1\0a\0".to_vec(), vec![1]);
     let mut before = pack::image(&Table::from([row]), 32).expect("it fits");
     before[2 * 1024..].fill(7);
-    let moved = (b"r1x\0a\0".to_vec(), vec![1]);
+    let moved = ([TO, b"a\0"].concat(), vec![1]);
     let after = pack::image(&Table::from([moved]), 32).expect("it fits");
     assert_eq!(changed_nodes(&before, &after), 31);
     assert!(seen_move(&before, &after, true).is_err());

@@ -59,6 +59,14 @@ fn they_mean_what_they_should() {
         ("q/r", &[3]),
     ];
     assert_eq!(rows("four-levels"), table(four));
+    let value = |length: u8| -> Vec<u8> { (1..=length).collect() };
+    let long: &[(&str, &[u8])] = &[
+        ("a", &value(48)),
+        ("b", &value(33)),
+        ("c", &value(48)),
+        ("d", &value(32)),
+    ];
+    assert_eq!(rows("long-values"), table(long));
 }
 
 #[test]
@@ -80,6 +88,8 @@ fn they_show_their_corners() {
     shows("four-levels", Feature::OneChildChain);
     shows("four-levels", Feature::GarbageInFree);
     shows("four-levels", Feature::ShuffledNumbers);
+    shows("long-values", Feature::LongValue);
+    shows("long-values", Feature::LongPut);
 }
 
 #[test]
@@ -88,7 +98,7 @@ fn damaged_ones_break_the_rule_they_name() {
         .into_iter()
         .filter(|e| e.name.starts_with("bad-"))
         .collect();
-    assert_eq!(damaged.len(), 6);
+    assert_eq!(damaged.len(), 8);
     for example in &damaged {
         let rule = judge(&example.image).expect_err("it is unsound");
         assert_eq!(format!("bad-{}", rule.name()), example.name);

@@ -1,10 +1,12 @@
-// Random scripts for the program: they have every shape of the empty path and of texts that are near it, with every word, and a program
-// that reads such a text wrong prints something else.
+// Random scripts for the program: they have every shape of the empty path and of texts that are near it, with every word, and values of
+// every length that tells; and a program that reads such a text or such a value wrong prints something else.
 
+use second::limits::{OLD_VALUE_LIMIT, TELLING_LENGTHS, VALUE_LIMIT};
 use second::lines::script;
 use second::path::from_text;
 use second::plain::Plain;
-use second::program::{run_on, run_reading, Reading, PROGRAM_NODES};
+use second::program::{run_on, run_reading, run_readings, value};
+use second::program::{Reading, Readings, ValueReading, PROGRAM_NODES};
 
 const SCRIPTS: u64 = 200;
 
@@ -108,6 +110,60 @@ fn every_misreading_is_found() {
             let (mut right, mut wrong) = (Plain::new(PROGRAM_NODES), Plain::new(PROGRAM_NODES));
             let input = input(*seed);
             run_on(&mut right, &input) != run_reading(&mut wrong, &input, reading)
+        };
+        let found = (0..SCRIPTS).find(differs);
+        println!("{name}: script {found:?}");
+        assert!(found.is_some(), "{name}");
+    }
+}
+
+#[test]
+fn values_of_every_telling_length_are_put() {
+    let lines = all_lines();
+    for length in TELLING_LENGTHS.into_iter().chain([VALUE_LIMIT + 2]) {
+        let put = |f: &[&[u8]]| f.len() == 3 && f[0] == b"put" && f[2].len() == 2 * length;
+        let met = count(&lines, put);
+        assert!(met > 5, "{length} bytes: {met}");
+    }
+    let longest = |f: &[&[u8]]| f.len() == 3 && f[0] == b"put" && f[2].len() == 248;
+    assert!(count(&lines, longest) > 0, "no line of 255 bytes");
+}
+
+/// The value's bytes, at most so many.
+fn at_most(hex: &[u8], bytes: usize) -> Option<Vec<u8>> {
+    let mut value = value(hex)?;
+    value.truncate(bytes);
+    Some(value)
+}
+
+/// The value, if it has at most so many bytes.
+fn only_up_to(hex: &[u8], bytes: usize) -> Option<Vec<u8>> {
+    value(hex).filter(|value| value.len() <= bytes)
+}
+
+/// Values whose length is misunderstood.
+const MISREAD_VALUES: [(&str, ValueReading); 6] = [
+    ("over 32 bytes are bad", |hex| {
+        only_up_to(hex, OLD_VALUE_LIMIT)
+    }),
+    ("over 47 bytes are bad", |hex| {
+        only_up_to(hex, VALUE_LIMIT - 1)
+    }),
+    ("over 48 bytes are bad", |hex| only_up_to(hex, VALUE_LIMIT)),
+    ("32 bytes are kept", |hex| at_most(hex, OLD_VALUE_LIMIT)),
+    ("47 bytes are kept", |hex| at_most(hex, VALUE_LIMIT - 1)),
+    ("48 bytes are kept", |hex| at_most(hex, VALUE_LIMIT)),
+];
+
+#[test]
+fn every_misread_value_is_found() {
+    for (name, value) in MISREAD_VALUES {
+        let differs = |seed: &u64| {
+            let (mut right, mut wrong) = (Plain::new(PROGRAM_NODES), Plain::new(PROGRAM_NODES));
+            let input = input(*seed);
+            let path = from_text;
+            let readings = Readings { path, value };
+            run_on(&mut right, &input) != run_readings(&mut wrong, &input, readings)
         };
         let found = (0..SCRIPTS).find(differs);
         println!("{name}: script {found:?}");

@@ -85,8 +85,40 @@ fn refused_lines() {
     for (line, number) in refused {
         assert_eq!(printed(line), format!("refused {number}\n"), "{line:?}");
     }
-    let long = format!("put a {}\n", "0A".repeat(33));
-    assert_eq!(printed(long.as_bytes()), "refused 4\n");
+}
+
+/// 48 bytes are taken and printed, 49 are refused, and so is whatever a line has room for; odd digits are bad before they are too many.
+#[test]
+fn long_values_in_lines() {
+    let printed_of = |digits: usize| {
+        let line = format!("put a {}\nget a\n", &"0A1bC2".repeat(50)[..digits]);
+        printed(line.as_bytes())
+    };
+    for bytes in [1, 31, 32, 33, 47, 48] {
+        let shown = &"0a1bc2".repeat(50)[..2 * bytes];
+        assert_eq!(printed_of(2 * bytes), format!("ok\n{shown}\n"), "{bytes}");
+        let odd = printed_of(2 * bytes - 1);
+        assert_eq!(odd, "bad\nrefused 8\n", "{bytes}");
+    }
+    assert_eq!(printed_of(97), "bad\nrefused 8\n");
+    for digits in [98, 100, 248] {
+        let refused = "refused 4\nrefused 8\n";
+        assert_eq!(printed_of(digits), refused, "{digits}");
+    }
+    for digits in [249, 250] {
+        assert_eq!(printed_of(digits), "bad\nrefused 8\n", "{digits}");
+    }
+}
+
+/// The longest line that is taken whole: a path of 64 bytes with a value of 48, as put and as list print it.
+#[test]
+fn the_longest_row_in_lines() {
+    let wide = "c".repeat(16);
+    let path = [&wide[..], &wide, &wide, &wide[..12]].join("/");
+    let value = "5e".repeat(48);
+    let input = format!("put {path} {value}\nsettle\ntidy\nget {path}\nlist /\n");
+    let expected = format!("ok\nok\nok\n{value}\n{path} {value}\nend\n");
+    assert_eq!(printed(input.as_bytes()), expected);
 }
 
 /// A lone / is the empty path: clear and list mean every path by it.

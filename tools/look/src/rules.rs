@@ -71,7 +71,7 @@ pub fn words(rule: Rule) -> &'static str {
         Rule::EntryCut | Rule::EntryKind | Rule::SuffixLength => {
             "entries fill their length exactly; an entry that does not read makes its node unsound"
         }
-        Rule::PairValue | Rule::PutValue => "every value at most 32 bytes",
+        Rule::PairValue | Rule::PutValue => "every value at most 48 bytes",
         Rule::LeafOnlyPairs => "in a leaf only pairs",
         Rule::PairWellFormed => "in a leaf the pairs' paths are well formed",
         Rule::PairOrder => "in a leaf the pairs' paths are strictly rising",

@@ -162,7 +162,7 @@ fn the_status_tells_what_was_found() {
     let changed = "changed (any byte differs): 1, 9-10, 12 (4)";
     expect(&[&before, &after, "--html", &page], 0, changed);
     let (unsound, short) = (file("unsound.img"), file("short.img"));
-    for (image, rule) in [(&unsound, "put-owned: node 2:"), (&short, "store-size:")] {
+    for (image, rule) in [(&unsound, "put-owned: node 9:"), (&short, "store-size:")] {
         expect(&[image], 1, rule);
         expect(&[image, "r1/c7"], 1, rule);
         expect(&[image, "--html", &page], 1, rule);

@@ -1,6 +1,7 @@
 // Writes calls with the bytes that the library leaves to a file, for tests/targets to make them on another processor: `replay FILE
-// [TIMES]`, TIMES as much. It has the paper's cases, every combination of arguments, lists of calls, every corner that the judge visits,
-// batches, and every call on the deepest and widest images. Each call is judged while it is written, as in any run of the judge.
+// [TIMES]`, TIMES as much. It has the paper's cases and those of longer values, every combination of arguments, lists of calls, every corner
+// that the judge visits, batches, and every call on the deepest and widest images. Each call is judged while it is written, as in any run of
+// the judge.
 #![deny(warnings)]
 
 mod recorder;
@@ -17,7 +18,7 @@ use second::plain::Call;
 use second::rng::Rng;
 use second::sound::{self, Sound};
 use second::subject::{perform, Subject};
-use second::{grid, paper, questions};
+use second::{grid, longer, paper, questions};
 use std::fs::File;
 use std::io::{BufWriter, Write};
 use std::process::ExitCode;
@@ -57,6 +58,7 @@ fn write(name: &str, times: usize) -> Result<usize, String> {
     for (_, case) in paper::CASES {
         case(&mut recorder)?;
     }
+    longer::run(&mut recorder)?;
     questions::run(&mut recorder)?;
     lengths::run(&mut recorder)?;
     second::judge::run(&mut recorder, SEED, LISTS * times)?;
